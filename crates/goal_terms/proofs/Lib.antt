@@ -1,0 +1,4 @@
+pub mod TreeLemmas
+pub mod WalkLemmas
+pub mod WriteLemmas
+pub mod ClosedLemmas
