@@ -1,0 +1,4 @@
+mod answers;
+mod printing;
+mod terms;
+mod types;

@@ -1,0 +1,22 @@
+//! The text of answers.
+use crate::answer::Answer;
+use goal_terms::scalars::UintTy;
+use goal_terms::terms::{Const, Term, Ty};
+use std::test::Fail;
+
+#[test]
+fn each_answer(rt: HostRuntime) -> Result<(), Fail> {
+    let table = [
+        (Answer::Yes(None), "yes"),
+        (Answer::Yes(Some(Term::Ty(Ty::Uint(UintTy::U8)))), "yes u8"),
+        (Answer::Yes(Some(Term::Const(Const::Value(3)))), "yes 3"),
+        (Answer::No, "no"),
+        (Answer::Maybe, "maybe"),
+        (Answer::Refused("DepthTooLarge"), "refused DepthTooLarge"),
+    ];
+    for (answer, expected) in &table {
+        let text = format!(in rt.alloc(); "{answer}")?;
+        assert_eq!(rt; text.as_str(), *expected);
+    }
+    Ok(())
+}

@@ -1,0 +1,138 @@
+-- How comparisons of parts make one of the whole.
+use Rattle.std.proofs.Common.{◌≡◌, ◌≢◌, ◌⊎◌, inl, inr, ℕ, zero, suc, ◌+◌, ◌<◌, Bool, true, false, List, [], ◌∷◌, length, map, drop, Some, refl, sym, ap, ◌∙◌, subst, add-one, arith, drop-cons}
+use Rattle.std.specs.Prelude.{slice_get}
+use Rattle.std.proofs.lemmas.List.{drop_all}
+use Rattle.std.proofs.lemmas.Bool.{false≢true}
+use Rattle.goal_terms.specs.Tree.{Tree, Trees, node, alias, variable, none, more, node_of, parts_of, list_of, forest}
+use Rattle.goal_terms.specs.Erased.{erased, erased_row, erased_head, compared, compared_node}
+use Rattle.goal_terms.specs.SameTree.{same_node, same_tree}
+use Rattle.goal_terms.specs.SameLaws.{same_node-true, same_node-refl, same_tree-true}
+use Rattle.goal_terms.specs.declared.heads.Head.{Head}
+use Rattle.goal_terms.specs.declared.heads.Node.{Node}
+use Rattle.goal_terms.specs.declared.heads.Node.TheVariants as nodes
+use Rattle.goal_terms.specs.declared.compare.Regions.TheVariants.{Compared, Forgotten}
+use Rattle.goal_solver.specs.Equality.{Unequal, RowUnequal, ListsUnequal, ComparesAs, ListsCompareAs}
+use Rattle.goal_solver.specs.declared.relate.Comparison as comparisons
+use Rattle.goal_solver.specs.declared.relate.Comparison.TheVariants as comparison
+
+row-list : (ts us : Trees) → ListsUnequal (map erased (list_of ts)) (map erased (list_of us)) → RowUnequal (erased_row ts) (erased_row us)
+unfolding Unequal erased
+row-list none none h = h
+row-list none (more u us) h = tt
+row-list (more t ts) none h = tt
+row-list (more t ts) (more u us) (inl h) = inl h
+row-list (more t ts) (more u us) (inr h) = inr (row-list ts us h)
+
+same-row : (ts us : Trees) → map erased (list_of ts) ≡ map erased (list_of us) → erased_row ts ≡ erased_row us
+unfolding erased
+same-row none none e = refl
+same-row none (more u us) e = absurd (cc)
+same-row (more t ts) none e = absurd (cc)
+same-row (more t ts) (more u us) e =
+    let p : erased t ≡ erased u = cc in
+    let q : map erased (list_of ts) ≡ map erased (list_of us) = cc in
+    ap (λ x. more x (erased_row ts)) p ∙ ap (λ x. more (erased u) x) (same-row ts us q)
+
+nodes-alike : (h k : Head) → same_node (nodes.Head (erased_head h)) (nodes.Head (erased_head k)) ≡ true → erased_head h ≡ erased_head k
+nodes-alike h k e = let p : nodes.Head (erased_head h) ≡ nodes.Head (erased_head k) = same_node-true (nodes.Head (erased_head h)) (nodes.Head (erased_head k)) e in cc
+
+nodes-apart : (h k : Head) → same_node (nodes.Head (erased_head h)) (nodes.Head (erased_head k)) ≡ false → erased_head h ≢ erased_head k
+nodes-apart h k e p = false≢true (sym e ∙ ap (λ x. same_node (nodes.Head (erased_head h)) (nodes.Head x)) (sym p) ∙ same_node-refl (nodes.Head (erased_head h)))
+
+one-whole : (c : comparisons.Comparison) (h k : Head) (ts us : Trees) → erased_head h ≡ erased_head k →
+    ListsCompareAs c (map erased (list_of ts)) (map erased (list_of us)) → ComparesAs c (erased (node h ts)) (erased (node k us))
+unfolding erased Unequal
+one-whole comparison.Equal h k ts us e p = ap (λ x. node x (erased_row ts)) e ∙ ap (λ x. node (erased_head k) x) (same-row ts us p)
+one-whole comparison.Unequal h k ts us e p = inr (row-list ts us p)
+one-whole comparison.Undecided h k ts us e p = tt
+
+-- two constructors that are the same compare as their parts do
+pub alike-whole : (c : comparisons.Comparison) (t u : Tree) (n m : Node) (h k : Head) (b : Bool) →
+    n ≡ node_of t → m ≡ node_of u → n ≡ nodes.Head h → m ≡ nodes.Head k →
+    b ≡ same_node (compared_node Forgotten n) (compared_node Forgotten m) → b ≡ true →
+    ListsCompareAs c (map erased (parts_of t)) (map erased (parts_of u)) → ComparesAs c (erased t) (erased u)
+alike-whole c (node x ts) (node y us) n m h k b e f p q d w l =
+    let test : same_node (nodes.Head (erased_head x)) (nodes.Head (erased_head y)) ≡ true = rw (e, f) at (sym d ∙ w) in
+    one-whole c x y ts us (nodes-alike x y test) l
+alike-whole c (node x ts) (alias k us) n m h k' b e f p q d w l = absurd (cc)
+alike-whole c (node x ts) (variable v) n m h k b e f p q d w l = absurd (cc)
+alike-whole c (alias k ts) u n m h k' b e f p q d w l = absurd (cc)
+alike-whole c (variable v) u n m h k b e f p q d w l = absurd (cc)
+
+-- two other constructors are unequal
+pub apart-whole : (t u : Tree) (n m : Node) (h k : Head) (b : Bool) →
+    n ≡ node_of t → m ≡ node_of u → n ≡ nodes.Head h → m ≡ nodes.Head k →
+    b ≡ same_node (compared_node Forgotten n) (compared_node Forgotten m) → b ≡ false → Unequal (erased t) (erased u)
+unfolding erased Unequal
+apart-whole (node x ts) (node y us) n m h k b e f p q d w =
+    let test : same_node (nodes.Head (erased_head x)) (nodes.Head (erased_head y)) ≡ false = rw (e, f) at (sym d ∙ w) in
+    inl (nodes-apart x y test)
+apart-whole (node x ts) (alias k us) n m h k' b e f p q d w = absurd (cc)
+apart-whole (node x ts) (variable v) n m h k b e f p q d w = absurd (cc)
+apart-whole (alias k ts) u n m h k' b e f p q d w = absurd (cc)
+apart-whole (variable v) u n m h k b e f p q d w = absurd (cc)
+
+pub unequal-at : (ts us : List Tree) (i : ℕ) (t u : Tree) → slice_get ts i ≡ Some t → slice_get us i ≡ Some u →
+    Unequal (erased t) (erased u) → ListsUnequal (map erased ts) (map erased us)
+unequal-at [] us i t u e f h = absurd (cc)
+unequal-at (x ∷ ts) [] i t u e f h = tt
+unequal-at (x ∷ ts) (y ∷ us) zero t u e f h =
+    let p : x ≡ t = cc in let q : y ≡ u = cc in
+    inl (subst (λ w. Unequal (erased w) (erased y)) (sym p) (subst (λ w. Unequal (erased t) (erased w)) (sym q) h))
+unequal-at (x ∷ ts) (y ∷ us) (suc i) t u e f h = inr (unequal-at ts us i t u e f h)
+
+pub unequal-lengths : (ts us : List Tree) → length us ≢ length ts → ListsUnequal (map erased ts) (map erased us)
+unequal-lengths [] [] e = absurd (e refl)
+unequal-lengths [] (u ∷ us) e = tt
+unequal-lengths (t ∷ ts) [] e = tt
+unequal-lengths (t ∷ ts) (u ∷ us) e = inr (unequal-lengths ts us (λ h. e (ap suc h)))
+
+-- if the lists agree from a place on, they agree
+unfoldable pub AgreeFrom : List Tree → List Tree → ℕ → Type 0
+AgreeFrom ts us i = map erased (drop i ts) ≡ map erased (drop i us) → map erased ts ≡ map erased us
+
+pub agree-start : (ts us : List Tree) → AgreeFrom ts us 0
+unfolding AgreeFrom
+agree-start ts us e = e
+
+back : (ts us : List Tree) (i : ℕ) (t u : Tree) → slice_get ts i ≡ Some t → slice_get us i ≡ Some u → erased t ≡ erased u →
+    map erased (drop (suc i) ts) ≡ map erased (drop (suc i) us) → map erased (drop i ts) ≡ map erased (drop i us)
+back [] us i t u e f h k = absurd (cc)
+back (x ∷ ts) [] i t u e f h k = absurd (cc)
+back (x ∷ ts) (y ∷ us) zero t u e f h k =
+    let p : x ≡ t = cc in let q : y ≡ u = cc in
+    ap (λ w. erased w ∷ map erased ts) p ∙ ap (λ w. w ∷ map erased ts) h ∙ ap (λ w. erased w ∷ map erased ts) (sym q) ∙ ap (λ w. erased y ∷ w) k
+back (x ∷ ts) (y ∷ us) (suc i) t u e f h k = back ts us i t u e f h k
+
+pub agree-step : (ts us : List Tree) (i : ℕ) (t u : Tree) → slice_get ts i ≡ Some t → slice_get us i ≡ Some u → erased t ≡ erased u →
+    AgreeFrom ts us i → AgreeFrom ts us (i + 1)
+unfolding AgreeFrom
+agree-step ts us i t u e f h a = rw add-one (λ k. a (back ts us i t u e f h k))
+
+pub agree-end : (ts us : List Tree) (i : ℕ) → length ts ≡ i → length us ≡ i → AgreeFrom ts us i → map erased ts ≡ map erased us
+unfolding AgreeFrom
+agree-end ts us i e f a =
+    let p : drop i ts ≡ [] = drop_all i ts (omega arith) in
+    let q : drop i us ≡ [] = drop_all i us (omega arith) in
+    a (ap (map erased) p ∙ ap (map erased) (sym q))
+
+-- what the parts before a place say
+abbrev pub SoFar : comparisons.Comparison → List Tree → List Tree → ℕ → Type 0
+SoFar comparison.Equal ts us i = AgreeFrom ts us i
+SoFar comparison.Unequal ts us i = ⊥
+SoFar comparison.Undecided ts us i = Unit {0}
+
+pub same-whole : (t u : Tree) (b : Bool) → b ≡ same_tree (compared Forgotten t) (compared Forgotten u) → b ≡ true → erased t ≡ erased u
+same-whole t u b e h = same_tree-true (erased t) (erased u) (sym e ∙ h)
+
+pub so_far-step : (found : comparisons.Comparison) (ts us : List Tree) (i : ℕ) (t u : Tree) → slice_get ts i ≡ Some t → slice_get us i ≡ Some u →
+    erased t ≡ erased u → SoFar found ts us i → SoFar found ts us (i + 1)
+so_far-step comparison.Equal ts us i t u e f h s = agree-step ts us i t u e f h s
+so_far-step comparison.Unequal ts us i t u e f h s = s
+so_far-step comparison.Undecided ts us i t u e f h s = tt
+
+pub so_far-end : (found : comparisons.Comparison) (ts us : List Tree) (i : ℕ) → length ts ≡ i → length us ≡ i →
+    SoFar found ts us i → ListsCompareAs found (map erased ts) (map erased us)
+so_far-end comparison.Equal ts us i e f s = agree-end ts us i e f s
+so_far-end comparison.Unequal ts us i e f s = absurd s
+so_far-end comparison.Undecided ts us i e f s = tt

@@ -1,0 +1,64 @@
+use Rattle.std.proofs.Common.{◌≡◌, ◌∙◌, ◌+◌, ◌-◌, ◌∷◌, [], List, map, length, subst, sym, ap, arith}
+use Rattle.std.proofs.lemmas.Bool.{false≢true}
+use Rattle.goal_terms.specs.Tree.{Tree}
+use Rattle.goal_terms.specs.TreeOf.{tree_of_arg}
+use Rattle.goal_terms.specs.View.{tree_of_ref}
+use Rattle.goal_terms.specs.Erased.{erased}
+use Rattle.goal_terms.specs.declared.terms.GenericArg.{GenericArg}
+use Rattle.goal_tables.specs.declared.rows.Tables.{Tables}
+use Rattle.goal_solver.specs.Verdicts.{erased_args, replaced_args}
+use Rattle.goal_solver.proofs.ProjectLemmas.{itself-head, itself-variable, alias-head, alias-item, item-refuted, trait-replaced, trait-refuted, terms-more, terms-skip, terms-end, TermsBefore, no_elements}
+use Rattle.goal_solver.proofs.eval.+evaluation.Goals as goal
+use Rattle.goal_solver.proofs.eval.+evaluation.Goals.{project_from-then-is_of_trait, project_from-else-is_of_trait}
+
+pub head_form-returns-in-Head : goal.head_form-returns-in-Head
+head_form-returns-in-Head t c =
+    itself-head c.args.rows.now c.args.depth (tree_of_ref c.args.term) c.node.result c.in-Head.field-0 c.node.ensures c.in-Head.is
+
+pub head_form-returns-in-Variable : goal.head_form-returns-in-Variable
+head_form-returns-in-Variable t c =
+    itself-variable c.args.rows.now c.args.depth (tree_of_ref c.args.term) c.node.result c.in-Variable.field-0 c.node.ensures c.in-Variable.is
+
+pub head_form-returns-in-Args : goal.head_form-returns-in-Args
+head_form-returns-in-Args t c =
+    alias-head c.args.rows.now c.args.depth c.normalize.result (tree_of_ref c.args.term) c.node.result c.in-Alias.kind (map tree_of_arg c.in-Args.args.now)
+    c.node.ensures c.in-Alias.is c.in-Args.ensures c.normalize.ensures
+
+pub normalize-returns : goal.normalize-returns
+normalize-returns t c =
+    alias-item c.args.rows.now c.args.depth (c.args.depth - 1) c.project.result c.args.kind c.in-Some.item (erased_args c.args.args.now) c.in-Some-item_row.row.now
+    (omega arith) (sym c.in-Some.ensures) (sym c.in-Some-item_row.ensures)
+    (no_elements c.in-Some-item_row.row.now.own_params.items (omega (arith, c.in-Some-item_row.row.now.own_params.ok.0))) c.project.ensures
+
+pub project-returns-in-Refuted : goal.project-returns-in-Refuted
+project-returns-in-Refuted t c = item-refuted c.args.rows.now c.args.depth c.args.trait_id c.args.item (erased_args c.args.args.now) c.in-Refuted.ensures
+
+pub project_from-loop-row-preserved : goal.project_from-loop-row-preserved
+project_from-loop-row-preserved t c =
+    elim c.if-is_of_trait.branch [
+      | project_from-then-is_of_trait w ↦
+          subst (λ found. TermsBefore c.args.rows.now c.args.depth found c.args.trait_id c.args.item (replaced_args c.args.self_ty c.args.rest.now) c.as_slice-impls.result.now (c.loop-row.row-index + 1)) (sym w.found-is)
+          (terms-more c.args.rows.now c.args.depth c.loop-row.found w.impl_term.result w.merge-found.result c.args.trait_id c.args.item (replaced_args c.args.self_ty c.args.rest.now)
+          c.as_slice-impls.result.now c.loop-row.row-index c.row-item.result (omega arith) c.row-item.is (c.is_of_trait.ensures.0 w.if-is_of_trait.true)
+          w.merge-found.ensures c.loop-row.invariant w.impl_term.ensures)
+      | project_from-else-is_of_trait w ↦
+          subst (λ found. TermsBefore c.args.rows.now c.args.depth found c.args.trait_id c.args.item (replaced_args c.args.self_ty c.args.rest.now) c.as_slice-impls.result.now (c.loop-row.row-index + 1)) (sym w.found-is)
+          (terms-skip c.args.rows.now c.args.depth c.loop-row.found c.args.trait_id c.args.item (replaced_args c.args.self_ty c.args.rest.now)
+          c.as_slice-impls.result.now c.loop-row.row-index c.row-item.result (omega arith) c.row-item.is
+          (λ e. false≢true (sym w.if-is_of_trait.false ∙ c.is_of_trait.ensures.1 e)) c.loop-row.invariant)
+    ]
+
+pub project_from-returns : goal.project_from-returns
+project_from-returns t c =
+    terms-end c.args.rows.now c.args.depth c.loop-row.found c.args.trait_id c.args.item (replaced_args c.args.self_ty c.args.rest.now) c.as_slice-impls.result.now c.loop-row.row-index
+    (c.as_slice-impls.ensures.value ∙ ap (λ (x : Tables). x.impls.items) c.tables.ensures) (omega arith) c.loop-row.invariant
+
+pub trait_goal-returns-in-Refuted : goal.trait_goal-returns-in-Refuted
+trait_goal-returns-in-Refuted t c =
+    trait-refuted c.args.rows.now c.args.depth (c.args.depth - 1) c.args.trait_id (erased (tree_of_ref c.in-Some.first)) (erased_args c.in-Some.rest.now) (erased_args c.args.args.now)
+    (omega arith) c.in-Some.ensures c.in-Refuted.ensures
+
+pub trait_goal-returns-in-Is : goal.trait_goal-returns-in-Is
+trait_goal-returns-in-Is t c =
+    trait-replaced c.args.rows.now c.args.depth (c.args.depth - 1) c.decide_trait.result c.args.trait_id (erased (tree_of_ref c.in-Some.first)) (erased (tree_of_ref c.in-Is.self_ty)) (erased_args c.in-Some.rest.now) (erased_args c.args.args.now)
+    (omega arith) c.in-Some.ensures c.in-Is.ensures c.decide_trait.ensures

@@ -1,0 +1,97 @@
+-- When an answer is justified.
+use Rattle.std.specs.Prelude.{◌≡◌, ℕ, List, [], ◌∷◌, Option, Some, None, Result, Ok, Err}
+use Rattle.goal_terms.specs.Tree.{Tree, node_of}
+use Rattle.goal_terms.specs.declared.heads.Node.{Node}
+use Rattle.goal_terms.specs.declared.heads.Node.TheVariants as nodes
+use Rattle.goal_terms.specs.declared.heads.Variable.TheVariants as variables
+use Rattle.goal_terms.specs.declared.terms.InferTy.TheVariants as infer
+use Rattle.goal_terms.specs.TreeOf.{tree_of_term}
+use Rattle.goal_terms.specs.Erased.{erased}
+use Rattle.goal_terms.specs.declared.answers.Certainty.TheVariants as certainty
+use Rattle.goal_terms.specs.declared.answers.Certainty.{Certainty}
+use Rattle.goal_terms.specs.declared.answers.Response.{Response}
+use Rattle.goal_terms.specs.declared.answers.TraitGoalProvenVia.TheVariants as via
+use Rattle.goal_terms.specs.declared.predicates.Goal.{Goal}
+use Rattle.goal_terms.specs.declared.predicates.TraitPredicate.{TraitPredicate}
+use Rattle.goal_terms.specs.declared.predicates.NormalizesTo.{NormalizesTo}
+use Rattle.goal_terms.specs.declared.terms.Term.{Term}
+use Rattle.goal_terms.specs.declared.terms.Term.TheVariants as term
+use Rattle.goal_terms.specs.declared.terms.Ty.{Ty}
+use Rattle.goal_terms.specs.declared.terms.Const.{Const}
+use Rattle.goal_solver.specs.Levels.{level}
+use Rattle.goal_solver.specs.State.{State}
+use Rattle.goal_solver.specs.Verdicts.{erased_args}
+use Rattle.goal_solver.specs.declared.faults.Fault.{Fault}
+use Rattle.goal_solver.specs.declared.faults.Fault.TheVariants as fault
+
+-- the trait goal holds at the depth that is left
+abbrev pub TraitGoalHolds : State → Goal TraitPredicate → Type 0
+TraitGoalHolds s g =
+    (g.param_env.items ≡ [])
+    × (level s.tables s.remaining_depth).holds g.predicate.trait_ref.def_id (erased_args g.predicate.trait_ref.args.items)
+
+-- it is refuted there
+abbrev pub TraitGoalRefuted : State → Goal TraitPredicate → Type 0
+TraitGoalRefuted s g =
+    (g.param_env.items ≡ [])
+    × (level s.tables s.remaining_depth).trait_refuted g.predicate.trait_ref.def_id (erased_args g.predicate.trait_ref.args.items)
+
+-- the alias has this term at the depth that is left
+abbrev pub AliasHasTerm : State → Goal NormalizesTo → Tree → Type 0
+AliasHasTerm s g t =
+    (g.param_env.items ≡ [])
+    × (level s.tables s.remaining_depth).gives g.predicate.alias.kind (erased_args g.predicate.alias.args.items) t
+
+-- it is refuted there that the alias has a term
+abbrev pub AliasHasNoTerm : State → Goal NormalizesTo → Type 0
+AliasHasNoTerm s g =
+    (g.param_env.items ≡ [])
+    × (level s.tables s.remaining_depth).gives_refuted g.predicate.alias.kind (erased_args g.predicate.alias.args.items)
+
+-- a justified answer to a trait goal: yes where it holds, refused where it is refuted, and never for want of memory
+abbrev pub IsTraitResponse : State → Goal TraitPredicate → Certainty → Response → Type 0
+IsTraitResponse s g certainty.Yes r = TraitGoalHolds s g × (r.proven_via ≡ Some via.Misc) × (r.var_values.items ≡ [])
+IsTraitResponse s g certainty.Maybe r = (r.proven_via ≡ None) × (r.var_values.items ≡ [])
+
+abbrev pub IsTraitAnswer : State → Goal TraitPredicate → Result Response Fault → Type 0
+IsTraitAnswer s g (Ok r) = IsTraitResponse s g r.certainty r
+IsTraitAnswer s g (Err fault.NoSolution) = TraitGoalRefuted s g
+IsTraitAnswer s g (Err fault.RerunNonErased) = ⊥
+IsTraitAnswer s g (Err fault.OutOfMemory) = ⊥
+IsTraitAnswer s g (Err fault.NotForThisKind) = ⊥
+
+-- the number of a general variable
+abbrev pub general_variable_at : Node → Option ℕ
+general_variable_at (nodes.Variable (variables.Ty (infer.TyVar n))) = Some n
+general_variable_at (nodes.Variable (variables.Const n)) = Some n
+general_variable_at _ = None
+
+-- the variable that takes a goal's answer
+abbrev pub expected_variable : Term → Option ℕ
+expected_variable e = general_variable_at (node_of (tree_of_term e))
+
+-- the answer lists this term as the value of that variable, lifetimes aside, and no other value
+abbrev pub ListsValue : Term → Tree → Response → Type 0
+ListsValue e t r =
+    (n : ℕ) × (u : Term) × (expected_variable e ≡ Some n) × (r.var_values.items ≡ (n, u) ∷ []) × (erased (tree_of_term u) ≡ t)
+
+-- a response that gives a term to the expected variable
+abbrev pub GivesTermAs : Term → Tree → Certainty → Response → Type 0
+GivesTermAs e t certainty.Yes r = ListsValue e t r
+GivesTermAs e t certainty.Maybe r = r.var_values.items ≡ []
+
+abbrev pub GivesTerm : Term → Tree → Result Response Fault → Type 0
+GivesTerm e t (Ok r) = (r.proven_via ≡ None) × GivesTermAs e t r.certainty r
+GivesTerm e t (Err f) = f ≡ fault.OutOfMemory
+
+-- a justified answer to a goal that an alias normalizes: memory may run out only where there is a term to be copied
+abbrev pub IsAliasResponse : State → Goal NormalizesTo → Certainty → Response → Type 0
+IsAliasResponse s g certainty.Yes r = (t : Tree) × AliasHasTerm s g t × ListsValue g.predicate.term t r
+IsAliasResponse s g certainty.Maybe r = r.var_values.items ≡ []
+
+abbrev pub IsAliasAnswer : State → Goal NormalizesTo → Result Response Fault → Type 0
+IsAliasAnswer s g (Ok r) = (r.proven_via ≡ None) × IsAliasResponse s g r.certainty r
+IsAliasAnswer s g (Err fault.NoSolution) = AliasHasNoTerm s g
+IsAliasAnswer s g (Err fault.RerunNonErased) = ⊥
+IsAliasAnswer s g (Err fault.OutOfMemory) = (t : Tree) × AliasHasTerm s g t
+IsAliasAnswer s g (Err fault.NotForThisKind) = ⊥

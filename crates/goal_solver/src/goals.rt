@@ -1,0 +1,76 @@
+//! The check of goals.
+ghost use Rattle.std.specs.Prelude.{◌≡◌, ◌||◌, OnOk, IfErr};
+ghost use Rattle.goal_tables.specs.NodeTests.{is_unmade};
+ghost use Rattle.goal_tables.specs.Predicates.{lies_in_env as in_env, some_in_env as some_env};
+ghost use Rattle.goal_solver.specs.Goals.{goal_has, IsAcceptedBy, IsSmallestOf};
+
+use crate::context::EvalCtxt;
+use goal_tables::checked::CheckedTables;
+use goal_tables::node_tests::NodeTest;
+use goal_tables::predicate_terms::{PredicateTerms, lies_in_env, some_in_env};
+use goal_tables::sites::TermFault;
+use goal_terms::predicates::Goal;
+use thiserror::Error;
+
+/// Why a goal is refused. Of several faults that apply, the one of the smallest number is answered.
+#[derive(Clone, Copy, Debug, PartialEq, Eq, Hash, Error)]
+pub enum GoalFault {
+    /// An id stands that no row has.
+    #[error("unknown item")]
+    UnknownItem = 1,
+    /// An argument list has another length than its item's parameters.
+    #[error("wrong argument count")]
+    WrongArgumentCount = 2,
+    /// An argument, a term or an alias has another kind than its place.
+    #[error("wrong argument kind")]
+    WrongArgumentKind = 3,
+    /// A variable stands that the context hasn't made, or made of another kind.
+    #[error("unknown variable")]
+    UnknownVariable = 4,
+    /// The expected term of an alias is no general variable, or stands in the alias or in the
+    /// environment.
+    #[error("the expected term is not free")]
+    ExpectedTermNotFree = 5,
+}
+
+/// Whether a goal may be handed to a context. Parameters and placeholders of any number may stand
+/// in it. It takes no memory.
+pub fn check_goal<P: PredicateTerms>(
+    tables: &CheckedTables,
+    context: &EvalCtxt<'_>,
+    goal: &Goal<P>,
+) -> Result<(), GoalFault>
+    ensures accepted { OnOk result (IsAcceptedBy (goal_has P.has_fault P.has_passing P.wants_taken tables.now context.now.variables goal.now.predicate goal.now.param_env.items)) }
+    ensures refused { IfErr result (IsSmallestOf (goal_has P.has_fault P.has_passing P.wants_taken tables.now context.now.variables goal.now.predicate goal.now.param_env.items)) }
+{
+    if lies_in_goal(tables, TermFault::UnknownItem, goal) {
+        return Err(GoalFault::UnknownItem);
+    }
+    if lies_in_goal(tables, TermFault::WrongArgumentCount, goal) {
+        return Err(GoalFault::WrongArgumentCount);
+    }
+    if lies_in_goal(tables, TermFault::WrongArgumentKind, goal) {
+        return Err(GoalFault::WrongArgumentKind);
+    }
+    if has_unmade_variable(context, goal) {
+        return Err(GoalFault::UnknownVariable);
+    }
+    if goal.predicate.lacks_free_variable(&goal.param_env) {
+        return Err(GoalFault::ExpectedTermNotFree);
+    }
+    Ok(())
+}
+
+fn lies_in_goal<P: PredicateTerms>(tables: &CheckedTables, fault: TermFault, goal: &Goal<P>) -> bool
+    ensures { result ≡ (P.has_fault goal.now.predicate tables.now fault || in_env tables.now fault goal.now.param_env.items) }
+{
+    goal.predicate.lies_in(tables.rows(), fault)
+        || lies_in_env(tables.rows(), fault, &goal.param_env)
+}
+
+fn has_unmade_variable<P: PredicateTerms>(context: &EvalCtxt<'_>, goal: &Goal<P>) -> bool
+    ensures { result ≡ (P.has_passing goal.now.predicate (is_unmade context.now.variables) || some_env (is_unmade context.now.variables) goal.now.param_env.items) }
+{
+    let test = NodeTest::Unmade(context.variables());
+    goal.predicate.some_passes(test) || some_in_env(test, &goal.param_env)
+}

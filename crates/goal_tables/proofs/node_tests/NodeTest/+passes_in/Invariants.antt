@@ -1,0 +1,12 @@
+use Rattle.std.proofs.Common.{◌≡◌}
+use Rattle.goal_terms.specs.Tree.{tree_size}
+use Rattle.goal_terms.specs.View.{tree_of_ref, trees_seen}
+use Rattle.goal_tables.specs.NodeTests.{passes}
+use Rattle.goal_tables.proofs.NodeTestLemmas.{some_from}
+use Rattle.goal_tables.proofs.node_tests.NodeTest.+passes_in.Given as goal
+
+abbrev pub decreases-passes_in : goal.decreases-passes_in
+decreases-passes_in l = tree_size (tree_of_ref l.term)
+
+abbrev pub invariant-loop-i : goal.invariant-loop-i
+invariant-loop-i l = some_from (passes l.self) (trees_seen l.parts) l.i ≡ some_from (passes l.self) (trees_seen l.parts) 0

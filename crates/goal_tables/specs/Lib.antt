@@ -1,0 +1,9 @@
+pub mod Faults
+pub mod Indexed
+pub mod Options
+pub mod Params
+pub mod Places
+pub mod Rows
+pub mod Sites
+pub mod NodeTests
+pub mod Predicates
