@@ -9,6 +9,10 @@ use Rattle.goal_terms.specs.declared.terms.AliasTermKind.TheVariants.{Projection
 abbrev pub plain_tree : AdtId → Tree
 plain_tree id = node (head.Adt id 0) none
 
+-- a struct with a type for its parameter
+abbrev pub struct_tree : AdtId → Tree → Tree
+struct_tree id t = node (head.Adt id 1) (more t none)
+
 -- the projection of an item from a struct with no parameters
 abbrev pub projection_tree : ItemId → AdtId → Tree
 projection_tree item id = alias (ProjectionTy item) (more (plain_tree id) none)

@@ -1,5 +1,6 @@
-use crate::text::Shown;
+use crate::names::ProgramNames;
 use goal_terms::terms::Term;
+use goal_terms::text::Shown;
 use std::fmt;
 
 /// The answer of a row. A `Yes` has the type or constant that an alias stands for, and a `Refused`
@@ -17,7 +18,10 @@ impl fmt::Display for Answer {
         match self {
             Answer::Yes(None) => write!(f, "yes"),
             Answer::Yes(Some(term)) => {
-                let text = Shown(term.view());
+                let text = Shown {
+                    term: term.view(),
+                    names: &ProgramNames,
+                };
                 write!(f, "yes {text}")
             }
             Answer::No => write!(f, "no"),

@@ -2,7 +2,7 @@
 use crate::answer::Answer;
 use crate::faults::RowsFault;
 use crate::names::TR;
-use crate::program_tables::{projection_of, self_arguments};
+use crate::program_types::{projection_of, self_arguments};
 use goal_solver::context::EvalCtxt;
 use goal_solver::faults::Fault;
 use goal_solver::goals::{GoalFault, check_goal};
@@ -138,5 +138,6 @@ fn goal_fault_name(fault: GoalFault) -> &'static str {
         GoalFault::WrongArgumentKind => "WrongArgumentKind",
         GoalFault::UnknownVariable => "UnknownVariable",
         GoalFault::ExpectedTermNotFree => "ExpectedTermNotFree",
+        GoalFault::NeverConst => "NeverConst",
     }
 }

@@ -8,12 +8,14 @@ mod answer;
 mod ask;
 mod faults;
 mod names;
+mod program_aliases;
+mod program_impls;
 mod program_tables;
+mod program_traits;
+mod program_types;
 mod rows;
-mod scalar_text;
 #[cfg(test)]
 mod tests;
-mod text;
 
 fn main(rt: HostRuntime) -> ExitCode {
     let mut out = io::writer(&rt);

@@ -1,204 +1,125 @@
 //! The tables of the program that the rows ask about.
-ghost use Rattle.std.specs.Prelude.{◌≡◌, IfOk, [], ◌∷◌, map};
-ghost use Rattle.goal_terms.specs.TreeOf.{tree_of_ty, tree_of_arg, tree_of_alias};
-ghost use Rattle.goal_rows.specs.Asked.{plain_tree, projection_tree};
-
-use crate::names::{A, BOX, DYN_METADATA, P, Q, TR, VEC, W, X, Y, Z};
+use crate::program_aliases::{free_rows, inherent_impl_rows, inherent_rows, opaque_rows};
+use crate::program_impls::{definition_rows, impl_rows, source_rows};
+use crate::program_traits::{item_rows, lang_rows, trait_rows};
+use crate::program_types::adt_rows;
+use goal_tables::lang::LangRow;
 use goal_tables::rows::{
-    AdtRow, Container, DefRow, DefValue, ImplPolarity, ImplRow, ItemRow, Source, SourceRow, Tables,
-    TraitRow,
+    Container, DefRow, FreeRow, ImplRow, InherentImplRow, InherentRow, ItemRow, OpaqueRow,
+    SourceRow, Tables, TraitRow,
 };
-use goal_terms::answers::ParamKind;
-use goal_terms::ids::{AdtId, DefId, ImplId};
-use goal_terms::scalars::UintTy;
-use goal_terms::terms::{AliasTerm, AliasTermKind, GenericArg, Term, Ty};
+use goal_terms::ids::ImplId;
 use std::alloc::{AllocError, Global};
 
-/// The structs with a type parameter.
-const GENERIC_ADTS: [AdtId; 3] = [DYN_METADATA, VEC, BOX];
-
-/// The structs with no parameters.
-const PLAIN_ADTS: [AdtId; 6] = [X, Y, Z, Q, W, P];
-
-/// The impls of `Tr`, with the structs that they are for.
-const IMPLS: [(ImplId, AdtId, ImplPolarity); 4] = [
-    (ImplId(3), X, ImplPolarity::Positive),
-    (ImplId(4), Y, ImplPolarity::Negative),
-    (ImplId(5), Z, ImplPolarity::Positive),
-    (ImplId(6), Q, ImplPolarity::Positive),
-];
-
-/// What a definition says that `A` is.
-#[derive(Clone, Copy)]
-enum Value {
-    OwnProjection(AdtId),
-    U8,
-}
-
-/// The definitions of `A`, with the impls that they stand in, each of which uses its own.
-const DEFINITIONS: [(DefId, ImplId, Value); 3] = [
-    (DefId(2), ImplId(3), Value::OwnProjection(X)),
-    (DefId(3), ImplId(5), Value::U8),
-    (DefId(4), ImplId(6), Value::U8),
-];
-
-#[tactic(auto, using(goal_terms::proofs::TreeLemmas::tree_equations))]
-/// The type of a struct with no parameters.
-pub fn plain_type(alloc: Global, id: AdtId) -> Ty
-    ensures { tree_of_ty result ≡ plain_tree id }
-{
-    Ty::Adt(id, Vec::new(alloc))
-}
-
-#[tactic(auto, using(goal_terms::proofs::TreeLemmas::tree_equations))]
-/// The arguments that are a self type alone.
-pub fn self_arguments(alloc: Global, id: AdtId) -> Result<Vec<GenericArg>, AllocError>
-    ensures { IfOk result (λ args. map tree_of_arg args.items ≡ plain_tree id ∷ []) }
-{
-    Ok(vec![in alloc; GenericArg::Ty(plain_type(alloc, id))]?)
-}
-
-#[tactic(auto, using(goal_terms::proofs::TreeLemmas::tree_equations))]
-/// The alias `<STRUCT as Tr>::A`.
-pub fn projection_of(alloc: Global, id: AdtId) -> Result<AliasTerm, AllocError>
-    ensures { IfOk result (λ alias. tree_of_alias alias ≡ projection_tree A id) }
-{
-    let args = self_arguments(alloc, id)?;
-    Ok(AliasTerm {
-        kind: AliasTermKind::ProjectionTy(A),
-        args,
-    })
-}
-
-/// The tables of the program: the trait `Tr` with its item `A`, the structs, the impls of `Tr` and
-/// what each says that `A` is.
+/// The tables that the program asks: of the impls those for structs with no parameters that define
+/// `A` or deny `Tr`, with their definitions, and all other rows of the whole tables.
 pub fn program_tables(alloc: Global) -> Result<Tables, AllocError> {
-    let heads = trait_lists(alloc)?;
-    let impls = impl_rows(alloc)?;
-    let defined = definition_lists(alloc)?;
+    let mut tables = whole_tables(alloc)?;
+    keep_asked_impls(&mut tables);
+    Ok(tables)
+}
+
+/// The whole tables of the program: its traits, impls, aliases and structs, and the lang items.
+pub fn whole_tables(alloc: Global) -> Result<Tables, AllocError> {
+    let traits = trait_lists(alloc)?;
+    let impls = impl_lists(alloc)?;
+    let aliases = alias_lists(alloc)?;
     let adts = adt_rows(alloc)?;
     Ok(Tables {
-        traits: heads.traits,
-        items: heads.items,
-        impls,
-        definitions: defined.definitions,
-        sources: defined.sources,
+        traits: traits.traits,
+        items: traits.items,
+        impls: impls.impls,
+        definitions: impls.definitions,
+        sources: impls.sources,
+        free_aliases: aliases.free_aliases,
+        inherent_impls: aliases.inherent_impls,
+        inherent_items: aliases.inherent_items,
+        opaque_types: aliases.opaque_types,
         adts,
+        functions: Vec::new(alloc),
+        closures: Vec::new(alloc),
+        lang_items: traits.lang_items,
     })
 }
 
-/// The traits and their items.
+/// Whether the program asks about an impl.
+fn is_asked(id: ImplId) -> bool {
+    3 <= id.0 && id.0 <= 6
+}
+
+/// Whether a definition stands in an impl that the program asks about.
+fn stands_in_asked(container: Container) -> bool {
+    match container {
+        Container::Impl(id) => is_asked(id),
+        Container::Trait(_) => false,
+    }
+}
+
+/// Drops the other impls, their definitions and their sources.
+fn keep_asked_impls(tables: &mut Tables) {
+    tables.impls.retain(|row| is_asked(row.id));
+    tables
+        .definitions
+        .retain(|row| stands_in_asked(row.container));
+    tables.sources.retain(|row| is_asked(row.impl_id));
+}
+
+/// The traits, their items, and the lang items.
 #[derive(Drop)]
 struct TraitLists {
     traits: Vec<TraitRow>,
     items: Vec<ItemRow>,
+    lang_items: Vec<LangRow>,
 }
 
-/// The definitions, and which of them the impls use.
+fn trait_lists(alloc: Global) -> Result<TraitLists, AllocError> {
+    let traits = trait_rows(alloc)?;
+    let items = item_rows(alloc)?;
+    let lang_items = lang_rows(alloc)?;
+    Ok(TraitLists {
+        traits,
+        items,
+        lang_items,
+    })
+}
+
+/// The impls, their definitions, and which of them they use.
 #[derive(Drop)]
-struct DefinitionLists {
+struct ImplLists {
+    impls: Vec<ImplRow>,
     definitions: Vec<DefRow>,
     sources: Vec<SourceRow>,
 }
 
-fn trait_lists(alloc: Global) -> Result<TraitLists, AllocError> {
-    let traits = vec![in alloc; trait_row(alloc)?]?;
-    let items = vec![in alloc; item_row(alloc)]?;
-    Ok(TraitLists { traits, items })
-}
-
-fn definition_lists(alloc: Global) -> Result<DefinitionLists, AllocError> {
+fn impl_lists(alloc: Global) -> Result<ImplLists, AllocError> {
+    let impls = impl_rows(alloc)?;
     let definitions = definition_rows(alloc)?;
     let sources = source_rows(alloc)?;
-    Ok(DefinitionLists {
+    Ok(ImplLists {
+        impls,
         definitions,
         sources,
     })
 }
 
-fn trait_row(alloc: Global) -> Result<TraitRow, AllocError> {
-    let params = vec![in alloc; ParamKind::Ty]?;
-    let items = vec![in alloc; A]?;
-    Ok(TraitRow {
-        id: TR,
-        params,
-        items,
+/// The aliases that no trait has.
+#[derive(Drop)]
+struct AliasLists {
+    free_aliases: Vec<FreeRow>,
+    inherent_impls: Vec<InherentImplRow>,
+    inherent_items: Vec<InherentRow>,
+    opaque_types: Vec<OpaqueRow>,
+}
+
+fn alias_lists(alloc: Global) -> Result<AliasLists, AllocError> {
+    let free_aliases = free_rows(alloc)?;
+    let inherent_impls = inherent_impl_rows(alloc)?;
+    let inherent_items = inherent_rows(alloc)?;
+    let opaque_types = opaque_rows(alloc)?;
+    Ok(AliasLists {
+        free_aliases,
+        inherent_impls,
+        inherent_items,
+        opaque_types,
     })
-}
-
-fn item_row(alloc: Global) -> ItemRow {
-    ItemRow {
-        id: A,
-        trait_id: TR,
-        is_const: false,
-        own_params: Vec::new(alloc),
-    }
-}
-
-fn impl_rows(alloc: Global) -> Result<Vec<ImplRow>, AllocError> {
-    let mut rows = Vec::new(alloc);
-    for (id, self_type, polarity) in IMPLS {
-        let trait_args = self_arguments(alloc, self_type)?;
-        rows.push(ImplRow {
-            id,
-            trait_id: TR,
-            trait_args,
-            polarity,
-        })?;
-    }
-    Ok(rows)
-}
-
-fn definition_rows(alloc: Global) -> Result<Vec<DefRow>, AllocError> {
-    let mut rows = Vec::new(alloc);
-    for (id, impl_id, value) in DEFINITIONS {
-        let value = type_of(alloc, value)?;
-        rows.push(DefRow {
-            id,
-            container: Container::Impl(impl_id),
-            item: A,
-            own_params: Vec::new(alloc),
-            value: DefValue::Term(Term::Ty(value)),
-        })?;
-    }
-    Ok(rows)
-}
-
-fn type_of(alloc: Global, value: Value) -> Result<Ty, AllocError> {
-    match value {
-        Value::OwnProjection(id) => Ok(Ty::Alias(projection_of(alloc, id)?)),
-        Value::U8 => Ok(Ty::Uint(UintTy::U8)),
-    }
-}
-
-fn source_rows(alloc: Global) -> Result<Vec<SourceRow>, AllocError> {
-    let mut rows = Vec::new(alloc);
-    for (def_id, impl_id, _) in DEFINITIONS {
-        rows.push(SourceRow {
-            impl_id,
-            item_id: A,
-            source: Source::Def { def_id },
-        })?;
-    }
-    Ok(rows)
-}
-
-fn adt_rows(alloc: Global) -> Result<Vec<AdtRow>, AllocError> {
-    let mut rows = Vec::new(alloc);
-    for id in GENERIC_ADTS {
-        let params = vec![in alloc; ParamKind::Ty]?;
-        rows.push(AdtRow { id, params })?;
-    }
-    push_plain_adts(alloc, &mut rows)?;
-    Ok(rows)
-}
-
-fn push_plain_adts(alloc: Global, rows: &mut Vec<AdtRow>) -> Result<(), AllocError> {
-    for id in PLAIN_ADTS {
-        rows.push(AdtRow {
-            id,
-            params: Vec::new(alloc),
-        })?;
-    }
-    Ok(())
 }

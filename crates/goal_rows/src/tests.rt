@@ -1,4 +1,6 @@
 mod answers;
+mod growth;
+mod names;
 mod printing;
-mod terms;
-mod types;
+mod tables;
+mod verdicts;

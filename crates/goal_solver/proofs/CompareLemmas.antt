@@ -1,16 +1,16 @@
 -- How comparisons of parts make one of the whole.
-use Rattle.std.proofs.Common.{◌≡◌, ◌≢◌, ◌⊎◌, inl, inr, ℕ, zero, suc, ◌+◌, ◌<◌, Bool, true, false, List, [], ◌∷◌, length, map, drop, Some, refl, sym, ap, ◌∙◌, subst, add-one, arith, drop-cons}
+use Rattle.std.proofs.Common.{◌≡◌, ◌≢◌, inl, inr, ℕ, zero, suc, ◌+◌, Bool, true, false, List, [], ◌∷◌, length, map, drop, Some, refl, sym, ap, ◌∙◌, subst, add-one, arith}
 use Rattle.std.specs.Prelude.{slice_get}
 use Rattle.std.proofs.lemmas.List.{drop_all}
 use Rattle.std.proofs.lemmas.Bool.{false≢true}
-use Rattle.goal_terms.specs.Tree.{Tree, Trees, node, alias, variable, none, more, node_of, parts_of, list_of, forest}
+use Rattle.goal_terms.specs.Tree.{Tree, Trees, node, alias, variable, none, more, node_of, parts_of, list_of}
 use Rattle.goal_terms.specs.Erased.{erased, erased_row, erased_head, compared, compared_node}
 use Rattle.goal_terms.specs.SameTree.{same_node, same_tree}
 use Rattle.goal_terms.specs.SameLaws.{same_node-true, same_node-refl, same_tree-true}
 use Rattle.goal_terms.specs.declared.heads.Head.{Head}
 use Rattle.goal_terms.specs.declared.heads.Node.{Node}
 use Rattle.goal_terms.specs.declared.heads.Node.TheVariants as nodes
-use Rattle.goal_terms.specs.declared.compare.Regions.TheVariants.{Compared, Forgotten}
+use Rattle.goal_terms.specs.declared.compare.Regions.TheVariants.{Forgotten}
 use Rattle.goal_solver.specs.Equality.{Unequal, RowUnequal, ListsUnequal, ComparesAs, ListsCompareAs}
 use Rattle.goal_solver.specs.declared.relate.Comparison as comparisons
 use Rattle.goal_solver.specs.declared.relate.Comparison.TheVariants as comparison

@@ -1,8 +1,8 @@
 -- How what is found of impls makes an answer.
-use Rattle.std.proofs.Common.{◌≡◌, ◌≢◌, ◌⊎◌, inl, inr, ℕ, zero, suc, ◌+◌, ◌-◌, ◌<◌, ◌≤◌, Bool, true, false, List, [], ◌∷◌, length, map, get_or, Option, Some, None, refl, sym, ap, ◌∙◌, subst, add-one, arith}
+use Rattle.std.proofs.Common.{◌≡◌, ◌≢◌, inl, inr, ℕ, zero, suc, ◌+◌, ◌<◌, ◌≤◌, List, [], ◌∷◌, length, map, get_or, Some, sym, ap, ◌∙◌, subst, add-one, arith}
 use Rattle.std.specs.Prelude.{slice_get}
 use Rattle.std.proofs.lemmas.List.{length-map}
-use Rattle.goal_terms.specs.Tree.{Tree, Trees, node, alias, variable, none, more, node_of, parts_of, list_of}
+use Rattle.goal_terms.specs.Tree.{Tree}
 use Rattle.goal_terms.specs.TreeOf.{tree_of_arg}
 use Rattle.goal_terms.specs.Erased.{erased}
 use Rattle.goal_terms.specs.declared.ids.TraitId.{TraitId}
@@ -11,7 +11,7 @@ use Rattle.goal_tables.specs.declared.rows.ImplRow.{ImplRow}
 use Rattle.goal_tables.specs.declared.rows.Tables.{Tables}
 use Rattle.goal_solver.specs.Equality.{ListsUnequal}
 use Rattle.goal_solver.specs.Verdicts.{ImplsSay}
-use Rattle.goal_solver.specs.Levels.{header_of, ImplHolds, ImplRefuted, SomeImpl, EveryImpl}
+use Rattle.goal_solver.specs.Levels.{ImplRefuted, SomeImpl, EveryImpl}
 use Rattle.goal_solver.specs.declared.eval.Verdict as verdicts
 use Rattle.goal_solver.specs.declared.eval.Verdict.TheVariants as verdict
 use Rattle.goal_solver.proofs.CompareLemmas.{unequal-lengths}

@@ -1,9 +1,7 @@
 -- How the terms that impls give make the term of a projection.
-use Rattle.std.proofs.Common.{◌≡◌, ◌≢◌, ◌⊎◌, inl, inr, ℕ, zero, suc, ◌+◌, ◌-◌, ◌<◌, ◌≤◌, Bool, true, false, List, [], ◌∷◌, length, map, get_or, Option, Some, None, refl, sym, ap, ◌∙◌, subst, add-one, arith}
-use Rattle.std.specs.Prelude.{slice_get}
+use Rattle.std.proofs.Common.{◌≡◌, ◌⊎◌, inl, inr, ℕ, zero, suc, ◌+◌, ◌<◌, ◌≤◌, true, List, [], ◌∷◌, length, map, get_or, Some, refl, sym, ap, ◌∙◌, subst}
 use Rattle.goal_terms.specs.Tree.{Tree, Trees, node, alias, variable, none, more, node_of, parts_of, list_of}
-use Rattle.goal_terms.specs.TreeOf.{tree_of_arg}
-use Rattle.goal_terms.specs.View.{tree_of_ref, trees_seen}
+use Rattle.goal_terms.specs.View.{tree_of_ref}
 use Rattle.goal_terms.specs.Erased.{erased, erased_row}
 use Rattle.goal_terms.specs.declared.heads.Head.{Head}
 use Rattle.goal_terms.specs.declared.heads.Node.{Node}
@@ -11,16 +9,16 @@ use Rattle.goal_terms.specs.declared.heads.Node.TheVariants as nodes
 use Rattle.goal_terms.specs.declared.heads.Variable.{Variable}
 use Rattle.goal_terms.specs.declared.ids.TraitId.{TraitId}
 use Rattle.goal_terms.specs.declared.ids.ItemId.{ItemId}
-use Rattle.goal_terms.specs.declared.terms.GenericArg.{GenericArg}
 use Rattle.goal_terms.specs.declared.terms.AliasTermKind.{AliasTermKind}
-use Rattle.goal_terms.specs.declared.terms.AliasTermKind.TheVariants.{ProjectionTy, ProjectionConst, InherentTy, InherentConst, OpaqueTy, FreeTy, FreeConst, UnevaluatedConst}
+use Rattle.goal_terms.specs.declared.terms.AliasTermKind.TheVariants.{ProjectionTy, ProjectionConst}
 use Rattle.goal_terms.specs.declared.view.TermRef.{TermRef}
 use Rattle.goal_tables.specs.Rows.{item_of}
 use Rattle.goal_tables.specs.declared.rows.ImplRow.{ImplRow}
 use Rattle.goal_tables.specs.declared.rows.ItemRow.{ItemRow}
 use Rattle.goal_tables.specs.declared.rows.Tables.{Tables}
-use Rattle.goal_solver.specs.Levels.{level, HasHeadForm, HeadFormRefuted, ImplHolds, ImplRefuted, ImplGives, ImplTermRefuted, ImplsGive, ItemGives, ItemRefuted, ProjectionGives, ProjectionRefuted, HasOnlyImpls, any_error, SomeImpl, EveryImpl, TraitHolds, TraitRefuted, HasValue}
-use Rattle.goal_solver.specs.Verdicts.{erased_args, HeadFormIs, AliasIs, TraitIs, ItemIs, ImplTermIs, ImplTermsSay, ImplsSayFor, MergesTo, ReplacedIs, projected, ImplComparesAs}
+use Rattle.goal_solver.specs.PlainRows.{is_plain_item}
+use Rattle.goal_solver.specs.Levels.{level, HasHeadForm, HeadFormRefuted, ImplGives, ImplTermRefuted, ItemGives, ItemRefuted, HasOnlyImpls, SomeImpl, EveryImpl}
+use Rattle.goal_solver.specs.Verdicts.{HeadFormIs, AliasIs, TraitIs, ItemIs, ImplTermIs, ImplTermsSay, ImplsSayFor, MergesTo, ReplacedIs, projected}
 use Rattle.goal_solver.specs.declared.eval.HeadForm as forms
 use Rattle.goal_solver.specs.declared.eval.HeadForm.TheVariants as form
 use Rattle.goal_solver.specs.declared.eval.Verdict as verdicts
@@ -76,7 +74,7 @@ alias-head t n f (alias l ts) m k args e g p a =
 alias-head t n f (variable w) m k args e g p a = absurd (cc)
 
 up-alias : (t : Tables) (n : ℕ) (f : forms.HeadForm) (k : AliasTermKind) (i : ItemId) (args : List Tree) (q : ItemRow) →
-    projected k ≡ Some i → item_of t i ≡ Some q → q.own_params.items ≡ [] → ItemIs t n f q.trait_id i args → AliasIs t (suc n) f k args
+    projected k ≡ Some i → item_of t i ≡ Some q → is_plain_item q ≡ true → ItemIs t n f q.trait_id i args → AliasIs t (suc n) f k args
 unfolding level
 up-alias t n (form.Is u) (ProjectionTy j) i args q e g o h = let p : j ≡ i = cc in (q, ap (item_of t) p ∙ g, o, subst (λ x. ItemGives t (level t n) x q.trait_id args (erased (tree_of_ref u))) (sym p) h)
 up-alias t n (form.Is u) (ProjectionConst j) i args q e g o h = let p : j ≡ i = cc in (q, ap (item_of t) p ∙ g, o, subst (λ x. ItemGives t (level t n) x q.trait_id args (erased (tree_of_ref u))) (sym p) h)
@@ -87,7 +85,7 @@ up-alias t n f _ i args q e g o h = absurd (cc)
 
 -- an alias has the term of its item, one higher
 pub alias-item : (t : Tables) (d n : ℕ) (f : forms.HeadForm) (k : AliasTermKind) (i : ItemId) (args : List Tree) (q : ItemRow) → d ≡ suc n →
-    projected k ≡ Some i → item_of t i ≡ Some q → q.own_params.items ≡ [] → ItemIs t n f q.trait_id i args → AliasIs t d f k args
+    projected k ≡ Some i → item_of t i ≡ Some q → is_plain_item q ≡ true → ItemIs t n f q.trait_id i args → AliasIs t d f k args
 alias-item t d n f k i args q e p g o h = subst (λ m. AliasIs t m f k args) (sym e) (up-alias t n f k i args q p g o h)
 
 -- an item's term, once its trait goal holds
@@ -118,7 +116,7 @@ up-trait : (t : Tables) (n : ℕ) (v : verdicts.Verdict) (q : TraitId) (self s :
     HasHeadForm (level t n) self s → ReplacedIs t v q s rest → TraitIs t (suc n) v q (self ∷ rest)
 unfolding level
 up-trait t n verdict.Holds q self s rest h r = (s, h, r)
-up-trait t n verdict.Refuted q self s rest h r = inr (s, h, r.0, r.1)
+up-trait t n verdict.Refuted q self s rest h r = inr (s, h, r.0, r.1, r.2)
 up-trait t n verdict.Undecided q self s rest h r = tt
 
 -- a trait goal, one above what is said for the head form of its self type
@@ -201,8 +199,3 @@ terms-end t d (form.Is u) q i args rs n e l b = (
 terms-end t d form.Refuted q i args rs n e l b =
     subst (EveryImpl q (ImplTermRefuted t (level t d) i args)) e (every-end q (ImplTermRefuted t (level t d) i args) rs n l b)
 terms-end t d form.Undecided q i args rs n e l b = tt
-
--- a list without elements
-pub no_elements : {A : Type 0} (xs : List A) → length xs ≡ 0 → xs ≡ []
-no_elements [] e = refl
-no_elements (x ∷ xs) e = absurd (omega arith)

@@ -1,5 +1,5 @@
 -- When an answer is justified.
-use Rattle.std.specs.Prelude.{◌≡◌, ℕ, List, [], ◌∷◌, Option, Some, None, Result, Ok, Err}
+use Rattle.std.specs.Prelude.{◌≡◌, ℕ, [], ◌∷◌, Option, Some, None, Result, Ok, Err}
 use Rattle.goal_terms.specs.Tree.{Tree, node_of}
 use Rattle.goal_terms.specs.declared.heads.Node.{Node}
 use Rattle.goal_terms.specs.declared.heads.Node.TheVariants as nodes
@@ -15,9 +15,6 @@ use Rattle.goal_terms.specs.declared.predicates.Goal.{Goal}
 use Rattle.goal_terms.specs.declared.predicates.TraitPredicate.{TraitPredicate}
 use Rattle.goal_terms.specs.declared.predicates.NormalizesTo.{NormalizesTo}
 use Rattle.goal_terms.specs.declared.terms.Term.{Term}
-use Rattle.goal_terms.specs.declared.terms.Term.TheVariants as term
-use Rattle.goal_terms.specs.declared.terms.Ty.{Ty}
-use Rattle.goal_terms.specs.declared.terms.Const.{Const}
 use Rattle.goal_solver.specs.Levels.{level}
 use Rattle.goal_solver.specs.State.{State}
 use Rattle.goal_solver.specs.Verdicts.{erased_args}

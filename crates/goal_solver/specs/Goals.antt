@@ -3,14 +3,13 @@ use Rattle.std.specs.Prelude.{◌≡◌, ◌<◌, ℕ, Bool, true, false, ◌||�
 use Rattle.goal_terms.specs.declared.answers.VarKind.{VarKind}
 use Rattle.goal_terms.specs.declared.heads.Node.{Node}
 use Rattle.goal_terms.specs.declared.predicates.Clause.{Clause}
-use Rattle.goal_tables.specs.NodeTests.{is_unmade}
+use Rattle.goal_terms.specs.NodeTests.{is_unmade}
 use Rattle.goal_tables.specs.Predicates.{lies_in_env, some_in_env}
 use Rattle.goal_tables.specs.declared.rows.Tables.{Tables}
 use Rattle.goal_tables.specs.declared.sites.TermFault.{TermFault}
 use Rattle.goal_tables.specs.declared.sites.TermFault.TheVariants as lies
-use Rattle.goal_solver.specs.State.{State}
 use Rattle.goal_solver.specs.declared.goals.GoalFault.{GoalFault}
-use Rattle.goal_solver.specs.declared.goals.GoalFault.TheVariants.{UnknownItem, WrongArgumentCount, WrongArgumentKind, UnknownVariable, ExpectedTermNotFree}
+use Rattle.goal_solver.specs.declared.goals.GoalFault.TheVariants.{UnknownItem, WrongArgumentCount, WrongArgumentKind, UnknownVariable, ExpectedTermNotFree, NeverConst}
 
 -- the number of a fault: of several that apply, the one of the smallest number is answered
 abbrev pub number_of : GoalFault → ℕ
@@ -19,6 +18,7 @@ number_of WrongArgumentCount = 2
 number_of WrongArgumentKind = 3
 number_of UnknownVariable = 4
 number_of ExpectedTermNotFree = 5
+number_of NeverConst = 6
 
 -- whether a fault applies to a goal, by what its predicate says of faults in it, of nodes in it and of a variable that isn't free
 abbrev pub goal_has : {P : Type 0} → (P → Tables → TermFault → Bool) → (P → (Node → Bool) → Bool) → (P → List Clause → Bool) →
@@ -28,6 +28,7 @@ goal_has faulty passing taken t vs p env WrongArgumentCount = faulty p t lies.Wr
 goal_has faulty passing taken t vs p env WrongArgumentKind = faulty p t lies.WrongArgumentKind || lies_in_env t lies.WrongArgumentKind env
 goal_has faulty passing taken t vs p env UnknownVariable = passing p (is_unmade vs) || some_in_env (is_unmade vs) env
 goal_has faulty passing taken t vs p env ExpectedTermNotFree = taken p env
+goal_has faulty passing taken t vs p env NeverConst = faulty p t lies.NeverConst || lies_in_env t lies.NeverConst env
 
 -- no fault applies
 abbrev pub IsAcceptedBy : (GoalFault → Bool) → Type 0

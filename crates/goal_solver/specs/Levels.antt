@@ -1,18 +1,20 @@
 -- What may be derived and what may be refuted, by trees of at most a height. Terms are taken without lifetimes, and the environment
 -- is empty. A rule that isn't here yet neither derives nor refutes.
-use Rattle.std.specs.Prelude.{◌≡◌, ◌⊎◌, ℕ, zero, suc, Bool, true, false, ◌||◌, IsTrue, List, [], ◌∷◌, map, Some}
-use Rattle.goal_terms.specs.Tree.{Tree, Trees, node, alias, variable, none, more, forest, list_of}
+use Rattle.std.specs.Prelude.{◌≡◌, ◌⊎◌, ℕ, zero, suc, Bool, true, false, ◌||◌, List, [], ◌∷◌, map, Some}
+use Rattle.goal_terms.specs.Tree.{Tree, node, alias, variable, list_of}
 use Rattle.goal_terms.specs.TreeOf.{tree_of_arg}
 use Rattle.goal_terms.specs.Erased.{erased}
+use Rattle.goal_terms.specs.Occurrences.{has_error}
 use Rattle.goal_terms.specs.declared.heads.Head.{Head}
-use Rattle.goal_terms.specs.declared.heads.Head.TheVariants.{Dynamic, TyError, ConstError}
+use Rattle.goal_terms.specs.declared.heads.Head.TheVariants.{Dynamic}
 use Rattle.goal_terms.specs.declared.ids.TraitId.{TraitId}
+use Rattle.goal_terms.specs.declared.ids.DefId.{DefId}
 use Rattle.goal_terms.specs.declared.ids.ItemId.{ItemId}
-use Rattle.goal_terms.specs.declared.terms.GenericArg.{GenericArg}
 use Rattle.goal_terms.specs.declared.terms.AliasTermKind.{AliasTermKind}
-use Rattle.goal_terms.specs.declared.terms.AliasTermKind.TheVariants.{ProjectionTy, ProjectionConst, InherentTy, InherentConst, OpaqueTy, FreeTy, FreeConst, UnevaluatedConst}
+use Rattle.goal_terms.specs.declared.terms.AliasTermKind.TheVariants.{ProjectionTy, ProjectionConst}
 use Rattle.goal_tables.specs.Rows.{item_of, source_of, definition_of}
-use Rattle.goal_tables.specs.Faults.{tree_of_value, is_positive, definition_of_source}
+use Rattle.goal_tables.specs.SourceFaults.{is_positive}
+use Rattle.goal_solver.specs.PlainRows.{has_no_params, has_no_predicates, is_plain_item, is_negative, final_definition, stands_in, tree_of_value, has_other_rules}
 use Rattle.goal_tables.specs.declared.rows.ImplRow.{ImplRow}
 use Rattle.goal_tables.specs.declared.rows.ItemRow.{ItemRow}
 use Rattle.goal_tables.specs.declared.rows.SourceRow.{SourceRow}
@@ -48,22 +50,6 @@ HeadFormRefuted L (node h ts) = ⊥
 HeadFormRefuted L (alias k ts) = L.gives_refuted k (list_of ts)
 HeadFormRefuted L (variable v) = ⊥
 
--- an error stands in a term
-abbrev pub head_is_error : Head → Bool
-head_is_error (TyError n) = true
-head_is_error (ConstError n) = true
-head_is_error _ = false
-
-unfoldable mutual
-  pub has_error : Tree → Bool
-  has_error (node h ts) = head_is_error h || row_has_error ts
-  has_error (alias k ts) = row_has_error ts
-  has_error (variable v) = false
-
-  pub row_has_error : Trees → Bool
-  row_has_error none = false
-  row_has_error (more t ts) = has_error t || row_has_error ts
-
 -- an error stands in a list of terms
 abbrev pub any_error : List Tree → Bool
 any_error [] = false
@@ -87,13 +73,14 @@ IsPlain s rest = HasOnlyImpls s × (any_error (s ∷ rest) ≡ false)
 abbrev pub header_of : ImplRow → List Tree
 header_of r = map erased (map tree_of_arg r.trait_args.items)
 
--- a trait goal's impl: positive, and its header fits
+-- a trait goal's impl: positive, and its header fits; so far only without parameters and where clauses
 abbrev pub ImplHolds : ImplRow → List Tree → Type 0
-ImplHolds r args = (is_positive r.polarity ≡ true) × (header_of r ≡ args)
+ImplHolds r args =
+    (is_positive r.polarity ≡ true) × (has_no_params r ≡ true) × (has_no_predicates r ≡ true) × (header_of r ≡ args)
 
--- an impl that cannot hold: not positive, or its header clashes
+-- an impl that cannot hold: negative, or without parameters and with a header that clashes
 abbrev pub ImplRefuted : ImplRow → List Tree → Type 0
-ImplRefuted r args = (is_positive r.polarity ≡ false) ⊎ ListsUnequal (header_of r) args
+ImplRefuted r args = (is_negative r.polarity ≡ true) ⊎ ((has_no_params r ≡ true) × ListsUnequal (header_of r) args)
 
 -- some impl of a trait
 abbrev pub SomeImpl : TraitId → (ImplRow → Type 0) → List ImplRow → Type 0
@@ -111,18 +98,19 @@ TraitHolds t L i [] = ⊥
 TraitHolds t L i (self ∷ rest) =
     (s : Tree) × HasHeadForm L self s × SomeImpl i (λ r. ImplHolds r (s ∷ rest)) t.impls.items
 
--- a trait goal is refuted one higher: its self type's head form is, or each candidate for it is
+-- a trait goal is refuted one higher: its self type's head form is, or each candidate for it is, and no other rule may hold
 abbrev pub TraitRefuted : Tables → Level → TraitId → List Tree → Type 0
 TraitRefuted t L i [] = ⊥
 TraitRefuted t L i (self ∷ rest) =
     HeadFormRefuted L self
-    ⊎ ((s : Tree) × HasHeadForm L self s × IsPlain s rest × EveryImpl i (λ r. ImplRefuted r (s ∷ rest)) t.impls.items)
+    ⊎ ((s : Tree) × HasHeadForm L self s × (has_other_rules t i ≡ false) × IsPlain s rest × EveryImpl i (λ r. ImplRefuted r (s ∷ rest)) t.impls.items)
 
--- the value that an impl has for an item
+-- the value that an impl has for an item: that of a definition of its own which is no default; so far only without parameters
 abbrev pub HasValue : Tables → ImplRow → ItemId → Tree → Type 0
 HasValue t r i v =
-    (s : SourceRow) × (d : DefRow) × (source_of t r.id i ≡ Some s) × (definition_of t (definition_of_source s.source) ≡ Some d)
-    × (erased (tree_of_value d.value) ≡ v)
+    (has_no_params r ≡ true)
+    × ((s : SourceRow) × (k : DefId) × (d : DefRow) × (u : Tree) × (source_of t r.id i ≡ Some s) × (final_definition s.source ≡ Some k)
+    × (definition_of t k ≡ Some d) × (stands_in d.container r.id ≡ true) × (tree_of_value d.value ≡ Some u) × (erased u ≡ v))
 
 -- an impl gives a term: it holds, and the head form of its value is that term
 abbrev pub ImplGives : Tables → Level → ItemId → List Tree → Tree → ImplRow → Type 0
@@ -152,15 +140,15 @@ ItemRefuted t L i q (self ∷ rest) =
     ⊎ (L.holds q (self ∷ rest)
     × ((s : Tree) × HasHeadForm L self s × HasOnlyImpls s × EveryImpl q (ImplTermRefuted t L i (s ∷ rest)) t.impls.items))
 
--- a projection has a term one higher, if its item has no parameters of its own
+-- a projection has a term one higher, if its item has no parameters and where clauses of its own
 abbrev pub ProjectionGives : Tables → Level → ItemId → List Tree → Tree → Type 0
 ProjectionGives t L i args u =
-    (q : ItemRow) × (item_of t i ≡ Some q) × (q.own_params.items ≡ []) × ItemGives t L i q.trait_id args u
+    (q : ItemRow) × (item_of t i ≡ Some q) × (is_plain_item q ≡ true) × ItemGives t L i q.trait_id args u
 
 -- a projection has no term
 abbrev pub ProjectionRefuted : Tables → Level → ItemId → List Tree → Type 0
 ProjectionRefuted t L i args =
-    (q : ItemRow) × (item_of t i ≡ Some q) × (q.own_params.items ≡ []) × ItemRefuted t L i q.trait_id args
+    (q : ItemRow) × (item_of t i ≡ Some q) × (is_plain_item q ≡ true) × ItemRefuted t L i q.trait_id args
 
 -- an alias has a term one higher
 abbrev pub AliasGives : Tables → Level → AliasTermKind → List Tree → Tree → Type 0

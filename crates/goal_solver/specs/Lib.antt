@@ -5,3 +5,4 @@ pub mod Goals
 pub mod Levels
 pub mod State
 pub mod Verdicts
+pub mod PlainRows

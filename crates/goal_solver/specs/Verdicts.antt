@@ -1,5 +1,5 @@
 -- What the evaluation's answers say.
-use Rattle.std.specs.Prelude.{◌≡◌, ℕ, List, [], ◌∷◌, map, Option, Some, None}
+use Rattle.std.specs.Prelude.{◌≡◌, false, ℕ, List, [], ◌∷◌, map, Option, Some, None}
 use Rattle.goal_terms.specs.Tree.{Tree}
 use Rattle.goal_terms.specs.TreeOf.{tree_of_arg}
 use Rattle.goal_terms.specs.View.{tree_of_ref}
@@ -8,10 +8,11 @@ use Rattle.goal_terms.specs.declared.ids.TraitId.{TraitId}
 use Rattle.goal_terms.specs.declared.ids.ItemId.{ItemId}
 use Rattle.goal_terms.specs.declared.terms.GenericArg.{GenericArg}
 use Rattle.goal_terms.specs.declared.terms.AliasTermKind.{AliasTermKind}
-use Rattle.goal_terms.specs.declared.terms.AliasTermKind.TheVariants.{ProjectionTy, ProjectionConst, InherentTy, InherentConst, OpaqueTy, FreeTy, FreeConst, UnevaluatedConst}
+use Rattle.goal_terms.specs.declared.terms.AliasTermKind.TheVariants.{ProjectionTy, ProjectionConst}
 use Rattle.goal_terms.specs.declared.view.TermRef.{TermRef}
 use Rattle.goal_tables.specs.declared.rows.ImplRow.{ImplRow}
 use Rattle.goal_tables.specs.declared.rows.Tables.{Tables}
+use Rattle.goal_solver.specs.PlainRows.{has_other_rules}
 use Rattle.goal_solver.specs.Levels.{level, HasHeadForm, HeadFormRefuted, ImplHolds, ImplRefuted, ImplGives, ImplTermRefuted, ImplsGive, ItemGives, ItemRefuted, HasOnlyImpls, IsPlain, SomeImpl, EveryImpl}
 use Rattle.goal_solver.specs.declared.relate.Comparison as comparisons
 use Rattle.goal_solver.specs.declared.relate.Comparison.TheVariants as comparison
@@ -87,7 +88,7 @@ ItemIs t n form.Undecided q i args = Unit {0}
 abbrev pub ReplacedIs : Tables → verdicts.Verdict → TraitId → Tree → List Tree → Type 0
 ReplacedIs t verdict.Holds i s rest = SomeImpl i (λ r. ImplHolds r (s ∷ rest)) t.impls.items
 ReplacedIs t verdict.Refuted i s rest =
-    IsPlain s rest × EveryImpl i (λ r. ImplRefuted r (s ∷ rest)) t.impls.items
+    (has_other_rules t i ≡ false) × IsPlain s rest × EveryImpl i (λ r. ImplRefuted r (s ∷ rest)) t.impls.items
 ReplacedIs t verdict.Undecided i s rest = Unit {0}
 
 -- what two finds make together: both have to be of one term

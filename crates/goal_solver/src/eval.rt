@@ -4,18 +4,21 @@ ghost use Rattle.std.specs.Prelude.{◌≡◌, ◌+◌, ◌∷◌, ◌<◌, ◌�
 ghost use Rattle.goal_terms.specs.TreeOf.{tree_of_arg};
 ghost use Rattle.goal_terms.specs.View.{tree_of_ref};
 ghost use Rattle.goal_terms.specs.Erased.{erased};
-ghost use Rattle.goal_tables.specs.Faults.{definition_of_source, tree_of_value};
 ghost use Rattle.goal_solver.specs.Equality.{ListsCompareAs};
 ghost use Rattle.goal_solver.specs.Levels.{header_of, HasValue};
 ghost use Rattle.goal_solver.specs.Verdicts.{erased_args, replaced_args, ImplComparesAs, ImplsSay, TraitIs, HeadFormIs, AliasIs, ImplTermIs, ImplTermsSay, ImplsSayFor, ItemIs, ReplacedIs, MergesTo, projected};
 
 use crate::errors::{has_only_impls, is_plain};
+use crate::plain_rows::{
+    final_definition, has_no_params, has_no_predicates, has_other_rules, is_plain_item, stands_in,
+    value_term,
+};
 use crate::relate::{Comparison, compare};
 use goal_tables::lookup::IndexedTables;
-use goal_tables::rows::{DefValue, ImplPolarity, ImplRow, Source};
+use goal_tables::rows::{ImplPolarity, ImplRow};
 use goal_terms::compare::{Regions, same};
 use goal_terms::heads::Node;
-use goal_terms::ids::{DefId, ItemId, TraitId};
+use goal_terms::ids::{ItemId, TraitId};
 use goal_terms::terms::{AliasTermKind, GenericArg};
 use goal_terms::view::{Parts, TermRef};
 
@@ -72,11 +75,12 @@ fn match_impl(row: &ImplRow, self_ty: TermRef<'_>, rest: &[GenericArg]) -> Compa
 {
     match row.polarity {
         ImplPolarity::Negative => Comparison::Unequal,
-        ImplPolarity::Positive => match match_header(row, self_ty, rest) {
-            Comparison::Equal => Comparison::Equal,
+        ImplPolarity::Positive if has_no_params(row) => match match_header(row, self_ty, rest) {
+            Comparison::Equal if has_no_predicates(row) => Comparison::Equal,
             Comparison::Unequal => Comparison::Unequal,
-            Comparison::Undecided => Comparison::Undecided,
+            _ => Comparison::Undecided,
         },
+        ImplPolarity::Positive | ImplPolarity::Reservation => Comparison::Undecided,
     }
 }
 
@@ -122,10 +126,10 @@ fn decide_trait(
         Verdict::Holds => Verdict::Holds,
         Verdict::Undecided => Verdict::Undecided,
         Verdict::Refuted => {
-            if is_plain(self_ty, rest) {
-                Verdict::Refuted
-            } else {
+            if has_other_rules(rows, trait_id) || !is_plain(self_ty, rest) {
                 Verdict::Undecided
+            } else {
+                Verdict::Refuted
             }
         }
     }
@@ -135,25 +139,16 @@ fn decide_trait(
 fn value_of<'a>(rows: &'a IndexedTables, row: &ImplRow, item: ItemId) -> Option<TermRef<'a>>
     ensures { IfSome result (λ v. HasValue rows.now row.now item (erased (tree_of_ref v))) }
 {
+    if !has_no_params(row) {
+        return None;
+    }
     let source = rows.source_row(row.id, item)?;
-    let definition = rows.definition_row(definition_id(source.source))?;
-    Some(value_term(&definition.value))
-}
-
-fn definition_id(source: Source) -> DefId
-    ensures { result ≡ definition_of_source source }
-{
-    match source {
-        Source::Def { def_id } => def_id,
+    let definition = rows.definition_row(final_definition(source.source)?)?;
+    if !stands_in(definition.container, row.id) {
+        return None;
     }
-}
-
-fn value_term(value: &DefValue) -> TermRef<'_>
-    ensures { tree_of_ref result ≡ tree_of_value value.now }
-{
-    match value {
-        DefValue::Term(term) => term.view(),
-    }
+    let term = value_term(&definition.value)?;
+    Some(term)
 }
 
 /// The self type of a goal's arguments, and the others.
@@ -232,7 +227,7 @@ pub fn normalize<'a>(
     let Some(row) = rows.item_row(item) else {
         return HeadForm::Undecided;
     };
-    if row.own_params.len() > 0 {
+    if !is_plain_item(row) {
         return HeadForm::Undecided;
     }
     project(rows, row.trait_id, item, args, depth - 1)

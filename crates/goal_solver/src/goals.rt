@@ -1,14 +1,14 @@
 //! The check of goals.
 ghost use Rattle.std.specs.Prelude.{◌≡◌, ◌||◌, OnOk, IfErr};
-ghost use Rattle.goal_tables.specs.NodeTests.{is_unmade};
+ghost use Rattle.goal_terms.specs.NodeTests.{is_unmade};
 ghost use Rattle.goal_tables.specs.Predicates.{lies_in_env as in_env, some_in_env as some_env};
 ghost use Rattle.goal_solver.specs.Goals.{goal_has, IsAcceptedBy, IsSmallestOf};
 
 use crate::context::EvalCtxt;
 use goal_tables::checked::CheckedTables;
-use goal_tables::node_tests::NodeTest;
 use goal_tables::predicate_terms::{PredicateTerms, lies_in_env, some_in_env};
 use goal_tables::sites::TermFault;
+use goal_terms::node_tests::NodeTest;
 use goal_terms::predicates::Goal;
 use thiserror::Error;
 
@@ -31,6 +31,9 @@ pub enum GoalFault {
     /// environment.
     #[error("the expected term is not free")]
     ExpectedTermNotFree = 5,
+    /// Something const is said of a trait that doesn't allow it.
+    #[error("never const")]
+    NeverConst = 6,
 }
 
 /// Whether a goal may be handed to a context. Parameters and placeholders of any number may stand
@@ -57,6 +60,9 @@ pub fn check_goal<P: PredicateTerms>(
     }
     if goal.predicate.lacks_free_variable(&goal.param_env) {
         return Err(GoalFault::ExpectedTermNotFree);
+    }
+    if lies_in_goal(tables, TermFault::NeverConst, goal) {
+        return Err(GoalFault::NeverConst);
     }
     Ok(())
 }

@@ -7,5 +7,6 @@ pub mod eval;
 pub mod faults;
 pub mod goals;
 mod normalizes_to;
+pub mod plain_rows;
 pub mod relate;
 mod trait_goals;

@@ -1,5 +1,5 @@
 -- The first fault of a list that applies.
-use Rattle.std.proofs.Common.{◌≡◌, ℕ, ◌<◌, Bool, true, false, cond, ◌⊎◌, inl, inr, List, [], ◌∷◌, Option, Some, None, refl, sym, ap, ◌∙◌, subst, arith}
+use Rattle.std.proofs.Common.{◌≡◌, ℕ, ◌<◌, Bool, true, false, cond, ◌⊎◌, inl, inr, List, [], ◌∷◌, Some, None, refl, sym, ap, ◌∙◌, arith}
 use Rattle.std.specs.Prelude.{find}
 use Rattle.goal_tables.specs.Faults.{number_of, all_faults, applies, IsChecked, IsSmallestFault}
 use Rattle.goal_tables.specs.declared.faults.TableFault.{TableFault}
@@ -55,7 +55,7 @@ none p [] h g s = absurd s
 none p (x ∷ fs) h g s = none_on p x fs (p x) refl (none p fs) h g s
 
 rising : Rises 0 all_faults
-rising = (omega arith, (omega arith, (omega arith, (omega arith, (omega arith, (omega arith, (omega arith, (omega arith, tt))))))))
+rising = (omega arith, (omega arith, (omega arith, (omega arith, (omega arith, (omega arith, (omega arith, (omega arith, (omega arith, (omega arith, (omega arith, (omega arith, (omega arith, (omega arith, (omega arith, (omega arith, (omega arith, (omega arith, tt))))))))))))))))))
 
 place : (g : TableFault) → Stands g all_faults ⊎ (g ≡ fault.OutOfMemory)
 place fault.UnknownItem = inl (inl refl)
@@ -63,17 +63,27 @@ place fault.WrongArgumentCount = inl (inr (inl refl))
 place fault.WrongArgumentKind = inl (inr (inr (inl refl)))
 place fault.ParameterOutOfRange = inl (inr (inr (inr (inl refl))))
 place fault.InferInTable = inl (inr (inr (inr (inr (inl refl)))))
-place fault.SourceMismatch = inl (inr (inr (inr (inr (inr (inl refl))))))
-place fault.OwnParametersMismatch = inl (inr (inr (inr (inr (inr (inr (inl refl)))))))
-place fault.DoubledId = inl (inr (inr (inr (inr (inr (inr (inr (inl refl))))))))
+place fault.ImplParameterNotInHeader = inl (inr (inr (inr (inr (inr (inl refl))))))
+place fault.ReservationWithItems = inl (inr (inr (inr (inr (inr (inr (inl refl)))))))
+place fault.LangItemMissing = inl (inr (inr (inr (inr (inr (inr (inr (inl refl))))))))
+place fault.LangItemDoubled = inl (inr (inr (inr (inr (inr (inr (inr (inr (inl refl)))))))))
+place fault.ImplOfBuiltinTrait = inl (inr (inr (inr (inr (inr (inr (inr (inr (inr (inl refl))))))))))
+place fault.AutoTrait = inl (inr (inr (inr (inr (inr (inr (inr (inr (inr (inr (inl refl)))))))))))
+place fault.NeverConst = inl (inr (inr (inr (inr (inr (inr (inr (inr (inr (inr (inr (inl refl))))))))))))
+place fault.TraitAliasWithItems = inl (inr (inr (inr (inr (inr (inr (inr (inr (inr (inr (inr (inr (inl refl)))))))))))))
+place fault.InherentConstWithoutValue = inl (inr (inr (inr (inr (inr (inr (inr (inr (inr (inr (inr (inr (inr (inl refl))))))))))))))
+place fault.SourceMismatch = inl (inr (inr (inr (inr (inr (inr (inr (inr (inr (inr (inr (inr (inr (inr (inl refl)))))))))))))))
+place fault.OwnParametersMismatch = inl (inr (inr (inr (inr (inr (inr (inr (inr (inr (inr (inr (inr (inr (inr (inr (inl refl))))))))))))))))
+place fault.BuiltinItemMismatch = inl (inr (inr (inr (inr (inr (inr (inr (inr (inr (inr (inr (inr (inr (inr (inr (inr (inl refl)))))))))))))))))
+place fault.DoubledId = inl (inr (inr (inr (inr (inr (inr (inr (inr (inr (inr (inr (inr (inr (inr (inr (inr (inr (inl refl))))))))))))))))))
 place fault.OutOfMemory = inr refl
 
 pub checked : (t : Tables) → find (λ f. applies t f) all_faults ≡ None → IsChecked t
-unfolding IsChecked
+unfolding IsChecked applies
 checked t h g = elim (place g) [ inl s ↦ none (λ f. applies t f) all_faults h g s | inr e ↦ ap (λ f. applies t f) e ]
 
 pub smallest : (t : Tables) (f : TableFault) → find (λ f. applies t f) all_faults ≡ Some f → IsSmallestFault t f
-unfolding IsSmallestFault
+unfolding IsSmallestFault applies
 smallest t f h =
     let found : IsFirst (λ f. applies t f) all_faults f = first (λ f. applies t f) 0 all_faults f rising h in
     (found.0, λ g l. elim (place g) [ inl s ↦ found.1 g s l | inr e ↦ ap (λ f. applies t f) e ])

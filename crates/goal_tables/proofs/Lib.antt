@@ -1,8 +1,8 @@
 pub mod FaultLemmas
+pub mod IndexLemmas
+pub mod KindLemmas
 pub mod LookupLemmas
+pub mod MarkLemmas
 pub mod ParamLemmas
 pub mod PlaceLemmas
 pub mod SiteLemmas
-pub mod SourceLemmas
-pub mod NodeTestLemmas
-pub mod PredicateLemmas

@@ -1,5 +1,5 @@
 -- A row is found at the first place of its id.
-use Rattle.std.proofs.Common.{◌≡◌, ℕ, zero, suc, ◌+◌, ◌<◌, Bool, true, false, cond, List, [], ◌∷◌, length, map, Option, Some, None, refl, sym, ap, ◌∙◌, subst, arith}
+use Rattle.std.proofs.Common.{◌≡◌, ℕ, suc, ◌<◌, Bool, true, false, cond, List, [], ◌∷◌, length, map, Option, Some, None, refl, sym, ap, ◌∙◌, subst, arith}
 use Rattle.std.specs.Prelude.{find, slice_get}
 use Rattle.std.specs.Option.{option_map, option_and_then, ForSome}
 use Rattle.std.specs.HashMap.{get, HashMap}
@@ -39,3 +39,5 @@ pub within-index : {R K S : Type 0} (eq : K → K → Bool) (f : R → K) (rows 
     IsIndexOf eq (map f rows) places → ForSome (get eq places k) (λ n. n < length rows)
 unfolding IsIndexOf
 within-index eq f rows places k h = subst (λ o. ForSome o (λ n. n < length rows)) (sym (h k)) (within-place eq f rows k)
+
+pub ruleset finding = (find-index, within-index)

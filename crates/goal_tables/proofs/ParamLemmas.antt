@@ -1,14 +1,15 @@
 -- Parameters, place by place.
-use Rattle.std.proofs.Common.{◌≡◌, ℕ, zero, suc, ◌+◌, ◌-◌, ◌<◌, ◌≤◌, Bool, true, false, List, [], ◌∷◌, ◌++◌, length, drop, get_or, map, Option, Some, None, refl, sym, ap, ◌∙◌, arith, add-one, zero-add}
-use Rattle.std.specs.Prelude.{slice_get, not, ◌||◌, ◌&&◌}
+use Rattle.std.proofs.Common.{◌≡◌, ℕ, zero, suc, ◌+◌, Bool, true, false, List, [], ◌∷◌, length, drop, map, Some, refl, sym, ap, ◌∙◌, arith, add-one}
+use Rattle.std.specs.Prelude.{slice_get, not, ◌||◌}
 use Rattle.std.proofs.lemmas.List.{drop_all}
 use Rattle.goal_terms.specs.Tree.{Tree, node_of}
 use Rattle.goal_terms.specs.TreeOf.{tree_of_arg}
 use Rattle.goal_terms.specs.declared.answers.ParamKind.{ParamKind}
 use Rattle.goal_terms.specs.declared.terms.GenericArg.{GenericArg}
-use Rattle.goal_tables.specs.Faults.{kinds_of}
+use Rattle.goal_tables.specs.Clauses.{kinds_of}
 use Rattle.goal_tables.specs.Options.{option_holds}
-use Rattle.goal_tables.specs.Sites.{same_kind, kind_of, differs_in_kind}
+use Rattle.goal_tables.specs.ParamKinds.{differs_in_kind, has_param}
+use Rattle.goal_terms.specs.Kinds.{same_kind, kind_of}
 
 -- whether parts are of other kinds than their parameters at some place from i on
 unfoldable pub differs_from : List ParamKind → List Tree → ℕ → Bool
@@ -53,44 +54,15 @@ differs_from-end ps ts i e =
 
 pub ruleset differing = (differs_from-start, differs_from-more, differs_from-found, differs_from-end)
 
--- whether two lists have other kinds at some place from i on
-unfoldable pub kinds_from : List ParamKind → List ParamKind → ℕ → Bool
-kinds_from ps ks i = differs_in_kind (drop i ps) (drop i ks)
+pub has_param-at : (ps : List ParamKind) (n : ℕ) (k : ParamKind) → has_param ps n k ≡ option_holds (λ p. same_kind p k) (slice_get ps n)
+has_param-at [] n k = refl
+has_param-at (p ∷ ps) zero k = refl
+has_param-at (p ∷ ps) (suc n) k = has_param-at ps n k
 
-pub kinds_from-start : (ps ks : List ParamKind) → differs_in_kind ps ks ≡ kinds_from ps ks 0
-unfolding kinds_from
-kinds_from-start ps ks = refl
-
-kinds_step : (ps ks : List ParamKind) (i : ℕ) (d : ParamKind) → i < length ps → i < length ks →
-    kinds_from ps ks i ≡ not (same_kind (get_or ps i d) (get_or ks i d)) || kinds_from ps ks (suc i)
-unfolding kinds_from
-kinds_step [] ks i d g h = absurd (omega arith)
-kinds_step (x ∷ ps) [] i d g h = absurd (omega arith)
-kinds_step (x ∷ ps) (y ∷ ks) zero d g h = refl
-kinds_step (x ∷ ps) (y ∷ ks) (suc i) d g h = kinds_step ps ks i d (omega arith) (omega arith)
-
-pub kinds_from-more : (ps ks : List ParamKind) (i : ℕ) (d : ParamKind) (b : Bool) → i < length ps → i < length ks →
-    same_kind (get_or ps i d) (get_or ks i d) ≡ true → kinds_from ps ks i ≡ b → kinds_from ps ks (i + 1) ≡ b
-kinds_from-more ps ks i d b g h same old =
-    rw add-one (ap (λ w. not w || kinds_from ps ks (suc i)) (sym same) ∙ sym (kinds_step ps ks i d g h) ∙ old)
-
-pub kinds_from-found : (ps ks : List ParamKind) (i : ℕ) (d : ParamKind) (b : Bool) → i < length ps → i < length ks →
-    same_kind (get_or ps i d) (get_or ks i d) ≡ false → kinds_from ps ks i ≡ b → b ≡ true
-kinds_from-found ps ks i d b g h same old =
-    sym old ∙ kinds_step ps ks i d g h ∙ ap (λ w. not w || kinds_from ps ks (suc i)) same
-
-pub found : (a b : Bool) → b ≡ true → false ≡ a && not b
-found true b e = ap not (sym e)
-found false b e = refl
-
-pub kinds_from-end : (ps ks : List ParamKind) (i : ℕ) → length ps ≡ i → kinds_from ps ks i ≡ false
-unfolding kinds_from
-kinds_from-end ps ks i e =
-    let p : drop i ps ≡ [] = drop_all i ps (omega arith) in
-    ap (λ us. differs_in_kind us (drop i ks)) p
-
-pub ruleset kinds_differing = (kinds_from-start, kinds_from-more, kinds_from-found, kinds_from-end)
+pub ruleset having = (has_param-at)
 
 pub kinds_of-parts : (args : List GenericArg) → map (λ x. kind_of (node_of x)) (map tree_of_arg args) ≡ kinds_of args
 kinds_of-parts [] = refl
 kinds_of-parts (a ∷ args) = ap (λ ks. kind_of (node_of (tree_of_arg a)) ∷ ks) (kinds_of-parts args)
+
+pub ruleset kinds_of_args = (kinds_of-parts)

@@ -1,27 +1,14 @@
 -- Faults of terms, part by part.
-use Rattle.std.proofs.Common.{◌≡◌, ℕ, zero, suc, ◌+◌, ◌<◌, ◌≤◌, get_or, Bool, true, false, List, [], ◌∷◌, length, drop, Option, Some, None, refl, sym, ap, ◌∙◌, add-one, arith}
+use Rattle.std.proofs.Common.{◌≡◌, ℕ, zero, suc, ◌+◌, Bool, true, false, List, [], ◌∷◌, length, drop, Some, refl, sym, ap, ◌∙◌, add-one, arith}
 use Rattle.std.specs.Prelude.{slice_get, ◌||◌}
 use Rattle.std.specs.List.{list_any}
 use Rattle.std.proofs.lemmas.List.{drop_all}
-use Rattle.goal_terms.specs.Tree.{Tree, Trees, node, alias, variable, none, more, node_of, parts_of, list_of}
+use Rattle.goal_terms.specs.Tree.{Tree, Trees, node, alias, variable, none, more, parts_of, list_of}
 use Rattle.goal_terms.specs.declared.answers.ParamKind.{ParamKind}
 use Rattle.goal_terms.proofs.WalkLemmas.{tree_size-part}
-use Rattle.goal_tables.specs.Options.{option_holds}
-use Rattle.goal_tables.specs.Sites.{same_kind, has_param, lies_here, lies_in, lies_in_row}
+use Rattle.goal_tables.specs.Sites.{lies_here, lies_in, lies_in_row}
 use Rattle.goal_tables.specs.declared.sites.TermFault as faults
 use Rattle.goal_tables.specs.declared.rows.Tables.{Tables}
-
-pub has_param-none : (ps : List ParamKind) (n : ℕ) (k : ParamKind) → length ps ≤ n → has_param ps n k ≡ false
-has_param-none [] n k h = refl
-has_param-none (p ∷ ps) zero k h = absurd (omega arith)
-has_param-none (p ∷ ps) (suc n) k h = has_param-none ps n k (omega arith)
-
-pub has_param-some : (ps : List ParamKind) (n : ℕ) (d k : ParamKind) → n < length ps → same_kind (get_or ps n d) k ≡ has_param ps n k
-has_param-some [] n d k h = absurd (omega arith)
-has_param-some (p ∷ ps) zero d k h = refl
-has_param-some (p ∷ ps) (suc n) d k h = has_param-some ps n d k (omega arith)
-
-pub ruleset having = (has_param-none, has_param-some)
 
 -- whether a fault lies in one of the parts from a place on
 unfoldable pub lies_from : Tables → List ParamKind → faults.TermFault → List Tree → ℕ → Bool

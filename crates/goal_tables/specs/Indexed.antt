@@ -1,28 +1,120 @@
 -- Tables with the places of their rows.
-use Rattle.std.specs.Prelude.{◌≡◌, ◌==◌, ◌||◌, map}
+use Rattle.std.specs.Prelude.{◌≡◌, ◌==◌, ◌||◌, ℕ, Bool, List, [], ◌∷◌, map, filter, Option, Some, None, Vec}
+use Rattle.std.specs.HashMap.{get, HashMap}
+use Rattle.std.specs.List.{list_any}
+use Rattle.goal_terms.specs.declared.ids.ImplId.{ImplId}
+use Rattle.goal_tables.specs.FixedParams.{impl_has_unfixed, inherent_has_unfixed}
 use Rattle.goal_tables.specs.Places.{IsIndexOf, same_pair, has_double}
-use Rattle.goal_tables.specs.declared.index.TraitIndex.{TraitIndex}
-use Rattle.goal_tables.specs.declared.index.ImplIndex.{ImplIndex}
-use Rattle.goal_tables.specs.declared.index.Index.{Index}
+use Rattle.goal_tables.specs.Rows.{same_lang_item, same_lang_target}
+use Rattle.goal_tables.specs.declared.index.RowIndex.{RowIndex}
+use Rattle.goal_tables.specs.declared.tables_index.TraitIndex.{TraitIndex}
+use Rattle.goal_tables.specs.declared.tables_index.ImplIndex.{ImplIndex}
+use Rattle.goal_tables.specs.declared.tables_index.SourceIndex.{SourceIndex}
+use Rattle.goal_tables.specs.declared.tables_index.AliasIndex.{AliasIndex}
+use Rattle.goal_tables.specs.declared.tables_index.InherentIndex.{InherentIndex}
+use Rattle.goal_tables.specs.declared.tables_index.TypeIndex.{TypeIndex}
+use Rattle.goal_tables.specs.declared.tables_index.TermIndex.{TermIndex}
+use Rattle.goal_tables.specs.declared.tables_index.HoldIndex.{HoldIndex}
+use Rattle.goal_tables.specs.declared.tables_index.LangIndex.{LangIndex}
+use Rattle.goal_tables.specs.declared.tables_index.Index.{Index}
 use Rattle.goal_tables.specs.declared.rows.Tables.{Tables}
+use Rattle.goal_tables.specs.declared.rows.SourceRow.{SourceRow}
+use Rattle.goal_tables.specs.declared.lang.LangRow.{LangRow}
+use Rattle.goal_tables.specs.declared.rows.TraitRow.{TraitRow}
+use Rattle.goal_tables.specs.declared.rows.ImplRow.{ImplRow}
 
--- the places of traits and items are right, and whether an id of them stands twice
+-- the places of ids are right, and whether one stands twice
+pub record IsRowIndex (ids : List ℕ) (i : RowIndex) : Type 0 where
+  pub places : IsIndexOf ◌==◌ ids i.places
+  pub doubled : i.doubled ≡ has_double ◌==◌ ids
+
+-- the numbers of the items that a trait lists
+abbrev pub listed_numbers : TraitRow → List ℕ
+listed_numbers r = map (λ i. i.0) r.items.items
+
+-- whether a trait lists the item of a number
+abbrev pub lists_number : TraitRow → ℕ → Bool
+lists_number r n = list_any (λ i. i.0 == n) r.items.items
+
+-- an item stands twice in a trait's list
+abbrev pub lists_twice : TraitRow → Bool
+lists_twice r = has_double ◌==◌ (listed_numbers r)
+
+-- for each trait the places of the items in its list
+unfoldable pub AreListings : List TraitRow → List RowIndex → Type 0
+AreListings [] [] = Unit {0}
+AreListings [] (i ∷ is) = ⊥
+AreListings (r ∷ rs) [] = ⊥
+AreListings (r ∷ rs) (i ∷ is) = IsRowIndex (listed_numbers r) i × AreListings rs is
+
+-- the impls that a map has for a trait
+abbrev pub list_at : {A : Type 0} → Option (Vec ImplId A) → List ImplId
+list_at None = []
+list_at (Some ids) = ids.items
+
+-- the impls of the trait of a number, in the order of their rows
+abbrev pub impls_numbered : List ImplRow → ℕ → List ImplId
+impls_numbered rows n = map (λ r. r.id) (filter (λ r. r.trait_id.0 == n) rows)
+
+-- a map has the impls of each trait
+unfoldable pub AreImplLists : {A S : Type 0} → List ImplRow → HashMap ℕ (Vec ImplId A) S → Type 0
+AreImplLists {A} {S} rows lists = (n : ℕ) → list_at (get ◌==◌ lists n) ≡ impls_numbered rows n
+
+-- the places of traits and items are right, and those of the items in their traits' lists
 pub record IsTraitIndex (t : Tables) (i : TraitIndex) : Type 0 where
-  pub traits : IsIndexOf ◌==◌ (map (λ r. r.id.0) t.traits.items) i.traits
-  pub items : IsIndexOf ◌==◌ (map (λ r. r.id.0) t.items.items) i.items
-  pub doubled : i.doubled ≡ (has_double ◌==◌ (map (λ r. r.id.0) t.traits.items) || has_double ◌==◌ (map (λ r. r.id.0) t.items.items))
+  pub traits : IsRowIndex (map (λ r. r.id.0) t.traits.items) i.traits
+  pub items : IsRowIndex (map (λ r. r.id.0) t.items.items) i.items
+  pub listings : AreListings t.traits.items i.listings.items
 
--- the places of impls, definitions and sources are right, and whether an id of them stands twice
+-- the places of impls and definitions are right, the lists of each trait's impls, and whether a parameter stands in no header
 pub record IsImplIndex (t : Tables) (i : ImplIndex) : Type 0 where
-  pub impls : IsIndexOf ◌==◌ (map (λ r. r.id.0) t.impls.items) i.impls
-  pub definitions : IsIndexOf ◌==◌ (map (λ r. r.id.0) t.definitions.items) i.definitions
-  pub sources : IsIndexOf same_pair (map (λ r. (r.impl_id.0, r.item_id.0)) t.sources.items) i.sources
-  pub doubled : i.doubled ≡ (has_double ◌==◌ (map (λ r. r.id.0) t.impls.items) || has_double ◌==◌ (map (λ r. r.id.0) t.definitions.items))
-  pub doubled_source : i.doubled_source ≡ has_double same_pair (map (λ r. (r.impl_id.0, r.item_id.0)) t.sources.items)
+  pub impls : IsRowIndex (map (λ r. r.id.0) t.impls.items) i.impls
+  pub definitions : IsRowIndex (map (λ r. r.id.0) t.definitions.items) i.definitions
+  pub by_trait : AreImplLists t.impls.items i.by_trait
+  pub unfixed : i.unfixed ≡ list_any impl_has_unfixed t.impls.items
+
+-- the places of sources are right, and whether an impl has two for one item
+pub record IsSourceIndex (rows : List SourceRow) (i : SourceIndex) : Type 0 where
+  pub places : IsIndexOf same_pair (map (λ r. (r.impl_id.0, r.item_id.0)) rows) i.places
+  pub doubled : i.doubled ≡ has_double same_pair (map (λ r. (r.impl_id.0, r.item_id.0)) rows)
+
+-- the places of free aliases and opaque types are right
+pub record IsAliasIndex (t : Tables) (i : AliasIndex) : Type 0 where
+  pub free_aliases : IsRowIndex (map (λ r. r.id.0) t.free_aliases.items) i.free_aliases
+  pub opaque_types : IsRowIndex (map (λ r. r.id.0) t.opaque_types.items) i.opaque_types
+
+-- the places of inherent impls and their items are right, and whether a parameter stands in no self type
+pub record IsInherentIndex (t : Tables) (i : InherentIndex) : Type 0 where
+  pub impls : IsRowIndex (map (λ r. r.id.0) t.inherent_impls.items) i.impls
+  pub items : IsRowIndex (map (λ r. r.id.0) t.inherent_items.items) i.items
+  pub unfixed : i.unfixed ≡ list_any inherent_has_unfixed t.inherent_impls.items
+
+-- the places of ADTs, functions and closures are right
+pub record IsTypeIndex (t : Tables) (i : TypeIndex) : Type 0 where
+  pub adts : IsRowIndex (map (λ r. r.id.0) t.adts.items) i.adts
+  pub functions : IsRowIndex (map (λ r. r.id.0) t.functions.items) i.functions
+  pub closures : IsRowIndex (map (λ r. r.id.0) t.closures.items) i.closures
+
+-- the places of lang items and of what they name are right, and whether one stands twice
+pub record IsLangIndex (rows : List LangRow) (i : LangIndex) : Type 0 where
+  pub items : IsIndexOf same_lang_item (map (λ r. r.item) rows) i.items
+  pub targets : IsIndexOf same_lang_target (map (λ r. r.target) rows) i.targets
+  pub doubled : i.doubled ≡ (has_double same_lang_item (map (λ r. r.item) rows) || has_double same_lang_target (map (λ r. r.target) rows))
+
+-- the places of the rows that terms name are right
+pub record IsTermIndex (t : Tables) (i : TermIndex) : Type 0 where
+  pub of_aliases : IsAliasIndex t i.of_aliases
+  pub of_inherent : IsInherentIndex t i.of_inherent
+  pub of_types : IsTypeIndex t i.of_types
+
+-- the places of the rows that say which traits hold are right
+pub record IsHoldIndex (t : Tables) (i : HoldIndex) : Type 0 where
+  pub of_traits : IsTraitIndex t i.of_traits
+  pub of_impls : IsImplIndex t i.of_impls
+  pub of_sources : IsSourceIndex t.sources.items i.of_sources
 
 -- the index says of each id where its row stands, and of each list whether an id stands twice in it
 pub record IsIndexed (t : Tables) (i : Index) : Type 0 where
-  pub of_traits : IsTraitIndex t i.of_traits
-  pub of_impls : IsImplIndex t i.of_impls
-  pub adts : IsIndexOf ◌==◌ (map (λ r. r.id.0) t.adts.items) i.adts
-  pub doubled_adt : i.doubled_adt ≡ has_double ◌==◌ (map (λ r. r.id.0) t.adts.items)
+  pub holds : IsHoldIndex t i.holds
+  pub terms : IsTermIndex t i.terms
+  pub lang : IsLangIndex t.lang_items.items i.lang

@@ -1,68 +1,25 @@
 -- What stands in predicates and in environments.
-use Rattle.std.specs.Prelude.{ℕ, Bool, true, false, ◌||◌, not, List, [], ◌∷◌, length, Option, Some, None, is_none}
+use Rattle.std.specs.Prelude.{ℕ, Bool, true, false, ◌||◌, List, [], Option, Some, None}
 use Rattle.std.specs.List.{list_any}
-use Rattle.std.specs.Option.{option_map}
-use Rattle.goal_terms.specs.Tree.{Tree, node_of}
+use Rattle.goal_terms.specs.NodeTests.{some_node, general_variable_at, has_number}
+use Rattle.goal_terms.specs.Tree.{node_of}
 use Rattle.goal_terms.specs.TreeOf.{tree_of_arg, tree_of_term, tree_of_alias}
-use Rattle.goal_terms.specs.declared.answers.ParamKind.{ParamKind}
 use Rattle.goal_terms.specs.declared.heads.Node.{Node}
 use Rattle.goal_terms.specs.declared.predicates.Clause.{Clause}
 use Rattle.goal_terms.specs.declared.predicates.ClauseKind.{ClauseKind}
 use Rattle.goal_terms.specs.declared.predicates.ClauseKind.TheVariants as clause
-use Rattle.goal_terms.specs.declared.predicates.TraitRef.{TraitRef}
+use Rattle.goal_terms.specs.declared.predicates.Predicate.{Predicate}
+use Rattle.goal_terms.specs.declared.predicates.Predicate.TheVariants as predicate
 use Rattle.goal_terms.specs.declared.terms.AliasTerm.{AliasTerm}
 use Rattle.goal_terms.specs.declared.terms.GenericArg.{GenericArg}
 use Rattle.goal_terms.specs.declared.terms.Term.{Term}
-use Rattle.goal_tables.specs.Faults.{kinds_of}
-use Rattle.goal_tables.specs.NodeTests.{some_node, general_variable_at, has_number}
-use Rattle.goal_tables.specs.Rows.{trait_of}
-use Rattle.goal_tables.specs.Sites.{kind_of, kind_of_alias, same_kind, differs_in_count, asks_other_kinds, lies_in}
+use Rattle.goal_tables.specs.Clauses.{lies_in_trait_ref, lies_in_const_ref, lies_in_equation, lies_in_clauses}
 use Rattle.goal_tables.specs.declared.rows.Tables.{Tables}
-use Rattle.goal_tables.specs.declared.sites.TermFault as faults
-use Rattle.goal_tables.specs.declared.sites.TermFault.TheVariants.{UnknownItem, WrongArgumentCount, WrongArgumentKind, ParameterOutOfRange, InferInTable}
+use Rattle.goal_tables.specs.declared.sites.TermFault.{TermFault}
 
--- the parameters of a trait
-abbrev pub trait_params : Tables → TraitRef → Option (List ParamKind)
-trait_params t r = option_map (λ q. q.params.items) (trait_of t r.def_id)
-
--- whether a trait reference names no row's trait, or has other arguments than its trait's parameters
-abbrev pub own_fault : Tables → faults.TermFault → TraitRef → Bool
-own_fault t UnknownItem r = is_none (trait_of t r.def_id)
-own_fault t WrongArgumentCount r = differs_in_count (trait_params t r) (length r.args.items)
-own_fault t WrongArgumentKind r = asks_other_kinds (trait_params t r) (kinds_of r.args.items)
-own_fault t ParameterOutOfRange r = false
-own_fault t InferInTable r = false
-
--- whether a fault lies in some argument
-abbrev pub lies_in_args : Tables → faults.TermFault → List GenericArg → Bool
-lies_in_args t f args = list_any (λ a. lies_in t [] f (tree_of_arg a)) args
-
--- whether a fault lies in a trait reference
-abbrev pub lies_in_trait_ref : Tables → faults.TermFault → TraitRef → Bool
-lies_in_trait_ref t f r = own_fault t f r || lies_in_args t f r.args.items
-
--- whether an alias and a term are of different kinds, where that is the fault that is looked for
-abbrev pub kinds_differ : faults.TermFault → AliasTerm → Term → Bool
-kinds_differ WrongArgumentKind a e = not (same_kind (kind_of_alias a.kind) (kind_of (node_of (tree_of_term e))))
-kinds_differ UnknownItem a e = false
-kinds_differ WrongArgumentCount a e = false
-kinds_differ ParameterOutOfRange a e = false
-kinds_differ InferInTable a e = false
-
--- whether a fault lies in an alias, in a term that it is to equal, or between the two
-abbrev pub lies_in_equation : Tables → faults.TermFault → AliasTerm → Term → Bool
-lies_in_equation t f a e =
-    lies_in t [] f (tree_of_alias a) || lies_in t [] f (tree_of_term e) || kinds_differ f a e
-
--- whether a fault lies in a clause
-abbrev pub lies_in_clause_kind : Tables → faults.TermFault → ClauseKind → Bool
-lies_in_clause_kind t f (clause.Trait q) = lies_in_trait_ref t f q.trait_ref
-lies_in_clause_kind t f (clause.Projection q) = lies_in_equation t f q.projection_term q.term
-lies_in_clause_kind t f (clause.HostEffect q) = lies_in_trait_ref t f q.trait_ref
-
--- whether a fault lies in an environment
-abbrev pub lies_in_env : Tables → faults.TermFault → List Clause → Bool
-lies_in_env t f env = list_any (λ c. lies_in_clause_kind t f c.kind) env
+-- whether a fault lies in an environment; parameters of any number may stand in it
+abbrev pub lies_in_env : Tables → TermFault → List Clause → Bool
+lies_in_env t f env = lies_in_clauses t [] f env
 
 -- whether something in the arguments passes a test
 abbrev pub some_in_args : (Node → Bool) → List GenericArg → Bool
@@ -90,3 +47,27 @@ number_is_taken (Some n) a env =
 
 abbrev pub lacks_free_term : AliasTerm → Term → List Clause → Bool
 lacks_free_term a e env = number_is_taken (general_variable_at (node_of (tree_of_term e))) a env
+
+-- whether a fault lies in a predicate
+abbrev pub lies_in_predicate : Tables → TermFault → Predicate → Bool
+lies_in_predicate t f (predicate.Trait q) = lies_in_trait_ref t [] f q.trait_ref
+lies_in_predicate t f (predicate.Projection q) = lies_in_equation t [] f q.projection_term q.term
+lies_in_predicate t f (predicate.HostEffect q) = lies_in_const_ref t [] f q.trait_ref
+lies_in_predicate t f (predicate.NormalizesTo q) = lies_in_equation t [] f q.alias q.term
+lies_in_predicate t f predicate.Ambiguous = false
+
+-- whether something in a predicate passes a test
+abbrev pub some_in_predicate : (Node → Bool) → Predicate → Bool
+some_in_predicate p (predicate.Trait q) = some_in_args p q.trait_ref.args.items
+some_in_predicate p (predicate.Projection q) = some_in_equation p q.projection_term q.term
+some_in_predicate p (predicate.HostEffect q) = some_in_args p q.trait_ref.args.items
+some_in_predicate p (predicate.NormalizesTo q) = some_in_equation p q.alias q.term
+some_in_predicate p predicate.Ambiguous = false
+
+-- whether a predicate wants a term for a variable that isn't free
+abbrev pub wants_taken_term : Predicate → List Clause → Bool
+wants_taken_term (predicate.NormalizesTo q) env = lacks_free_term q.alias q.term env
+wants_taken_term (predicate.Trait q) env = false
+wants_taken_term (predicate.Projection q) env = false
+wants_taken_term (predicate.HostEffect q) env = false
+wants_taken_term predicate.Ambiguous env = false

@@ -1,63 +1,39 @@
 -- What a row says of the parts of a term.
-use Rattle.std.specs.Prelude.{ℕ, zero, suc, Bool, true, false, ◌==◌, ◌&&◌, ◌||◌, not, List, [], ◌∷◌, ◌++◌, length, map, drop, slice_get, Option, Some, None, is_none, if◌then◌else◌}
+use Rattle.std.specs.Prelude.{Bool, true, false, ◌||◌, not, List, [], ◌∷◌, ◌++◌, length, map, drop, Option, Some, None, is_none, if◌then◌else◌}
 use Rattle.std.specs.Option.{option_map, option_and_then}
 use Rattle.goal_terms.specs.Tree.{Tree, Trees, node, alias, variable, none, more, node_of, parts_of}
-use Rattle.goal_terms.specs.TreeOf.{is_type_kind}
+use Rattle.goal_terms.specs.Kinds.{same_kind, kind_of_alias, kind_of}
+use Rattle.goal_terms.specs.Regions.{region_of}
 use Rattle.goal_terms.specs.declared.answers.ParamKind.{ParamKind}
 use Rattle.goal_terms.specs.declared.answers.ParamKind.TheVariants as kind
-use Rattle.goal_terms.specs.declared.heads.Head.{Head}
-use Rattle.goal_terms.specs.declared.heads.Head.TheVariants.{Ref, Adt, FnDef, Closure, Dynamic, TyParam, TyPlaceholder, Value, ConstParam, ConstPlaceholder, ConstError, Lifetime, DynTrait, DynProjection, Misplaced}
+use Rattle.goal_terms.specs.declared.heads.Head.TheVariants.{Adt, FnDef, Closure, TyParam, TyPlaceholder, ConstParam, ConstPlaceholder, DynTrait, DynProjection, Misplaced}
 use Rattle.goal_terms.specs.declared.heads.Node.{Node}
 use Rattle.goal_terms.specs.declared.heads.Node.TheVariants as nodes
-use Rattle.goal_terms.specs.declared.heads.Variable.TheVariants as variables
 use Rattle.goal_terms.specs.declared.ids.ItemId.{ItemId}
 use Rattle.goal_terms.specs.declared.ids.TraitId.{TraitId}
 use Rattle.goal_terms.specs.declared.ids.AdtId.{AdtId}
+use Rattle.goal_terms.specs.declared.ids.FnId.{FnId}
+use Rattle.goal_terms.specs.declared.ids.ClosureId.{ClosureId}
+use Rattle.goal_terms.specs.declared.ids.FreeId.{FreeId}
+use Rattle.goal_terms.specs.declared.ids.InherentId.{InherentId}
+use Rattle.goal_terms.specs.declared.ids.OpaqueId.{OpaqueId}
 use Rattle.goal_terms.specs.declared.terms.AliasTermKind.{AliasTermKind}
 use Rattle.goal_terms.specs.declared.terms.AliasTermKind.TheVariants.{ProjectionTy, ProjectionConst, InherentTy, InherentConst, OpaqueTy, FreeTy, FreeConst, UnevaluatedConst}
 use Rattle.goal_terms.specs.declared.terms.Region.{Region}
 use Rattle.goal_terms.specs.declared.terms.Region.TheVariants as regions
-use Rattle.goal_tables.specs.Rows.{trait_of, item_of, adt_of}
-use Rattle.goal_tables.specs.declared.rows.ItemRow.{ItemRow}
+use Rattle.goal_tables.specs.ParamKinds.{differs_in_count, asks_other_kinds, has_param}
+use Rattle.goal_tables.specs.Rows.{trait_of, item_of, adt_of, function_of, closure_of, free_of, inherent_of, opaque_of}
 use Rattle.goal_tables.specs.declared.rows.Tables.{Tables}
 use Rattle.goal_tables.specs.declared.sites.TermFault as faults
-use Rattle.goal_tables.specs.declared.sites.TermFault.TheVariants.{UnknownItem, WrongArgumentCount, WrongArgumentKind, ParameterOutOfRange, InferInTable}
+use Rattle.goal_tables.specs.declared.sites.TermFault.TheVariants.{UnknownItem, WrongArgumentCount, WrongArgumentKind, ParameterOutOfRange, InferInTable, NeverConst}
 
--- whether two kinds of parameters are the same
-abbrev pub same_kind : ParamKind → ParamKind → Bool
-same_kind kind.Ty kind.Ty = true
-same_kind kind.Const kind.Const = true
-same_kind kind.Lifetime kind.Lifetime = true
-same_kind _ _ = false
+-- the kind of a type or of a constant
+abbrev pub kind_of_value : Bool → ParamKind
+kind_of_value is_const = if is_const then kind.Const else kind.Ty
 
--- the kind of what an alias stands for
-abbrev pub kind_of_alias : AliasTermKind → ParamKind
-kind_of_alias k = if is_type_kind k then kind.Ty else kind.Const
-
--- the kind of what stands where an alias of this kind is misplaced
-abbrev pub kind_of_misplaced : AliasTermKind → ParamKind
-kind_of_misplaced k = if is_type_kind k then kind.Const else kind.Ty
-
--- the kind of a term with this constructor
-unfoldable pub kind_of_head : Head → ParamKind
-kind_of_head (Value n) = kind.Const
-kind_of_head (ConstParam n) = kind.Const
-kind_of_head (ConstPlaceholder n) = kind.Const
-kind_of_head (ConstError n) = kind.Const
-kind_of_head (Lifetime r) = kind.Lifetime
-kind_of_head (Misplaced k) = kind_of_misplaced k
-kind_of_head _ = kind.Ty
-
--- the kind of a term with this at its top
-unfoldable pub kind_of : Node → ParamKind
-kind_of (nodes.Head h) = kind_of_head h
-kind_of (nodes.Alias k) = kind_of_alias k
-kind_of (nodes.Variable (variables.Ty v)) = kind.Ty
-kind_of (nodes.Variable (variables.Const n)) = kind.Const
-
--- the kind of an item
-abbrev pub kind_of_item : ItemRow → ParamKind
-kind_of_item r = if r.is_const then kind.Const else kind.Ty
+-- the parameters of a trait
+abbrev pub trait_params : Tables → TraitId → Option (List ParamKind)
+trait_params t i = option_map (λ r. r.params.items) (trait_of t i)
 
 -- the parameters of a projection of an item: its trait's, then its own
 abbrev pub projection_params : Tables → ItemId → Option (List ParamKind)
@@ -75,83 +51,92 @@ trait_clause_params t i = option_map (λ r. drop 1 r.params.items) (trait_of t i
 -- the parameters of a clause that names an item, which leaves the self type out, and then the item's kind
 abbrev pub clause_params : Tables → ItemId → Option (List ParamKind)
 clause_params t i =
-    option_and_then (λ r. option_map (λ ps. drop 1 ps ++ kind_of_item r ∷ []) (projection_params t i)) (item_of t i)
+    option_and_then (λ r. option_map (λ ps. drop 1 ps ++ kind_of_value r.is_const ∷ []) (projection_params t i)) (item_of t i)
+
+-- the parameters of a function item
+abbrev pub function_params : Tables → FnId → Option (List ParamKind)
+function_params t i = option_map (λ r. r.params.items) (function_of t i)
+
+-- the parameters of a closure
+abbrev pub closure_params : Tables → ClosureId → Option (List ParamKind)
+closure_params t i = option_map (λ r. r.params.items) (closure_of t i)
+
+-- the parameters of a free alias
+abbrev pub free_params : Tables → FreeId → Option (List ParamKind)
+free_params t i = option_map (λ r. r.params.items) (free_of t i)
+
+-- the parameters of an opaque type
+abbrev pub opaque_params : Tables → OpaqueId → Option (List ParamKind)
+opaque_params t i = option_map (λ r. r.params.items) (opaque_of t i)
+
+-- the parameters of an alias of an inherent item: the self type, then its own
+abbrev pub inherent_params : Tables → InherentId → Option (List ParamKind)
+inherent_params t i = option_map (λ r. kind.Ty ∷ r.own_params.items) (inherent_of t i)
+
+-- what the arguments of an alias stand for; those of an unevaluated constant are free
+unfoldable pub params_of_alias : Tables → AliasTermKind → Option (List ParamKind)
+params_of_alias t (ProjectionTy i) = projection_params t i
+params_of_alias t (ProjectionConst i) = projection_params t i
+params_of_alias t (InherentTy i) = inherent_params t i
+params_of_alias t (InherentConst i) = inherent_params t i
+params_of_alias t (OpaqueTy i) = opaque_params t i
+params_of_alias t (FreeTy i) = free_params t i
+params_of_alias t (FreeConst i) = free_params t i
+params_of_alias t (UnevaluatedConst n) = None
 
 -- what the parts below a node stand for, where a row says it
 unfoldable pub params_of : Tables → Node → Option (List ParamKind)
 params_of t (nodes.Head (Adt i n)) = adt_params t i
+params_of t (nodes.Head (FnDef i n)) = function_params t i
+params_of t (nodes.Head (Closure i n)) = closure_params t i
 params_of t (nodes.Head (DynTrait i n)) = trait_clause_params t i
 params_of t (nodes.Head (DynProjection i n)) = clause_params t i
-params_of t (nodes.Alias (ProjectionTy i)) = projection_params t i
-params_of t (nodes.Alias (ProjectionConst i)) = projection_params t i
+params_of t (nodes.Alias k) = params_of_alias t k
 params_of t _ = None
 
--- whether an alias names what no row has; only items have rows so far, and unevaluated constants never have one
+-- whether an alias names what no row has; unevaluated constants never have a row
 unfoldable pub alias_is_unknown : Tables → AliasTermKind → Bool
 alias_is_unknown t (ProjectionTy i) = is_none (item_of t i)
 alias_is_unknown t (ProjectionConst i) = is_none (item_of t i)
+alias_is_unknown t (InherentTy i) = is_none (inherent_of t i)
+alias_is_unknown t (InherentConst i) = is_none (inherent_of t i)
+alias_is_unknown t (OpaqueTy i) = is_none (opaque_of t i)
+alias_is_unknown t (FreeTy i) = is_none (free_of t i)
+alias_is_unknown t (FreeConst i) = is_none (free_of t i)
 alias_is_unknown t (UnevaluatedConst n) = false
-alias_is_unknown t _ = true
 
--- whether a node names what no row has; functions and closures have no rows so far
+-- whether a node names what no row has; foreign types never have a row
 unfoldable pub is_unknown : Tables → Node → Bool
 is_unknown t (nodes.Head (Adt i n)) = is_none (adt_of t i)
-is_unknown t (nodes.Head (FnDef i n)) = true
-is_unknown t (nodes.Head (Closure i n)) = true
+is_unknown t (nodes.Head (FnDef i n)) = is_none (function_of t i)
+is_unknown t (nodes.Head (Closure i n)) = is_none (closure_of t i)
 is_unknown t (nodes.Head (DynTrait i n)) = is_none (trait_of t i)
 is_unknown t (nodes.Head (DynProjection i n)) = is_none (item_of t i)
 is_unknown t (nodes.Head (Misplaced k)) = alias_is_unknown t k
 is_unknown t (nodes.Alias k) = alias_is_unknown t k
 is_unknown t _ = false
 
--- whether a row asks for another number of arguments
-abbrev pub differs_in_count : Option (List ParamKind) → ℕ → Bool
-differs_in_count None n = false
-differs_in_count (Some ps) n = not (length ps == n)
+-- whether a row that may be there is of another kind
+abbrev pub is_of_other_kind : Option ParamKind → ParamKind → Bool
+is_of_other_kind None k = false
+is_of_other_kind (Some x) k = not (same_kind x k)
 
--- whether two lists have other kinds at some place that both have
-abbrev pub differs_in_kind : List ParamKind → List ParamKind → Bool
-differs_in_kind [] ks = false
-differs_in_kind (p ∷ ps) [] = false
-differs_in_kind (p ∷ ps) (k ∷ ks) = not (same_kind p k) || differs_in_kind ps ks
+-- the kind that the row of an alias says
+unfoldable pub kind_of_row : Tables → AliasTermKind → Option ParamKind
+kind_of_row t (ProjectionTy i) = option_map (λ r. kind_of_value r.is_const) (item_of t i)
+kind_of_row t (ProjectionConst i) = option_map (λ r. kind_of_value r.is_const) (item_of t i)
+kind_of_row t (InherentTy i) = option_map (λ r. kind_of_value r.is_const) (inherent_of t i)
+kind_of_row t (InherentConst i) = option_map (λ r. kind_of_value r.is_const) (inherent_of t i)
+kind_of_row t (FreeTy i) = option_map (λ r. kind_of_value r.is_const) (free_of t i)
+kind_of_row t (FreeConst i) = option_map (λ r. kind_of_value r.is_const) (free_of t i)
+kind_of_row t (OpaqueTy i) = None
+kind_of_row t (UnevaluatedConst n) = None
 
--- whether two lists have the same kinds
-abbrev pub same_kinds : List ParamKind → List ParamKind → Bool
-same_kinds ps ks = (length ps == length ks) && not (differs_in_kind ps ks)
-
--- whether a row asks for other kinds of arguments
-abbrev pub asks_other_kinds : Option (List ParamKind) → List ParamKind → Bool
-asks_other_kinds None ks = false
-asks_other_kinds (Some ps) ks = differs_in_kind ps ks
-
--- whether an item is of another kind
-abbrev pub item_has_other_kind : Tables → ItemId → ParamKind → Bool
-item_has_other_kind t i k = asks_other_kinds (option_map (λ r. kind_of_item r ∷ []) (item_of t i)) (k ∷ [])
-
--- whether an alias is of another kind than the item that it names
-unfoldable pub differs_from_item : Tables → AliasTermKind → Bool
-differs_from_item t (ProjectionTy i) = item_has_other_kind t i kind.Ty
-differs_from_item t (ProjectionConst i) = item_has_other_kind t i kind.Const
-differs_from_item t _ = false
-
--- whether an alias stands at a wrong place, or is of another kind than its item
+-- whether an alias stands at a wrong place, or is of another kind than its row
 unfoldable pub is_misplaced : Tables → Node → Bool
 is_misplaced t (nodes.Head (Misplaced k)) = true
-is_misplaced t (nodes.Alias k) = differs_from_item t k
+is_misplaced t (nodes.Alias k) = is_of_other_kind (kind_of_row t k) (kind_of_alias k)
 is_misplaced t _ = false
-
--- the lifetime that a node names itself
-unfoldable pub region_of : Node → Option Region
-region_of (nodes.Head (Ref r m)) = Some r
-region_of (nodes.Head (Dynamic n r)) = Some r
-region_of (nodes.Head (Lifetime r)) = Some r
-region_of _ = None
-
--- whether a row has this parameter, of this kind
-abbrev pub has_param : List ParamKind → ℕ → ParamKind → Bool
-has_param [] n k = false
-has_param (p ∷ ps) zero k = same_kind p k
-has_param (p ∷ ps) (suc n) k = has_param ps n k
 
 -- whether a lifetime is a parameter that a row doesn't have
 unfoldable pub region_is_out_of_range : List ParamKind → Option Region → Bool
@@ -185,6 +170,7 @@ lies_here t params WrongArgumentKind u =
     asks_other_kinds (params_of t (node_of u)) (map (λ x. kind_of (node_of x)) (parts_of u)) || is_misplaced t (node_of u)
 lies_here t params ParameterOutOfRange u = is_out_of_range params (node_of u)
 lies_here t params InferInTable u = is_inferred (node_of u)
+lies_here t params NeverConst u = false
 
 -- whether a fault lies anywhere in a term
 unfoldable mutual

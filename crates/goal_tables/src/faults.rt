@@ -1,8 +1,9 @@
 //! The faults of tables.
 ghost use Rattle.std.specs.Prelude.{◌≡◌, find};
-ghost use Rattle.goal_tables.specs.Faults.{applies, all_faults};
+ghost use Rattle.goal_tables.specs.Faults.{applies, all_faults, unknown_item, wrong_argument_count, wrong_argument_kind, parameter_out_of_range, infer_in_table, never_const};
 
 use crate::lookup::IndexedTables;
+use crate::sites::TermFault;
 
 /// Why tables are refused. Of several faults that apply, the one of the smallest number is answered.
 #[derive(Clone, Copy, Debug, PartialEq, Eq, Hash)]
@@ -11,16 +12,40 @@ pub enum TableFault {
     UnknownItem = 1,
     /// An argument list has another length than its item's parameters.
     WrongArgumentCount = 2,
-    /// An argument, a term, a value or an alias has another kind than its place.
+    /// An argument, a term, a value or an alias has another kind than its place; a free or inherent
+    /// type has no value; a trait has no self type.
     WrongArgumentKind = 3,
     /// A parameter isn't among its row's, or has another kind there.
     ParameterOutOfRange = 4,
     /// An inference variable, a region variable or a placeholder stands in a row.
     InferInTable = 5,
+    /// A type or const parameter of an impl, also of an inherent one, doesn't occur in its header
+    /// outside aliases.
+    ImplParameterNotInHeader = 6,
+    /// A reservation impl of a trait with items.
+    ReservationWithItems = 7,
+    /// A lang item isn't named.
+    LangItemMissing = 8,
+    /// A lang item is named twice, or two name one row.
+    LangItemDoubled = 9,
+    /// An impl of a lang trait other than `Copy` and `Clone`, or of a trait alias.
+    ImplOfBuiltinTrait = 10,
+    /// A trait row says auto.
+    AutoTrait = 11,
+    /// A const impl, const condition, implied const bound, destruct condition or host effect clause
+    /// of a trait that doesn't allow const, or a lang trait that must not allow it and does.
+    NeverConst = 12,
+    /// A trait alias has items.
+    TraitAliasWithItems = 13,
+    /// An inherent const has no value.
+    InherentConstWithoutValue = 14,
     /// The items of traits and the sources of impls don't fit together.
     SourceMismatch = 15,
     /// A definition's own parameters have other kinds than its item's.
     OwnParametersMismatch = 16,
+    /// A lang item names a row of another sort, or its parameters or items aren't those that built-in
+    /// rules know.
+    BuiltinItemMismatch = 17,
     /// Two rows of one list have one id.
     DoubledId = 18,
     /// A growth was refused.
@@ -28,19 +53,79 @@ pub enum TableFault {
 }
 
 /// The faults of tables, by their numbers.
-const FAULTS: [TableFault; 8] = [
+const FAULTS: [TableFault; 18] = [
     TableFault::UnknownItem,
     TableFault::WrongArgumentCount,
     TableFault::WrongArgumentKind,
     TableFault::ParameterOutOfRange,
     TableFault::InferInTable,
+    TableFault::ImplParameterNotInHeader,
+    TableFault::ReservationWithItems,
+    TableFault::LangItemMissing,
+    TableFault::LangItemDoubled,
+    TableFault::ImplOfBuiltinTrait,
+    TableFault::AutoTrait,
+    TableFault::NeverConst,
+    TableFault::TraitAliasWithItems,
+    TableFault::InherentConstWithoutValue,
     TableFault::SourceMismatch,
     TableFault::OwnParametersMismatch,
+    TableFault::BuiltinItemMismatch,
     TableFault::DoubledId,
 ];
 
 impl IndexedTables {
+    /// Whether an id stands that no row has.
+    #[tactic(auto, unfolding(crate::specs::Faults::unknown_item))]
+    pub fn has_unknown_item(&self) -> bool
+        ensures { result ≡ unknown_item self.now }
+    {
+        self.lies_in_rows(TermFault::UnknownItem)
+    }
+
+    /// Whether an argument list has another length than its item's parameters.
+    #[tactic(auto, unfolding(crate::specs::Faults::wrong_argument_count))]
+    pub fn has_wrong_argument_count(&self) -> bool
+        ensures { result ≡ wrong_argument_count self.now }
+    {
+        self.lies_in_rows(TermFault::WrongArgumentCount)
+    }
+
+    /// Whether an argument, a term, a value or an alias has another kind than its place.
+    #[tactic(auto, unfolding(crate::specs::Faults::wrong_argument_kind))]
+    pub fn has_wrong_argument_kind(&self) -> bool
+        ensures { result ≡ wrong_argument_kind self.now }
+    {
+        self.lies_in_rows(TermFault::WrongArgumentKind)
+    }
+
+    /// Whether a parameter isn't among its row's, or has another kind there.
+    #[tactic(auto, unfolding(crate::specs::Faults::parameter_out_of_range))]
+    pub fn has_parameter_out_of_range(&self) -> bool
+        ensures { result ≡ parameter_out_of_range self.now }
+    {
+        self.lies_in_rows(TermFault::ParameterOutOfRange)
+    }
+
+    /// Whether an inference variable, a region variable or a placeholder stands in a row.
+    #[tactic(auto, unfolding(crate::specs::Faults::infer_in_table))]
+    pub fn has_infer(&self) -> bool
+        ensures { result ≡ infer_in_table self.now }
+    {
+        self.lies_in_rows(TermFault::InferInTable)
+    }
+
+    /// Whether something const is said of a trait that doesn't allow it, or a lang trait that must not
+    /// allow it does.
+    #[tactic(auto, unfolding(crate::specs::Faults::never_const))]
+    pub fn has_never_const(&self) -> bool
+        ensures { result ≡ never_const self.now }
+    {
+        self.lies_in_rows(TermFault::NeverConst) || self.has_lang_allows_const()
+    }
+
     /// Whether a fault applies. Want of memory never does.
+    #[tactic(auto, unfolding(crate::specs::Faults::applies))]
     pub fn applies(&self, fault: TableFault) -> bool
         ensures { result ≡ applies self.now fault }
     {
@@ -50,8 +135,18 @@ impl IndexedTables {
             TableFault::WrongArgumentKind => self.has_wrong_argument_kind(),
             TableFault::ParameterOutOfRange => self.has_parameter_out_of_range(),
             TableFault::InferInTable => self.has_infer(),
+            TableFault::ImplParameterNotInHeader => self.has_unfixed_parameter(),
+            TableFault::ReservationWithItems => self.has_reservation_with_items(),
+            TableFault::LangItemMissing => self.has_lang_item_missing(),
+            TableFault::LangItemDoubled => self.has_doubled_lang(),
+            TableFault::ImplOfBuiltinTrait => self.has_impl_of_builtin_trait(),
+            TableFault::AutoTrait => self.has_auto_trait(),
+            TableFault::NeverConst => self.has_never_const(),
+            TableFault::TraitAliasWithItems => self.has_alias_with_items(),
+            TableFault::InherentConstWithoutValue => self.has_inherent_const_without_value(),
             TableFault::SourceMismatch => self.has_source_mismatch(),
             TableFault::OwnParametersMismatch => self.has_own_parameters_mismatch(),
+            TableFault::BuiltinItemMismatch => self.has_builtin_item_mismatch(),
             TableFault::DoubledId => self.has_doubled_id(),
             TableFault::OutOfMemory => false,
         }

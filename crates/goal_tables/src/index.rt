@@ -1,7 +1,10 @@
-ghost use Rattle.std.specs.Prelude.{◌≡◌, IfOk, map, ◌==◌};
-ghost use Rattle.goal_tables.specs.Places.{IsIndexOf, same_pair, has_double};
+//! Where rows stand: maps from ids to places, made once.
+ghost use Rattle.std.specs.Prelude.{◌≡◌, ◌<◌, IfOk, map, find, length, slice_get, ◌==◌};
+ghost use Rattle.std.specs.Option.{option_copied, option_and_then, ForSome};
+ghost use Rattle.std.specs.HashMap.{get};
+ghost use Rattle.goal_tables.specs.Places.{IsIndexOf, has_double};
 
-use crate::rows::{AdtRow, DefRow, ImplRow, ItemRow, SourceRow, Tables, TraitRow};
+use crate::row::Row;
 use indexmap::IndexMap;
 use std::alloc::{AllocError, Global};
 use std::hash::Hash;
@@ -23,153 +26,63 @@ pub fn index_of<K: Eq + Hash + Copy>(
     Ok((places, doubled))
 }
 
-/// Where the rows of traits and of their items stand.
+/// The numbers of rows.
+fn numbers_of<R: Row>(alloc: Global, rows: &[R]) -> Result<Vec<u32>, AllocError>
+    ensures { IfOk result (λ made. made.items ≡ map R.id_number rows.now) }
+{
+    rows.iter().map(|row| row.number()).collect(alloc)
+}
+
+/// Where the row of each id stands in a list, and whether two rows have one id.
 #[derive(Drop)]
-pub struct TraitIndex {
-    pub traits: IndexMap<u32, usize>,
-    pub items: IndexMap<u32, usize>,
+pub struct RowIndex {
+    pub places: IndexMap<u32, usize>,
     pub doubled: bool,
 }
 
-/// Where the rows of impls, and of what they say of items, stand.
-#[derive(Drop)]
-pub struct ImplIndex {
-    pub impls: IndexMap<u32, usize>,
-    pub definitions: IndexMap<u32, usize>,
-    pub sources: IndexMap<(u32, u32), usize>,
-    pub doubled: bool,
-    pub doubled_source: bool,
-}
+impl RowIndex {
+    ghost use Rattle.goal_tables.specs.Indexed.{IsRowIndex};
 
-/// Where the row of each id stands.
-#[derive(Drop)]
-pub struct Index {
-    pub of_traits: TraitIndex,
-    pub of_impls: ImplIndex,
-    pub adts: IndexMap<u32, usize>,
-    pub doubled_adt: bool,
-}
-
-impl TraitIndex {
-    ghost use Rattle.std.specs.Prelude.{IfOk};
-    ghost use Rattle.goal_tables.specs.Indexed.{IsTraitIndex};
+    /// Finds where the numbers stand. Want of memory is the only refusal.
+    pub fn of_numbers(alloc: Global, numbers: &[u32]) -> Result<Self, AllocError>
+        ensures { IfOk result (IsRowIndex numbers.now) }
+    {
+        let (places, doubled) = index_of(alloc, numbers)?;
+        Ok(RowIndex { places, doubled })
+    }
 
     /// Finds where the rows stand. Want of memory is the only refusal.
-    pub fn new(alloc: Global, tables: &Tables) -> Result<Self, AllocError>
-        ensures { IfOk result (IsTraitIndex tables.now) }
+    pub fn new<R: Row>(alloc: Global, rows: &[R]) -> Result<Self, AllocError>
+        ensures { IfOk result (IsRowIndex (map R.id_number rows.now)) }
     {
-        let (traits, doubled_trait) = index_traits(alloc, &tables.traits)?;
-        let (items, doubled_item) = index_items(alloc, &tables.items)?;
-        Ok(TraitIndex {
-            traits,
-            items,
-            doubled: doubled_trait | doubled_item,
-        })
+        let numbers = numbers_of(alloc, rows)?;
+        RowIndex::of_numbers(alloc, numbers.as_slice())
+    }
+
+    /// The first row of a number.
+    pub fn row<'a, R: Row>(&self, rows: &'a [R], number: u32) -> Option<&'a R>
+        requires { IsRowIndex (map R.id_number rows.now) self.now }
+        ensures { option_copied result ≡ find (λ r. R.id_number r == number) rows.now }
+    {
+        let place = place_of(&self.places, number);
+        row_at(rows, place)
     }
 }
 
-impl ImplIndex {
-    ghost use Rattle.std.specs.Prelude.{IfOk};
-    ghost use Rattle.goal_tables.specs.Indexed.{IsImplIndex};
+/// The place that an index has for a number.
+pub fn place_of(places: &IndexMap<u32, usize>, number: u32) -> Option<usize>
+    ensures { result ≡ get ◌==◌ places.now number }
+{
+    places.get(&number).copied()
+}
 
-    /// Finds where the rows stand. Want of memory is the only refusal.
-    pub fn new(alloc: Global, tables: &Tables) -> Result<Self, AllocError>
-        ensures { IfOk result (IsImplIndex tables.now) }
-    {
-        let (impls, doubled_impl) = index_impls(alloc, &tables.impls)?;
-        let (definitions, doubled_definition) = index_definitions(alloc, &tables.definitions)?;
-        let (sources, doubled_source) = index_sources(alloc, &tables.sources)?;
-        Ok(ImplIndex {
-            impls,
-            definitions,
-            sources,
-            doubled: doubled_impl | doubled_definition,
-            doubled_source,
-        })
+/// The row at a place, if there is a place.
+pub fn row_at<R>(rows: &[R], place: Option<usize>) -> Option<&R>
+    requires { ForSome place (λ n. n < length rows.now) }
+    ensures { option_copied result ≡ option_and_then (slice_get rows.now) place }
+{
+    match place {
+        None => None,
+        Some(place) => Some(&rows[place]),
     }
-}
-
-impl Index {
-    ghost use Rattle.std.specs.Prelude.{IfOk};
-    ghost use Rattle.goal_tables.specs.Indexed.{IsIndexed};
-
-    /// Finds where the rows stand. Want of memory is the only refusal.
-    pub fn new(alloc: Global, tables: &Tables) -> Result<Self, AllocError>
-        ensures { IfOk result (IsIndexed tables.now) }
-    {
-        let of_traits = TraitIndex::new(alloc, tables)?;
-        let of_impls = ImplIndex::new(alloc, tables)?;
-        let (adts, doubled_adt) = index_adts(alloc, &tables.adts)?;
-        Ok(Index {
-            of_traits,
-            of_impls,
-            adts,
-            doubled_adt,
-        })
-    }
-}
-
-fn index_traits(
-    alloc: Global,
-    rows: &[TraitRow],
-) -> Result<(IndexMap<u32, usize>, bool), AllocError>
-    ensures places { IfOk result (λ made. IsIndexOf ◌==◌ (map (λ r. r.id.0) rows.now) made.0) }
-    ensures doubled { IfOk result (λ made. made.1 ≡ has_double ◌==◌ (map (λ r. r.id.0) rows.now)) }
-{
-    let ids: Vec<u32> = rows.iter().map(|row| row.id.0).collect(alloc)?;
-    index_of(alloc, &ids)
-}
-
-fn index_items(alloc: Global, rows: &[ItemRow]) -> Result<(IndexMap<u32, usize>, bool), AllocError>
-    ensures places { IfOk result (λ made. IsIndexOf ◌==◌ (map (λ r. r.id.0) rows.now) made.0) }
-    ensures doubled { IfOk result (λ made. made.1 ≡ has_double ◌==◌ (map (λ r. r.id.0) rows.now)) }
-{
-    let ids: Vec<u32> = rows.iter().map(|row| row.id.0).collect(alloc)?;
-    index_of(alloc, &ids)
-}
-
-fn index_impls(alloc: Global, rows: &[ImplRow]) -> Result<(IndexMap<u32, usize>, bool), AllocError>
-    ensures places { IfOk result (λ made. IsIndexOf ◌==◌ (map (λ r. r.id.0) rows.now) made.0) }
-    ensures doubled { IfOk result (λ made. made.1 ≡ has_double ◌==◌ (map (λ r. r.id.0) rows.now)) }
-{
-    let ids: Vec<u32> = rows.iter().map(|row| row.id.0).collect(alloc)?;
-    index_of(alloc, &ids)
-}
-
-fn index_definitions(
-    alloc: Global,
-    rows: &[DefRow],
-) -> Result<(IndexMap<u32, usize>, bool), AllocError>
-    ensures places { IfOk result (λ made. IsIndexOf ◌==◌ (map (λ r. r.id.0) rows.now) made.0) }
-    ensures doubled { IfOk result (λ made. made.1 ≡ has_double ◌==◌ (map (λ r. r.id.0) rows.now)) }
-{
-    let ids: Vec<u32> = rows.iter().map(|row| row.id.0).collect(alloc)?;
-    index_of(alloc, &ids)
-}
-
-fn index_adts(alloc: Global, rows: &[AdtRow]) -> Result<(IndexMap<u32, usize>, bool), AllocError>
-    ensures places { IfOk result (λ made. IsIndexOf ◌==◌ (map (λ r. r.id.0) rows.now) made.0) }
-    ensures doubled { IfOk result (λ made. made.1 ≡ has_double ◌==◌ (map (λ r. r.id.0) rows.now)) }
-{
-    let ids: Vec<u32> = rows.iter().map(|row| row.id.0).collect(alloc)?;
-    index_of(alloc, &ids)
-}
-
-fn index_sources(
-    alloc: Global,
-    rows: &[SourceRow],
-) -> Result<(IndexMap<(u32, u32), usize>, bool), AllocError>
-    ensures places { IfOk result (λ made. IsIndexOf same_pair (map (λ r. (r.impl_id.0, r.item_id.0)) rows.now) made.0) }
-    ensures doubled { IfOk result (λ made. made.1 ≡ has_double same_pair (map (λ r. (r.impl_id.0, r.item_id.0)) rows.now)) }
-{
-    let ids = source_ids(alloc, rows)?;
-    index_of(alloc, &ids)
-}
-
-fn source_ids(alloc: Global, rows: &[SourceRow]) -> Result<Vec<(u32, u32)>, AllocError>
-    ensures { IfOk result (λ ids. ids.items ≡ map (λ r. (r.impl_id.0, r.item_id.0)) rows.now) }
-{
-    rows.iter()
-        .map(|row| (row.impl_id.0, row.item_id.0))
-        .collect(alloc)
 }

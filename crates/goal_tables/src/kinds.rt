@@ -1,80 +1,16 @@
-//! Which kind a term is of.
+//! Which kind a row says.
 ghost use Rattle.std.specs.Prelude.{◌≡◌};
-ghost use Rattle.goal_tables.specs.Sites.{same_kind, kind_of_alias, kind_of_misplaced, kind_of_head, kind_of, kind_of_item};
+ghost use Rattle.goal_tables.specs.Sites.{kind_of_value};
 
-use crate::rows::ItemRow;
 use goal_terms::answers::ParamKind;
-use goal_terms::heads::{Head, Node, Variable};
-use goal_terms::terms::AliasTermKind;
 
-/// Whether two kinds are the same.
-pub fn same_kind(kind: ParamKind, other: ParamKind) -> bool
-    ensures { result ≡ same_kind kind other }
+/// The kind of a type or of a constant.
+pub fn kind_of_value(is_const: bool) -> ParamKind
+    ensures { result ≡ kind_of_value is_const }
 {
-    match (kind, other) {
-        (ParamKind::Ty, ParamKind::Ty)
-        | (ParamKind::Const, ParamKind::Const)
-        | (ParamKind::Lifetime, ParamKind::Lifetime) => true,
-        _ => false,
-    }
-}
-
-/// The kind of what an alias stands for.
-pub fn kind_of_alias(kind: AliasTermKind) -> ParamKind
-    ensures { result ≡ kind_of_alias kind }
-{
-    if kind.is_type() {
-        ParamKind::Ty
-    } else {
-        ParamKind::Const
-    }
-}
-
-/// The kind of an item.
-pub fn kind_of_item(row: &ItemRow) -> ParamKind
-    ensures { result ≡ kind_of_item row.now }
-{
-    if row.is_const {
+    if is_const {
         ParamKind::Const
     } else {
         ParamKind::Ty
-    }
-}
-
-/// The kind of a misplaced alias: what it isn't.
-fn kind_of_misplaced(kind: AliasTermKind) -> ParamKind
-    ensures { result ≡ kind_of_misplaced kind }
-{
-    if kind.is_type() {
-        ParamKind::Const
-    } else {
-        ParamKind::Ty
-    }
-}
-
-#[tactic(auto, unfolding(crate::specs::Sites::kind_of_head))]
-fn kind_of_head(head: Head) -> ParamKind
-    ensures { result ≡ kind_of_head head }
-{
-    match head {
-        Head::Value(_) | Head::ConstParam(_) | Head::ConstPlaceholder(_) | Head::ConstError(_) => {
-            ParamKind::Const
-        }
-        Head::Lifetime(_) => ParamKind::Lifetime,
-        Head::Misplaced(kind) => kind_of_misplaced(kind),
-        _ => ParamKind::Ty,
-    }
-}
-
-#[tactic(auto, unfolding(crate::specs::Sites::kind_of))]
-/// The kind of a term with this at its top.
-pub fn kind_of(node: Node) -> ParamKind
-    ensures { result ≡ kind_of node }
-{
-    match node {
-        Node::Head(head) => kind_of_head(head),
-        Node::Alias(kind) => kind_of_alias(kind),
-        Node::Variable(Variable::Ty(_)) => ParamKind::Ty,
-        Node::Variable(Variable::Const(_)) => ParamKind::Const,
     }
 }

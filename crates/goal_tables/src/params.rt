@@ -5,13 +5,16 @@ ghost use Rattle.goal_terms.specs.Tree.{node_of};
 ghost use Rattle.goal_terms.specs.View.{trees_seen};
 ghost use Rattle.goal_tables.specs.Options.{option_holds};
 ghost use Rattle.goal_tables.specs.Params.{params_seen};
-ghost use Rattle.goal_tables.specs.Sites.{same_kind, kind_of, projection_params, clause_params, trait_clause_params, adt_params, params_of, differs_in_kind, differs_in_count, asks_other_kinds, same_kinds};
+ghost use Rattle.goal_terms.specs.Kinds.{same_kind, kind_of};
+ghost use Rattle.goal_tables.specs.ParamKinds.{differs_in_kind, differs_in_count, asks_other_kinds, has_param};
+ghost use Rattle.goal_tables.specs.Sites.{trait_params, projection_params, clause_params, trait_clause_params, adt_params, function_params, closure_params, free_params, opaque_params, inherent_params, params_of_alias, params_of};
 
-use crate::kinds::{kind_of, kind_of_item, same_kind};
+use crate::kinds::kind_of_value;
 use crate::lookup::IndexedTables;
 use goal_terms::answers::ParamKind;
 use goal_terms::heads::{Head, Node};
-use goal_terms::ids::{AdtId, ItemId, TraitId};
+use goal_terms::ids::{AdtId, ClosureId, FnId, FreeId, InherentId, ItemId, OpaqueId, TraitId};
+use goal_terms::kinds::{kind_of, same_kind};
 use goal_terms::terms::AliasTermKind;
 use goal_terms::view::Parts;
 
@@ -82,6 +85,17 @@ impl<'a> Params<'a> {
         }
     }
 
+    #[tactic(auto, using(crate::proofs::ParamLemmas::having))]
+    /// Whether there is this parameter, of this kind.
+    pub fn has(self, number: u32, kind: ParamKind) -> bool
+        ensures { result ≡ has_param (params_seen self.entry) number kind }
+    {
+        match self.at(number as usize) {
+            None => false,
+            Some(param) => same_kind(param, kind),
+        }
+    }
+
     /// The parameters of a clause of a `dyn` type: all but the self type, then its term.
     fn for_clause(self, kind: ParamKind) -> Params<'a>
         requires { self.last ≡ None }
@@ -137,23 +151,40 @@ pub fn asks_other_kinds(params: Option<Params<'_>>, parts: Parts<'_>) -> bool
     }
 }
 
-#[tactic(auto, using(crate::proofs::ParamLemmas::kinds_differing))]
-/// Whether two lists have the same kinds.
-pub fn same_kinds(params: &[ParamKind], kinds: &[ParamKind]) -> bool
-    ensures { result ≡ same_kinds params.now kinds.now }
-{
-    if params.len() != kinds.len() {
-        return false;
-    }
-    for i in 0..params.len() {
-        if !same_kind(params[i], kinds[i]) {
-            return false;
+impl<'a> Params<'a> {
+    /// The parameters that one list gives.
+    pub fn of(params: &'a [ParamKind]) -> Params<'a>
+        ensures all { params_seen result ≡ params.now }
+        ensures open { result.last ≡ None }
+    {
+        Params {
+            first: params,
+            own: &[],
+            last: None,
         }
     }
-    true
+
+    /// These parameters, then one more type.
+    pub fn with_alias(self) -> Params<'a>
+        requires { self.last ≡ None }
+        ensures { params_seen result ≡ params_seen self.entry ++ ParamKind.Ty ∷ [] }
+    {
+        Params {
+            last: Some(ParamKind::Ty),
+            ..self
+        }
+    }
 }
 
 impl IndexedTables {
+    /// The parameters of a trait.
+    pub fn trait_params(&self, id: TraitId) -> Option<Params<'_>>
+        ensures { option_map params_seen result ≡ trait_params self.now id }
+    {
+        let row = self.trait_row(id)?;
+        Some(Params::of(row.params.as_slice()))
+    }
+
     /// The parameters of a projection of an item: its trait's, then its own.
     fn projection_params(&self, item: ItemId) -> Option<Params<'_>>
         ensures kinds { option_map params_seen result ≡ projection_params self.now item }
@@ -173,12 +204,7 @@ impl IndexedTables {
         ensures { option_map params_seen result ≡ trait_clause_params self.now id }
     {
         let row = self.trait_row(id)?;
-        let params = rest(row.params.as_slice());
-        Some(Params {
-            first: params,
-            own: &[],
-            last: None,
-        })
+        Some(Params::of(rest(row.params.as_slice())))
     }
 
     /// The parameters of a clause that names an item.
@@ -187,7 +213,7 @@ impl IndexedTables {
     {
         let row = self.item_row(item)?;
         let params = self.projection_params(item)?;
-        Some(params.for_clause(kind_of_item(row)))
+        Some(params.for_clause(kind_of_value(row.is_const)))
     }
 
     /// The parameters of an ADT.
@@ -195,24 +221,83 @@ impl IndexedTables {
         ensures { option_map params_seen result ≡ adt_params self.now id }
     {
         let row = self.adt_row(id)?;
+        Some(Params::of(row.params.as_slice()))
+    }
+
+    /// The parameters of a function item.
+    fn function_params(&self, id: FnId) -> Option<Params<'_>>
+        ensures { option_map params_seen result ≡ function_params self.now id }
+    {
+        let row = self.function_row(id)?;
+        Some(Params::of(row.params.as_slice()))
+    }
+
+    /// The parameters of a closure.
+    fn closure_params(&self, id: ClosureId) -> Option<Params<'_>>
+        ensures { option_map params_seen result ≡ closure_params self.now id }
+    {
+        let row = self.closure_row(id)?;
+        Some(Params::of(row.params.as_slice()))
+    }
+
+    /// The parameters of a free alias.
+    fn free_params(&self, id: FreeId) -> Option<Params<'_>>
+        ensures { option_map params_seen result ≡ free_params self.now id }
+    {
+        let row = self.free_row(id)?;
+        Some(Params::of(row.params.as_slice()))
+    }
+
+    /// The parameters of an opaque type.
+    fn opaque_params(&self, id: OpaqueId) -> Option<Params<'_>>
+        ensures { option_map params_seen result ≡ opaque_params self.now id }
+    {
+        let row = self.opaque_row(id)?;
+        Some(Params::of(row.params.as_slice()))
+    }
+
+    /// The parameters of an alias of an inherent item: the self type, then its own.
+    fn inherent_params(&self, id: InherentId) -> Option<Params<'_>>
+        ensures { option_map params_seen result ≡ inherent_params self.now id }
+    {
+        let row = self.inherent_row(id)?;
         Some(Params {
-            first: row.params.as_slice(),
-            own: &[],
+            first: &[ParamKind::Ty],
+            own: row.own_params.as_slice(),
             last: None,
         })
     }
 
-    #[tactic(auto, unfolding(crate::specs::Sites::params_of))]
+    /// What the arguments of an alias stand for, where a row says it.
+    #[tactic(auto, unfolding(crate::specs::Sites::params_of_alias))]
+    fn params_of_alias(&self, kind: AliasTermKind) -> Option<Params<'_>>
+        ensures { option_map params_seen result ≡ params_of_alias self.now kind }
+    {
+        match kind {
+            AliasTermKind::ProjectionTy(id) | AliasTermKind::ProjectionConst(id) => {
+                self.projection_params(id)
+            }
+            AliasTermKind::InherentTy(id) | AliasTermKind::InherentConst(id) => {
+                self.inherent_params(id)
+            }
+            AliasTermKind::OpaqueTy(id) => self.opaque_params(id),
+            AliasTermKind::FreeTy(id) | AliasTermKind::FreeConst(id) => self.free_params(id),
+            AliasTermKind::UnevaluatedConst(_) => None,
+        }
+    }
+
     /// What the parts below a node stand for, where a row says it.
+    #[tactic(auto, unfolding(crate::specs::Sites::params_of))]
     pub fn params_of(&self, node: Node) -> Option<Params<'_>>
         ensures { option_map params_seen result ≡ params_of self.now node }
     {
         match node {
             Node::Head(Head::Adt(id, _)) => self.adt_params(id),
+            Node::Head(Head::FnDef(id, _)) => self.function_params(id),
+            Node::Head(Head::Closure(id, _)) => self.closure_params(id),
             Node::Head(Head::DynTrait(id, _)) => self.trait_clause_params(id),
             Node::Head(Head::DynProjection(item, _)) => self.clause_params(item),
-            Node::Alias(AliasTermKind::ProjectionTy(item))
-            | Node::Alias(AliasTermKind::ProjectionConst(item)) => self.projection_params(item),
+            Node::Alias(kind) => self.params_of_alias(kind),
             _ => None,
         }
     }

@@ -1,16 +1,19 @@
 //! What a row says of the parts of a term.
-ghost use Rattle.std.specs.Prelude.{◌≡◌, length, is_none};
-ghost use Rattle.goal_terms.specs.Tree.{node_of, parts_of};
-ghost use Rattle.goal_terms.specs.View.{tree_of_ref, trees_seen};
-ghost use Rattle.goal_tables.specs.Rows.{trait_of, item_of, adt_of};
-ghost use Rattle.goal_tables.specs.Sites.{alias_is_unknown, is_unknown, item_has_other_kind, differs_from_item, is_misplaced, region_of, has_param, region_is_out_of_range, is_out_of_range, region_is_inferred, is_inferred, lies_here, lies_in};
+ghost use Rattle.std.specs.Prelude.{◌≡◌};
+ghost use Rattle.goal_terms.specs.View.{tree_of_ref};
+ghost use Rattle.std.specs.Option.{option_map};
+ghost use Rattle.goal_tables.specs.Params.{params_seen};
+ghost use Rattle.goal_tables.specs.Rows.{item_of, inherent_of, free_of};
+ghost use Rattle.goal_tables.specs.Sites.{alias_is_unknown, is_unknown, kind_of_value, is_of_other_kind, kind_of_row, is_misplaced, region_is_out_of_range, is_out_of_range, region_is_inferred, is_inferred, lies_here, lies_in};
 
-use crate::kinds::{kind_of_item, same_kind};
+use crate::kinds::kind_of_value;
 use crate::lookup::IndexedTables;
-use crate::params::{asks_other_kinds, differs_in_count};
+use crate::params::{Params, asks_other_kinds, differs_in_count};
 use goal_terms::answers::ParamKind;
 use goal_terms::heads::{Head, Node};
-use goal_terms::ids::ItemId;
+use goal_terms::ids::{FreeId, InherentId, ItemId};
+use goal_terms::kinds::{kind_of_alias, same_kind};
+use goal_terms::regions::region_of;
 use goal_terms::terms::{AliasTermKind, Region};
 use goal_terms::view::TermRef;
 
@@ -22,48 +25,27 @@ pub enum TermFault {
     WrongArgumentKind,
     ParameterOutOfRange,
     InferInTable,
-}
-
-/// The lifetime that a node names itself.
-#[tactic(auto, unfolding(crate::specs::Sites::region_of))]
-pub(crate) fn region_of(node: Node) -> Option<Region>
-    ensures { result ≡ region_of node }
-{
-    match node {
-        Node::Head(Head::Ref(region, _)) => Some(region),
-        Node::Head(Head::Dynamic(_, region)) => Some(region),
-        Node::Head(Head::Lifetime(region)) => Some(region),
-        _ => None,
-    }
-}
-
-/// Whether a row has this parameter, of this kind.
-#[tactic(auto, using(crate::proofs::SiteLemmas::having))]
-fn has_param(params: &[ParamKind], number: u32, kind: ParamKind) -> bool
-    ensures { result ≡ has_param params.now number kind }
-{
-    let place = number as usize;
-    place < params.len() && same_kind(params[place], kind)
+    NeverConst,
 }
 
 #[tactic(auto, unfolding(crate::specs::Sites::region_is_out_of_range))]
-fn region_is_out_of_range(params: &[ParamKind], region: Option<Region>) -> bool
-    ensures { result ≡ region_is_out_of_range params.now region }
+fn region_is_out_of_range(params: Params<'_>, region: Option<Region>) -> bool
+    ensures { result ≡ region_is_out_of_range (params_seen params.entry) region }
 {
     match region {
-        Some(Region::Param(number)) => !has_param(params, number, ParamKind::Lifetime),
+        Some(Region::Param(number)) => !params.has(number, ParamKind::Lifetime),
         _ => false,
     }
 }
 
 /// Whether a node is a parameter that a row doesn't have.
 #[tactic(auto, unfolding(crate::specs::Sites::is_out_of_range))]
-fn is_out_of_range(params: &[ParamKind], node: Node) -> bool
-    ensures { result ≡ is_out_of_range params.now node }
+fn is_out_of_range(params: Params<'_>, node: Node) -> bool
+    ensures { result ≡ is_out_of_range (params_seen params.entry) node }
 {
     match node {
-        Node::Head(Head::TyParam(number)) => !has_param(params, number, ParamKind::Ty),
-        Node::Head(Head::ConstParam(number)) => !has_param(params, number, ParamKind::Const),
+        Node::Head(Head::TyParam(number)) => !params.has(number, ParamKind::Ty),
+        Node::Head(Head::ConstParam(number)) => !params.has(number, ParamKind::Const),
         _ => region_is_out_of_range(params, region_of(node)),
     }
 }
@@ -90,6 +72,16 @@ fn is_inferred(node: Node) -> bool
     }
 }
 
+/// Whether a row that may be there is of another kind.
+pub fn is_of_other_kind(kind: Option<ParamKind>, other: ParamKind) -> bool
+    ensures { result ≡ is_of_other_kind kind other }
+{
+    match kind {
+        None => false,
+        Some(kind) => !same_kind(kind, other),
+    }
+}
+
 impl IndexedTables {
     /// Whether an alias names what no row has.
     #[tactic(auto, unfolding(crate::specs::Sites::alias_is_unknown))]
@@ -97,15 +89,15 @@ impl IndexedTables {
         ensures { result ≡ alias_is_unknown self.now kind }
     {
         match kind {
-            AliasTermKind::ProjectionTy(item) | AliasTermKind::ProjectionConst(item) => {
-                self.item_row(item).is_none()
+            AliasTermKind::ProjectionTy(id) | AliasTermKind::ProjectionConst(id) => {
+                self.item_row(id).is_none()
             }
+            AliasTermKind::InherentTy(id) | AliasTermKind::InherentConst(id) => {
+                self.inherent_row(id).is_none()
+            }
+            AliasTermKind::OpaqueTy(id) => self.opaque_row(id).is_none(),
+            AliasTermKind::FreeTy(id) | AliasTermKind::FreeConst(id) => self.free_row(id).is_none(),
             AliasTermKind::UnevaluatedConst(_) => false,
-            AliasTermKind::InherentTy(_)
-            | AliasTermKind::InherentConst(_)
-            | AliasTermKind::OpaqueTy(_)
-            | AliasTermKind::FreeTy(_)
-            | AliasTermKind::FreeConst(_) => true,
         }
     }
 
@@ -116,7 +108,8 @@ impl IndexedTables {
     {
         match node {
             Node::Head(Head::Adt(id, _)) => self.adt_row(id).is_none(),
-            Node::Head(Head::FnDef(_, _)) | Node::Head(Head::Closure(_, _)) => true,
+            Node::Head(Head::FnDef(id, _)) => self.function_row(id).is_none(),
+            Node::Head(Head::Closure(id, _)) => self.closure_row(id).is_none(),
             Node::Head(Head::DynTrait(id, _)) => self.trait_row(id).is_none(),
             Node::Head(Head::DynProjection(item, _)) => self.item_row(item).is_none(),
             Node::Head(Head::Misplaced(kind)) => self.alias_is_unknown(kind),
@@ -125,33 +118,44 @@ impl IndexedTables {
         }
     }
 
-    /// Whether an item is of another kind.
-    pub fn item_has_other_kind(&self, item: ItemId, kind: ParamKind) -> bool
-        ensures { result ≡ item_has_other_kind self.now item kind }
+    /// The kind that the row of a projection says.
+    fn kind_of_projection(&self, id: ItemId) -> Option<ParamKind>
+        ensures { result ≡ option_map (λ r. kind_of_value r.is_const) (item_of self.now id) }
     {
-        match self.item_row(item) {
-            None => false,
-            Some(row) => !same_kind(kind_of_item(row), kind),
-        }
+        let row = self.item_row(id)?;
+        Some(kind_of_value(row.is_const))
     }
 
-    /// Whether an alias is of another kind than the item that it names.
-    #[tactic(auto, unfolding(crate::specs::Sites::differs_from_item))]
-    fn differs_from_item(&self, kind: AliasTermKind) -> bool
-        ensures { result ≡ differs_from_item self.now kind }
+    /// The kind that the row of an inherent item says.
+    fn kind_of_inherent(&self, id: InherentId) -> Option<ParamKind>
+        ensures { result ≡ option_map (λ r. kind_of_value r.is_const) (inherent_of self.now id) }
+    {
+        let row = self.inherent_row(id)?;
+        Some(kind_of_value(row.is_const))
+    }
+
+    /// The kind that the row of a free alias says.
+    fn kind_of_free(&self, id: FreeId) -> Option<ParamKind>
+        ensures { result ≡ option_map (λ r. kind_of_value r.is_const) (free_of self.now id) }
+    {
+        let row = self.free_row(id)?;
+        Some(kind_of_value(row.is_const))
+    }
+
+    /// The kind that the row of an alias says.
+    #[tactic(auto, unfolding(crate::specs::Sites::kind_of_row))]
+    fn kind_of_row(&self, kind: AliasTermKind) -> Option<ParamKind>
+        ensures { result ≡ kind_of_row self.now kind }
     {
         match kind {
-            AliasTermKind::ProjectionTy(item) => self.item_has_other_kind(item, ParamKind::Ty),
-            AliasTermKind::ProjectionConst(item) => self.item_has_other_kind(
-                item,
-                ParamKind::Const,
-            ),
-            AliasTermKind::UnevaluatedConst(_)
-            | AliasTermKind::InherentTy(_)
-            | AliasTermKind::InherentConst(_)
-            | AliasTermKind::OpaqueTy(_)
-            | AliasTermKind::FreeTy(_)
-            | AliasTermKind::FreeConst(_) => false,
+            AliasTermKind::ProjectionTy(id) | AliasTermKind::ProjectionConst(id) => {
+                self.kind_of_projection(id)
+            }
+            AliasTermKind::InherentTy(id) | AliasTermKind::InherentConst(id) => {
+                self.kind_of_inherent(id)
+            }
+            AliasTermKind::FreeTy(id) | AliasTermKind::FreeConst(id) => self.kind_of_free(id),
+            AliasTermKind::OpaqueTy(_) | AliasTermKind::UnevaluatedConst(_) => None,
         }
     }
 
@@ -162,15 +166,15 @@ impl IndexedTables {
     {
         match node {
             Node::Head(Head::Misplaced(_)) => true,
-            Node::Alias(kind) => self.differs_from_item(kind),
+            Node::Alias(kind) => is_of_other_kind(self.kind_of_row(kind), kind_of_alias(kind)),
             _ => false,
         }
     }
 
     /// Whether a fault lies at the top of a term, in a row with these parameters.
     #[tactic(auto, unfolding(crate::specs::Sites::lies_here))]
-    fn lies_here(&self, params: &[ParamKind], fault: TermFault, term: TermRef<'_>) -> bool
-        ensures { result ≡ lies_here self.now params.now fault (tree_of_ref term.entry) }
+    fn lies_here(&self, params: Params<'_>, fault: TermFault, term: TermRef<'_>) -> bool
+        ensures { result ≡ lies_here self.now (params_seen params.entry) fault (tree_of_ref term.entry) }
     {
         let node = term.node();
         match fault {
@@ -183,13 +187,14 @@ impl IndexedTables {
             }
             TermFault::ParameterOutOfRange => is_out_of_range(params, node),
             TermFault::InferInTable => is_inferred(node),
+            TermFault::NeverConst => false,
         }
     }
 
     /// Whether a fault lies anywhere in a term, in a row with these parameters.
     #[tactic(auto, using(crate::proofs::SiteLemmas::lying))]
-    pub fn lies_in(&self, params: &[ParamKind], fault: TermFault, term: TermRef<'_>) -> bool
-        ensures { result ≡ lies_in self.now params.now fault (tree_of_ref term.entry) }
+    pub fn lies_in(&self, params: Params<'_>, fault: TermFault, term: TermRef<'_>) -> bool
+        ensures { result ≡ lies_in self.now (params_seen params.entry) fault (tree_of_ref term.entry) }
     {
         if self.lies_here(params, fault, term) {
             return true;

@@ -1,11 +1,13 @@
-//! Whether the items of traits and the sources of impls fit together.
-ghost use Rattle.std.specs.Prelude.{◌≡◌, ◌==◌, is_none};
+//! Whether the items of traits, the sources of impls and the definitions fit together.
+ghost use Rattle.std.specs.Prelude.{◌≡◌, is_none};
 ghost use Rattle.std.specs.List.{list_any};
-ghost use Rattle.goal_tables.specs.Rows.{source_of};
-ghost use Rattle.goal_tables.specs.Faults.{names_other_trait, lists_twice, lists_wrong_items, is_not_listed, is_positive, lacks_source, stands_elsewhere, uses_other_definition, source_mismatch};
+ghost use Rattle.goal_tables.specs.Options.{option_holds};
+ghost use Rattle.goal_tables.specs.Rows.{impl_of, source_of};
+ghost use Rattle.goal_tables.specs.SourceFaults.{names_other_trait, lists_other_item, is_not_listed, items_mismatch, is_positive, lacks_source, is_of_other_trait, stands_elsewhere, is_outside, is_no_source, names_no_source, source_mismatch, own_parameters_differ, own_parameters_mismatch};
 
 use crate::lookup::IndexedTables;
-use crate::rows::{ImplPolarity, ImplRow, ItemRow, SourceRow, TraitRow};
+use crate::param_kinds::same_kinds;
+use crate::rows::{Container, DefRow, ImplPolarity, ImplRow, ItemRow, Source, SourceRow, TraitRow};
 use goal_terms::ids::{ImplId, ItemId};
 
 impl ImplPolarity {
@@ -15,31 +17,9 @@ impl ImplPolarity {
     {
         match self {
             ImplPolarity::Positive => true,
-            ImplPolarity::Negative => false,
+            ImplPolarity::Negative | ImplPolarity::Reservation => false,
         }
     }
-}
-
-/// Whether the item of a number stands in a list.
-fn lists(items: &[ItemId], number: u32) -> bool
-    ensures { result ≡ list_any (λ i. i.0 == number) items.now }
-{
-    items.iter().any(|listed| listed.0 == number)
-}
-
-#[tactic(auto, using(crate::proofs::SourceLemmas::doubling))]
-/// Whether an item stands twice in a list.
-fn lists_twice(items: &[ItemId]) -> bool
-    ensures { result ≡ lists_twice items.now }
-{
-    for i in 0..items.len() {
-        let number = items[i].0;
-        let later = &items[i + 1..];
-        if lists(later, number) {
-            return true;
-        }
-    }
-    false
 }
 
 impl IndexedTables {
@@ -54,19 +34,12 @@ impl IndexedTables {
     }
 
     /// Whether a trait lists an item of another trait.
-    fn lists_item_of_other_trait(&self, row: &TraitRow) -> bool
-        ensures { result ≡ list_any (λ i. names_other_trait self.now row.now i) row.now.items.items }
+    fn lists_other_item(&self, row: &TraitRow) -> bool
+        ensures { result ≡ lists_other_item self.now row.now }
     {
         row.items
             .iter()
             .any(|item| self.names_other_trait(row, *item))
-    }
-
-    /// Whether a trait lists an item of another trait, or one twice.
-    fn lists_wrong_items(&self, row: &TraitRow) -> bool
-        ensures { result ≡ lists_wrong_items self.now row.now }
-    {
-        self.lists_item_of_other_trait(row) || lists_twice(row.items.as_slice())
     }
 
     /// Whether an item names a trait that doesn't list it.
@@ -75,8 +48,35 @@ impl IndexedTables {
     {
         match self.trait_row(row.trait_id) {
             None => false,
-            Some(named) => !lists(named.items.as_slice(), row.id.0),
+            Some(_) => !self.trait_lists(row.trait_id, row.id),
         }
+    }
+
+    /// Whether some trait lists an item of another trait.
+    fn some_trait_lists_other(&self) -> bool
+        ensures { result ≡ list_any (λ r. lists_other_item self.now r) self.now.traits.items }
+    {
+        self.tables()
+            .traits
+            .iter()
+            .any(|row| self.lists_other_item(row))
+    }
+
+    /// Whether some item names a trait that doesn't list it.
+    fn some_is_not_listed(&self) -> bool
+        ensures { result ≡ list_any (λ r. is_not_listed self.now r) self.now.items.items }
+    {
+        self.tables()
+            .items
+            .iter()
+            .any(|row| self.is_not_listed(row))
+    }
+
+    /// Whether the lists of items in traits don't fit the rows of the items.
+    fn has_items_mismatch(&self) -> bool
+        ensures { result ≡ items_mismatch self.now }
+    {
+        self.some_trait_lists_other() || self.some_trait_lists_twice() || self.some_is_not_listed()
     }
 
     /// Whether an impl has no source for one of these items.
@@ -92,12 +92,17 @@ impl IndexedTables {
     fn lacks_source(&self, row: &ImplRow) -> bool
         ensures { result ≡ lacks_source self.now row.now }
     {
-        if !row.polarity.is_positive() {
-            return false;
-        }
-        match self.trait_row(row.trait_id) {
+        row.polarity.is_positive()
+            && self.lacks_source_of(row.id, self.items_of_trait(row.trait_id))
+    }
+
+    /// Whether an item is of another trait than an impl.
+    fn is_of_other_trait(&self, row: &ImplRow, item: ItemId) -> bool
+        ensures { result ≡ is_of_other_trait self.now row.now item }
+    {
+        match self.item_row(item) {
             None => false,
-            Some(named) => self.lacks_source_of(row.id, named.items.as_slice()),
+            Some(named) => named.trait_id.0 != row.trait_id.0,
         }
     }
 
@@ -105,75 +110,114 @@ impl IndexedTables {
     fn stands_elsewhere(&self, row: &SourceRow) -> bool
         ensures { result ≡ stands_elsewhere self.now row.now }
     {
-        let Some(named) = self.impl_row(row.impl_id) else {
-            return false;
-        };
-        if !named.polarity.is_positive() {
-            return true;
-        }
-        match self.item_row(row.item_id) {
+        match self.impl_row(row.impl_id) {
             None => false,
-            Some(item) => item.trait_id.0 != named.trait_id.0,
-        }
-    }
-
-    /// Whether a source's definition is of another item or stands in another impl.
-    fn uses_other_definition(&self, row: &SourceRow) -> bool
-        ensures { result ≡ uses_other_definition self.now row.now }
-    {
-        match self.definition_row(row.source.def_id()) {
-            None => false,
-            Some(used) => {
-                used.item.0 != row.item_id.0 || used.container.impl_id().0 != row.impl_id.0
+            Some(named) => {
+                !named.polarity.is_positive() || self.is_of_other_trait(named, row.item_id)
             }
         }
     }
 
-    /// Whether some trait lists an item of another trait, or one twice.
-    fn some_lists_wrong_items(&self, rows: &[TraitRow]) -> bool
-        ensures { result ≡ list_any (λ r. lists_wrong_items self.now r) rows.now }
+    /// Whether a definition stands neither in the trait of an impl nor in an impl of that trait.
+    fn is_outside(&self, row: &ImplRow, container: Container) -> bool
+        ensures { result ≡ is_outside self.now row.now container }
     {
-        rows.iter().any(|row| self.lists_wrong_items(row))
+        match container {
+            Container::Impl(id) => match self.impl_row(id) {
+                None => false,
+                Some(other) => other.trait_id.0 != row.trait_id.0,
+            },
+            Container::Trait(id) => id.0 != row.trait_id.0,
+        }
     }
 
-    /// Whether some item names a trait that doesn't list it.
-    fn some_is_not_listed(&self, rows: &[ItemRow]) -> bool
-        ensures { result ≡ list_any (λ r. is_not_listed self.now r) rows.now }
+    /// Whether a definition stands outside the trait of a source's impl.
+    fn is_outside_source(&self, row: &SourceRow, container: Container) -> bool
+        ensures { result ≡ option_holds (λ q. is_outside self.now q container) (impl_of self.now row.now.impl_id) }
     {
-        rows.iter().any(|row| self.is_not_listed(row))
+        match self.impl_row(row.impl_id) {
+            None => false,
+            Some(named) => self.is_outside(named, container),
+        }
+    }
+
+    /// Whether a definition is none for a source's impl and item.
+    fn is_no_source(&self, row: &SourceRow, definition: &DefRow) -> bool
+        ensures { result ≡ is_no_source self.now row.now definition.now }
+    {
+        definition.item.0 != row.item_id.0 || self.is_outside_source(row, definition.container)
+    }
+
+    /// Whether a source names a definition that is none for its impl and item.
+    fn names_no_source(&self, row: &SourceRow) -> bool
+        ensures { result ≡ names_no_source self.now row.now row.now.source }
+    {
+        let Source::Def { def_id, .. } = row.source else {
+            return false;
+        };
+        match self.definition_row(def_id) {
+            None => false,
+            Some(definition) => self.is_no_source(row, definition),
+        }
     }
 
     /// Whether some positive impl has no source for an item of its trait.
-    fn some_lacks_source(&self, rows: &[ImplRow]) -> bool
-        ensures { result ≡ list_any (λ r. lacks_source self.now r) rows.now }
+    fn some_lacks_source(&self) -> bool
+        ensures { result ≡ list_any (λ r. lacks_source self.now r) self.now.impls.items }
     {
-        rows.iter().any(|row| self.lacks_source(row))
+        self.tables().impls.iter().any(|row| self.lacks_source(row))
     }
 
     /// Whether some source stands for an impl that isn't positive, or for an item of another trait.
-    fn some_stands_elsewhere(&self, rows: &[SourceRow]) -> bool
-        ensures { result ≡ list_any (λ r. stands_elsewhere self.now r) rows.now }
+    fn some_stands_elsewhere(&self) -> bool
+        ensures { result ≡ list_any (λ r. stands_elsewhere self.now r) self.now.sources.items }
     {
-        rows.iter().any(|row| self.stands_elsewhere(row))
+        self.tables()
+            .sources
+            .iter()
+            .any(|row| self.stands_elsewhere(row))
     }
 
-    /// Whether some source's definition is of another item or stands in another impl.
-    fn some_uses_other_definition(&self, rows: &[SourceRow]) -> bool
-        ensures { result ≡ list_any (λ r. uses_other_definition self.now r) rows.now }
+    /// Whether some source names a definition that is none for its impl and item.
+    fn some_names_no_source(&self) -> bool
+        ensures { result ≡ list_any (λ r. names_no_source self.now r r.source) self.now.sources.items }
     {
-        rows.iter().any(|row| self.uses_other_definition(row))
+        self.tables()
+            .sources
+            .iter()
+            .any(|row| self.names_no_source(row))
     }
 
     /// Whether the items of traits and the sources of impls don't fit together.
+    #[tactic(auto, unfolding(crate::specs::SourceFaults::source_mismatch))]
     pub fn has_source_mismatch(&self) -> bool
         ensures { result ≡ source_mismatch self.now }
     {
-        let tables = self.tables();
-        self.some_lists_wrong_items(tables.traits.as_slice())
-            || self.some_is_not_listed(tables.items.as_slice())
-            || self.some_lacks_source(tables.impls.as_slice())
+        self.has_items_mismatch()
+            || self.some_lacks_source()
             || self.has_doubled_source()
-            || self.some_stands_elsewhere(tables.sources.as_slice())
-            || self.some_uses_other_definition(tables.sources.as_slice())
+            || self.some_stands_elsewhere()
+            || self.some_names_no_source()
+    }
+
+    /// Whether a definition's own parameters have other kinds than its item's.
+    fn own_parameters_differ(&self, row: &DefRow) -> bool
+        ensures { result ≡ own_parameters_differ self.now row.now }
+    {
+        match self.item_row(row.item) {
+            None => false,
+            Some(item) => !same_kinds(item.own_params.as_slice(), row.own_params.as_slice()),
+        }
+    }
+
+    /// Whether the own parameters of some definition have other kinds than its item's.
+    #[tactic(auto, unfolding(crate::specs::SourceFaults::own_parameters_mismatch))]
+    pub fn has_own_parameters_mismatch(&self) -> bool
+        ensures { result ≡ own_parameters_mismatch self.now }
+    {
+        self.tables()
+            .definitions
+            .iter()
+            .any(|row| self.own_parameters_differ(row))
     }
 }

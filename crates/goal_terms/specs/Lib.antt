@@ -5,4 +5,17 @@ pub mod Erased
 pub mod SameTree
 pub mod Writes
 pub mod SameLaws
+pub mod Regions
+pub mod NodeTests
+pub mod Occurrences
 pub mod Closed
+pub mod Kinds
+pub mod Folding
+pub mod Tops
+pub mod PredicateTrees
+pub mod Concrete
+pub mod TreeWith
+pub mod TreeCode
+pub mod Sorts
+pub mod TableMeaning
+pub mod SameHead

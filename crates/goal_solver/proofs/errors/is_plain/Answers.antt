@@ -1,4 +1,4 @@
-use Rattle.std.proofs.Common.{◌≡◌, ◌∙◌, sym, ◌∷◌, map, false}
+use Rattle.std.proofs.Common.{◌∙◌, sym, ◌∷◌, map}
 use Rattle.goal_terms.specs.TreeOf.{tree_of_arg}
 use Rattle.goal_terms.specs.View.{tree_of_ref}
 use Rattle.goal_solver.proofs.ErrorLemmas.{any_error-erased, not_true}

@@ -1,13 +1,11 @@
-use Rattle.std.proofs.Common.{◌≡◌, ◌∙◌, ◌+◌, ◌-◌, ◌∷◌, [], List, map, length, subst, sym, ap, arith}
+use Rattle.std.proofs.Common.{◌∙◌, ◌+◌, ◌-◌, map, subst, sym, ap, arith}
 use Rattle.std.proofs.lemmas.Bool.{false≢true}
-use Rattle.goal_terms.specs.Tree.{Tree}
 use Rattle.goal_terms.specs.TreeOf.{tree_of_arg}
 use Rattle.goal_terms.specs.View.{tree_of_ref}
 use Rattle.goal_terms.specs.Erased.{erased}
-use Rattle.goal_terms.specs.declared.terms.GenericArg.{GenericArg}
 use Rattle.goal_tables.specs.declared.rows.Tables.{Tables}
 use Rattle.goal_solver.specs.Verdicts.{erased_args, replaced_args}
-use Rattle.goal_solver.proofs.ProjectLemmas.{itself-head, itself-variable, alias-head, alias-item, item-refuted, trait-replaced, trait-refuted, terms-more, terms-skip, terms-end, TermsBefore, no_elements}
+use Rattle.goal_solver.proofs.ProjectLemmas.{itself-head, itself-variable, alias-head, alias-item, item-refuted, trait-replaced, trait-refuted, terms-more, terms-skip, terms-end, TermsBefore}
 use Rattle.goal_solver.proofs.eval.+evaluation.Goals as goal
 use Rattle.goal_solver.proofs.eval.+evaluation.Goals.{project_from-then-is_of_trait, project_from-else-is_of_trait}
 
@@ -28,7 +26,7 @@ pub normalize-returns : goal.normalize-returns
 normalize-returns t c =
     alias-item c.args.rows.now c.args.depth (c.args.depth - 1) c.project.result c.args.kind c.in-Some.item (erased_args c.args.args.now) c.in-Some-item_row.row.now
     (omega arith) (sym c.in-Some.ensures) (sym c.in-Some-item_row.ensures)
-    (no_elements c.in-Some-item_row.row.now.own_params.items (omega (arith, c.in-Some-item_row.row.now.own_params.ok.0))) c.project.ensures
+    (sym c.is_plain_item.ensures ∙ c.if-not-is_plain_item.false) c.project.ensures
 
 pub project-returns-in-Refuted : goal.project-returns-in-Refuted
 project-returns-in-Refuted t c = item-refuted c.args.rows.now c.args.depth c.args.trait_id c.args.item (erased_args c.args.args.now) c.in-Refuted.ensures

@@ -1,4 +1,4 @@
-use Rattle.std.proofs.Common.{◌≡◌, ◌-◌, ◌∙◌, suc, ap, sym, arith}
+use Rattle.std.proofs.Common.{◌-◌, ◌∙◌, ap, sym, arith}
 use Rattle.std.specs.Prelude.{Some}
 use Rattle.goal_terms.specs.View.{tree_of_ref}
 use Rattle.goal_solver.proofs.EvalLemmas.{later-item}

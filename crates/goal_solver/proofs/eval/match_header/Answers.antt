@@ -1,7 +1,6 @@
-use Rattle.std.proofs.Common.{◌≡◌, ◌∙◌, ◌+◌, ◌∷◌, suc, map, length, subst, sym, ap, arith, add-one}
+use Rattle.std.proofs.Common.{◌∙◌, ◌+◌, ◌∷◌, suc, map, subst, sym, ap, arith}
 use Rattle.std.proofs.lemmas.List.{length-map}
-use Rattle.std.specs.Prelude.{slice_get, Some}
-use Rattle.goal_terms.specs.Tree.{Tree}
+use Rattle.std.specs.Prelude.{Some}
 use Rattle.goal_terms.specs.TreeOf.{tree_of_arg}
 use Rattle.goal_terms.specs.View.{tree_of_ref}
 use Rattle.goal_solver.proofs.CompareLemmas.{agree-start, unequal-at, so_far-step, so_far-end, SoFar}

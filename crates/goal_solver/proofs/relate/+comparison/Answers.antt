@@ -1,5 +1,5 @@
-use Rattle.std.proofs.Common.{◌≡◌, ◌∙◌, sym, ap, subst, arith, ◌<◌, ◌+◌}
-use Rattle.goal_terms.specs.Tree.{tree_size, parts_of}
+use Rattle.std.proofs.Common.{◌∙◌, sym, subst, arith, ◌<◌, ◌+◌}
+use Rattle.goal_terms.specs.Tree.{tree_size}
 use Rattle.goal_terms.specs.View.{tree_of_ref, trees_seen}
 use Rattle.goal_terms.proofs.WalkLemmas.{tree_size-part}
 use Rattle.goal_solver.proofs.CompareLemmas.{alike-whole, apart-whole, unequal-lengths, unequal-at, agree-start, so_far-step, so_far-end, SoFar}

@@ -1,6 +1,7 @@
 use Rattle.std.proofs.Common.{◌≡◌}
 use Rattle.goal_terms.specs.Tree.{tree_size}
 use Rattle.goal_terms.specs.View.{tree_of_ref, trees_seen}
+use Rattle.goal_tables.specs.Params.{params_seen}
 use Rattle.goal_tables.proofs.SiteLemmas.{lies_from}
 use Rattle.goal_tables.proofs.lookup.IndexedTables.+lies_in.Given as goal
 
@@ -8,4 +9,4 @@ abbrev pub decreases-lies_in : goal.decreases-lies_in
 decreases-lies_in l = tree_size (tree_of_ref l.term)
 
 abbrev pub invariant-loop-i : goal.invariant-loop-i
-invariant-loop-i l = lies_from l.self l.params l.fault (trees_seen l.parts) l.i ≡ lies_from l.self l.params l.fault (trees_seen l.parts) 0
+invariant-loop-i l = lies_from l.self (params_seen l.params) l.fault (trees_seen l.parts) l.i ≡ lies_from l.self (params_seen l.params) l.fault (trees_seen l.parts) 0

@@ -1,7 +1,7 @@
-use Rattle.std.proofs.Common.{◌≡◌, ◌∙◌, sym, ap}
+use Rattle.std.proofs.Common.{◌∙◌, sym, ap}
 use Rattle.goal_terms.specs.View.{tree_of_ref, trees_seen}
 use Rattle.goal_tables.specs.Params.{params_seen}
-use Rattle.goal_tables.specs.Sites.{kind_of}
+use Rattle.goal_terms.specs.Kinds.{kind_of}
 use Rattle.goal_tables.proofs.ParamLemmas.{differs_from-start, differs_from-more, differs_from-found}
 use Rattle.goal_tables.proofs.params.Params.differs_in_kind.Goals as goal
 

@@ -1,0 +1,97 @@
+//! The free aliases, the inherent item and the opaque type of the program that the rows ask about.
+use crate::names::{TR, VEC};
+use crate::program_types::{struct_of, trait_clause, trait_ref};
+use goal_tables::rows::{FreeRow, InherentImplRow, InherentRow, OpaqueRow};
+use goal_terms::answers::ParamKind;
+use goal_terms::ids::{FreeId, InherentId, InherentImplId, OpaqueId};
+use goal_terms::scalars::UintTy;
+use goal_terms::terms::{Term, Ty};
+use std::alloc::{AllocError, Global};
+
+/// The free aliases.
+pub fn free_rows(alloc: Global) -> Result<Vec<FreeRow>, AllocError> {
+    let mut rows = Vec::new(alloc);
+    rows.push(list_alias(alloc, FreeId(0))?)?;
+    rows.push(bounded_alias(alloc)?)?;
+    rows.push(free_type(alloc, FreeId(2), Ty::Uint(UintTy::U8)))?;
+    rows.push(free_const(alloc, FreeId(3)))?;
+    Ok(rows)
+}
+
+/// A free type alias with no parameters.
+pub fn free_type(alloc: Global, id: FreeId, ty: Ty) -> FreeRow {
+    FreeRow {
+        id,
+        params: Vec::new(alloc),
+        is_const: false,
+        predicates: Vec::new(alloc),
+        value: Some(Term::Ty(ty)),
+    }
+}
+
+/// A free constant with no parameters and no value.
+fn free_const(alloc: Global, id: FreeId) -> FreeRow {
+    FreeRow {
+        id,
+        params: Vec::new(alloc),
+        is_const: true,
+        predicates: Vec::new(alloc),
+        value: None,
+    }
+}
+
+/// `type A<T> = Vec<T>`, under an id.
+fn list_alias(alloc: Global, id: FreeId) -> Result<FreeRow, AllocError> {
+    let list = struct_of(alloc, VEC, Ty::Param(0))?;
+    let mut row = free_type(alloc, id, list);
+    row.params = vec![in alloc; ParamKind::Ty]?;
+    Ok(row)
+}
+
+/// `type B<T> = Vec<T> where T: Tr`.
+fn bounded_alias(alloc: Global) -> Result<FreeRow, AllocError> {
+    let mut row = list_alias(alloc, FreeId(1))?;
+    row.predicates = vec![in alloc; trait_clause(trait_ref(alloc, Ty::Param(0), TR)?)]?;
+    Ok(row)
+}
+
+/// The inherent impl `impl<T> Vec<T>`.
+pub fn inherent_impl_rows(alloc: Global) -> Result<Vec<InherentImplRow>, AllocError> {
+    let params = vec![in alloc; ParamKind::Ty]?;
+    let self_ty = struct_of(alloc, VEC, Ty::Param(0))?;
+    Ok(vec![in alloc;
+        InherentImplRow {
+            id: InherentImplId(0),
+            params,
+            self_ty
+        },
+    ]?)
+}
+
+/// The inherent item `type I = (T, T)`.
+pub fn inherent_rows(alloc: Global) -> Result<Vec<InherentRow>, AllocError> {
+    let pair = Ty::Tuple(vec![in alloc; Ty::Param(0), Ty::Param(0)]?);
+    let row = InherentRow {
+        id: InherentId(0),
+        impl_id: InherentImplId(0),
+        is_const: false,
+        own_params: Vec::new(alloc),
+        predicates: Vec::new(alloc),
+        value: Some(Term::Ty(pair)),
+    };
+    Ok(vec![in alloc; row]?)
+}
+
+/// The opaque type `Hid`, whose hidden type is `u8`.
+pub fn opaque_rows(alloc: Global) -> Result<Vec<OpaqueRow>, AllocError> {
+    let row = OpaqueRow {
+        id: OpaqueId(0),
+        params: Vec::new(alloc),
+        is_local: false,
+        hidden: Ty::Uint(UintTy::U8),
+        typeck_hidden: Ty::Uint(UintTy::U8),
+        bounds: Vec::new(alloc),
+        const_bounds: None,
+    };
+    Ok(vec![in alloc; row]?)
+}

@@ -1,0 +1,89 @@
+//! Faults of impls.
+ghost use Rattle.std.specs.Prelude.{◌≡◌};
+ghost use Rattle.goal_tables.specs.ImplFaults.{is_reservation, reserves_items, reservation_with_items, allows_impls, is_builtin_trait, is_trait_alias, impl_of_builtin_trait, inherent_const_without_value};
+
+use crate::lang::{LangItem, LangTarget};
+use crate::lookup::IndexedTables;
+use crate::rows::{ImplPolarity, ImplRow};
+use goal_terms::ids::TraitId;
+
+impl ImplPolarity {
+    /// Whether the impl only bars a refutation.
+    pub fn is_reservation(self) -> bool
+        ensures { result ≡ is_reservation self }
+    {
+        match self {
+            ImplPolarity::Positive | ImplPolarity::Negative => false,
+            ImplPolarity::Reservation => true,
+        }
+    }
+}
+
+impl LangItem {
+    /// Whether the trait of the lang item may have impls beside its built-in ones.
+    pub fn allows_impls(self) -> bool
+        ensures { result ≡ allows_impls self }
+    {
+        matches!(self, LangItem::Copy | LangItem::Clone)
+    }
+}
+
+impl IndexedTables {
+    /// Whether an impl is a reservation of a trait that has items.
+    fn reserves_items(&self, row: &ImplRow) -> bool
+        ensures { result ≡ reserves_items self.now row.now }
+    {
+        row.polarity.is_reservation() && !self.items_of_trait(row.trait_id).is_empty()
+    }
+
+    /// Whether a trait with items has a reservation impl.
+    #[tactic(auto, unfolding(crate::specs::ImplFaults::reservation_with_items))]
+    pub fn has_reservation_with_items(&self) -> bool
+        ensures { result ≡ reservation_with_items self.now }
+    {
+        self.tables()
+            .impls
+            .iter()
+            .any(|row| self.reserves_items(row))
+    }
+
+    /// Whether built-in rules alone say which types have a trait.
+    fn is_builtin_trait(&self, id: TraitId) -> bool
+        ensures { result ≡ is_builtin_trait self.now id }
+    {
+        match self.lang_naming(LangTarget::Trait(id)) {
+            None => false,
+            Some(row) => !row.item.allows_impls(),
+        }
+    }
+
+    /// Whether a trait is an alias.
+    fn is_trait_alias(&self, id: TraitId) -> bool
+        ensures { result ≡ is_trait_alias self.now id }
+    {
+        match self.trait_row(id) {
+            None => false,
+            Some(row) => row.is_alias,
+        }
+    }
+
+    /// Whether a trait that built-in rules decide, or a trait alias, has an impl.
+    #[tactic(auto, unfolding(crate::specs::ImplFaults::impl_of_builtin_trait))]
+    pub fn has_impl_of_builtin_trait(&self) -> bool
+        ensures { result ≡ impl_of_builtin_trait self.now }
+    {
+        self.tables().impls.iter().any(|row| self.is_builtin_trait(row.trait_id)
+            || self.is_trait_alias(row.trait_id))
+    }
+
+    /// Whether a constant of an inherent impl has no value.
+    #[tactic(auto, unfolding(crate::specs::ImplFaults::inherent_const_without_value))]
+    pub fn has_inherent_const_without_value(&self) -> bool
+        ensures { result ≡ inherent_const_without_value self.now }
+    {
+        self.tables()
+            .inherent_items
+            .iter()
+            .any(|row| row.is_const && row.value.is_none())
+    }
+}

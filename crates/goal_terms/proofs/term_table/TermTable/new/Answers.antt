@@ -1,0 +1,10 @@
+use Rattle.std.proofs.Common.{sym, ap, ◌∙◌, subst}
+use Rattle.goal_terms.specs.TableMeaning.{IsTable, trees_of_nodes}
+use Rattle.goal_terms.proofs.TableLemmas.{table-none, trees-none}
+use Rattle.goal_terms.proofs.term_table.TermTable.new.Goals as goal
+
+pub invariant_of-result : goal.invariant_of-result
+invariant_of-result c = subst IsTable (sym c.new.ensures.empty) table-none
+
+pub returns : goal.returns
+returns c = ap trees_of_nodes c.new.ensures.empty ∙ trees-none
