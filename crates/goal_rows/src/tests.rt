@@ -1,6 +1,14 @@
+mod accepted;
 mod answers;
+mod changes;
+mod doubled_ids;
 mod growth;
+mod impl_faults;
+mod lang_faults;
 mod names;
+mod never_const;
 mod printing;
+mod source_faults;
 mod tables;
+mod term_faults;
 mod verdicts;
