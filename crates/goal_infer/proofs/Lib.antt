@@ -1,0 +1,2 @@
+pub mod UndoLemmas
+pub mod GoesBackLemmas

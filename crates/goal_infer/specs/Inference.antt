@@ -1,0 +1,28 @@
+-- What a state of inference is, and when one goes back to another.
+use Rattle.std.specs.Prelude.{◌≡◌, ℕ, List, length, take, drop}
+use Rattle.goal_terms.specs.declared.terms.Region.{Region}
+use Rattle.goal_infer.specs.Undo.{unbound}
+use Rattle.goal_infer.specs.declared.state.Snapshot.{Snapshot}
+use Rattle.goal_infer.specs.declared.undo.InferVariable.{InferVariable}
+
+-- the variables, those that were bound in the order in which they were, and the regions that must be equal
+pub record Inference : Type 0 where
+  pub variables : List InferVariable
+  pub trail : List ℕ
+  pub equations : List (Region × Region)
+
+-- how much there is of each
+abbrev pub lengths_of : Inference → Snapshot
+lengths_of s = record { variables = length s.variables; trail = length s.trail; equations = length s.equations }
+
+-- a state with the bindings after a place of its trail undone, and its lists cut
+abbrev pub rolled_back : Snapshot → Inference → Inference
+rolled_back to s = record {
+  variables = take to.variables (unbound (drop to.trail s.trail) s.variables);
+  trail = take to.trail s.trail;
+  equations = take to.equations s.equations;
+}
+
+-- the changes recorded since, undone, give the state before
+unfoldable pub GoesBack : Inference → Inference → Type 0
+GoesBack before after = rolled_back (lengths_of before) after ≡ before

@@ -1,0 +1,7 @@
+//! The state of inference: variables with what they are bound to, region equations, and a trail by
+//! which changes are undone.
+#![tactic(auto)]
+
+pub mod laws;
+pub mod state;
+pub mod undo;

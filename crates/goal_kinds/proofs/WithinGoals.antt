@@ -1,0 +1,108 @@
+-- Trait goals that hold or are refuted above a level are so above another, in an alike setting, if all goals of the one level are of the other.
+use Rattle.std.proofs.Common.{inl, inr, List, [], ◌∷◌, Option, Some, None, Vec, Global, sym, subst}
+use Rattle.goal_terms.specs.PredicateTrees.{PredicateTree, holds, equals, holds_const}
+use Rattle.goal_terms.specs.Tree.{Tree}
+use Rattle.goal_terms.specs.declared.answers.TraitGoalProvenVia.{TraitGoalProvenVia}
+use Rattle.goal_terms.specs.declared.ids.TraitId.{TraitId}
+use Rattle.goal_terms.specs.declared.modes.TypingMode.{TypingMode}
+use Rattle.goal_tables.specs.declared.rows.ImplRow.{ImplRow}
+use Rattle.goal_kinds.specs.Builtins.{trait_rule}
+use Rattle.goal_kinds.specs.Candidates.{Candidate, assumption, implied_bound, by_impl, built_in, error}
+use Rattle.goal_kinds.specs.Laws.{IsWithin, IsAlike, with_impls_and_mode}
+use Rattle.goal_kinds.specs.Level.{Level}
+use Rattle.goal_kinds.specs.Premises.{Premise, clauses_under}
+use Rattle.goal_kinds.specs.Settings.{Setting}
+use Rattle.goal_kinds.specs.TraitGoals.{AssumptionHolds, AssumptionRefuted, header_of, ImplHoldsUnder, ImplHolds, ImplRefuted, RuleHolds, RuleRefuted, CandidateHolds, CandidateRefuted, TraitHolds, TraitRefuted}
+use Rattle.goal_kinds.proofs.AlikeCandidates.{alike-class_of, alike-classes_before, alike-all_candidates}
+use Rattle.goal_kinds.proofs.Members.{exists-map_same, each-map_same}
+use Rattle.goal_kinds.proofs.OtherImpls.{other_impls-trait_rule}
+use Rattle.goal_kinds.proofs.WithinHeaders.{within-fits, within-clashes, within-all_known}
+use Rattle.goal_kinds.proofs.WithinPremises.{within-premises_hold, within-premises_refuted}
+use Rattle.goal_kinds.proofs.WithinTerms.{within-pairs, within-some_pair, within-has_head_form, within-head_form_refuted}
+
+-- a clause says that the trait holds, or something else
+within-assumption_holds : {L M : Level} → IsWithin L M → (i : TraitId) (args : List Tree) (p : PredicateTree) → AssumptionHolds L i args p → AssumptionHolds M i args p
+unfolding AssumptionHolds
+within-assumption_holds w i args (holds j bs) h = (h.0, within-pairs w bs args h.1)
+within-assumption_holds w i args (equals a t) h = h
+within-assumption_holds w i args (holds_const c j bs) h = h
+
+within-assumption_refuted : {L M : Level} → IsWithin L M → (i : TraitId) (args : List Tree) (p : PredicateTree) →
+    AssumptionRefuted L i args p → AssumptionRefuted M i args p
+unfolding AssumptionRefuted
+within-assumption_refuted w i args (holds j bs) (inl n) = inl n
+within-assumption_refuted w i args (holds j bs) (inr h) = inr (within-some_pair w bs args h)
+within-assumption_refuted w i args (equals a t) h = h
+within-assumption_refuted w i args (holds_const c j bs) h = h
+
+-- an impl holds, or cannot hold
+pub within-impl_holds_under : {L M : Level} → IsWithin L M → (r : ImplRow) (args s : List Tree) → ImplHoldsUnder L r args s → ImplHoldsUnder M r args s
+unfolding ImplHoldsUnder
+within-impl_holds_under w r args s h =
+    (h.0, within-fits w r.params.items (header_of r) args s h.1, within-premises_hold w (clauses_under s r.predicates.items) h.2)
+
+within-impl_holds : {L M : Level} → IsWithin L M → (args : List Tree) (r : ImplRow) → ImplHolds L args r → ImplHolds M args r
+unfolding ImplHolds
+within-impl_holds w args r h = (h.0, within-impl_holds_under w r args h.0 h.1)
+
+pub within-impl_refuted : {L M : Level} → IsWithin L M → (args : List Tree) (r : ImplRow) → ImplRefuted L args r → ImplRefuted M args r
+unfolding ImplRefuted
+within-impl_refuted w args r (inl n) = inl n
+within-impl_refuted w args r (inr (inl h)) = inr (inl (within-clashes w r.params.items (header_of r) args h))
+within-impl_refuted w args r (inr (inr h)) =
+    inr (inr (h.0, within-all_known w r.params.items (header_of r) args h.0 h.1, within-premises_refuted w (clauses_under h.0 r.predicates.items) h.2))
+
+-- a rule's premises
+within-rule_holds : {L M : Level} → IsWithin L M → (o : Option (List Premise)) → RuleHolds L o → RuleHolds M o
+unfolding RuleHolds
+within-rule_holds w None h = h
+within-rule_holds w (Some ps) h = within-premises_hold w ps h
+
+within-rule_refuted : {L M : Level} → IsWithin L M → (o : Option (List Premise)) → RuleRefuted L o → RuleRefuted M o
+unfolding RuleRefuted
+within-rule_refuted w None h = h
+within-rule_refuted w (Some ps) h = within-premises_refuted w ps h
+
+-- a candidate holds, or is refuted
+within-candidate_holds : {L M : Level} → IsWithin L M → (S : Setting) (v : Vec ImplRow Global) (m : TypingMode) (i : TraitId) (args : List Tree) (c : Candidate) →
+    CandidateHolds S L i args c → CandidateHolds (with_impls_and_mode S v m) M i args c
+unfolding CandidateHolds
+within-candidate_holds w S v m i args (assumption p) h = within-assumption_holds w i args p h
+within-candidate_holds w S v m i args (implied_bound b cs) h = h
+within-candidate_holds w S v m i args (by_impl r) h = within-impl_holds w args r h
+within-candidate_holds {M = M} w S v m i args built_in h =
+    subst (RuleHolds M) (sym (other_impls-trait_rule S.tables v i args)) (within-rule_holds w (trait_rule S.tables i args) h)
+within-candidate_holds w S v m i args error h = h
+
+within-candidate_refuted : {L M : Level} → IsWithin L M → (S : Setting) (v : Vec ImplRow Global) (m : TypingMode) (i : TraitId) (args : List Tree) (c : Candidate) →
+    CandidateRefuted S L i args c → CandidateRefuted (with_impls_and_mode S v m) M i args c
+unfolding CandidateRefuted
+within-candidate_refuted w S v m i args (assumption p) h = within-assumption_refuted w i args p h
+within-candidate_refuted w S v m i args (implied_bound b cs) h = h
+within-candidate_refuted w S v m i args (by_impl r) h = within-impl_refuted w args r h
+within-candidate_refuted {M = M} w S v m i args built_in h =
+    subst (RuleRefuted M) (sym (other_impls-trait_rule S.tables v i args)) (within-rule_refuted w (trait_rule S.tables i args) h)
+within-candidate_refuted w S v m i args error h = h
+
+-- a trait goal holds, or is refuted
+pub within-trait_holds : {L M : Level} {S : Setting} {v : Vec ImplRow Global} {m : TypingMode} → IsWithin L M → IsAlike S v m →
+    (c : TraitGoalProvenVia) (i : TraitId) (ts : List Tree) → TraitHolds S L c i ts → TraitHolds (with_impls_and_mode S v m) M c i ts
+unfolding TraitHolds
+within-trait_holds w a c i [] h = h
+within-trait_holds {S = S} {v} {m} w a c i (self ∷ args) h = (
+  h.0,
+  within-has_head_form w self h.0 h.1,
+  exists-map_same _ _ (alike-class_of a i h.0 c) (within-candidate_holds w S v m i (h.0 ∷ args)) h.2,
+  each-map_same _ _ (alike-classes_before a i h.0 c) (within-candidate_refuted w S v m i (h.0 ∷ args)) h.3,
+)
+
+pub within-trait_refuted : {L M : Level} {S : Setting} {v : Vec ImplRow Global} {m : TypingMode} → IsWithin L M → IsAlike S v m →
+    (i : TraitId) (ts : List Tree) → TraitRefuted S L i ts → TraitRefuted (with_impls_and_mode S v m) M i ts
+unfolding TraitRefuted
+within-trait_refuted w a i [] h = h
+within-trait_refuted w a i (self ∷ args) (inl h) = inl (within-head_form_refuted w self h)
+within-trait_refuted {S = S} {v} {m} w a i (self ∷ args) (inr h) = inr (
+  h.0,
+  within-has_head_form w self h.0 h.1,
+  each-map_same _ _ (alike-all_candidates a i h.0) (within-candidate_refuted w S v m i (h.0 ∷ args)) h.2,
+)

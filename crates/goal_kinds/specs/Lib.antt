@@ -1,0 +1,17 @@
+pub mod Words
+pub mod Level
+pub mod Equality
+pub mod Headers
+pub mod Premises
+pub mod Settings
+pub mod Candidates
+pub mod Builtins
+pub mod ConstRules
+pub mod TraitGoals
+pub mod ImplTerms
+pub mod Projections
+pub mod Aliases
+pub mod ConstGoals
+pub mod Levels
+pub mod Laws
+pub mod Answers

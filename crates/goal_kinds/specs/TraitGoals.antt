@@ -1,0 +1,98 @@
+-- Trait goals: when a candidate holds or is refuted, and when the goal does, one height above a level.
+use Rattle.std.specs.Prelude.{◌≡◌, ◌≢◌, ◌⊎◌, Bool, true, false, List, [], ◌∷◌, map, Option, Some, None}
+use Rattle.std.specs.List.{list_any}
+use Rattle.goal_terms.specs.Occurrences.{has_error}
+use Rattle.goal_terms.specs.PredicateTrees.{PredicateTree, holds, equals, holds_const}
+use Rattle.goal_terms.specs.Tree.{Tree}
+use Rattle.goal_terms.specs.TreeOf.{trees_of}
+use Rattle.goal_terms.specs.Erased.{erased}
+use Rattle.goal_terms.specs.declared.answers.TraitGoalProvenVia.{TraitGoalProvenVia}
+use Rattle.goal_terms.specs.declared.ids.TraitId.{TraitId}
+use Rattle.goal_tables.specs.SourceFaults.{is_positive}
+use Rattle.goal_tables.specs.declared.rows.ImplRow.{ImplRow}
+use Rattle.goal_kinds.specs.Builtins.{trait_rule}
+use Rattle.goal_kinds.specs.Candidates.{Candidate, assumption, implied_bound, by_impl, built_in, error, class_of, classes_before, all_candidates}
+use Rattle.goal_kinds.specs.Headers.{AllKnown, Fits, Clashes}
+use Rattle.goal_kinds.specs.Level.{Level, HasHeadForm, HeadFormRefuted}
+use Rattle.goal_kinds.specs.Premises.{Premise, PremisesHold, PremisesRefuted, clauses_under}
+use Rattle.goal_kinds.specs.Settings.{Setting}
+use Rattle.goal_kinds.specs.Words.{Each, Exists, Pairs, SomePair}
+
+-- a clause says that the trait holds for equal arguments
+unfoldable pub AssumptionHolds : Level → TraitId → List Tree → PredicateTree → Type 0
+AssumptionHolds L i args (holds j bs) = (j ≡ i) × Pairs L.equal bs args
+AssumptionHolds L i args (equals a t) = ⊥
+AssumptionHolds L i args (holds_const c j bs) = ⊥
+
+-- a clause says something else, or the trait holds for other arguments
+unfoldable pub AssumptionRefuted : Level → TraitId → List Tree → PredicateTree → Type 0
+AssumptionRefuted L i args (holds j bs) = (j ≢ i) ⊎ SomePair L.unequal bs args
+AssumptionRefuted L i args (equals a t) = Unit {0}
+AssumptionRefuted L i args (holds_const c j bs) = Unit {0}
+
+-- the header of an impl, without lifetimes
+abbrev pub header_of : ImplRow → List Tree
+header_of r = map erased (trees_of r.trait_args.items)
+
+-- an impl holds under a substitution: it is positive, its header fits, and its where clauses hold
+unfoldable pub ImplHoldsUnder : Level → ImplRow → List Tree → List Tree → Type 0
+ImplHoldsUnder L r args s =
+    (is_positive r.polarity ≡ true)
+    × Fits L r.params.items (header_of r) args s
+    × PremisesHold L (clauses_under s r.predicates.items)
+
+-- an impl holds for arguments
+unfoldable pub ImplHolds : Level → List Tree → ImplRow → Type 0
+ImplHolds L args r = (s : List Tree) × ImplHoldsUnder L r args s
+
+-- an impl cannot hold: it isn't positive, its header clashes, or its parameters are known and a where clause is refuted
+unfoldable pub ImplRefuted : Level → List Tree → ImplRow → Type 0
+ImplRefuted L args r =
+    (is_positive r.polarity ≡ false)
+    ⊎ Clashes L r.params.items (header_of r) args
+    ⊎ ((s : List Tree) × AllKnown L r.params.items (header_of r) args s × PremisesRefuted L (clauses_under s r.predicates.items))
+
+-- a rule's premises hold; or there is no rule, or one of its premises is refuted
+unfoldable pub RuleHolds : Level → Option (List Premise) → Type 0
+RuleHolds L None = ⊥
+RuleHolds L (Some ps) = PremisesHold L ps
+
+unfoldable pub RuleRefuted : Level → Option (List Premise) → Type 0
+RuleRefuted L None = Unit {0}
+RuleRefuted L (Some ps) = PremisesRefuted L ps
+
+-- whether an error stands in some of the terms
+abbrev pub any_error : List Tree → Bool
+any_error ts = list_any has_error ts
+
+-- a candidate shows that the trait holds for arguments, whose self type is a head form
+unfoldable pub CandidateHolds : Setting → Level → TraitId → List Tree → Candidate → Type 0
+CandidateHolds S L i args (assumption p) = AssumptionHolds L i args p
+CandidateHolds S L i args (implied_bound b cs) = ⊥
+CandidateHolds S L i args (by_impl r) = ImplHolds L args r
+CandidateHolds S L i args built_in = RuleHolds L (trait_rule S.tables i args)
+CandidateHolds S L i args error = any_error args ≡ true
+
+-- a candidate cannot show it, now or at any greater height
+unfoldable pub CandidateRefuted : Setting → Level → TraitId → List Tree → Candidate → Type 0
+CandidateRefuted S L i args (assumption p) = AssumptionRefuted L i args p
+CandidateRefuted S L i args (implied_bound b cs) = Unit {0}
+CandidateRefuted S L i args (by_impl r) = ImplRefuted L args r
+CandidateRefuted S L i args built_in = RuleRefuted L (trait_rule S.tables i args)
+CandidateRefuted S L i args error = any_error args ≡ false
+
+-- a trait goal holds through a class: the self type has a head form, a candidate of the class holds for it, and all of the classes before are refuted
+unfoldable pub TraitHolds : Setting → Level → TraitGoalProvenVia → TraitId → List Tree → Type 0
+TraitHolds S L c i [] = ⊥
+TraitHolds S L c i (self ∷ args) =
+    (s : Tree)
+    × HasHeadForm L self s
+    × Exists (CandidateHolds S L i (s ∷ args)) (class_of S i s c)
+    × Each (CandidateRefuted S L i (s ∷ args)) (classes_before S i s c)
+
+-- a trait goal is refuted: its self type's head form is, or all candidates for that head form are
+unfoldable pub TraitRefuted : Setting → Level → TraitId → List Tree → Type 0
+TraitRefuted S L i [] = ⊥
+TraitRefuted S L i (self ∷ args) =
+    HeadFormRefuted L self
+    ⊎ ((s : Tree) × HasHeadForm L self s × Each (CandidateRefuted S L i (s ∷ args)) (all_candidates S i s))

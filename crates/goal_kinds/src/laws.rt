@@ -1,0 +1,64 @@
+//! The laws of the definitions, each the contract of a function that does nothing: they speak of all
+//! settings, goals and heights.
+ghost use Rattle.std.specs.Prelude.{◌≡◌, ◌≤◌, true, ℕ, List, map};
+ghost use Rattle.std.specs.Prelude.{Vec};
+ghost use Rattle.std.specs.Global.{Global};
+ghost use Rattle.goal_terms.specs.Tree.{Tree};
+ghost use Rattle.goal_terms.specs.Erased.{erased};
+ghost use Rattle.goal_terms.specs.PredicateTrees.{PredicateTree};
+ghost use Rattle.goal_terms.specs.declared.answers.ParamKind.{ParamKind};
+ghost use Rattle.goal_terms.specs.declared.answers.TraitGoalProvenVia.{TraitGoalProvenVia};
+ghost use Rattle.goal_terms.specs.declared.ids.TraitId.{TraitId};
+ghost use Rattle.goal_terms.specs.declared.modes.TypingMode.{TypingMode};
+ghost use Rattle.goal_terms.specs.declared.predicates.BoundConstness.{BoundConstness};
+ghost use Rattle.goal_terms.specs.declared.predicates.BoundConstness.TheVariants.{Const, Maybe};
+ghost use Rattle.goal_tables.specs.Faults.{IsChecked};
+ghost use Rattle.goal_tables.specs.declared.rows.ImplRow.{ImplRow};
+ghost use Rattle.goal_tables.specs.declared.rows.Tables.{Tables};
+ghost use Rattle.goal_kinds.specs.Answers.{Question, Answer, IsAnswer, decides};
+ghost use Rattle.goal_kinds.specs.Headers.{Fits, Clashes};
+ghost use Rattle.goal_kinds.specs.Laws.{HaveSameImpls, ReadsNoMode};
+ghost use Rattle.goal_kinds.specs.Levels.{level};
+ghost use Rattle.goal_kinds.specs.Settings.{Setting, is_headline};
+
+/// What is proved at a height is proved at every greater one: each decided answer, the class of a
+/// trait goal, equal and unequal terms, headers that fit or clash.
+pub fn more_height_keeps_all()
+    ensures answers { (S : Setting) (n m : ℕ) (q : Question) (a : Answer) → n ≤ m → decides a ≡ true → IsAnswer (level S n) q a → IsAnswer (level S m) q a }
+    ensures classes { (S : Setting) (n m : ℕ) (c : TraitGoalProvenVia) (i : TraitId) (ts : List Tree) → n ≤ m → (level S n).through c i ts → (level S m).through c i ts }
+    ensures equal_terms { (S : Setting) (n m : ℕ) (t u : Tree) → n ≤ m → (level S n).equal t u → (level S m).equal t u }
+    ensures unequal_terms { (S : Setting) (n m : ℕ) (t u : Tree) → n ≤ m → (level S n).unequal t u → (level S m).unequal t u }
+    ensures fits { (S : Setting) (n m : ℕ) (params : List ParamKind) (hs gs s : List Tree) → n ≤ m → Fits (level S n) params hs gs s → Fits (level S m) params hs gs s }
+    ensures clashes { (S : Setting) (n m : ℕ) (params : List ParamKind) (hs gs : List Tree) → n ≤ m → Clashes (level S n) params hs gs → Clashes (level S m) params hs gs }
+{}
+
+/// No two proofs disagree, of any heights: a goal that holds is not refuted, an alias has one term, a
+/// trait goal holds through one class, no terms are equal and unequal, and a header, which has no
+/// lifetimes, fits under one substitution at most, and not if it clashes.
+pub fn no_two_proofs_disagree()
+    ensures answers { (S : Setting) (n m : ℕ) (q : Question) (a b : Answer) → decides a ≡ true → decides b ≡ true → IsAnswer (level S n) q a → IsAnswer (level S m) q b → a ≡ b }
+    ensures classes { (S : Setting) (n m : ℕ) (c d : TraitGoalProvenVia) (i : TraitId) (ts : List Tree) → (level S n).through c i ts → (level S m).through d i ts → c ≡ d }
+    ensures terms { (S : Setting) (n m : ℕ) (t u : Tree) → (level S n).equal t u → (level S m).unequal t u → ⊥ }
+    ensures substitutions { (S : Setting) (n m : ℕ) (params : List ParamKind) (hs gs s z : List Tree) → Fits (level S n) params hs gs s → Fits (level S m) params hs gs z → s ≡ z }
+    ensures headers { (S : Setting) (n m : ℕ) (params : List ParamKind) (ts gs s : List Tree) → Fits (level S n) params (map erased ts) gs s → Clashes (level S m) params (map erased ts) gs → ⊥ }
+{}
+
+/// What holds as `const` at some height is refuted as `[const]` at none.
+pub fn const_is_stronger()
+    ensures never_refuted { (S : Setting) (n m : ℕ) (i : TraitId) (ts : List Tree) → (level S n).const_holds Const i ts → (level S m).const_refuted Maybe i ts → ⊥ }
+{}
+
+/// Where a trait holds as a const trait, its plain goal holds.
+pub fn const_implies_plain()
+    ensures plain_goal_holds { (S : Setting) (n : ℕ) (c : BoundConstness) (i : TraitId) (ts : List Tree) → (level S n).const_holds c i ts → (v : TraitGoalProvenVia) × (level S n).through v i ts }
+{}
+
+/// Accepted tables whose impls stand in another order give the same answers.
+pub fn order_of_impls_says_nothing()
+    ensures same_answers { (t : Tables) (v : Vec ImplRow Global) (m : TypingMode) (env : List PredicateTree) (n : ℕ) (q : Question) (a : Answer) → IsChecked t → IsChecked (record t { impls = v }) → HaveSameImpls t.impls.items v.items → IsAnswer (level (record { tables = t; mode = m; env = env }) n) q a → IsAnswer (level (record { tables = record t { impls = v }; mode = m; env = env }) n) q a }
+{}
+
+/// Over tables without opaque types and default sources each headline mode gives the same answers.
+pub fn headline_modes_agree()
+    ensures same_answers { (t : Tables) (m k : TypingMode) (env : List PredicateTree) (n : ℕ) (q : Question) (a : Answer) → ReadsNoMode t → is_headline m ≡ true → is_headline k ≡ true → IsAnswer (level (record { tables = t; mode = m; env = env }) n) q a → IsAnswer (level (record { tables = t; mode = k; env = env }) n) q a }
+{}

@@ -1,0 +1,5 @@
+//! What may be derived and what may be refuted: the definitions that the solver's answers are proved
+//! against, and their laws.
+#![tactic(auto)]
+
+pub mod laws;
