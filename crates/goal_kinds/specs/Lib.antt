@@ -15,3 +15,7 @@ pub mod ConstGoals
 pub mod Levels
 pub mod Laws
 pub mod Answers
+pub mod ExampleTerms
+pub mod ExampleRows
+pub mod ExampleTables
+pub mod ExampleSettings

@@ -1,6 +1,6 @@
 -- How comparisons of parts make one of the whole.
 use Rattle.std.proofs.Common.{◌≡◌, ◌≢◌, inl, inr, ℕ, zero, suc, ◌+◌, Bool, true, false, List, [], ◌∷◌, length, map, drop, Some, refl, sym, ap, ◌∙◌, subst, add-one, arith}
-use Rattle.std.specs.Prelude.{slice_get}
+use Rattle.std.specs.Prelude.{slice_get, is_some}
 use Rattle.std.proofs.lemmas.List.{drop_all}
 use Rattle.std.proofs.lemmas.Bool.{false≢true}
 use Rattle.goal_terms.specs.Tree.{Tree, Trees, node, alias, variable, none, more, node_of, parts_of, list_of}
@@ -11,7 +11,9 @@ use Rattle.goal_terms.specs.declared.heads.Head.{Head}
 use Rattle.goal_terms.specs.declared.heads.Node.{Node}
 use Rattle.goal_terms.specs.declared.heads.Node.TheVariants as nodes
 use Rattle.goal_terms.specs.declared.compare.Regions.TheVariants.{Forgotten}
-use Rattle.goal_solver.specs.Equality.{Unequal, RowUnequal, ListsUnequal, ComparesAs, ListsCompareAs}
+use Rattle.goal_terms.specs.declared.heads.Head.TheVariants as head
+use Rattle.goal_kinds.specs.Headers.{parameter_of}
+use Rattle.goal_solver.specs.PlainEquality.{Unequal, RowUnequal, ListsUnequal, ComparesAs, ListsCompareAs}
 use Rattle.goal_solver.specs.declared.relate.Comparison as comparisons
 use Rattle.goal_solver.specs.declared.relate.Comparison.TheVariants as comparison
 
@@ -39,38 +41,51 @@ nodes-alike h k e = let p : nodes.Head (erased_head h) ≡ nodes.Head (erased_he
 nodes-apart : (h k : Head) → same_node (nodes.Head (erased_head h)) (nodes.Head (erased_head k)) ≡ false → erased_head h ≢ erased_head k
 nodes-apart h k e p = false≢true (sym e ∙ ap (λ x. same_node (nodes.Head (erased_head h)) (nodes.Head x)) (sym p) ∙ same_node-refl (nodes.Head (erased_head h)))
 
-one-whole : (c : comparisons.Comparison) (h k : Head) (ts us : Trees) → erased_head h ≡ erased_head k →
+-- a parameter stays one without lifetimes
+parameter-erased : (h : Head) → parameter_of (erased_head h) ≡ parameter_of h
+parameter-erased (head.Ref r m) = refl
+parameter-erased (head.FnPtr b i f) = refl
+parameter-erased (head.Dynamic n r) = refl
+parameter-erased (head.Lifetime r) = refl
+parameter-erased h = refl
+
+no_parameter : (h x : Head) (b : Bool) → x ≡ h → b ≡ is_some (parameter_of h) → b ≡ false → is_some (parameter_of (erased_head x)) ≡ false
+no_parameter h x b e p w = ap is_some (parameter-erased x) ∙ ap (λ y. is_some (parameter_of y)) e ∙ sym p ∙ w
+
+one-whole : (c : comparisons.Comparison) (h k : Head) (ts us : Trees) → is_some (parameter_of (erased_head h)) ≡ false → erased_head h ≡ erased_head k →
     ListsCompareAs c (map erased (list_of ts)) (map erased (list_of us)) → ComparesAs c (erased (node h ts)) (erased (node k us))
 unfolding erased Unequal
-one-whole comparison.Equal h k ts us e p = ap (λ x. node x (erased_row ts)) e ∙ ap (λ x. node (erased_head k) x) (same-row ts us p)
-one-whole comparison.Unequal h k ts us e p = inr (row-list ts us p)
-one-whole comparison.Undecided h k ts us e p = tt
+one-whole comparison.Equal h k ts us o e p = ap (λ x. node x (erased_row ts)) e ∙ ap (λ x. node (erased_head k) x) (same-row ts us p)
+one-whole comparison.Unequal h k ts us o e p = (o, inr (row-list ts us p))
+one-whole comparison.Undecided h k ts us o e p = tt
 
--- two constructors that are the same compare as their parts do
-pub alike-whole : (c : comparisons.Comparison) (t u : Tree) (n m : Node) (h k : Head) (b : Bool) →
-    n ≡ node_of t → m ≡ node_of u → n ≡ nodes.Head h → m ≡ nodes.Head k →
+-- two constructors that are the same, and no parameters, compare as their parts do
+pub alike-whole : (c : comparisons.Comparison) (t u : Tree) (n m : Node) (h k : Head) (b q : Bool) →
+    n ≡ node_of t → m ≡ node_of u → n ≡ nodes.Head h → m ≡ nodes.Head k → q ≡ is_some (parameter_of h) → q ≡ false →
     b ≡ same_node (compared_node Forgotten n) (compared_node Forgotten m) → b ≡ true →
     ListsCompareAs c (map erased (parts_of t)) (map erased (parts_of u)) → ComparesAs c (erased t) (erased u)
-alike-whole c (node x ts) (node y us) n m h k b e f p q d w l =
+alike-whole c (node x ts) (node y us) n m h k b q e f g p o z d w l =
     let test : same_node (nodes.Head (erased_head x)) (nodes.Head (erased_head y)) ≡ true = rw (e, f) at (sym d ∙ w) in
-    one-whole c x y ts us (nodes-alike x y test) l
-alike-whole c (node x ts) (alias k us) n m h k' b e f p q d w l = absurd (cc)
-alike-whole c (node x ts) (variable v) n m h k b e f p q d w l = absurd (cc)
-alike-whole c (alias k ts) u n m h k' b e f p q d w l = absurd (cc)
-alike-whole c (variable v) u n m h k b e f p q d w l = absurd (cc)
+    let same : x ≡ h = cc in
+    one-whole c x y ts us (no_parameter h x q same o z) (nodes-alike x y test) l
+alike-whole c (node x ts) (alias k us) n m h k' b q e f g p o z d w l = absurd (cc)
+alike-whole c (node x ts) (variable v) n m h k b q e f g p o z d w l = absurd (cc)
+alike-whole c (alias k ts) u n m h k' b q e f g p o z d w l = absurd (cc)
+alike-whole c (variable v) u n m h k b q e f g p o z d w l = absurd (cc)
 
--- two other constructors are unequal
-pub apart-whole : (t u : Tree) (n m : Node) (h k : Head) (b : Bool) →
-    n ≡ node_of t → m ≡ node_of u → n ≡ nodes.Head h → m ≡ nodes.Head k →
+-- two other constructors are unequal, the first being no parameter
+pub apart-whole : (t u : Tree) (n m : Node) (h k : Head) (b q : Bool) →
+    n ≡ node_of t → m ≡ node_of u → n ≡ nodes.Head h → m ≡ nodes.Head k → q ≡ is_some (parameter_of h) → q ≡ false →
     b ≡ same_node (compared_node Forgotten n) (compared_node Forgotten m) → b ≡ false → Unequal (erased t) (erased u)
 unfolding erased Unequal
-apart-whole (node x ts) (node y us) n m h k b e f p q d w =
+apart-whole (node x ts) (node y us) n m h k b q e f g p o z d w =
     let test : same_node (nodes.Head (erased_head x)) (nodes.Head (erased_head y)) ≡ false = rw (e, f) at (sym d ∙ w) in
-    inl (nodes-apart x y test)
-apart-whole (node x ts) (alias k us) n m h k' b e f p q d w = absurd (cc)
-apart-whole (node x ts) (variable v) n m h k b e f p q d w = absurd (cc)
-apart-whole (alias k ts) u n m h k' b e f p q d w = absurd (cc)
-apart-whole (variable v) u n m h k b e f p q d w = absurd (cc)
+    let same : x ≡ h = cc in
+    (no_parameter h x q same o z, inl (nodes-apart x y test))
+apart-whole (node x ts) (alias k us) n m h k' b q e f g p o z d w = absurd (cc)
+apart-whole (node x ts) (variable v) n m h k b q e f g p o z d w = absurd (cc)
+apart-whole (alias k ts) u n m h k' b q e f g p o z d w = absurd (cc)
+apart-whole (variable v) u n m h k b q e f g p o z d w = absurd (cc)
 
 pub unequal-at : (ts us : List Tree) (i : ℕ) (t u : Tree) → slice_get ts i ≡ Some t → slice_get us i ≡ Some u →
     Unequal (erased t) (erased u) → ListsUnequal (map erased ts) (map erased us)

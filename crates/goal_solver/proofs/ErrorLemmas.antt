@@ -12,7 +12,7 @@ use Rattle.goal_terms.specs.declared.heads.Node.{Node}
 use Rattle.goal_terms.specs.declared.heads.Node.TheVariants as nodes
 use Rattle.goal_terms.specs.declared.terms.GenericArg.{GenericArg}
 use Rattle.goal_terms.proofs.NodeTestLemmas.{some_node-erased}
-use Rattle.goal_solver.specs.Levels.{any_error, head_has_clauses, HasOnlyImpls}
+use Rattle.goal_solver.specs.PlainLevels.{any_error, head_has_clauses, HasOnlyImpls}
 use Rattle.goal_solver.specs.Errors.{node_has_only_impls}
 
 -- what stands in the arguments of a goal, argument by argument

@@ -9,9 +9,9 @@ use Rattle.goal_terms.specs.declared.ids.TraitId.{TraitId}
 use Rattle.goal_terms.specs.declared.terms.GenericArg.{GenericArg}
 use Rattle.goal_tables.specs.declared.rows.ImplRow.{ImplRow}
 use Rattle.goal_tables.specs.declared.rows.Tables.{Tables}
-use Rattle.goal_solver.specs.Equality.{ListsUnequal}
+use Rattle.goal_solver.specs.PlainEquality.{ListsUnequal}
 use Rattle.goal_solver.specs.Verdicts.{ImplsSay}
-use Rattle.goal_solver.specs.Levels.{ImplRefuted, SomeImpl, EveryImpl}
+use Rattle.goal_solver.specs.PlainLevels.{ImplRefuted, SomeImpl, EveryImpl}
 use Rattle.goal_solver.specs.declared.eval.Verdict as verdicts
 use Rattle.goal_solver.specs.declared.eval.Verdict.TheVariants as verdict
 use Rattle.goal_solver.proofs.CompareLemmas.{unequal-lengths}

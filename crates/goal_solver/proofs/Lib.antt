@@ -3,3 +3,10 @@ pub mod EvalLemmas
 pub mod ErrorLemmas
 pub mod ProjectLemmas
 pub mod AnswerLemmas
+pub mod UnderNothing
+pub mod WholeEquality
+pub mod WholeImpls
+pub mod WholeTraitGoals
+pub mod WholeValues
+pub mod WholeProjections
+pub mod PlainIsWhole

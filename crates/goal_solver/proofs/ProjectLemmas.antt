@@ -1,6 +1,8 @@
 -- How the terms that impls give make the term of a projection.
 use Rattle.std.proofs.Common.{◌≡◌, ◌⊎◌, inl, inr, ℕ, zero, suc, ◌+◌, ◌<◌, ◌≤◌, true, List, [], ◌∷◌, length, map, get_or, Some, refl, sym, ap, ◌∙◌, subst}
+use Rattle.std.proofs.lemmas.List.{length-map}
 use Rattle.goal_terms.specs.Tree.{Tree, Trees, node, alias, variable, none, more, node_of, parts_of, list_of}
+use Rattle.goal_terms.specs.TreeOf.{tree_of_arg}
 use Rattle.goal_terms.specs.View.{tree_of_ref}
 use Rattle.goal_terms.specs.Erased.{erased, erased_row}
 use Rattle.goal_terms.specs.declared.heads.Head.{Head}
@@ -10,15 +12,16 @@ use Rattle.goal_terms.specs.declared.heads.Variable.{Variable}
 use Rattle.goal_terms.specs.declared.ids.TraitId.{TraitId}
 use Rattle.goal_terms.specs.declared.ids.ItemId.{ItemId}
 use Rattle.goal_terms.specs.declared.terms.AliasTermKind.{AliasTermKind}
+use Rattle.goal_terms.specs.declared.terms.GenericArg.{GenericArg}
 use Rattle.goal_terms.specs.declared.terms.AliasTermKind.TheVariants.{ProjectionTy, ProjectionConst}
 use Rattle.goal_terms.specs.declared.view.TermRef.{TermRef}
 use Rattle.goal_tables.specs.Rows.{item_of}
 use Rattle.goal_tables.specs.declared.rows.ImplRow.{ImplRow}
 use Rattle.goal_tables.specs.declared.rows.ItemRow.{ItemRow}
 use Rattle.goal_tables.specs.declared.rows.Tables.{Tables}
-use Rattle.goal_solver.specs.PlainRows.{is_plain_item}
-use Rattle.goal_solver.specs.Levels.{level, HasHeadForm, HeadFormRefuted, ImplGives, ImplTermRefuted, ItemGives, ItemRefuted, HasOnlyImpls, SomeImpl, EveryImpl}
-use Rattle.goal_solver.specs.Verdicts.{HeadFormIs, AliasIs, TraitIs, ItemIs, ImplTermIs, ImplTermsSay, ImplsSayFor, MergesTo, ReplacedIs, projected}
+use Rattle.goal_solver.specs.PlainRows.{is_plain_projection}
+use Rattle.goal_solver.specs.PlainLevels.{level, HasHeadForm, HeadFormRefuted, ImplGives, ImplTermRefuted, HasOnlyImpls, SomeImpl, EveryImpl}
+use Rattle.goal_solver.specs.Verdicts.{HeadFormIs, AliasIs, TraitIs, ItemIs, ImplTermIs, ImplTermsSay, ImplsSayFor, MergesTo, ReplacedIs, projected, erased_args}
 use Rattle.goal_solver.specs.declared.eval.HeadForm as forms
 use Rattle.goal_solver.specs.declared.eval.HeadForm.TheVariants as form
 use Rattle.goal_solver.specs.declared.eval.Verdict as verdicts
@@ -74,19 +77,25 @@ alias-head t n f (alias l ts) m k args e g p a =
 alias-head t n f (variable w) m k args e g p a = absurd (cc)
 
 up-alias : (t : Tables) (n : ℕ) (f : forms.HeadForm) (k : AliasTermKind) (i : ItemId) (args : List Tree) (q : ItemRow) →
-    projected k ≡ Some i → item_of t i ≡ Some q → is_plain_item q ≡ true → ItemIs t n f q.trait_id i args → AliasIs t (suc n) f k args
+    projected k ≡ Some i → item_of t i ≡ Some q → is_plain_projection t q (length args) ≡ true → ItemIs t n f q.trait_id q.id args → AliasIs t (suc n) f k args
 unfolding level
-up-alias t n (form.Is u) (ProjectionTy j) i args q e g o h = let p : j ≡ i = cc in (q, ap (item_of t) p ∙ g, o, subst (λ x. ItemGives t (level t n) x q.trait_id args (erased (tree_of_ref u))) (sym p) h)
-up-alias t n (form.Is u) (ProjectionConst j) i args q e g o h = let p : j ≡ i = cc in (q, ap (item_of t) p ∙ g, o, subst (λ x. ItemGives t (level t n) x q.trait_id args (erased (tree_of_ref u))) (sym p) h)
-up-alias t n form.Refuted (ProjectionTy j) i args q e g o h = let p : j ≡ i = cc in (q, ap (item_of t) p ∙ g, o, subst (λ x. ItemRefuted t (level t n) x q.trait_id args) (sym p) h)
-up-alias t n form.Refuted (ProjectionConst j) i args q e g o h = let p : j ≡ i = cc in (q, ap (item_of t) p ∙ g, o, subst (λ x. ItemRefuted t (level t n) x q.trait_id args) (sym p) h)
+up-alias t n (form.Is u) (ProjectionTy j) i args q e g o h = let p : j ≡ i = cc in (q, ap (item_of t) p ∙ g, o, h)
+up-alias t n (form.Is u) (ProjectionConst j) i args q e g o h = let p : j ≡ i = cc in (q, ap (item_of t) p ∙ g, o, h)
+up-alias t n form.Refuted (ProjectionTy j) i args q e g o h = let p : j ≡ i = cc in (q, ap (item_of t) p ∙ g, o, h)
+up-alias t n form.Refuted (ProjectionConst j) i args q e g o h = let p : j ≡ i = cc in (q, ap (item_of t) p ∙ g, o, h)
 up-alias t n form.Undecided k i args q e g o h = tt
 up-alias t n f _ i args q e g o h = absurd (cc)
 
+-- how many arguments there are, lifetimes aside
+pub count-erased : (args : List GenericArg) → length (erased_args args) ≡ length args
+count-erased args = length-map (map tree_of_arg args) erased ∙ length-map args tree_of_arg
+
 -- an alias has the term of its item, one higher
-pub alias-item : (t : Tables) (d n : ℕ) (f : forms.HeadForm) (k : AliasTermKind) (i : ItemId) (args : List Tree) (q : ItemRow) → d ≡ suc n →
-    projected k ≡ Some i → item_of t i ≡ Some q → is_plain_item q ≡ true → ItemIs t n f q.trait_id i args → AliasIs t d f k args
-alias-item t d n f k i args q e p g o h = subst (λ m. AliasIs t m f k args) (sym e) (up-alias t n f k i args q p g o h)
+pub alias-item : (t : Tables) (d n c : ℕ) (f : forms.HeadForm) (k : AliasTermKind) (i : ItemId) (args : List GenericArg) (q : ItemRow) → d ≡ suc n → c ≡ length args →
+    projected k ≡ Some i → item_of t i ≡ Some q → is_plain_projection t q c ≡ true → ItemIs t n f q.trait_id q.id (erased_args args) → AliasIs t d f k (erased_args args)
+alias-item t d n c f k i args q e l p g o h =
+    subst (λ m. AliasIs t m f k (erased_args args)) (sym e)
+    (up-alias t n f k i (erased_args args) q p g (ap (is_plain_projection t q) (count-erased args ∙ sym l) ∙ o) h)
 
 -- an item's term, once its trait goal holds
 pub item-impls : (t : Tables) (n : ℕ) (f : forms.HeadForm) (q : TraitId) (i : ItemId) (args : List Tree) →

@@ -1,5 +1,5 @@
 -- When an answer is justified.
-use Rattle.std.specs.Prelude.{◌≡◌, ℕ, [], ◌∷◌, Option, Some, None, Result, Ok, Err}
+use Rattle.std.specs.Prelude.{◌≡◌, ℕ, List, [], ◌∷◌, Option, Some, None, Result, Ok, Err}
 use Rattle.goal_terms.specs.Tree.{Tree, node_of}
 use Rattle.goal_terms.specs.declared.heads.Node.{Node}
 use Rattle.goal_terms.specs.declared.heads.Node.TheVariants as nodes
@@ -11,39 +11,46 @@ use Rattle.goal_terms.specs.declared.answers.Certainty.TheVariants as certainty
 use Rattle.goal_terms.specs.declared.answers.Certainty.{Certainty}
 use Rattle.goal_terms.specs.declared.answers.Response.{Response}
 use Rattle.goal_terms.specs.declared.answers.TraitGoalProvenVia.TheVariants as via
+use Rattle.goal_terms.specs.declared.predicates.Clause.{Clause}
 use Rattle.goal_terms.specs.declared.predicates.Goal.{Goal}
 use Rattle.goal_terms.specs.declared.predicates.TraitPredicate.{TraitPredicate}
 use Rattle.goal_terms.specs.declared.predicates.NormalizesTo.{NormalizesTo}
 use Rattle.goal_terms.specs.declared.terms.Term.{Term}
-use Rattle.goal_solver.specs.Levels.{level}
+use Rattle.goal_kinds.specs.Answers.{setting_of}
+use Rattle.goal_kinds.specs.Level.{Level}
+use Rattle.goal_kinds.specs.Levels.{level}
 use Rattle.goal_solver.specs.State.{State}
 use Rattle.goal_solver.specs.Verdicts.{erased_args}
 use Rattle.goal_solver.specs.declared.faults.Fault.{Fault}
 use Rattle.goal_solver.specs.declared.faults.Fault.TheVariants as fault
 
--- the trait goal holds at the depth that is left
+-- what trees no higher than the depth that is left prove over a goal's environment, in the context's mode, by the definitions of `goal_kinds`
+abbrev pub level_for : State → List Clause → Level
+level_for s clauses = level (setting_of s.tables s.typing_mode clauses) s.remaining_depth
+
+-- the trait goal holds there, through the class of what is neither the environment nor a bound
 abbrev pub TraitGoalHolds : State → Goal TraitPredicate → Type 0
 TraitGoalHolds s g =
     (g.param_env.items ≡ [])
-    × (level s.tables s.remaining_depth).holds g.predicate.trait_ref.def_id (erased_args g.predicate.trait_ref.args.items)
+    × (level_for s g.param_env.items).through via.Misc g.predicate.trait_ref.def_id (erased_args g.predicate.trait_ref.args.items)
 
 -- it is refuted there
 abbrev pub TraitGoalRefuted : State → Goal TraitPredicate → Type 0
 TraitGoalRefuted s g =
     (g.param_env.items ≡ [])
-    × (level s.tables s.remaining_depth).trait_refuted g.predicate.trait_ref.def_id (erased_args g.predicate.trait_ref.args.items)
+    × (level_for s g.param_env.items).trait_refuted g.predicate.trait_ref.def_id (erased_args g.predicate.trait_ref.args.items)
 
--- the alias has this term at the depth that is left
+-- the alias has this term there
 abbrev pub AliasHasTerm : State → Goal NormalizesTo → Tree → Type 0
 AliasHasTerm s g t =
     (g.param_env.items ≡ [])
-    × (level s.tables s.remaining_depth).gives g.predicate.alias.kind (erased_args g.predicate.alias.args.items) t
+    × (level_for s g.param_env.items).gives g.predicate.alias.kind (erased_args g.predicate.alias.args.items) t
 
 -- it is refuted there that the alias has a term
 abbrev pub AliasHasNoTerm : State → Goal NormalizesTo → Type 0
 AliasHasNoTerm s g =
     (g.param_env.items ≡ [])
-    × (level s.tables s.remaining_depth).gives_refuted g.predicate.alias.kind (erased_args g.predicate.alias.args.items)
+    × (level_for s g.param_env.items).gives_refuted g.predicate.alias.kind (erased_args g.predicate.alias.args.items)
 
 -- a justified answer to a trait goal: yes where it holds, refused where it is refuted, and never for want of memory
 abbrev pub IsTraitResponse : State → Goal TraitPredicate → Certainty → Response → Type 0

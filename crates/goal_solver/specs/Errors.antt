@@ -2,7 +2,7 @@
 use Rattle.std.specs.Prelude.{Bool, false, not}
 use Rattle.goal_terms.specs.declared.heads.Node.{Node}
 use Rattle.goal_terms.specs.declared.heads.Node.TheVariants as nodes
-use Rattle.goal_solver.specs.Levels.{head_has_clauses}
+use Rattle.goal_solver.specs.PlainLevels.{head_has_clauses}
 
 -- whether the top allows no candidates but impls
 abbrev pub node_has_only_impls : Node → Bool

@@ -1,8 +1,8 @@
 pub mod Answers
-pub mod Equality
+pub mod PlainEquality
 pub mod Errors
 pub mod Goals
-pub mod Levels
+pub mod PlainLevels
 pub mod State
 pub mod Verdicts
 pub mod PlainRows

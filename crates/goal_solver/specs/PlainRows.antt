@@ -1,5 +1,5 @@
 -- Rows whose rules are all here yet: impls without parameters and where clauses, items without parameters and where clauses of their own.
-use Rattle.std.specs.Prelude.{Bool, true, false, ◌==◌, ◌&&◌, ◌||◌, List, [], ◌∷◌, Option, Some, None, is_some}
+use Rattle.std.specs.Prelude.{ℕ, Bool, true, false, ◌==◌, ◌&&◌, ◌||◌, not, List, [], ◌∷◌, length, Option, Some, None, is_some}
 use Rattle.goal_terms.specs.Tree.{Tree}
 use Rattle.goal_terms.specs.TreeOf.{tree_of_term}
 use Rattle.goal_terms.specs.declared.ids.DefId.{DefId}
@@ -36,6 +36,11 @@ has_no_predicates r = is_empty r.predicates.items
 -- an item without parameters and where clauses of its own
 abbrev pub is_plain_item : ItemRow → Bool
 is_plain_item r = is_empty r.own_params.items && is_empty r.own_predicates.items
+
+-- such an item, which no built-in rule knows, with as many arguments as its trait has parameters
+abbrev pub is_plain_projection : Tables → ItemRow → ℕ → Bool
+is_plain_projection t r n =
+    is_plain_item r && option_holds (λ q. length q.params.items == n) (trait_of t r.trait_id) && not (is_some (lang_naming t (target.Item r.id)))
 
 -- a negative impl
 abbrev pub is_negative : ImplPolarity → Bool

@@ -13,7 +13,7 @@ use Rattle.goal_terms.specs.declared.view.TermRef.{TermRef}
 use Rattle.goal_tables.specs.declared.rows.ImplRow.{ImplRow}
 use Rattle.goal_tables.specs.declared.rows.Tables.{Tables}
 use Rattle.goal_solver.specs.PlainRows.{has_other_rules}
-use Rattle.goal_solver.specs.Levels.{level, HasHeadForm, HeadFormRefuted, ImplHolds, ImplRefuted, ImplGives, ImplTermRefuted, ImplsGive, ItemGives, ItemRefuted, HasOnlyImpls, IsPlain, SomeImpl, EveryImpl}
+use Rattle.goal_solver.specs.PlainLevels.{level, HasHeadForm, HeadFormRefuted, ImplHolds, ImplRefuted, ImplGives, ImplTermRefuted, ImplsGive, ItemGives, ItemRefuted, HasOnlyImpls, IsPlain, SomeImpl, EveryImpl}
 use Rattle.goal_solver.specs.declared.relate.Comparison as comparisons
 use Rattle.goal_solver.specs.declared.relate.Comparison.TheVariants as comparison
 use Rattle.goal_solver.specs.declared.eval.Verdict as verdicts

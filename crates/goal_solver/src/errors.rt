@@ -5,7 +5,7 @@ ghost use Rattle.goal_terms.specs.Occurrences.{has_error};
 ghost use Rattle.goal_terms.specs.TreeOf.{tree_of_arg};
 ghost use Rattle.goal_terms.specs.View.{tree_of_ref};
 ghost use Rattle.goal_terms.specs.Erased.{erased};
-ghost use Rattle.goal_solver.specs.Levels.{any_error, HasOnlyImpls, IsPlain};
+ghost use Rattle.goal_solver.specs.PlainLevels.{any_error, HasOnlyImpls, IsPlain};
 ghost use Rattle.goal_solver.specs.Errors.{node_has_only_impls};
 
 use goal_terms::heads::{Head, Node};

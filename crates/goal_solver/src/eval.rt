@@ -4,14 +4,14 @@ ghost use Rattle.std.specs.Prelude.{◌≡◌, ◌+◌, ◌∷◌, ◌<◌, ◌�
 ghost use Rattle.goal_terms.specs.TreeOf.{tree_of_arg};
 ghost use Rattle.goal_terms.specs.View.{tree_of_ref};
 ghost use Rattle.goal_terms.specs.Erased.{erased};
-ghost use Rattle.goal_solver.specs.Equality.{ListsCompareAs};
-ghost use Rattle.goal_solver.specs.Levels.{header_of, HasValue};
+ghost use Rattle.goal_solver.specs.PlainEquality.{ListsCompareAs};
+ghost use Rattle.goal_solver.specs.PlainLevels.{header_of, HasValue};
 ghost use Rattle.goal_solver.specs.Verdicts.{erased_args, replaced_args, ImplComparesAs, ImplsSay, TraitIs, HeadFormIs, AliasIs, ImplTermIs, ImplTermsSay, ImplsSayFor, ItemIs, ReplacedIs, MergesTo, projected};
 
 use crate::errors::{has_only_impls, is_plain};
 use crate::plain_rows::{
-    final_definition, has_no_params, has_no_predicates, has_other_rules, is_plain_item, stands_in,
-    value_term,
+    final_definition, has_no_params, has_no_predicates, has_other_rules, is_plain_projection,
+    stands_in, value_term,
 };
 use crate::relate::{Comparison, compare};
 use goal_tables::lookup::IndexedTables;
@@ -227,10 +227,10 @@ pub fn normalize<'a>(
     let Some(row) = rows.item_row(item) else {
         return HeadForm::Undecided;
     };
-    if !is_plain_item(row) {
+    if !is_plain_projection(rows, row, args.len()) {
         return HeadForm::Undecided;
     }
-    project(rows, row.trait_id, item, args, depth - 1)
+    project(rows, row.trait_id, row.id, args, depth - 1)
 }
 
 /// The term of a trait's item, for the trait's arguments.

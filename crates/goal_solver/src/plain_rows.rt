@@ -1,15 +1,16 @@
 //! Rows whose rules are all here yet.
-ghost use Rattle.std.specs.Prelude.{◌≡◌};
+ghost use Rattle.std.specs.Prelude.{◌≡◌, ◌==◌, is_some, length};
 ghost use Rattle.std.specs.Option.{option_map};
 ghost use Rattle.goal_tables.specs.Options.{option_holds};
-ghost use Rattle.goal_tables.specs.Rows.{trait_of};
+ghost use Rattle.goal_tables.specs.Rows.{trait_of, lang_naming};
+ghost use Rattle.goal_tables.specs.declared.lang.LangTarget.TheVariants as target;
 ghost use Rattle.goal_terms.specs.View.{tree_of_ref};
-ghost use Rattle.goal_solver.specs.PlainRows.{has_no_params, has_no_predicates, is_plain_item, final_definition, stands_in, tree_of_value, has_other_rules};
+ghost use Rattle.goal_solver.specs.PlainRows.{has_no_params, has_no_predicates, is_plain_item, is_plain_projection, final_definition, stands_in, tree_of_value, has_other_rules};
 
 use goal_tables::lang::LangTarget;
 use goal_tables::lookup::IndexedTables;
 use goal_tables::rows::{Container, DefValue, ImplRow, ItemRow, Source};
-use goal_terms::ids::{DefId, ImplId, TraitId};
+use goal_terms::ids::{DefId, ImplId, ItemId, TraitId};
 use goal_terms::view::TermRef;
 
 /// Whether an impl has no parameters.
@@ -31,6 +32,29 @@ pub fn is_plain_item(row: &ItemRow) -> bool
     ensures { result ≡ is_plain_item row.now }
 {
     row.own_params.is_empty() && row.own_predicates.is_empty()
+}
+
+/// Whether a projection of an item with so many arguments has no more arguments than the item's
+/// trait, and whether no built-in rule knows the item, either.
+pub fn is_plain_projection(rows: &IndexedTables, row: &ItemRow, count: usize) -> bool
+    ensures { result ≡ is_plain_projection rows.now row.now count }
+{
+    is_plain_item(row) && trait_takes(rows, row.trait_id, count) && !is_lang_item(rows, row.id)
+}
+
+fn trait_takes(rows: &IndexedTables, id: TraitId, count: usize) -> bool
+    ensures { result ≡ option_holds (λ r. length r.params.items == count) (trait_of rows.now id) }
+{
+    match rows.trait_row(id) {
+        None => false,
+        Some(row) => row.params.len() == count,
+    }
+}
+
+fn is_lang_item(rows: &IndexedTables, id: ItemId) -> bool
+    ensures { result ≡ is_some (lang_naming rows.now (target.Item id)) }
+{
+    rows.lang_naming(LangTarget::Item(id)).is_some()
 }
 
 /// The definition that a source names for good.

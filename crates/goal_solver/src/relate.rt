@@ -1,12 +1,13 @@
 //! How two terms compare, as far as no alias has to be opened.
-ghost use Rattle.std.specs.Prelude.{map};
+ghost use Rattle.std.specs.Prelude.{◌≡◌, map, is_some};
 ghost use Rattle.goal_terms.specs.View.{tree_of_ref};
 ghost use Rattle.goal_terms.specs.Erased.{erased};
 ghost use Rattle.goal_terms.specs.Tree.{parts_of};
-ghost use Rattle.goal_solver.specs.Equality.{ComparesAs, ListsCompareAs};
+ghost use Rattle.goal_kinds.specs.Headers.{parameter_of};
+ghost use Rattle.goal_solver.specs.PlainEquality.{ComparesAs, ListsCompareAs};
 
 use goal_terms::compare::{Regions, same};
-use goal_terms::heads::Node;
+use goal_terms::heads::{Head, Node};
 use goal_terms::view::TermRef;
 
 /// What a comparison finds.
@@ -17,8 +18,8 @@ pub enum Comparison {
     Undecided,
 }
 
-/// Compares two terms, lifetimes aside. Different aliases, and an alias against another term, are
-/// undecided, but for what lies beside them.
+/// Compares two terms, lifetimes aside. Different aliases, an alias against another term, and a
+/// parameter of the first against another term are undecided, but for what lies beside them.
 #[cycle(comparison)]
 pub fn compare(a: TermRef<'_>, b: TermRef<'_>) -> Comparison
     ensures { ComparesAs result (erased (tree_of_ref a.entry)) (erased (tree_of_ref b.entry)) }
@@ -27,8 +28,10 @@ pub fn compare(a: TermRef<'_>, b: TermRef<'_>) -> Comparison
     let other = b.node();
     let alike = node.is_same(other, Regions::Forgotten);
     match (node, other) {
-        (Node::Head(_), Node::Head(_)) => {
-            if alike {
+        (Node::Head(head), Node::Head(_)) => {
+            if is_parameter(head) {
+                compare_whole(a, b)
+            } else if alike {
                 compare_parts(a, b)
             } else {
                 Comparison::Unequal
@@ -36,6 +39,13 @@ pub fn compare(a: TermRef<'_>, b: TermRef<'_>) -> Comparison
         }
         _ => compare_whole(a, b),
     }
+}
+
+/// Whether a constructor is a type or const parameter.
+fn is_parameter(head: Head) -> bool
+    ensures { result ≡ is_some (parameter_of head) }
+{
+    matches!(head, Head::TyParam(_) | Head::ConstParam(_))
 }
 
 /// Compares two terms that are not opened.

@@ -1,4 +1,4 @@
-use Rattle.std.proofs.Common.{◌∙◌, ◌+◌, ◌-◌, map, subst, sym, ap, arith}
+use Rattle.std.proofs.Common.{◌∙◌, ◌+◌, ◌-◌, length, map, refl, subst, sym, ap, arith}
 use Rattle.std.proofs.lemmas.Bool.{false≢true}
 use Rattle.goal_terms.specs.TreeOf.{tree_of_arg}
 use Rattle.goal_terms.specs.View.{tree_of_ref}
@@ -24,9 +24,9 @@ head_form-returns-in-Args t c =
 
 pub normalize-returns : goal.normalize-returns
 normalize-returns t c =
-    alias-item c.args.rows.now c.args.depth (c.args.depth - 1) c.project.result c.args.kind c.in-Some.item (erased_args c.args.args.now) c.in-Some-item_row.row.now
-    (omega arith) (sym c.in-Some.ensures) (sym c.in-Some-item_row.ensures)
-    (sym c.is_plain_item.ensures ∙ c.if-not-is_plain_item.false) c.project.ensures
+    alias-item c.args.rows.now c.args.depth (c.args.depth - 1) (length c.args.args.now) c.project.result c.args.kind c.in-Some.item c.args.args.now c.in-Some-item_row.row.now
+    (omega arith) refl (sym c.in-Some.ensures) (sym c.in-Some-item_row.ensures)
+    (sym c.is_plain_projection.ensures ∙ c.if-not-is_plain_projection.false) c.project.ensures
 
 pub project-returns-in-Refuted : goal.project-returns-in-Refuted
 project-returns-in-Refuted t c = item-refuted c.args.rows.now c.args.depth c.args.trait_id c.args.item (erased_args c.args.args.now) c.in-Refuted.ensures

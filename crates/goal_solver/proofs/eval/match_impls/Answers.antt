@@ -1,7 +1,7 @@
 use Rattle.std.proofs.Common.{◌∙◌, ◌+◌, subst, sym, ap, arith}
 use Rattle.std.proofs.lemmas.Bool.{false≢true}
 use Rattle.goal_tables.specs.declared.rows.Tables.{Tables}
-use Rattle.goal_solver.specs.Levels.{ImplHolds, SomeImpl}
+use Rattle.goal_solver.specs.PlainLevels.{ImplHolds, SomeImpl}
 use Rattle.goal_solver.specs.Verdicts.{replaced_args}
 use Rattle.goal_solver.proofs.EvalLemmas.{some-at, impls-more, impls-end, ImplsBefore}
 use Rattle.goal_solver.proofs.eval.match_impls.Goals as goal

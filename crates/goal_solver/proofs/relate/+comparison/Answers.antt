@@ -9,14 +9,14 @@ use Rattle.goal_solver.proofs.relate.+comparison.Goals.{compare_parts-in-Equal, 
 pub compare-returns-then-alike : goal.compare-returns-then-alike
 compare-returns-then-alike t c =
     alike-whole c.compare_parts.result (tree_of_ref c.args.a) (tree_of_ref c.args.b) c.node-node.result c.node-other.result
-    c.in-Head-Head.field-0-0 c.in-Head-Head.field-0-1 c.is_same-alike.result c.node-node.ensures c.node-other.ensures
-    c.in-Head-Head.is-0 c.in-Head-Head.is-1 c.is_same-alike.ensures c.if-alike.true c.compare_parts.ensures
+    c.in-Head-Head.head c.in-Head-Head.field-0-1 c.is_same-alike.result c.is_parameter.result c.node-node.ensures c.node-other.ensures
+    c.in-Head-Head.is-0 c.in-Head-Head.is-1 c.is_parameter.ensures c.if-is_parameter.false c.is_same-alike.ensures c.if-alike.true c.compare_parts.ensures
 
 pub compare-returns-else-alike : goal.compare-returns-else-alike
 compare-returns-else-alike t c =
     apart-whole (tree_of_ref c.args.a) (tree_of_ref c.args.b) c.node-node.result c.node-other.result
-    c.in-Head-Head.field-0-0 c.in-Head-Head.field-0-1 c.is_same-alike.result c.node-node.ensures c.node-other.ensures
-    c.in-Head-Head.is-0 c.in-Head-Head.is-1 c.is_same-alike.ensures c.if-alike.false
+    c.in-Head-Head.head c.in-Head-Head.field-0-1 c.is_same-alike.result c.is_parameter.result c.node-node.ensures c.node-other.ensures
+    c.in-Head-Head.is-0 c.in-Head-Head.is-1 c.is_parameter.ensures c.if-is_parameter.false c.is_same-alike.ensures c.if-alike.false
 
 pub compare_parts-returns-then-len-count : goal.compare_parts-returns-then-len-count
 compare_parts-returns-then-len-count t c =

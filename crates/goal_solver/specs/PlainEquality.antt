@@ -1,13 +1,14 @@
--- Equal and unequal terms, as far as no alias has to be opened. Terms are taken without lifetimes.
-use Rattle.std.specs.Prelude.{◌≡◌, ◌≢◌, ◌⊎◌, List, [], ◌∷◌}
+-- Equal and unequal terms, as far as no alias has to be opened, the first of a header. Terms are taken without lifetimes.
+use Rattle.std.specs.Prelude.{◌≡◌, ◌≢◌, ◌⊎◌, false, List, [], ◌∷◌, is_some}
 use Rattle.goal_terms.specs.Tree.{Tree, Trees, node, alias, variable, none, more}
+use Rattle.goal_kinds.specs.Headers.{parameter_of}
 use Rattle.goal_solver.specs.declared.relate.Comparison as comparisons
 use Rattle.goal_solver.specs.declared.relate.Comparison.TheVariants as comparison
 
--- two constructors differ, or a pair of their parts is unequal; an alias is not opened
+-- two constructors differ, the first being no parameter, or a pair of their parts is unequal; an alias is not opened
 unfoldable mutual
   pub Unequal : Tree → Tree → Type 0
-  Unequal (node h ts) (node k us) = (h ≢ k) ⊎ RowUnequal ts us
+  Unequal (node h ts) (node k us) = (is_some (parameter_of h) ≡ false) × ((h ≢ k) ⊎ RowUnequal ts us)
   Unequal (node h ts) (alias k us) = ⊥
   Unequal (node h ts) (variable w) = ⊥
   Unequal (alias h ts) u = ⊥

@@ -1,6 +1,6 @@
--- What may be derived and what may be refuted, by trees of at most a height. Terms are taken without lifetimes, and the environment
--- is empty. A rule that isn't here yet neither derives nor refutes.
-use Rattle.std.specs.Prelude.{◌≡◌, ◌⊎◌, ℕ, zero, suc, Bool, true, false, ◌||◌, List, [], ◌∷◌, map, Some}
+-- What the evaluator derives and refutes, by trees of at most a height: a part of what the definitions of `goal_kinds` do. Terms are
+-- taken without lifetimes, and the environment is empty. A rule that isn't here yet neither derives nor refutes.
+use Rattle.std.specs.Prelude.{◌≡◌, ◌⊎◌, ℕ, zero, suc, Bool, true, false, ◌||◌, List, [], ◌∷◌, length, map, Some}
 use Rattle.goal_terms.specs.Tree.{Tree, node, alias, variable, list_of}
 use Rattle.goal_terms.specs.TreeOf.{tree_of_arg}
 use Rattle.goal_terms.specs.Erased.{erased}
@@ -14,13 +14,13 @@ use Rattle.goal_terms.specs.declared.terms.AliasTermKind.{AliasTermKind}
 use Rattle.goal_terms.specs.declared.terms.AliasTermKind.TheVariants.{ProjectionTy, ProjectionConst}
 use Rattle.goal_tables.specs.Rows.{item_of, source_of, definition_of}
 use Rattle.goal_tables.specs.SourceFaults.{is_positive}
-use Rattle.goal_solver.specs.PlainRows.{has_no_params, has_no_predicates, is_plain_item, is_negative, final_definition, stands_in, tree_of_value, has_other_rules}
+use Rattle.goal_solver.specs.PlainRows.{has_no_params, has_no_predicates, is_plain_projection, is_negative, final_definition, stands_in, tree_of_value, has_other_rules}
 use Rattle.goal_tables.specs.declared.rows.ImplRow.{ImplRow}
 use Rattle.goal_tables.specs.declared.rows.ItemRow.{ItemRow}
 use Rattle.goal_tables.specs.declared.rows.SourceRow.{SourceRow}
 use Rattle.goal_tables.specs.declared.rows.DefRow.{DefRow}
 use Rattle.goal_tables.specs.declared.rows.Tables.{Tables}
-use Rattle.goal_solver.specs.Equality.{ListsUnequal}
+use Rattle.goal_solver.specs.PlainEquality.{ListsUnequal}
 
 -- all that trees of one height prove: an alias has a term, or none; a trait goal holds, or doesn't
 pub record Level : Type 1 where
@@ -140,15 +140,15 @@ ItemRefuted t L i q (self ∷ rest) =
     ⊎ (L.holds q (self ∷ rest)
     × ((s : Tree) × HasHeadForm L self s × HasOnlyImpls s × EveryImpl q (ImplTermRefuted t L i (s ∷ rest)) t.impls.items))
 
--- a projection has a term one higher, if its item has no parameters and where clauses of its own
+-- a projection has a term one higher, if its item has no parameters and where clauses of its own, and no built-in rule
 abbrev pub ProjectionGives : Tables → Level → ItemId → List Tree → Tree → Type 0
 ProjectionGives t L i args u =
-    (q : ItemRow) × (item_of t i ≡ Some q) × (is_plain_item q ≡ true) × ItemGives t L i q.trait_id args u
+    (q : ItemRow) × (item_of t i ≡ Some q) × (is_plain_projection t q (length args) ≡ true) × ItemGives t L q.id q.trait_id args u
 
 -- a projection has no term
 abbrev pub ProjectionRefuted : Tables → Level → ItemId → List Tree → Type 0
 ProjectionRefuted t L i args =
-    (q : ItemRow) × (item_of t i ≡ Some q) × (is_plain_item q ≡ true) × ItemRefuted t L i q.trait_id args
+    (q : ItemRow) × (item_of t i ≡ Some q) × (is_plain_projection t q (length args) ≡ true) × ItemRefuted t L q.id q.trait_id args
 
 -- an alias has a term one higher
 abbrev pub AliasGives : Tables → Level → AliasTermKind → List Tree → Tree → Type 0

@@ -1,0 +1,17 @@
+use Rattle.std.proofs.Common.{◌∙◌, arith}
+use Rattle.goal_terms.specs.Erased.{erased}
+use Rattle.goal_terms.specs.View.{tree_of_ref}
+use Rattle.goal_solver.proofs.AnswerLemmas.{alias-given, alias-refuted, answer-given}
+use Rattle.goal_solver.proofs.context.EvalCtxt.compute_normalizes_to_goal.Goals as goal
+
+pub returns-in-Refuted-clause-sound : goal.returns-in-Refuted-clause-sound
+returns-in-Refuted-clause-sound c =
+    alias-refuted c.args.self.now c.args.goal.now c.rows-rows.result.now c.remaining_depth.result c.deref.result.now
+    (c.rows-rows.ensures.rows ∙ c.tables.ensures) c.remaining_depth.ensures c.deref.ensures.value (omega (arith, c.len.ensures)) c.in-Refuted.ensures
+
+pub returns-in-Is-clause-sound : goal.returns-in-Is-clause-sound
+returns-in-Is-clause-sound c =
+    answer-given c.args.self.now c.args.goal.now (erased (tree_of_ref c.in-Is.term)) c.respond_with.result
+    (alias-given c.args.self.now c.args.goal.now c.rows-rows.result.now c.remaining_depth.result c.deref.result.now (erased (tree_of_ref c.in-Is.term))
+    (c.rows-rows.ensures.rows ∙ c.tables.ensures) c.remaining_depth.ensures c.deref.ensures.value (omega (arith, c.len.ensures)) c.in-Is.ensures)
+    c.respond_with.ensures

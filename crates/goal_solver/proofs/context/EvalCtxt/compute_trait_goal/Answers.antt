@@ -1,0 +1,18 @@
+use Rattle.std.proofs.Common.{◌∙◌, sym, subst, arith}
+use Rattle.goal_solver.specs.Answers.{IsTraitResponse}
+use Rattle.goal_solver.proofs.AnswerLemmas.{trait-holds, trait-refuted}
+use Rattle.goal_solver.proofs.context.EvalCtxt.compute_trait_goal.Goals as goal
+
+pub returns-in-Holds-clause-sound : goal.returns-in-Holds-clause-sound
+returns-in-Holds-clause-sound c =
+    subst (λ y. IsTraitResponse c.args.self.now c.args.goal.now y c.respond-in-Holds.result) (sym c.respond-in-Holds.ensures.certainty) (
+      trait-holds c.args.self.now c.args.goal.now c.rows-rows.result.now c.remaining_depth.result c.deref.result.now
+          (c.rows-rows.ensures.rows ∙ c.tables.ensures) c.remaining_depth.ensures c.deref.ensures.value (omega (arith, c.len.ensures)) c.in-Holds.ensures,
+      c.respond-in-Holds.ensures.proven_via,
+      c.respond-in-Holds.ensures.values,
+    )
+
+pub returns-in-Refuted-clause-sound : goal.returns-in-Refuted-clause-sound
+returns-in-Refuted-clause-sound c =
+    trait-refuted c.args.self.now c.args.goal.now c.rows-rows.result.now c.remaining_depth.result c.deref.result.now
+    (c.rows-rows.ensures.rows ∙ c.tables.ensures) c.remaining_depth.ensures c.deref.ensures.value (omega (arith, c.len.ensures)) c.in-Refuted.ensures
