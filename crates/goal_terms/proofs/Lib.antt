@@ -14,3 +14,4 @@ pub mod SizeLemmas
 pub mod SameTermLemmas
 pub mod RebuildLemmas
 pub mod UnderLemmas
+pub mod GrowthLemmas

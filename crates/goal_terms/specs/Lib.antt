@@ -19,3 +19,4 @@ pub mod TreeCode
 pub mod Sorts
 pub mod TableMeaning
 pub mod SameHead
+pub mod NameText

@@ -1,11 +1,12 @@
 //! Interning of terms with other leaves.
-ghost use Rattle.std.specs.Prelude.{◌≡◌, ◌<◌, length, map, IfOk, IfSome};
+ghost use Rattle.std.specs.Prelude.{◌≡◌, ◌<◌, ◌≤◌, ◌+◌, length, map, IfOk, IfSome};
 ghost use Rattle.std.specs.List.{All};
 ghost use Rattle.std.specs.Option.{option_map, option_and_then};
 ghost use Rattle.goal_terms.specs.Folding.{shifted, shifting, instance, instantiating, folded, argument_of, lifetime_of, region_instance};
 ghost use Rattle.goal_terms.specs.Sorts.{IsArgument};
 ghost use Rattle.goal_terms.specs.TableMeaning.{tree_at, AreBelow, Keeps, IsOnly};
 ghost use Rattle.goal_terms.specs.Tops.{depth_of_parts, folded_top, argument_for};
+ghost use Rattle.goal_terms.specs.Tree.{tree_size};
 ghost use Rattle.goal_terms.specs.View.{tree_of_ref};
 
 use crate::answers::ParamKind;
@@ -68,6 +69,7 @@ impl TermTable {
         ensures tree { IfOk result (λ id. tree_at self.new id ≡ instance (map (tree_at self.old) args.now) (tree_of_ref term.entry)) }
         ensures only { IfOk result (λ id. IsOnly self.new id (instance (map (tree_at self.old) args.now) (tree_of_ref term.entry))) }
         ensures kept { Keeps self.old self.new }
+        ensures grown { length self.new ≤ length self.old + tree_size (instance (map (tree_at self.old) args.now) (tree_of_ref term.entry)) }
     {
         self.intern_below(term, args, 0)
     }
@@ -86,6 +88,7 @@ impl TermTable {
         ensures tree { IfOk result (λ id. tree_at self.new id ≡ folded (instantiating (map (tree_at self.old) args.now)) binders (tree_of_ref term.entry)) }
         ensures only { IfOk result (λ id. IsOnly self.new id (folded (instantiating (map (tree_at self.old) args.now)) binders (tree_of_ref term.entry))) }
         ensures kept { Keeps self.old self.new }
+        ensures grown { length self.new ≤ length self.old + tree_size (folded (instantiating (map (tree_at self.old) args.now)) binders (tree_of_ref term.entry)) }
     {
         let node = term.node();
         if let Some(arg) = self.argument_for(args, node) {
@@ -109,6 +112,7 @@ impl TermTable {
         ensures tree { IfOk result (λ new. tree_at self.new new ≡ shifted by binders (tree_at self.old id)) }
         ensures only { IfOk result (λ new. IsOnly self.new new (shifted by binders (tree_at self.old id))) }
         ensures kept { Keeps self.old self.new }
+        ensures grown { length self.new ≤ length self.old + tree_size (shifted by binders (tree_at self.old id)) }
     {
         let node = self.node(id);
         let below = node.binders_below(binders);

@@ -1,4 +1,7 @@
 //! The names of what terms mention.
+ghost use Rattle.std.specs.Prelude.{◌≡◌};
+ghost use Rattle.goal_terms.specs.NameText.{name_text, parameter_text};
+
 use crate::ids::{
     AdtId, ClosureId, FnId, ForeignId, FreeId, InherentId, ItemId, OpaqueId, TraitId,
 };
@@ -12,6 +15,11 @@ pub enum Name<'a> {
 }
 
 impl fmt::Display for Name<'_> {
+    ghost use Rattle.std.specs.Prelude.{Some};
+    ghost use Rattle.goal_terms.specs.NameText.{name_text};
+
+    ghost output = { λ n. Some (name_text n) };
+
     fn fmt<W: fmt::Write>(&self, f: &mut fmt::Formatter<W>) -> fmt::Result {
         match self {
             Name::Given(name) => write!(f, "{name}"),
@@ -85,7 +93,9 @@ pub struct Numbered;
 impl TermNames for Numbered {}
 
 /// The name of a parameter: `T`, `U` and `V` for the first three, and else `P` with its number.
-pub fn parameter_name(index: u32) -> Name<'static> {
+pub fn parameter_name(index: u32) -> Name<'static>
+    ensures { name_text result ≡ parameter_text index }
+{
     match index {
         0 => Name::Given("T"),
         1 => Name::Given("U"),

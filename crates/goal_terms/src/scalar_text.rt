@@ -1,9 +1,15 @@
 //! The names of the types that have no parts and no number.
+ghost use Rattle.std.specs.Prelude.{◌≡◌};
+ghost use Rattle.std.specs.Option.{option_map};
+ghost use Rattle.goal_terms.specs.NameText.{int_text, uint_text, float_text, scalar_text};
+
 use crate::heads::Head;
 use crate::scalars::{FloatTy, IntTy, UintTy};
 
 /// The name of a scalar type, of `str` or of `!`.
-pub fn scalar_name(head: Head) -> Option<&'static str> {
+pub fn scalar_name(head: Head) -> Option<&'static str>
+    ensures { option_map (λ s. s.now) result ≡ scalar_text head }
+{
     match head {
         Head::Bool => Some("bool"),
         Head::Char => Some("char"),
@@ -16,7 +22,9 @@ pub fn scalar_name(head: Head) -> Option<&'static str> {
     }
 }
 
-fn int_name(int: IntTy) -> &'static str {
+fn int_name(int: IntTy) -> &'static str
+    ensures { result.now ≡ int_text int }
+{
     match int {
         IntTy::Isize => "isize",
         IntTy::I8 => "i8",
@@ -27,7 +35,9 @@ fn int_name(int: IntTy) -> &'static str {
     }
 }
 
-fn uint_name(int: UintTy) -> &'static str {
+fn uint_name(int: UintTy) -> &'static str
+    ensures { result.now ≡ uint_text int }
+{
     match int {
         UintTy::Usize => "usize",
         UintTy::U8 => "u8",
@@ -38,7 +48,9 @@ fn uint_name(int: UintTy) -> &'static str {
     }
 }
 
-fn float_name(float: FloatTy) -> &'static str {
+fn float_name(float: FloatTy) -> &'static str
+    ensures { result.now ≡ float_text float }
+{
     match float {
         FloatTy::F16 => "f16",
         FloatTy::F32 => "f32",

@@ -96,6 +96,7 @@ impl TermTable {
         ensures only { IfOk result (λ id. IsOnly self.new id (tree_with node (map (tree_at self.old) parts.items))) }
         ensures kept { Keeps self.old self.new }
         ensures grown { length self.new ≤ length self.old + 1 }
+        ensures known { IfOk result (λ id. id.0 < length self.old → self.new ≡ self.old) }
         ensures refused { OnErr result (self.new ≡ self.old) }
     {
         let added = TermNode { node, parts };

@@ -1,4 +1,4 @@
-use Rattle.std.proofs.Common.{◌≡◌, ◌≤◌, ◌<◌, ap, ◌∙◌, sym, subst, length, map, List, arith}
+use Rattle.std.proofs.Common.{◌≡◌, ◌+◌, ◌≤◌, ◌<◌, ap, ◌∙◌, sym, subst, length, map, List, arith}
 use Rattle.std.specs.Prelude.{IfOk, slice_get}
 use Rattle.std.specs.List.{All}
 use Rattle.goal_terms.specs.Folding.{folded, instantiating, shifted}
@@ -9,7 +9,9 @@ use Rattle.goal_terms.specs.Tree.{Tree, parts_of, tree_size}
 use Rattle.goal_terms.specs.TreeWith.{tree_with}
 use Rattle.goal_terms.specs.View.{tree_of_ref, trees_seen}
 use Rattle.goal_terms.proofs.FitLemmas.{ref_fit}
+use Rattle.goal_terms.proofs.GrowthLemmas.{instantiated-size, grown-by_part, grown-by_all}
 use Rattle.goal_terms.proofs.InternLemmas.{keeps-chain, within-pushed, trees-pushed}
+use Rattle.goal_terms.proofs.SizeLemmas.{sizes, sizes-more}
 use Rattle.goal_terms.proofs.WalkLemmas.{tree_size-part}
 use Rattle.goal_terms.proofs.UnderLemmas.{instantiating-sorts, made-fits, instantiated-made, instantiated-param, trees-same, below-longer, part-seen, node-fits, all-rewritten}
 use Rattle.goal_terms.proofs.term_table.TermTable.+intern_below.Goals as goal
@@ -42,8 +44,24 @@ intern_below-requires t c =
       ),
     )
 
+pub returns-in-Some-clause-grown : goal.returns-in-Some-clause-grown
+returns-in-Some-clause-grown t c =
+    subst (λ u. length c.shift_number.new.self ≤ length c.args.self.now + tree_size u) (param_here t c) c.shift_number.ensures.grown
+
 pub loop-i-preserved : goal.loop-i-preserved
 loop-i-preserved t c = record {
+  grown =
+      let args : List Tree = map (tree_at c.args.self.now) c.args.args.now in
+      let more : length c.intern_below.new.self ≤ length c.loop-i.self + tree_size (folded (instantiating args) c.binders_below-below.result (tree_of_ref c.at.result)) =
+      subst (λ us. length c.intern_below.new.self ≤ length c.loop-i.self + tree_size (folded (instantiating us) c.binders_below-below.result (tree_of_ref c.at.result)))
+      (trees-same c.args.self.now c.loop-i.self c.args.args.now c.loop-i.invariant.kept c.requires.within) c.in_ok-number.ensures.grown in
+      omega (
+        arith,
+        more,
+        c.loop-i.invariant.grown,
+        sizes-more (map (folded (instantiating args) c.binders_below-below.result) (trees_seen c.parts-parts.result)) c.loop-i.i _
+            (part-seen (folded (instantiating args) c.binders_below-below.result) (trees_seen c.parts-parts.result) _ c.loop-i.i c.at.ensures),
+      );
   kept = keeps-chain _ _ _ c.loop-i.invariant.kept c.in_ok-number.ensures.kept;
   within =
       subst (AreBelow (length c.intern_below.new.self)) (sym c.in_ok-push.ensures.items)
@@ -92,3 +110,42 @@ returns-clause-tree t c =
 pub returns-clause-only : goal.returns-clause-only
 returns-clause-only t c =
     subst (λ u. IfOk c.intern_node.result (λ id. IsOnly c.intern_node.new.self id u)) (made_here t c) c.intern_node.ensures.only
+
+pub returns-clause-grown : goal.returns-clause-grown
+returns-clause-grown t c =
+    grown-by_all _ c.loop-i.i (length c.args.self.now) (length c.loop-i.self) (length c.intern_node.new.self) _
+    (instantiated-size (map (tree_at c.args.self.now) c.args.args.now) c.requires.arguments c.args.binders c.binders_below-below.result (tree_of_ref c.args.term)
+    c.node-node.result (sym c.in_default.ensures.tree) c.node-node.ensures
+    (node-fits (tree_of_ref c.args.term) c.node-node.result c.node-node.ensures (ref_fit c.args.term)) c.binders_below-below.ensures
+    ∙ ap (λ us. sizes (map (folded (instantiating (map (tree_at c.args.self.now) c.args.args.now)) c.binders_below-below.result) us) + 1) (sym c.parts-parts.ensures))
+    c.loop-i.invariant.grown c.intern_node.ensures.grown
+
+pub returns-in_err-number-clause-grown : goal.returns-in_err-number-clause-grown
+returns-in_err-number-clause-grown t c =
+    let args : List Tree = map (tree_at c.args.self.now) c.args.args.now in
+    let more : length c.intern_below.new.self ≤ length c.loop-i.self + tree_size (folded (instantiating args) c.binders_below-below.result (tree_of_ref c.at.result)) =
+    subst (λ us. length c.intern_below.new.self ≤ length c.loop-i.self + tree_size (folded (instantiating us) c.binders_below-below.result (tree_of_ref c.at.result)))
+    (trees-same c.args.self.now c.loop-i.self c.args.args.now c.loop-i.invariant.kept c.requires.within) c.in_err-number.ensures.grown in
+    grown-by_part _ c.loop-i.i _ (length c.args.self.now) (length c.loop-i.self) (length c.intern_below.new.self) _
+    (part-seen (folded (instantiating (map (tree_at c.args.self.now) c.args.args.now)) c.binders_below-below.result) (trees_seen c.parts-parts.result) _
+    c.loop-i.i c.at.ensures)
+    (instantiated-size (map (tree_at c.args.self.now) c.args.args.now) c.requires.arguments c.args.binders c.binders_below-below.result (tree_of_ref c.args.term)
+    c.node-node.result (sym c.in_default.ensures.tree) c.node-node.ensures
+    (node-fits (tree_of_ref c.args.term) c.node-node.result c.node-node.ensures (ref_fit c.args.term)) c.binders_below-below.ensures
+    ∙ ap (λ us. sizes (map (folded (instantiating (map (tree_at c.args.self.now) c.args.args.now)) c.binders_below-below.result) us) + 1) (sym c.parts-parts.ensures))
+    c.loop-i.invariant.grown more
+
+pub returns-in_err-push-clause-grown : goal.returns-in_err-push-clause-grown
+returns-in_err-push-clause-grown t c =
+    let args : List Tree = map (tree_at c.args.self.now) c.args.args.now in
+    let more : length c.intern_below.new.self ≤ length c.loop-i.self + tree_size (folded (instantiating args) c.binders_below-below.result (tree_of_ref c.at.result)) =
+    subst (λ us. length c.intern_below.new.self ≤ length c.loop-i.self + tree_size (folded (instantiating us) c.binders_below-below.result (tree_of_ref c.at.result)))
+    (trees-same c.args.self.now c.loop-i.self c.args.args.now c.loop-i.invariant.kept c.requires.within) c.in_ok-number.ensures.grown in
+    grown-by_part _ c.loop-i.i _ (length c.args.self.now) (length c.loop-i.self) (length c.intern_below.new.self) _
+    (part-seen (folded (instantiating (map (tree_at c.args.self.now) c.args.args.now)) c.binders_below-below.result) (trees_seen c.parts-parts.result) _
+    c.loop-i.i c.at.ensures)
+    (instantiated-size (map (tree_at c.args.self.now) c.args.args.now) c.requires.arguments c.args.binders c.binders_below-below.result (tree_of_ref c.args.term)
+    c.node-node.result (sym c.in_default.ensures.tree) c.node-node.ensures
+    (node-fits (tree_of_ref c.args.term) c.node-node.result c.node-node.ensures (ref_fit c.args.term)) c.binders_below-below.ensures
+    ∙ ap (λ us. sizes (map (folded (instantiating (map (tree_at c.args.self.now) c.args.args.now)) c.binders_below-below.result) us) + 1) (sym c.parts-parts.ensures))
+    c.loop-i.invariant.grown more
