@@ -27,7 +27,8 @@ no-clauses [] h = refl
 no-clauses (x ∷ xs) h = absurd (omega arith)
 
 -- what the evaluator finds of a trait goal answers it
-pub trait-holds : (s : State) (g : Goal TraitPredicate) (t : Tables) (n : ℕ) (xs : List GenericArg) → t ≡ s.tables → n ≡ s.remaining_depth → xs ≡ g.predicate.trait_ref.args.items →
+pub trait-holds : (s : State) (g : Goal TraitPredicate) (t : Tables) (n : ℕ) (xs : List GenericArg) → t ≡ s.tables → n ≡ s.remaining_depth →
+    xs ≡ g.predicate.trait_ref.args.items →
     length g.param_env.items ≤ 0 → (plain.level t n).holds g.predicate.trait_ref.def_id (erased_args xs) → TraitGoalHolds s g
 trait-holds s g t n xs e f a l h =
     let none : g.param_env.items ≡ [] = no-clauses g.param_env.items l in (
@@ -38,7 +39,8 @@ trait-holds s g t n xs e f a l h =
           (subst (λ ys. (plain.level t n).holds g.predicate.trait_ref.def_id (erased_args ys)) a h))),
     )
 
-pub trait-refuted : (s : State) (g : Goal TraitPredicate) (t : Tables) (n : ℕ) (xs : List GenericArg) → t ≡ s.tables → n ≡ s.remaining_depth → xs ≡ g.predicate.trait_ref.args.items →
+pub trait-refuted : (s : State) (g : Goal TraitPredicate) (t : Tables) (n : ℕ) (xs : List GenericArg) → t ≡ s.tables → n ≡ s.remaining_depth →
+    xs ≡ g.predicate.trait_ref.args.items →
     length g.param_env.items ≤ 0 → (plain.level t n).trait_refuted g.predicate.trait_ref.def_id (erased_args xs) → TraitGoalRefuted s g
 trait-refuted s g t n xs e f a l h =
     let none : g.param_env.items ≡ [] = no-clauses g.param_env.items l in (
@@ -50,7 +52,8 @@ trait-refuted s g t n xs e f a l h =
     )
 
 -- what it finds of an alias answers the goal that normalizes it
-pub alias-given : (s : State) (g : Goal NormalizesTo) (t : Tables) (n : ℕ) (xs : List GenericArg) (u : Tree) → t ≡ s.tables → n ≡ s.remaining_depth → xs ≡ g.predicate.alias.args.items →
+pub alias-given : (s : State) (g : Goal NormalizesTo) (t : Tables) (n : ℕ) (xs : List GenericArg) (u : Tree) → t ≡ s.tables → n ≡ s.remaining_depth →
+    xs ≡ g.predicate.alias.args.items →
     length g.param_env.items ≤ 0 → (plain.level t n).gives g.predicate.alias.kind (erased_args xs) u → AliasHasTerm s g u
 alias-given s g t n xs u e f a l h =
     let none : g.param_env.items ≡ [] = no-clauses g.param_env.items l in (
@@ -61,7 +64,8 @@ alias-given s g t n xs u e f a l h =
           (subst (λ ys. (plain.level t n).gives g.predicate.alias.kind (erased_args ys) u) a h))),
     )
 
-pub alias-refuted : (s : State) (g : Goal NormalizesTo) (t : Tables) (n : ℕ) (xs : List GenericArg) → t ≡ s.tables → n ≡ s.remaining_depth → xs ≡ g.predicate.alias.args.items →
+pub alias-refuted : (s : State) (g : Goal NormalizesTo) (t : Tables) (n : ℕ) (xs : List GenericArg) → t ≡ s.tables → n ≡ s.remaining_depth →
+    xs ≡ g.predicate.alias.args.items →
     length g.param_env.items ≤ 0 → (plain.level t n).gives_refuted g.predicate.alias.kind (erased_args xs) → AliasHasNoTerm s g
 alias-refuted s g t n xs e f a l h =
     let none : g.param_env.items ≡ [] = no-clauses g.param_env.items l in (

@@ -55,4 +55,15 @@ only_impls-node (node h ts) n b e f w =
 only_impls-node (alias k ts) n b e f w = let p : false ≡ true = ap node_has_only_impls (sym e) ∙ sym f ∙ w in absurd (cc)
 only_impls-node (variable v) n b e f w = let p : false ≡ true = ap node_has_only_impls (sym e) ∙ sym f ∙ w in absurd (cc)
 
+pub not_false : (b : Bool) → b ≡ false → not b ≡ true
+not_false true e = absurd (cc)
+not_false false e = refl
+
+-- and the other way round
+pub node-only_impls : (t : Tree) (n : Node) (b : Bool) → n ≡ node_of t → b ≡ node_has_only_impls n → HasOnlyImpls (erased t) → b ≡ true
+unfolding erased
+node-only_impls (node h ts) n b e f w = f ∙ ap node_has_only_impls e ∙ not_false (head_has_clauses h) (sym (has_clauses-erased h) ∙ w)
+node-only_impls (alias k ts) n b e f w = absurd w
+node-only_impls (variable v) n b e f w = absurd w
+
 pub ruleset only_impls = (only_impls-node)

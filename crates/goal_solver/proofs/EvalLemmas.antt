@@ -10,7 +10,11 @@ use Rattle.goal_terms.specs.declared.terms.GenericArg.{GenericArg}
 use Rattle.goal_tables.specs.declared.rows.ImplRow.{ImplRow}
 use Rattle.goal_tables.specs.declared.rows.Tables.{Tables}
 use Rattle.goal_solver.specs.PlainEquality.{ListsUnequal}
-use Rattle.goal_solver.specs.Verdicts.{ImplsSay}
+use Rattle.goal_kinds.specs.Words.{Each}
+use Rattle.goal_solver.specs.Ground.{IsGround}
+use Rattle.goal_solver.specs.PlainGoals.{IsPlainImpl}
+use Rattle.goal_solver.specs.Verdicts.{ImplComparesAs, ImplsSay}
+use Rattle.goal_solver.specs.declared.relate.Comparison.TheVariants as comparison
 use Rattle.goal_solver.specs.PlainLevels.{ImplRefuted, SomeImpl, EveryImpl}
 use Rattle.goal_solver.specs.declared.eval.Verdict as verdicts
 use Rattle.goal_solver.specs.declared.eval.Verdict.TheVariants as verdict
@@ -69,16 +73,28 @@ some-at i P (x ∷ rs) (suc n) r h e f p = inr (some-at i P rs n r (omega arith)
 abbrev pub ImplsBefore : verdicts.Verdict → TraitId → List Tree → List ImplRow → ℕ → Type 0
 ImplsBefore verdict.Holds i args rs n = ⊥
 ImplsBefore verdict.Refuted i args rs n = EveryBefore i (λ r. ImplRefuted r args) rs n
-ImplsBefore verdict.Undecided i args rs n = Unit {0}
+ImplsBefore verdict.Undecided i args rs n = EveryImpl i IsPlainImpl rs → Each IsGround args → ⊥
 
 pub impls-more : (v : verdicts.Verdict) (i : TraitId) (args : List Tree) (rs : List ImplRow) (n : ℕ) (r : ImplRow) → n < length rs →
     r ≡ get_or rs n r → (r.trait_id ≡ i → ImplRefuted r args) → ImplsBefore v i args rs n → ImplsBefore v i args rs (n + 1)
 impls-more verdict.Holds i args rs n r h e f b = b
 impls-more verdict.Refuted i args rs n r h e f b = every-more i (λ r. ImplRefuted r args) rs n r h e f b
-impls-more verdict.Undecided i args rs n r h e f b = tt
+impls-more verdict.Undecided i args rs n r h e f b = b
+
+-- what is said of every impl of a trait is said of one at a place
+pub every-at : (i : TraitId) (P : ImplRow → Type 0) (rs : List ImplRow) (n : ℕ) (r : ImplRow) → n < length rs → r ≡ get_or rs n r → r.trait_id ≡ i →
+    EveryImpl i P rs → P r
+every-at i P [] n r h e o a = absurd (omega arith)
+every-at i P (x ∷ rs) zero r h e o a = subst (λ (y : ImplRow). y.trait_id ≡ i → P y) (sym e) a.0 o
+every-at i P (x ∷ rs) (suc n) r h e o a = every-at i P rs n r (omega arith) e o a.1
+
+-- an impl that is undecided leaves the trait's undecided
+pub impls-undecided : (i : TraitId) (args : List Tree) (rs : List ImplRow) (n m : ℕ) (r : ImplRow) → n < length rs → r ≡ get_or rs n r → r.trait_id ≡ i →
+    ImplComparesAs comparison.Undecided r args → ImplsBefore verdict.Undecided i args rs m
+impls-undecided i args rs n m r h e o u = λ a g. u (every-at i IsPlainImpl rs n r h e o a) g
 
 pub impls-end : (v : verdicts.Verdict) (t : Tables) (i : TraitId) (args : List Tree) (rs : List ImplRow) (n : ℕ) → rs ≡ t.impls.items → length rs ≤ n →
     ImplsBefore v i args rs n → ImplsSay t v i args
 impls-end verdict.Holds t i args rs n e h b = absurd b
 impls-end verdict.Refuted t i args rs n e h b = subst (EveryImpl i (λ r. ImplRefuted r args)) e (every-end i (λ r. ImplRefuted r args) rs n h b)
-impls-end verdict.Undecided t i args rs n e h b = tt
+impls-end verdict.Undecided t i args rs n e h b = subst (λ xs. EveryImpl i IsPlainImpl xs → Each IsGround args → ⊥) e b

@@ -3,6 +3,7 @@ pub mod EvalLemmas
 pub mod ErrorLemmas
 pub mod ProjectLemmas
 pub mod AnswerLemmas
+pub mod SoundTrees
 pub mod UnderNothing
 pub mod WholeEquality
 pub mod WholeImpls
@@ -10,3 +11,5 @@ pub mod WholeTraitGoals
 pub mod WholeValues
 pub mod WholeProjections
 pub mod PlainIsWhole
+pub mod DecidedLemmas
+pub mod DecidedAliases

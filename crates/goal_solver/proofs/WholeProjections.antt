@@ -128,7 +128,8 @@ taken-all n xs e = take_all n xs (omega arith)
 dropped-all : (n : ℕ) (xs : List Tree) → n ≡ length xs → drop n xs ≡ []
 dropped-all n xs e = drop_all n xs (omega arith)
 
-item-whole : (t : Tables) (m : TypingMode) (P : plain.Level) (L : whole.Level) → IsPart P L → (k : AliasTermKind) (q : ItemRow) (ts : List Tree) (u : Tree) (c : PlainParts t q (length ts)) →
+item-whole : (t : Tables) (m : TypingMode) (P : plain.Level) (L : whole.Level) → IsPart P L →
+    (k : AliasTermKind) (q : ItemRow) (ts : List Tree) (u : Tree) (c : PlainParts t q (length ts)) →
     plain.ItemGives t P q.id q.trait_id ts u → projections.ItemGives (over t m) L k ts u q c.row
 unfolding projections.ItemGives GroupsGive GroupRefuted Each
 item-whole t m P L i k q [] u c h = absurd h
@@ -145,7 +146,8 @@ item-whole t m P L i k q (self ∷ args) u c h = (
   )),
 )
 
-item_refuted-whole : (t : Tables) (m : TypingMode) (P : plain.Level) (L : whole.Level) → IsPart P L → (k : AliasTermKind) (q : ItemRow) (ts : List Tree) (c : PlainParts t q (length ts)) →
+item_refuted-whole : (t : Tables) (m : TypingMode) (P : plain.Level) (L : whole.Level) → IsPart P L →
+    (k : AliasTermKind) (q : ItemRow) (ts : List Tree) (c : PlainParts t q (length ts)) →
     plain.ItemRefuted t P q.id q.trait_id ts → projections.ItemRefuted (over t m) L k ts q c.row
 unfolding projections.ItemRefuted GroupsRefuted GroupRefuted Each
 item_refuted-whole t m P L i k q [] c h = absurd h

@@ -1,5 +1,5 @@
 -- When an answer is justified.
-use Rattle.std.specs.Prelude.{◌≡◌, ℕ, List, [], ◌∷◌, Option, Some, None, Result, Ok, Err}
+use Rattle.std.specs.Prelude.{◌≡◌, ◌⊎◌, true, ℕ, List, [], ◌∷◌, length, Option, Some, None, Result, Ok, Err}
 use Rattle.goal_terms.specs.Tree.{Tree, node_of}
 use Rattle.goal_terms.specs.declared.heads.Node.{Node}
 use Rattle.goal_terms.specs.declared.heads.Node.TheVariants as nodes
@@ -10,17 +10,23 @@ use Rattle.goal_terms.specs.Erased.{erased}
 use Rattle.goal_terms.specs.declared.answers.Certainty.TheVariants as certainty
 use Rattle.goal_terms.specs.declared.answers.Certainty.{Certainty}
 use Rattle.goal_terms.specs.declared.answers.Response.{Response}
+use Rattle.goal_terms.specs.declared.answers.TraitGoalProvenVia.{TraitGoalProvenVia}
 use Rattle.goal_terms.specs.declared.answers.TraitGoalProvenVia.TheVariants as via
 use Rattle.goal_terms.specs.declared.predicates.Clause.{Clause}
 use Rattle.goal_terms.specs.declared.predicates.Goal.{Goal}
 use Rattle.goal_terms.specs.declared.predicates.TraitPredicate.{TraitPredicate}
 use Rattle.goal_terms.specs.declared.predicates.NormalizesTo.{NormalizesTo}
 use Rattle.goal_terms.specs.declared.terms.Term.{Term}
+use Rattle.goal_terms.specs.declared.ids.ItemId.{ItemId}
+use Rattle.goal_tables.specs.Rows.{item_of}
+use Rattle.goal_tables.specs.declared.rows.ItemRow.{ItemRow}
 use Rattle.goal_kinds.specs.Answers.{setting_of}
 use Rattle.goal_kinds.specs.Level.{Level}
 use Rattle.goal_kinds.specs.Levels.{level}
+use Rattle.goal_solver.specs.PlainGoals.{IsPlainTrait, IsPlainItem, ArePlain}
+use Rattle.goal_solver.specs.PlainRows.{is_plain_projection}
 use Rattle.goal_solver.specs.State.{State}
-use Rattle.goal_solver.specs.Verdicts.{erased_args}
+use Rattle.goal_solver.specs.Verdicts.{erased_args, projected}
 use Rattle.goal_solver.specs.declared.faults.Fault.{Fault}
 use Rattle.goal_solver.specs.declared.faults.Fault.TheVariants as fault
 
@@ -63,6 +69,45 @@ IsTraitAnswer s g (Err fault.NoSolution) = TraitGoalRefuted s g
 IsTraitAnswer s g (Err fault.RerunNonErased) = ⊥
 IsTraitAnswer s g (Err fault.OutOfMemory) = ⊥
 IsTraitAnswer s g (Err fault.NotForThisKind) = ⊥
+
+-- a goal with an empty environment whose terms are of constructors alone, of a trait that only plain impls may show
+abbrev pub IsPlainGoal : State → Goal TraitPredicate → Type 0
+IsPlainGoal s g =
+    (g.param_env.items ≡ []) × IsPlainTrait s.tables g.predicate.trait_ref.def_id × ArePlain (erased_args g.predicate.trait_ref.args.items)
+
+-- at the depth that is left the trait goal holds through no class, and isn't refuted
+abbrev pub IsOpen : State → Goal TraitPredicate → Type 0
+IsOpen s g =
+    ((v : TraitGoalProvenVia) → (level_for s g.param_env.items).through v g.predicate.trait_ref.def_id (erased_args g.predicate.trait_ref.args.items) → ⊥)
+    × ((level_for s g.param_env.items).trait_refuted g.predicate.trait_ref.def_id (erased_args g.predicate.trait_ref.args.items) → ⊥)
+
+-- the other direction, for plain goals: such a goal is undecided only without depth or arguments, and is open then
+abbrev pub IsDecided : State → Goal TraitPredicate → Result Response Fault → Type 0
+IsDecided s g (Ok r) =
+    r.certainty ≡ certainty.Maybe → IsPlainGoal s g → ((s.remaining_depth ≡ 0) ⊎ (g.predicate.trait_ref.args.items ≡ [])) × IsOpen s g
+IsDecided s g (Err f) = Unit {0}
+
+-- a projection of an item that only plain impls give a term, with an empty environment and arguments of constructors alone
+abbrev pub IsPlainAlias : State → Goal NormalizesTo → Type 0
+IsPlainAlias s g =
+    (g.param_env.items ≡ [])
+    × ((i : ItemId) × (q : ItemRow) × (projected g.predicate.alias.kind ≡ Some i) × (item_of s.tables i ≡ Some q)
+    × (is_plain_projection s.tables q (length (erased_args g.predicate.alias.args.items)) ≡ true) × IsPlainItem s.tables q.trait_id q.id)
+    × ArePlain (erased_args g.predicate.alias.args.items)
+
+-- at the depth that is left the alias has no term, and it isn't refuted that it has one
+abbrev pub IsAliasOpen : State → Goal NormalizesTo → Type 0
+IsAliasOpen s g =
+    ((t : Tree) → (level_for s g.param_env.items).gives g.predicate.alias.kind (erased_args g.predicate.alias.args.items) t → ⊥)
+    × ((level_for s g.param_env.items).gives_refuted g.predicate.alias.kind (erased_args g.predicate.alias.args.items) → ⊥)
+
+-- the other direction, for plain aliases: such an alias is undecided only where it is open, at a depth of at most 1 or without arguments, or where it has a term
+abbrev pub IsAliasDecided : State → Goal NormalizesTo → Result Response Fault → Type 0
+IsAliasDecided s g (Ok r) =
+    r.certainty ≡ certainty.Maybe → IsPlainAlias s g →
+    ((t : Tree) × AliasHasTerm s g t)
+    ⊎ (((s.remaining_depth ≡ 0) ⊎ (s.remaining_depth ≡ 1) ⊎ (erased_args g.predicate.alias.args.items ≡ [])) × IsAliasOpen s g)
+IsAliasDecided s g (Err f) = Unit {0}
 
 -- the number of a general variable
 abbrev pub general_variable_at : Node → Option ℕ

@@ -6,3 +6,5 @@ pub mod PlainLevels
 pub mod State
 pub mod Verdicts
 pub mod PlainRows
+pub mod PlainGoals
+pub mod Ground

@@ -28,7 +28,7 @@ fn rest_has_error(rest: &[GenericArg]) -> bool
 
 /// Whether only impls may hold for a self type: it is neither an alias, a variable nor a `dyn` type.
 pub fn has_only_impls(self_ty: TermRef<'_>) -> bool
-    ensures { IsTrue result → HasOnlyImpls (erased (tree_of_ref self_ty.entry)) }
+    ensures { IsTrue result ↔ HasOnlyImpls (erased (tree_of_ref self_ty.entry)) }
 {
     allows_only_impls(self_ty.node())
 }
@@ -46,7 +46,7 @@ fn allows_only_impls(node: Node) -> bool
 
 /// Whether only impls may hold for the arguments of a goal, and no error stands in them.
 pub fn is_plain(self_ty: TermRef<'_>, rest: &[GenericArg]) -> bool
-    ensures { IsTrue result → IsPlain (erased (tree_of_ref self_ty.entry)) (map erased (map tree_of_arg rest.now)) }
+    ensures { IsTrue result ↔ IsPlain (erased (tree_of_ref self_ty.entry)) (map erased (map tree_of_arg rest.now)) }
 {
     if !has_only_impls(self_ty) {
         return false;

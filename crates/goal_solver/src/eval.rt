@@ -1,6 +1,7 @@
 //! The evaluation of goals over checked tables, with an empty environment. It takes no memory: what
 //! it finds are parts of the goal and of the tables.
-ghost use Rattle.std.specs.Prelude.{◌≡◌, ◌+◌, ◌∷◌, ◌<◌, ◌↔◌, IsTrue, map, length, slice_get, Some, IfSome};
+ghost use Rattle.std.specs.Prelude.{◌≡◌, ◌+◌, [], ◌∷◌, ◌<◌, ◌↔◌, IsTrue, map, length, slice_get, Some, IfSome, MatchOption};
+ghost use Rattle.goal_terms.specs.Tree.{Tree};
 ghost use Rattle.goal_terms.specs.TreeOf.{tree_of_arg};
 ghost use Rattle.goal_terms.specs.View.{tree_of_ref};
 ghost use Rattle.goal_terms.specs.Erased.{erased};
@@ -75,12 +76,29 @@ fn match_impl(row: &ImplRow, self_ty: TermRef<'_>, rest: &[GenericArg]) -> Compa
 {
     match row.polarity {
         ImplPolarity::Negative => Comparison::Unequal,
-        ImplPolarity::Positive if has_no_params(row) => match match_header(row, self_ty, rest) {
-            Comparison::Equal if has_no_predicates(row) => Comparison::Equal,
-            Comparison::Unequal => Comparison::Unequal,
-            _ => Comparison::Undecided,
-        },
-        ImplPolarity::Positive | ImplPolarity::Reservation => Comparison::Undecided,
+        ImplPolarity::Reservation => Comparison::Undecided,
+        ImplPolarity::Positive => match_positive(row, self_ty, rest),
+    }
+}
+
+/// Whether a positive impl holds for the arguments of a goal.
+fn match_positive(row: &ImplRow, self_ty: TermRef<'_>, rest: &[GenericArg]) -> Comparison
+    requires { row.now.polarity ≡ ImplPolarity.Positive }
+    ensures { ImplComparesAs result row.now (replaced_args self_ty.entry rest.now) }
+{
+    if !has_no_params(row) {
+        return Comparison::Undecided;
+    }
+    match match_header(row, self_ty, rest) {
+        Comparison::Unequal => Comparison::Unequal,
+        Comparison::Undecided => Comparison::Undecided,
+        Comparison::Equal => {
+            if has_no_predicates(row) {
+                Comparison::Equal
+            } else {
+                Comparison::Undecided
+            }
+        }
     }
 }
 
@@ -137,7 +155,7 @@ fn decide_trait(
 
 /// The value that an impl has for an item.
 fn value_of<'a>(rows: &'a IndexedTables, row: &ImplRow, item: ItemId) -> Option<TermRef<'a>>
-    ensures { IfSome result (λ v. HasValue rows.now row.now item (erased (tree_of_ref v))) }
+    ensures { MatchOption result ((v : Tree) → HasValue rows.now row.now item v → ⊥) (λ v. HasValue rows.now row.now item (erased (tree_of_ref v))) }
 {
     if !has_no_params(row) {
         return None;
@@ -153,7 +171,7 @@ fn value_of<'a>(rows: &'a IndexedTables, row: &ImplRow, item: ItemId) -> Option<
 
 /// The self type of a goal's arguments, and the others.
 fn split_args(args: &[GenericArg]) -> Option<(TermRef<'_>, &[GenericArg])>
-    ensures { IfSome result (λ p. erased_args args.now ≡ erased (tree_of_ref p.0) ∷ erased_args p.1.now) }
+    ensures { MatchOption result (erased_args args.now ≡ []) (λ p. erased_args args.now ≡ erased (tree_of_ref p.0) ∷ erased_args p.1.now) }
 {
     match args {
         [] => None,
@@ -347,7 +365,8 @@ fn impl_term<'a>(
         HeadForm::Refuted => HeadForm::Refuted,
         HeadForm::Is(term) => match matched {
             Comparison::Equal => HeadForm::Is(term),
-            _ => HeadForm::Undecided,
+            Comparison::Unequal => HeadForm::Refuted,
+            Comparison::Undecided => HeadForm::Undecided,
         },
     }
 }

@@ -3,7 +3,7 @@ ghost use Rattle.std.specs.Prelude.{◌≡◌, IfOk, IfSome};
 ghost use Rattle.goal_terms.specs.TreeOf.{tree_of_term};
 ghost use Rattle.goal_terms.specs.View.{tree_of_ref};
 ghost use Rattle.goal_terms.specs.Erased.{erased};
-ghost use Rattle.goal_solver.specs.Answers.{IsAliasAnswer, GivesTerm, expected_variable, general_variable_at};
+ghost use Rattle.goal_solver.specs.Answers.{IsAliasAnswer, IsAliasDecided, GivesTerm, expected_variable, general_variable_at};
 
 use crate::context::EvalCtxt;
 use crate::eval::{HeadForm, normalize};
@@ -25,6 +25,7 @@ impl EvalCtxt<'_> {
         goal: &Goal<NormalizesTo>,
     ) -> Result<Response, Fault>
         ensures sound { IsAliasAnswer self.old goal.now result }
+        ensures decided { IsAliasDecided self.old goal.now result }
         ensures unchanged { self.new ≡ self.old }
     {
         if goal.param_env.len() > 0 {

@@ -1,10 +1,10 @@
 //! How two terms compare, as far as no alias has to be opened.
-ghost use Rattle.std.specs.Prelude.{◌≡◌, map, is_some};
+ghost use Rattle.std.specs.Prelude.{◌≡◌, map};
 ghost use Rattle.goal_terms.specs.View.{tree_of_ref};
 ghost use Rattle.goal_terms.specs.Erased.{erased};
 ghost use Rattle.goal_terms.specs.Tree.{parts_of};
-ghost use Rattle.goal_kinds.specs.Headers.{parameter_of};
-ghost use Rattle.goal_solver.specs.PlainEquality.{ComparesAs, ListsCompareAs};
+ghost use Rattle.goal_solver.specs.Ground.{is_rigid, is_head};
+ghost use Rattle.goal_solver.specs.PlainEquality.{ComparesAs, WholeComparesAs, ListsCompareAs};
 
 use goal_terms::compare::{Regions, same};
 use goal_terms::heads::{Head, Node};
@@ -26,31 +26,43 @@ pub fn compare(a: TermRef<'_>, b: TermRef<'_>) -> Comparison
 {
     let node = a.node();
     let other = b.node();
-    let alike = node.is_same(other, Regions::Forgotten);
-    match (node, other) {
-        (Node::Head(head), Node::Head(_)) => {
-            if is_parameter(head) {
-                compare_whole(a, b)
-            } else if alike {
-                compare_parts(a, b)
-            } else {
-                Comparison::Unequal
-            }
-        }
-        _ => compare_whole(a, b),
+    if !is_rigid(node) {
+        return compare_whole(a, b);
+    }
+    if !is_head(other) {
+        return compare_whole(a, b);
+    }
+    if node.is_same(other, Regions::Forgotten) {
+        compare_parts(a, b)
+    } else {
+        Comparison::Unequal
     }
 }
 
-/// Whether a constructor is a type or const parameter.
-fn is_parameter(head: Head) -> bool
-    ensures { result ≡ is_some (parameter_of head) }
+/// Whether a node is a constructor, and no parameter.
+fn is_rigid(node: Node) -> bool
+    ensures { result ≡ is_rigid node }
 {
-    matches!(head, Head::TyParam(_) | Head::ConstParam(_))
+    match node {
+        Node::Head(Head::TyParam(_) | Head::ConstParam(_)) => false,
+        Node::Head(_) => true,
+        Node::Alias(_) | Node::Variable(_) => false,
+    }
+}
+
+/// Whether a node is a constructor.
+fn is_head(node: Node) -> bool
+    ensures { result ≡ is_head node }
+{
+    match node {
+        Node::Head(_) => true,
+        Node::Alias(_) | Node::Variable(_) => false,
+    }
 }
 
 /// Compares two terms that are not opened.
 fn compare_whole(a: TermRef<'_>, b: TermRef<'_>) -> Comparison
-    ensures { ComparesAs result (erased (tree_of_ref a.entry)) (erased (tree_of_ref b.entry)) }
+    ensures { WholeComparesAs result (erased (tree_of_ref a.entry)) (erased (tree_of_ref b.entry)) }
 {
     if same(a, b, Regions::Forgotten) {
         Comparison::Equal

@@ -1,6 +1,6 @@
 //! Trait goals.
 ghost use Rattle.std.specs.Prelude.{◌≡◌};
-ghost use Rattle.goal_solver.specs.Answers.{IsTraitAnswer};
+ghost use Rattle.goal_solver.specs.Answers.{IsTraitAnswer, IsDecided};
 
 use crate::context::EvalCtxt;
 use crate::eval::{Verdict, trait_goal};
@@ -14,6 +14,7 @@ impl EvalCtxt<'_> {
     /// with an environment is `Maybe`. It takes no memory, and changes nothing.
     pub fn compute_trait_goal(&mut self, goal: &Goal<TraitPredicate>) -> Result<Response, Fault>
         ensures sound { IsTraitAnswer self.old goal.now result }
+        ensures decided { IsDecided self.old goal.now result }
         ensures unchanged { self.new ≡ self.old }
     {
         if goal.param_env.len() > 0 {

@@ -1,11 +1,11 @@
-use Rattle.std.proofs.Common.{◌∙◌, ◌+◌, ◌-◌, length, map, refl, subst, sym, ap, arith}
+use Rattle.std.proofs.Common.{inr, ◌∙◌, ◌+◌, ◌-◌, length, map, refl, subst, sym, ap, arith}
 use Rattle.std.proofs.lemmas.Bool.{false≢true}
 use Rattle.goal_terms.specs.TreeOf.{tree_of_arg}
 use Rattle.goal_terms.specs.View.{tree_of_ref}
 use Rattle.goal_terms.specs.Erased.{erased}
 use Rattle.goal_tables.specs.declared.rows.Tables.{Tables}
 use Rattle.goal_solver.specs.Verdicts.{erased_args, replaced_args}
-use Rattle.goal_solver.proofs.ProjectLemmas.{itself-head, itself-variable, alias-head, alias-item, item-refuted, trait-replaced, trait-refuted, terms-more, terms-skip, terms-end, TermsBefore}
+use Rattle.goal_solver.proofs.ProjectLemmas.{itself-head, itself-variable, alias-head, alias-loose, trait-undecided, impls-unformed, alias-item, item-refuted, trait-replaced, trait-refuted, terms-more, terms-skip, terms-end, TermsBefore}
 use Rattle.goal_solver.proofs.eval.+evaluation.Goals as goal
 use Rattle.goal_solver.proofs.eval.+evaluation.Goals.{project_from-then-is_of_trait, project_from-else-is_of_trait}
 
@@ -60,3 +60,21 @@ pub trait_goal-returns-in-Is : goal.trait_goal-returns-in-Is
 trait_goal-returns-in-Is t c =
     trait-replaced c.args.rows.now c.args.depth (c.args.depth - 1) c.decide_trait.result c.args.trait_id (erased (tree_of_ref c.in-Some.first)) (erased (tree_of_ref c.in-Is.self_ty)) (erased_args c.in-Some.rest.now) (erased_args c.args.args.now)
     (omega arith) c.in-Some.ensures c.in-Is.ensures c.decide_trait.ensures
+
+pub head_form-returns-in_default : goal.head_form-returns-in_default
+head_form-returns-in_default t c = alias-loose (tree_of_ref c.args.term) c.node.result c.in-Alias.kind c.node.ensures c.in-Alias.is
+
+pub trait_goal-returns-in_default : goal.trait_goal-returns-in_default
+trait_goal-returns-in_default t c = λ p a. inr c.in_default.ensures
+
+pub trait_goal-returns-in-Undecided : goal.trait_goal-returns-in-Undecided
+trait_goal-returns-in-Undecided t c =
+    λ p a. trait-undecided c.args.rows.now c.args.trait_id (erased (tree_of_ref c.in-Some.first)) (erased_args c.in-Some.rest.now) (erased_args c.args.args.now) _ c.in-Some.ensures c.in-Undecided.ensures a
+
+pub impl_term-returns-in_default-value_of : goal.impl_term-returns-in_default-value_of
+impl_term-returns-in_default-value_of t c = λ p v g. c.in_default-value_of.ensures v.0.0 v.0.1
+
+pub project_by_impls-returns-in-Undecided : goal.project_by_impls-returns-in-Undecided
+project_by_impls-returns-in-Undecided t c =
+    impls-unformed c.args.rows.now c.args.depth c.args.trait_id c.args.item (erased (tree_of_ref c.in-Some.first)) (erased_args c.in-Some.rest.now) (erased_args c.args.args.now)
+    c.in-Some.ensures c.in-Undecided.ensures

@@ -3,7 +3,7 @@ use Rattle.std.proofs.lemmas.List.{length-map}
 use Rattle.std.specs.Prelude.{Some}
 use Rattle.goal_terms.specs.TreeOf.{tree_of_arg}
 use Rattle.goal_terms.specs.View.{tree_of_ref}
-use Rattle.goal_solver.proofs.CompareLemmas.{agree-start, unequal-at, so_far-step, so_far-end, SoFar}
+use Rattle.goal_solver.proofs.CompareLemmas.{agree-start, unequal-at, so_far-step, so_far-undecided, so_far-end, SoFar}
 use Rattle.goal_solver.proofs.EvalLemmas.{other-count, item-at}
 use Rattle.goal_solver.proofs.eval.match_header.Goals as goal
 use Rattle.goal_solver.proofs.eval.match_header.Goals.{in-Equal, in-Undecided}
@@ -33,7 +33,11 @@ loop-i-preserved c =
           (item-at c.args.row.now.trait_args.items c.loop-i.i c.index.result.now (omega (arith, c.args.row.now.trait_args.ok.0)) c.index.ensures ∙ ap Some (sym c.view.ensures))
           c.argument.ensures w.in-Equal.ensures c.loop-i.invariant)
       | in-Undecided w ↦
-          subst (λ found. SoFar found (map tree_of_arg c.args.row.now.trait_args.items) (tree_of_ref c.args.self_ty ∷ map tree_of_arg c.args.rest.now) (c.loop-i.i + 1)) (sym w.found-is) tt
+          subst (λ found. SoFar found (map tree_of_arg c.args.row.now.trait_args.items) (tree_of_ref c.args.self_ty ∷ map tree_of_arg c.args.rest.now) (c.loop-i.i + 1)) (sym w.found-is)
+          (so_far-undecided (map tree_of_arg c.args.row.now.trait_args.items) (tree_of_ref c.args.self_ty ∷ map tree_of_arg c.args.rest.now) c.loop-i.i (c.loop-i.i + 1)
+          (tree_of_ref c.view.result) (tree_of_ref c.argument.result)
+          (item-at c.args.row.now.trait_args.items c.loop-i.i c.index.result.now (omega (arith, c.args.row.now.trait_args.ok.0)) c.index.ensures ∙ ap Some (sym c.view.ensures))
+          c.argument.ensures w.in-Undecided.ensures)
     ]
 
 pub returns : goal.returns

@@ -3,7 +3,7 @@ use Rattle.std.proofs.lemmas.Bool.{false≢true}
 use Rattle.goal_tables.specs.declared.rows.Tables.{Tables}
 use Rattle.goal_solver.specs.PlainLevels.{ImplHolds, SomeImpl}
 use Rattle.goal_solver.specs.Verdicts.{replaced_args}
-use Rattle.goal_solver.proofs.EvalLemmas.{some-at, impls-more, impls-end, ImplsBefore}
+use Rattle.goal_solver.proofs.EvalLemmas.{some-at, impls-more, impls-undecided, impls-end, ImplsBefore}
 use Rattle.goal_solver.proofs.eval.match_impls.Goals as goal
 use Rattle.goal_solver.proofs.eval.match_impls.Goals.{then-is_of_trait+in-Unequal, then-is_of_trait+in-Undecided, else-is_of_trait}
 
@@ -22,7 +22,9 @@ loop-row-preserved c =
           (impls-more c.loop-row.found c.args.trait_id (replaced_args c.args.self_ty c.args.rest.now) c.as_slice-impls.result.now c.loop-row.row-index c.row-item.result
           (omega arith) c.row-item.is (λ e. w.in-Unequal.ensures) c.loop-row.invariant)
       | then-is_of_trait+in-Undecided w ↦
-          subst (λ found. ImplsBefore found c.args.trait_id (replaced_args c.args.self_ty c.args.rest.now) c.as_slice-impls.result.now (c.loop-row.row-index + 1)) (sym w.found-is) tt
+          subst (λ found. ImplsBefore found c.args.trait_id (replaced_args c.args.self_ty c.args.rest.now) c.as_slice-impls.result.now (c.loop-row.row-index + 1)) (sym w.found-is)
+          (impls-undecided c.args.trait_id (replaced_args c.args.self_ty c.args.rest.now) c.as_slice-impls.result.now c.loop-row.row-index (c.loop-row.row-index + 1) c.row-item.result
+          (omega arith) c.row-item.is (c.is_of_trait.ensures.0 w.if-is_of_trait.true) w.in-Undecided.ensures)
       | else-is_of_trait w ↦
           subst (λ found. ImplsBefore found c.args.trait_id (replaced_args c.args.self_ty c.args.rest.now) c.as_slice-impls.result.now (c.loop-row.row-index + 1)) (sym w.found-is)
           (impls-more c.loop-row.found c.args.trait_id (replaced_args c.args.self_ty c.args.rest.now) c.as_slice-impls.result.now c.loop-row.row-index c.row-item.result

@@ -2,21 +2,31 @@ use Rattle.std.proofs.Common.{◌∙◌, sym, subst, arith, ◌<◌, ◌+◌}
 use Rattle.goal_terms.specs.Tree.{tree_size}
 use Rattle.goal_terms.specs.View.{tree_of_ref, trees_seen}
 use Rattle.goal_terms.proofs.WalkLemmas.{tree_size-part}
-use Rattle.goal_solver.proofs.CompareLemmas.{alike-whole, apart-whole, unequal-lengths, unequal-at, agree-start, so_far-step, so_far-end, SoFar}
+use Rattle.goal_solver.proofs.CompareLemmas.{alike-whole, apart-whole, unequal-lengths, unequal-at, agree-start, so_far-step, so_far-undecided, so_far-end, whole-first, whole-second, SoFar}
 use Rattle.goal_solver.proofs.relate.+comparison.Goals as goal
 use Rattle.goal_solver.proofs.relate.+comparison.Goals.{compare_parts-in-Equal, compare_parts-in-Undecided}
 
-pub compare-returns-then-alike : goal.compare-returns-then-alike
-compare-returns-then-alike t c =
-    alike-whole c.compare_parts.result (tree_of_ref c.args.a) (tree_of_ref c.args.b) c.node-node.result c.node-other.result
-    c.in-Head-Head.head c.in-Head-Head.field-0-1 c.is_same-alike.result c.is_parameter.result c.node-node.ensures c.node-other.ensures
-    c.in-Head-Head.is-0 c.in-Head-Head.is-1 c.is_parameter.ensures c.if-is_parameter.false c.is_same-alike.ensures c.if-alike.true c.compare_parts.ensures
+pub compare-returns-then-is_same : goal.compare-returns-then-is_same
+compare-returns-then-is_same t c =
+    alike-whole c.compare_parts.result (tree_of_ref c.args.a) (tree_of_ref c.args.b) c.node-node.result c.node-other.result c.is_same.result
+    c.node-node.ensures c.node-other.ensures (sym c.is_rigid.ensures ∙ c.if-not-is_rigid.false) (sym c.is_head.ensures ∙ c.if-not-is_head.false)
+    c.is_same.ensures c.if-is_same.true c.compare_parts.ensures
 
-pub compare-returns-else-alike : goal.compare-returns-else-alike
-compare-returns-else-alike t c =
-    apart-whole (tree_of_ref c.args.a) (tree_of_ref c.args.b) c.node-node.result c.node-other.result
-    c.in-Head-Head.head c.in-Head-Head.field-0-1 c.is_same-alike.result c.is_parameter.result c.node-node.ensures c.node-other.ensures
-    c.in-Head-Head.is-0 c.in-Head-Head.is-1 c.is_parameter.ensures c.if-is_parameter.false c.is_same-alike.ensures c.if-alike.false
+pub compare-returns-else-is_same : goal.compare-returns-else-is_same
+compare-returns-else-is_same t c =
+    apart-whole (tree_of_ref c.args.a) (tree_of_ref c.args.b) c.node-node.result c.node-other.result c.is_same.result
+    c.node-node.ensures c.node-other.ensures (sym c.is_rigid.ensures ∙ c.if-not-is_rigid.false) (sym c.is_head.ensures ∙ c.if-not-is_head.false)
+    c.is_same.ensures c.if-is_same.false
+
+pub compare-returns-then-not-is_rigid : goal.compare-returns-then-not-is_rigid
+compare-returns-then-not-is_rigid t c =
+    whole-first c.compare_whole.result (tree_of_ref c.args.a) (tree_of_ref c.args.b) c.node-node.result c.node-node.ensures
+    (sym c.is_rigid.ensures ∙ c.if-not-is_rigid.true) c.compare_whole.ensures
+
+pub compare-returns-then-not-is_head : goal.compare-returns-then-not-is_head
+compare-returns-then-not-is_head t c =
+    whole-second c.compare_whole-then-not-is_head.result (tree_of_ref c.args.a) (tree_of_ref c.args.b) c.node-other.result c.node-other.ensures
+    (sym c.is_head.ensures ∙ c.if-not-is_head.true) c.compare_whole-then-not-is_head.ensures
 
 pub compare_parts-returns-then-len-count : goal.compare_parts-returns-then-len-count
 compare_parts-returns-then-len-count t c =
@@ -48,7 +58,9 @@ compare_parts-loop-i-preserved t c =
           (so_far-step c.loop-i.found (trees_seen c.parts-parts.result) (trees_seen c.parts-others.result) c.loop-i.i (tree_of_ref c.at.result) (tree_of_ref c.at-in-loop-i.result)
           c.at.ensures c.at-in-loop-i.ensures w.in-Equal.ensures c.loop-i.invariant)
       | compare_parts-in-Undecided w ↦
-          subst (λ found. SoFar found (trees_seen c.parts-parts.result) (trees_seen c.parts-others.result) (c.loop-i.i + 1)) (sym w.found-is) tt
+          subst (λ found. SoFar found (trees_seen c.parts-parts.result) (trees_seen c.parts-others.result) (c.loop-i.i + 1)) (sym w.found-is)
+          (so_far-undecided (trees_seen c.parts-parts.result) (trees_seen c.parts-others.result) c.loop-i.i (c.loop-i.i + 1) (tree_of_ref c.at.result) (tree_of_ref c.at-in-loop-i.result)
+          c.at.ensures c.at-in-loop-i.ensures w.in-Undecided.ensures)
     ]
 
 pub compare_parts-returns : goal.compare_parts-returns
