@@ -45,3 +45,11 @@ pub mod ExamplesOfInherentItems
 pub mod ExamplesOfBounds
 pub mod ExamplesOfDefaults
 pub mod ExamplesOfConstImpls
+pub mod AgreeLemmas
+pub mod KindOfTermLemmas
+pub mod RejectionLemmas
+pub mod OtherHeadLemmas
+pub mod KindedLemmas
+pub mod TableKindLemmas
+pub mod PublicTermLemmas
+pub mod AcceptedLemmas

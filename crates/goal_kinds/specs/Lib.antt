@@ -19,3 +19,6 @@ pub mod ExampleTerms
 pub mod ExampleRows
 pub mod ExampleTables
 pub mod ExampleSettings
+pub mod FastReject
+pub mod Replacement
+pub mod KindedTerms

@@ -2,5 +2,7 @@
 //! against, and their laws.
 #![tactic(auto)]
 
+pub mod fast_reject;
+pub mod fast_reject_laws;
 pub mod laws;
 pub mod worked_examples;
