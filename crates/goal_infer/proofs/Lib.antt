@@ -1,2 +1,12 @@
 pub mod UndoLemmas
 pub mod GoesBackLemmas
+pub mod ResolveLemmas
+pub mod ReplacementLemmas
+pub mod PartLemmas
+pub mod KindLemmas
+pub mod BindLemmas
+pub mod WorkLemmas
+pub mod UnifyLemmas
+pub mod DecisionLemmas
+pub mod PairLemmas
+pub mod SolvedLemmas

@@ -3,5 +3,8 @@
 #![tactic(auto)]
 
 pub mod laws;
+pub mod occurs;
+pub mod resolve;
 pub mod state;
 pub mod undo;
+pub mod unify;

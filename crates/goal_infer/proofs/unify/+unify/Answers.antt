@@ -1,0 +1,151 @@
+use Rattle.std.proofs.Common.{◌≡◌, ◌+◌, ◌<◌, length, ◌∙◌, sym, subst, refl, arith, get_or}
+use Rattle.std.proofs.lemmas.List.Elements.{All-get_or}
+use Rattle.goal_terms.specs.declared.term_nodes.TermId.{TermId}
+use Rattle.goal_infer.specs.Unification.{MakesSame, IsUnified, HaveOneHead, TopsSay, TopsDecide}
+use Rattle.goal_infer.specs.declared.unify.Unified.TheVariants.{Yes, Undecided, No}
+use Rattle.goal_infer.proofs.PairLemmas.{SameBelow, said-first, said-yes, said-undecided, said-no, no-count, said-whole, said-given, less-work, left-paired, right-paired}
+use Rattle.goal_infer.proofs.DecisionLemmas.{IsPaired, decided-when_same, decided-given, decided-more, yes-decides, no-decides}
+use Rattle.goal_infer.proofs.UnifyLemmas.{advances-through}
+use Rattle.goal_infer.proofs.unify.+unify.Goals as goal
+use Rattle.goal_infer.proofs.unify.+unify.Goals.{in-Yes, in-Undecided}
+
+pub returns-in-Some-clause-answer : goal.returns-in-Some-clause-answer
+returns-in-Some-clause-answer t c =
+    said-given c.args.table.now c.args.state.now c.unify_tops.new.state c.requires.solved c.resolve-left.result c.resolve-right.result c.args.left c.args.right
+    c.resolve-left.ensures.same c.resolve-right.ensures.same c.in-Some.answer
+    (subst (TopsSay c.args.table.now c.args.state.now c.unify_tops.new.state c.resolve-left.result c.resolve-right.result) c.in-Some.is c.in_ok-answer.ensures.answer)
+
+pub returns-then-others-count-clause-answer : goal.returns-then-others-count-clause-answer
+returns-then-others-count-clause-answer t c =
+    let one : HaveOneHead c.args.table.now c.args.state.now c.unify_tops.new.state c.resolve-left.result c.resolve-right.result =
+    subst (TopsSay c.args.table.now c.args.state.now c.unify_tops.new.state c.resolve-left.result c.resolve-right.result) c.in_default.is c.in_ok-answer.ensures.answer in
+    said-given c.args.table.now c.args.state.now c.unify_tops.new.state c.requires.solved c.resolve-left.result c.resolve-right.result c.args.left c.args.right
+    c.resolve-left.ensures.same c.resolve-right.ensures.same No
+    (no-count c.args.table.now c.args.state.now c.unify_tops.new.state c.resolve-left.result c.resolve-right.result one c.parts-parts.result.now c.parts-others.result.now
+    c.parts-parts.ensures.trees c.parts-others.ensures.trees c.if-others-count.true c.unify_tops.new.state)
+
+pub loop-i-init : goal.loop-i-init
+loop-i-init t c =
+    let one : HaveOneHead c.args.table.now c.args.state.now c.unify_tops.new.state c.resolve-left.result c.resolve-right.result =
+    subst (TopsSay c.args.table.now c.args.state.now c.unify_tops.new.state c.resolve-left.result c.resolve-right.result) c.in_default.is c.in_ok-answer.ensures.answer in
+    record {
+      advances = c.in_ok-answer.ensures.advances;
+      said = said-first c.args.table.now c.args.state.now c.unify_tops.new.state c.parts-parts.result.now c.parts-others.result.now one.unchanged;
+      going = λ e. absurd (cc);
+      decided = decided-when_same c.args.table.now c.args.state.now c.unify_tops.new.state c.args.left c.args.right Yes one.unchanged yes-decides;
+    }
+
+pub unify-requires : goal.unify-requires
+unify-requires t c =
+    let one : HaveOneHead c.args.table.now c.args.state.now c.unify_tops.new.state c.resolve-left.result c.resolve-right.result =
+    subst (TopsSay c.args.table.now c.args.state.now c.unify_tops.new.state c.resolve-left.result c.resolve-right.result) c.in_default.is c.in_ok-answer.ensures.answer in
+    let first : c.loop-i.i < length c.parts-parts.result.now = c.loop-i-test.true in
+    let second : c.loop-i.i < length c.parts-others.result.now = omega arith in
+    let part : TermId = get_or c.parts-parts.result.now c.loop-i.i (record { 0 = 0 }) in
+    let other : TermId = get_or c.parts-others.result.now c.loop-i.i (record { 0 = 0 }) in
+    let earlier : part.0 < c.resolve-left.result.0 =
+    All-get_or (λ i. i.0 < c.resolve-left.result.0) c.parts-parts.result.now c.loop-i.i (record { 0 = 0 }) first c.parts-parts.ensures.earlier in
+    let before : other.0 < c.resolve-right.result.0 =
+    All-get_or (λ i. i.0 < c.resolve-right.result.0) c.parts-others.result.now c.loop-i.i (record { 0 = 0 }) second c.parts-others.ensures.earlier in (
+      omega (
+        arith,
+        less-work c.args.table.now c.args.state.now c.loop-i.state c.loop-i.invariant.advances c.args.left c.resolve-left.result c.resolve-left.ensures.same
+            c.parts-parts.result.now c.loop-i.i c.parts-parts.ensures.trees one.head first,
+        c.decreases,
+      ),
+      (omega (arith, earlier, c.resolve-left.ensures.within), (omega (arith, before, c.resolve-right.ensures.within), c.loop-i.invariant.advances.solved)),
+    )
+
+pub returns-in_err-unify-clause-advances : goal.returns-in_err-unify-clause-advances
+returns-in_err-unify-clause-advances t c =
+    advances-through c.args.table.now c.args.state.now c.loop-i.state c.unify.new.state c.loop-i.invariant.advances c.in_err-unify.ensures.advances
+
+pub returns-in-No-clause-advances : goal.returns-in-No-clause-advances
+returns-in-No-clause-advances t c =
+    advances-through c.args.table.now c.args.state.now c.loop-i.state c.unify.new.state c.loop-i.invariant.advances c.in_ok-unify.ensures.advances
+
+pub returns-in-No-clause-answer : goal.returns-in-No-clause-answer
+returns-in-No-clause-answer t c =
+    let one : HaveOneHead c.args.table.now c.args.state.now c.unify_tops.new.state c.resolve-left.result c.resolve-right.result =
+    subst (TopsSay c.args.table.now c.args.state.now c.unify_tops.new.state c.resolve-left.result c.resolve-right.result) c.in_default.is c.in_ok-answer.ensures.answer in
+    said-given c.args.table.now c.args.state.now c.unify.new.state c.requires.solved c.resolve-left.result c.resolve-right.result c.args.left c.args.right
+    c.resolve-left.ensures.same c.resolve-right.ensures.same No
+    (said-whole c.args.table.now c.args.state.now c.unify_tops.new.state c.resolve-left.result c.resolve-right.result one c.parts-parts.result.now c.parts-others.result.now
+    c.parts-parts.ensures.trees c.parts-others.ensures.trees c.if-others-count.false (length c.parts-parts.result.now) refl c.unify.new.state No
+    (said-no c.args.table.now c.args.state.now c.loop-i.state c.unify.new.state c.parts-parts.result.now c.parts-others.result.now c.loop-i.i (length c.parts-parts.result.now)
+    c.loop-i.answer c.loop-i-test.true c.loop-i.invariant.going c.loop-i.invariant.said
+    (subst (IsUnified c.args.table.now c.loop-i.state c.unify.new.state (MakesSame c.args.table.now _ _)) c.in-No.is c.in_ok-unify.ensures.answer)))
+
+pub loop-i-preserved : goal.loop-i-preserved
+loop-i-preserved t c =
+    let one : HaveOneHead c.args.table.now c.args.state.now c.unify_tops.new.state c.resolve-left.result c.resolve-right.result =
+    subst (TopsSay c.args.table.now c.args.state.now c.unify_tops.new.state c.resolve-left.result c.resolve-right.result) c.in_default.is c.in_ok-answer.ensures.answer in
+    let first : IsPaired c.args.table.now c.args.state.now c.args.left c.resolve-left.result c.parts-parts.result.now =
+    left-paired c.args.table.now c.args.state.now c.unify_tops.new.state c.args.left c.resolve-left.result c.resolve-right.result one c.parts-parts.result.now
+    c.resolve-left.ensures.same c.parts-parts.ensures.trees in
+    let second : IsPaired c.args.table.now c.args.state.now c.args.right c.resolve-right.result c.parts-others.result.now =
+    right-paired c.args.table.now c.args.state.now c.unify_tops.new.state c.args.right c.resolve-left.result c.resolve-right.result one c.parts-others.result.now
+    c.resolve-right.ensures.same c.parts-others.ensures.trees in
+    let within : c.loop-i.i < length c.parts-others.result.now = omega arith in
+    elim c.match-branch-4.branch [
+      | in-Yes w ↦ record {
+        advances = advances-through c.args.table.now c.args.state.now c.loop-i.state c.unify.new.state c.loop-i.invariant.advances c.in_ok-unify.ensures.advances;
+        said = subst (IsUnified c.args.table.now c.args.state.now c.unify.new.state (SameBelow c.args.table.now c.parts-parts.result.now c.parts-others.result.now (c.loop-i.i + 1)))
+            (sym w.answer-is)
+            (said-yes c.args.table.now c.args.state.now c.loop-i.state c.unify.new.state c.parts-parts.result.now c.parts-others.result.now c.loop-i.i c.loop-i.answer
+            c.loop-i.invariant.going c.loop-i.invariant.said
+            (subst (IsUnified c.args.table.now c.loop-i.state c.unify.new.state (MakesSame c.args.table.now _ _)) w.in-Yes.is c.in_ok-unify.ensures.answer));
+        going = λ e. c.loop-i.invariant.going (sym w.answer-is ∙ e);
+        decided = decided-more c.args.table.now c.args.state.now c.loop-i.state c.unify.new.state c.args.left c.args.right c.resolve-left.result c.resolve-right.result
+            c.parts-parts.result.now c.parts-others.result.now first second c.loop-i.invariant.advances.kinds c.loop-i.i c.loop-i-test.true within c.loop-i.answer c.in_ok-unify.field-0 c.match-branch-4.answer
+            c.loop-i.invariant.decided c.in_ok-unify.ensures.decided (λ f g e. f (sym w.answer-is ∙ e));
+      }
+      | in-Undecided w ↦ record {
+        advances = advances-through c.args.table.now c.args.state.now c.loop-i.state c.unify.new.state c.loop-i.invariant.advances c.in_ok-unify.ensures.advances;
+        said = subst (IsUnified c.args.table.now c.args.state.now c.unify.new.state (SameBelow c.args.table.now c.parts-parts.result.now c.parts-others.result.now (c.loop-i.i + 1)))
+            (sym w.answer-is)
+            (said-undecided c.args.table.now c.args.state.now c.loop-i.state c.unify.new.state c.parts-parts.result.now c.parts-others.result.now c.loop-i.i c.loop-i.answer
+            c.loop-i.invariant.going c.loop-i.invariant.said
+            (subst (IsUnified c.args.table.now c.loop-i.state c.unify.new.state (MakesSame c.args.table.now _ _)) w.in-Undecided.is c.in_ok-unify.ensures.answer));
+        going = λ e. let p : Undecided ≡ No = sym w.answer-is ∙ e in absurd (cc);
+        decided = decided-more c.args.table.now c.args.state.now c.loop-i.state c.unify.new.state c.args.left c.args.right c.resolve-left.result c.resolve-right.result
+            c.parts-parts.result.now c.parts-others.result.now first second c.loop-i.invariant.advances.kinds c.loop-i.i c.loop-i-test.true within c.loop-i.answer c.in_ok-unify.field-0 c.match-branch-4.answer
+            c.loop-i.invariant.decided c.in_ok-unify.ensures.decided (λ f g e. g w.in-Undecided.is);
+      }
+    ]
+
+pub returns-clause-answer : goal.returns-clause-answer
+returns-clause-answer t c =
+    let one : HaveOneHead c.args.table.now c.args.state.now c.unify_tops.new.state c.resolve-left.result c.resolve-right.result =
+    subst (TopsSay c.args.table.now c.args.state.now c.unify_tops.new.state c.resolve-left.result c.resolve-right.result) c.in_default.is c.in_ok-answer.ensures.answer in
+    said-given c.args.table.now c.args.state.now c.loop-i.state c.requires.solved c.resolve-left.result c.resolve-right.result c.args.left c.args.right
+    c.resolve-left.ensures.same c.resolve-right.ensures.same c.loop-i.answer
+    (said-whole c.args.table.now c.args.state.now c.unify_tops.new.state c.resolve-left.result c.resolve-right.result one c.parts-parts.result.now c.parts-others.result.now
+    c.parts-parts.ensures.trees c.parts-others.ensures.trees c.if-others-count.false c.loop-i.i (omega arith) c.loop-i.state c.loop-i.answer c.loop-i.invariant.said)
+
+pub returns-in-Some-clause-decided : goal.returns-in-Some-clause-decided
+returns-in-Some-clause-decided t c =
+    decided-given c.args.table.now c.args.state.now c.unify_tops.new.state c.resolve-left.result c.resolve-right.result c.args.left c.args.right
+    c.resolve-left.ensures.same c.resolve-right.ensures.same c.in-Some.answer
+    (subst (TopsDecide c.args.table.now c.args.state.now c.unify_tops.new.state c.resolve-left.result c.resolve-right.result) c.in-Some.is c.in_ok-answer.ensures.decided)
+
+pub returns-then-others-count-clause-decided : goal.returns-then-others-count-clause-decided
+returns-then-others-count-clause-decided t c =
+    let one : HaveOneHead c.args.table.now c.args.state.now c.unify_tops.new.state c.resolve-left.result c.resolve-right.result =
+    subst (TopsSay c.args.table.now c.args.state.now c.unify_tops.new.state c.resolve-left.result c.resolve-right.result) c.in_default.is c.in_ok-answer.ensures.answer in
+    decided-when_same c.args.table.now c.args.state.now c.unify_tops.new.state c.args.left c.args.right No one.unchanged no-decides
+
+pub returns-in-No-clause-decided : goal.returns-in-No-clause-decided
+returns-in-No-clause-decided t c =
+    let one : HaveOneHead c.args.table.now c.args.state.now c.unify_tops.new.state c.resolve-left.result c.resolve-right.result =
+    subst (TopsSay c.args.table.now c.args.state.now c.unify_tops.new.state c.resolve-left.result c.resolve-right.result) c.in_default.is c.in_ok-answer.ensures.answer in
+    let first : IsPaired c.args.table.now c.args.state.now c.args.left c.resolve-left.result c.parts-parts.result.now =
+    left-paired c.args.table.now c.args.state.now c.unify_tops.new.state c.args.left c.resolve-left.result c.resolve-right.result one c.parts-parts.result.now
+    c.resolve-left.ensures.same c.parts-parts.ensures.trees in
+    let second : IsPaired c.args.table.now c.args.state.now c.args.right c.resolve-right.result c.parts-others.result.now =
+    right-paired c.args.table.now c.args.state.now c.unify_tops.new.state c.args.right c.resolve-left.result c.resolve-right.result one c.parts-others.result.now
+    c.resolve-right.ensures.same c.parts-others.ensures.trees in
+    let within : c.loop-i.i < length c.parts-others.result.now = omega arith in
+    decided-more c.args.table.now c.args.state.now c.loop-i.state c.unify.new.state c.args.left c.args.right c.resolve-left.result c.resolve-right.result
+    c.parts-parts.result.now c.parts-others.result.now first second c.loop-i.invariant.advances.kinds c.loop-i.i c.loop-i-test.true within c.loop-i.answer c.in_ok-unify.field-0 No
+    c.loop-i.invariant.decided c.in_ok-unify.ensures.decided (λ f g. no-decides)

@@ -1,0 +1,16 @@
+use Rattle.std.proofs.Common.{◌≢◌}
+use Rattle.goal_infer.specs.Unification.{IsUnified, IsDecided, Advances, work}
+use Rattle.goal_infer.specs.declared.unify.Unified.TheVariants.{No}
+use Rattle.goal_infer.proofs.PairLemmas.{SameBelow}
+use Rattle.goal_infer.proofs.unify.+unify.Given as goal
+
+abbrev pub decreases-unify : goal.decreases-unify
+decreases-unify l = work l.table.now l.state.now l.left
+
+abbrev pub invariant-loop-i : goal.invariant-loop-i
+invariant-loop-i l = record {
+  advances : Advances l.table l.fn.state l.state;
+  said : IsUnified l.table l.fn.state l.state (SameBelow l.table l.parts l.others l.i) l.answer;
+  going : l.answer ≢ No;
+  decided : IsDecided l.table l.fn.state l.state l.fn.left l.fn.right l.answer;
+}
