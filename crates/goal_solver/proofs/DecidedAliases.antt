@@ -1,6 +1,8 @@
 -- The aliases that are decided.
 use Rattle.std.proofs.Common.{◌≡◌, ◌<◌, ◌⊎◌, inl, inr, ℕ, zero, suc, List, [], ◌∷◌, length, Option, Some, None, Result, Ok, Err, ap, subst, arith}
+use Rattle.std.specs.Prelude.{IfOk}
 use Rattle.goal_terms.specs.Tree.{Tree}
+use Rattle.goal_terms.specs.declared.answers.Certainty.TheVariants as certainty
 use Rattle.goal_terms.specs.declared.answers.Response.{Response}
 use Rattle.goal_terms.specs.declared.answers.TraitGoalProvenVia.{TraitGoalProvenVia}
 use Rattle.goal_terms.specs.declared.ids.ItemId.{ItemId}
@@ -20,7 +22,7 @@ use Rattle.goal_kinds.specs.Levels.{level}
 use Rattle.goal_kinds.specs.Projections.{ProjectionGives, ProjectionRefuted, ItemGives, ItemRefuted}
 use Rattle.goal_kinds.specs.Settings.{Setting}
 use Rattle.goal_kinds.specs.Words.{OfRow}
-use Rattle.goal_solver.specs.Answers.{AliasHasTerm, IsAliasDecided}
+use Rattle.goal_solver.specs.Answers.{IsAliasDecided, expected_variable}
 use Rattle.goal_solver.specs.State.{State}
 use Rattle.goal_solver.specs.Verdicts.{erased_args, projected, AliasIs}
 use Rattle.goal_solver.specs.declared.eval.HeadForm.TheVariants as form
@@ -100,23 +102,23 @@ unfolding level
 refuted-none S zero k i ts p e h = h
 refuted-none S (suc n) k i ts p e h = alias_refuted-none S (level S n) k i ts p (below S n (ts ≡ []) e) h
 
-pub alias_decided-given : (s : State) (g : Goal NormalizesTo) (u : Tree) (r : Result Response Fault) → AliasHasTerm s g u → IsAliasDecided s g r
-alias_decided-given s g u (Ok r) h = λ m p. inl (u, h)
-alias_decided-given s g u (Err f) h = tt
+pub alias_decided-given : (s : State) (g : Goal NormalizesTo) (r : Result Response Fault) →
+    ((n : ℕ) → expected_variable g.predicate.term ≡ Some n → IfOk r (λ x. x.certainty ≡ certainty.Yes)) → IsAliasDecided s g r
+alias_decided-given s g (Ok r) h = λ n e m p. let yes : r.certainty ≡ certainty.Yes = h n e in absurd (cc)
+alias_decided-given s g (Err f) h = tt
 
 pub alias_decided-environment : (s : State) (g : Goal NormalizesTo) (r : Response) → 0 < length g.param_env.items → IsAliasDecided s g (Ok r)
-alias_decided-environment s g r l = λ m p. let none : length g.param_env.items ≡ 0 = ap length p.0 in absurd (omega arith)
+alias_decided-environment s g r l = λ x v m p. let none : length g.param_env.items ≡ 0 = ap length p.0 in absurd (omega arith)
 
 pub alias_decided-plain : (s : State) (g : Goal NormalizesTo) (r : Response) (t : Tables) (n : ℕ) (xs : List GenericArg) →
     t ≡ s.tables → n ≡ s.remaining_depth → xs ≡ g.predicate.alias.args.items → AliasIs t n form.Undecided g.predicate.alias.kind (erased_args xs) → IsAliasDecided s g (Ok r)
 alias_decided-plain s g r t n xs e f a h =
-    λ m p.
+    λ x v m p.
     let here : AliasIs s.tables s.remaining_depth form.Undecided g.predicate.alias.kind (erased_args g.predicate.alias.args.items) =
     subst (λ y. AliasIs y s.remaining_depth form.Undecided g.predicate.alias.kind (erased_args g.predicate.alias.args.items)) e
     (subst (λ k. AliasIs t k form.Undecided g.predicate.alias.kind (erased_args g.predicate.alias.args.items)) f
     (subst (λ ys. AliasIs t n form.Undecided g.predicate.alias.kind (erased_args ys)) a h)) in
-    let why : (s.remaining_depth ≡ 0) ⊎ (s.remaining_depth ≡ 1) ⊎ (erased_args g.predicate.alias.args.items ≡ []) = here p.1.0 p.1.1 p.1.2 p.1.3 p.1.4 p.1.5 p.2 in
-    inr (
+    let why : (s.remaining_depth ≡ 0) ⊎ (s.remaining_depth ≡ 1) ⊎ (erased_args g.predicate.alias.args.items ≡ []) = here p.1.0 p.1.1 p.1.2 p.1.3 p.1.4 p.1.5 p.2 in (
       why,
       (
         λ u. gives-none _ s.remaining_depth g.predicate.alias.kind p.1.0 (erased_args g.predicate.alias.args.items) u p.1.2 why,

@@ -101,14 +101,6 @@ IsAliasOpen s g =
     ((t : Tree) → (level_for s g.param_env.items).gives g.predicate.alias.kind (erased_args g.predicate.alias.args.items) t → ⊥)
     × ((level_for s g.param_env.items).gives_refuted g.predicate.alias.kind (erased_args g.predicate.alias.args.items) → ⊥)
 
--- the other direction, for plain aliases: such an alias is undecided only where it is open, at a depth of at most 1 or without arguments, or where it has a term
-abbrev pub IsAliasDecided : State → Goal NormalizesTo → Result Response Fault → Type 0
-IsAliasDecided s g (Ok r) =
-    r.certainty ≡ certainty.Maybe → IsPlainAlias s g →
-    ((t : Tree) × AliasHasTerm s g t)
-    ⊎ (((s.remaining_depth ≡ 0) ⊎ (s.remaining_depth ≡ 1) ⊎ (erased_args g.predicate.alias.args.items ≡ [])) × IsAliasOpen s g)
-IsAliasDecided s g (Err f) = Unit {0}
-
 -- the number of a general variable
 abbrev pub general_variable_at : Node → Option ℕ
 general_variable_at (nodes.Variable (variables.Ty (infer.TyVar n))) = Some n
@@ -118,6 +110,13 @@ general_variable_at _ = None
 -- the variable that takes a goal's answer
 abbrev pub expected_variable : Term → Option ℕ
 expected_variable e = general_variable_at (node_of (tree_of_term e))
+
+-- the other direction, for plain aliases whose answer a general variable takes: such an alias is undecided only at a depth of at most 1 or without arguments, and is open then
+abbrev pub IsAliasDecided : State → Goal NormalizesTo → Result Response Fault → Type 0
+IsAliasDecided s g (Ok r) =
+    (n : ℕ) → expected_variable g.predicate.term ≡ Some n → r.certainty ≡ certainty.Maybe → IsPlainAlias s g →
+    ((s.remaining_depth ≡ 0) ⊎ (s.remaining_depth ≡ 1) ⊎ (erased_args g.predicate.alias.args.items ≡ [])) × IsAliasOpen s g
+IsAliasDecided s g (Err f) = Unit {0}
 
 -- the answer lists this term as the value of that variable, lifetimes aside, and no other value
 abbrev pub ListsValue : Term → Tree → Response → Type 0

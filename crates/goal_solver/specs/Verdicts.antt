@@ -10,6 +10,7 @@ use Rattle.goal_terms.specs.declared.terms.GenericArg.{GenericArg}
 use Rattle.goal_terms.specs.declared.terms.AliasTermKind.{AliasTermKind}
 use Rattle.goal_terms.specs.declared.terms.AliasTermKind.TheVariants.{ProjectionTy, ProjectionConst}
 use Rattle.goal_terms.specs.declared.view.TermRef.{TermRef}
+use Rattle.goal_terms.specs.declared.view.TermRef.TheVariants as view
 use Rattle.goal_tables.specs.Rows.{item_of}
 use Rattle.goal_tables.specs.declared.rows.ImplRow.{ImplRow}
 use Rattle.goal_tables.specs.declared.rows.ItemRow.{ItemRow}
@@ -57,6 +58,17 @@ abbrev pub projected : AliasTermKind → Option ItemId
 projected (ProjectionTy i) = Some i
 projected (ProjectionConst i) = Some i
 projected _ = None
+
+-- a part of a term that is a type or a constant
+abbrev pub IsTerm : TermRef → Type 0
+IsTerm (view.Ty t) = Unit {0}
+IsTerm (view.Const c) = Unit {0}
+IsTerm _ = ⊥
+
+-- a head form that is found is a type or a constant
+abbrev pub FindsTerm : forms.HeadForm → Type 0
+FindsTerm (form.Is u) = IsTerm u
+FindsTerm _ = Unit {0}
 
 -- what is said of a term's head form
 abbrev pub HeadFormIs : Tables → ℕ → forms.HeadForm → Tree → Type 0

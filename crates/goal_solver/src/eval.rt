@@ -7,7 +7,7 @@ ghost use Rattle.goal_terms.specs.View.{tree_of_ref};
 ghost use Rattle.goal_terms.specs.Erased.{erased};
 ghost use Rattle.goal_solver.specs.PlainEquality.{ListsCompareAs};
 ghost use Rattle.goal_solver.specs.PlainLevels.{header_of, HasValue};
-ghost use Rattle.goal_solver.specs.Verdicts.{erased_args, replaced_args, ImplComparesAs, ImplsSay, TraitIs, HeadFormIs, AliasIs, ImplTermIs, ImplTermsSay, ImplsSayFor, ItemIs, ReplacedIs, MergesTo, projected};
+ghost use Rattle.goal_solver.specs.Verdicts.{erased_args, replaced_args, ImplComparesAs, ImplsSay, TraitIs, HeadFormIs, AliasIs, ImplTermIs, ImplTermsSay, ImplsSayFor, ItemIs, ReplacedIs, MergesTo, IsTerm, FindsTerm, projected};
 
 use crate::errors::{has_only_impls, is_plain};
 use crate::plain_rows::{
@@ -155,7 +155,8 @@ fn decide_trait(
 
 /// The value that an impl has for an item.
 fn value_of<'a>(rows: &'a IndexedTables, row: &ImplRow, item: ItemId) -> Option<TermRef<'a>>
-    ensures { MatchOption result ((v : Tree) → HasValue rows.now row.now item v → ⊥) (λ v. HasValue rows.now row.now item (erased (tree_of_ref v))) }
+    ensures says { MatchOption result ((v : Tree) → HasValue rows.now row.now item v → ⊥) (λ v. HasValue rows.now row.now item (erased (tree_of_ref v))) }
+    ensures is_term { IfSome result (λ v. IsTerm v) }
 {
     if !has_no_params(row) {
         return None;
@@ -181,7 +182,8 @@ fn split_args(args: &[GenericArg]) -> Option<(TermRef<'_>, &[GenericArg])>
 
 /// Joins what two impls give: both have to give one term, where they give one.
 fn merge<'a>(found: HeadForm<'a>, next: HeadForm<'a>) -> HeadForm<'a>
-    ensures { MergesTo found.entry next.entry result }
+    ensures says { MergesTo found.entry next.entry result }
+    ensures finds_term { FindsTerm found.entry → FindsTerm next.entry → FindsTerm result }
 {
     match found {
         HeadForm::Undecided => HeadForm::Undecided,
@@ -211,10 +213,12 @@ fn projected_item(kind: AliasTermKind) -> Option<ItemId>
     }
 }
 
-/// The head form of a term. The work is done at the remaining depth.
+/// The head form of a term, which is a type or a constant where the term is. The work is done at the
+/// remaining depth.
 #[cycle(evaluation)]
 pub fn head_form<'a>(rows: &'a IndexedTables, term: TermRef<'a>, depth: u32) -> HeadForm<'a>
-    ensures { HeadFormIs rows.now depth result (erased (tree_of_ref term.entry)) }
+    ensures says { HeadFormIs rows.now depth result (erased (tree_of_ref term.entry)) }
+    ensures finds_term { IsTerm term.entry → FindsTerm result }
 {
     match term.node() {
         Node::Head(_) => HeadForm::Is(term),
@@ -226,7 +230,7 @@ pub fn head_form<'a>(rows: &'a IndexedTables, term: TermRef<'a>, depth: u32) -> 
     }
 }
 
-/// The term that an alias normalizes to.
+/// The type or the constant that an alias normalizes to.
 #[cycle(evaluation)]
 pub fn normalize<'a>(
     rows: &'a IndexedTables,
@@ -234,7 +238,8 @@ pub fn normalize<'a>(
     args: &'a [GenericArg],
     depth: u32,
 ) -> HeadForm<'a>
-    ensures { AliasIs rows.now depth result kind (erased_args args.now) }
+    ensures says { AliasIs rows.now depth result kind (erased_args args.now) }
+    ensures finds_term { FindsTerm result }
 {
     if depth == 0 {
         return HeadForm::Undecided;
@@ -260,7 +265,8 @@ fn project<'a>(
     args: &'a [GenericArg],
     depth: u32,
 ) -> HeadForm<'a>
-    ensures { ItemIs rows.now depth result trait_id item (erased_args args.now) }
+    ensures says { ItemIs rows.now depth result trait_id item (erased_args args.now) }
+    ensures finds_term { FindsTerm result }
 {
     match trait_goal(rows, trait_id, args, depth) {
         Verdict::Undecided => HeadForm::Undecided,
@@ -301,7 +307,8 @@ fn project_by_impls<'a>(
     args: &'a [GenericArg],
     depth: u32,
 ) -> HeadForm<'a>
-    ensures { ImplsSayFor rows.now depth result trait_id item (erased_args args.now) }
+    ensures says { ImplsSayFor rows.now depth result trait_id item (erased_args args.now) }
+    ensures finds_term { FindsTerm result }
 {
     let Some((first, rest)) = split_args(args) else {
         return HeadForm::Undecided;
@@ -329,7 +336,8 @@ fn project_from<'a>(
     rest: &'a [GenericArg],
     depth: u32,
 ) -> HeadForm<'a>
-    ensures { ImplTermsSay rows.now depth result trait_id item (replaced_args self_ty.entry rest.now) }
+    ensures says { ImplTermsSay rows.now depth result trait_id item (replaced_args self_ty.entry rest.now) }
+    ensures finds_term { FindsTerm result }
 {
     let impls = rows.tables().impls.as_slice();
     let mut found = HeadForm::Refuted;
@@ -351,7 +359,8 @@ fn impl_term<'a>(
     rest: &'a [GenericArg],
     depth: u32,
 ) -> HeadForm<'a>
-    ensures { ImplTermIs rows.now depth result item (replaced_args self_ty.entry rest.now) row.now }
+    ensures says { ImplTermIs rows.now depth result item (replaced_args self_ty.entry rest.now) row.now }
+    ensures finds_term { FindsTerm result }
 {
     let matched = match_impl(row, self_ty, rest);
     if let Comparison::Unequal = matched {

@@ -1,9 +1,11 @@
 //! Normalization of aliases.
-ghost use Rattle.std.specs.Prelude.{◌≡◌, IfOk, IfSome};
+ghost use Rattle.std.specs.Prelude.{◌≡◌, ℕ, true, Some, is_some, IfOk, IfSome};
 ghost use Rattle.goal_terms.specs.TreeOf.{tree_of_term};
 ghost use Rattle.goal_terms.specs.View.{tree_of_ref};
 ghost use Rattle.goal_terms.specs.Erased.{erased};
+ghost use Rattle.goal_terms.specs.declared.answers.Certainty.TheVariants as certainty;
 ghost use Rattle.goal_solver.specs.Answers.{IsAliasAnswer, IsAliasDecided, GivesTerm, expected_variable, general_variable_at};
+ghost use Rattle.goal_solver.specs.Verdicts.{IsTerm};
 
 use crate::context::EvalCtxt;
 use crate::eval::{HeadForm, normalize};
@@ -18,8 +20,11 @@ use std::alloc::AllocError;
 impl EvalCtxt<'_> {
     /// The term that an alias normalizes to, as the value of the goal's expected variable. `Yes`: a
     /// derivation no higher than the remaining depth gives the term. `NoSolution`: a refutation no
-    /// higher shows that there is none. A goal with an environment is `Maybe`. It changes nothing:
-    /// the answer says what would change.
+    /// higher shows that there is none. A goal with an environment is `Maybe`. A plain alias
+    /// (`IsPlainAlias`) whose expected term is a general variable is `Maybe` only at a depth of at
+    /// most 1 or without arguments, and has then neither a term nor a refutation. Want of memory for
+    /// the copy of a term that is found is `OutOfMemory`. It changes nothing: the answer says what
+    /// would change.
     pub fn compute_normalizes_to_goal(
         &mut self,
         goal: &Goal<NormalizesTo>,
@@ -40,9 +45,11 @@ impl EvalCtxt<'_> {
         }
     }
 
-    /// The answer that gives a term to the expected variable, if there is one.
+    /// The answer that gives a term to the expected variable, if there is one. Where there is one, a
+    /// type or a constant is given to it.
     fn respond_with(&self, expected: &Term, term: TermRef<'_>) -> Result<Response, Fault>
-        ensures { GivesTerm expected.now (erased (tree_of_ref term.entry)) result }
+        ensures sound { GivesTerm expected.now (erased (tree_of_ref term.entry)) result }
+        ensures decided { (n : ℕ) → expected_variable expected.now ≡ Some n → IsTerm term.entry → IfOk result (λ r. r.certainty ≡ certainty.Yes) }
     {
         let Some(number) = variable_number(expected) else {
             return Ok(self.respond(Certainty::Maybe, None));
@@ -81,7 +88,8 @@ fn number_of(node: Node) -> Option<u32>
 #[tactic(auto, using(crate::proofs::AnswerLemmas::owning))]
 /// A copy of a term that is a type or a constant.
 fn own(term: TermRef<'_>) -> Result<Option<Term>, AllocError>
-    ensures { IfOk result (λ found. IfSome found (λ owned. tree_of_term owned ≡ tree_of_ref term.entry)) }
+    ensures tree { IfOk result (λ found. IfSome found (λ owned. tree_of_term owned ≡ tree_of_ref term.entry)) }
+    ensures copied { IsTerm term.entry → IfOk result (λ found. is_some found ≡ true) }
 {
     match term {
         TermRef::Ty(ty) => Ok(Some(Term::Ty(ty.clone()?))),

@@ -1,16 +1,18 @@
 //! Rows whose rules are all here yet.
-ghost use Rattle.std.specs.Prelude.{◌≡◌, ◌==◌, is_some, length};
+ghost use Rattle.std.specs.Prelude.{◌≡◌, ◌==◌, is_some, length, IfSome};
 ghost use Rattle.std.specs.Option.{option_map};
 ghost use Rattle.goal_tables.specs.Options.{option_holds};
 ghost use Rattle.goal_tables.specs.Rows.{trait_of, lang_naming};
 ghost use Rattle.goal_tables.specs.declared.lang.LangTarget.TheVariants as target;
 ghost use Rattle.goal_terms.specs.View.{tree_of_ref};
 ghost use Rattle.goal_solver.specs.PlainRows.{has_no_params, has_no_predicates, is_plain_item, is_plain_projection, final_definition, stands_in, tree_of_value, has_other_rules};
+ghost use Rattle.goal_solver.specs.Verdicts.{IsTerm};
 
 use goal_tables::lang::LangTarget;
 use goal_tables::lookup::IndexedTables;
 use goal_tables::rows::{Container, DefValue, ImplRow, ItemRow, Source};
 use goal_terms::ids::{DefId, ImplId, ItemId, TraitId};
+use goal_terms::terms::Term;
 use goal_terms::view::TermRef;
 
 /// Whether an impl has no parameters.
@@ -77,12 +79,15 @@ pub fn stands_in(container: Container, id: ImplId) -> bool
     }
 }
 
-/// The term that a definition gives.
+#[tactic(auto, using(crate::proofs::AnswerLemmas::owning))]
+/// The term that a definition gives, a type or a constant.
 pub fn value_term(value: &DefValue) -> Option<TermRef<'_>>
-    ensures { option_map tree_of_ref result ≡ tree_of_value value.now }
+    ensures tree { option_map tree_of_ref result ≡ tree_of_value value.now }
+    ensures is_term { IfSome result (λ v. IsTerm v) }
 {
     match value {
-        DefValue::Term(term) => Some(term.view()),
+        DefValue::Term(Term::Ty(ty)) => Some(TermRef::Ty(ty)),
+        DefValue::Term(Term::Const(value)) => Some(TermRef::Const(value)),
         DefValue::Missing | DefValue::Evaluated => None,
     }
 }

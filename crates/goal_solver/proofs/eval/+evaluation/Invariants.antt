@@ -1,6 +1,6 @@
 use Rattle.std.proofs.Common.{◌+◌, ◌*◌}
 use Rattle.goal_solver.proofs.ProjectLemmas.{TermsBefore}
-use Rattle.goal_solver.specs.Verdicts.{replaced_args}
+use Rattle.goal_solver.specs.Verdicts.{replaced_args, FindsTerm}
 use Rattle.goal_solver.proofs.eval.+evaluation.Given as goal
 
 abbrev pub decreases-head_form : goal.decreases-head_form
@@ -26,4 +26,4 @@ decreases-impl_term l = 6 * l.depth + 2
 
 abbrev pub invariant-project_from-loop-row : goal.invariant-project_from-loop-row
 invariant-project_from-loop-row l =
-    TermsBefore l.rows l.depth l.found l.trait_id l.item (replaced_args l.self_ty l.rest) l.impls l.row-index
+    TermsBefore l.rows l.depth l.found l.trait_id l.item (replaced_args l.self_ty l.rest) l.impls l.row-index × FindsTerm l.found

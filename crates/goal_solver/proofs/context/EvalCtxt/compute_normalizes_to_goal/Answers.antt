@@ -8,25 +8,23 @@ use Rattle.goal_solver.proofs.context.EvalCtxt.compute_normalizes_to_goal.Goals 
 pub returns-in-Refuted-clause-sound : goal.returns-in-Refuted-clause-sound
 returns-in-Refuted-clause-sound c =
     alias-refuted c.args.self.now c.args.goal.now c.rows-rows.result.now c.remaining_depth.result c.deref.result.now
-    (c.rows-rows.ensures.rows ∙ c.tables.ensures) c.remaining_depth.ensures c.deref.ensures.value (omega (arith, c.len.ensures)) c.in-Refuted.ensures
+    (c.rows-rows.ensures.rows ∙ c.tables.ensures) c.remaining_depth.ensures c.deref.ensures.value (omega (arith, c.len.ensures)) c.in-Refuted.ensures.says
 
 pub returns-in-Is-clause-sound : goal.returns-in-Is-clause-sound
 returns-in-Is-clause-sound c =
     answer-given c.args.self.now c.args.goal.now (erased (tree_of_ref c.in-Is.term)) c.respond_with.result
     (alias-given c.args.self.now c.args.goal.now c.rows-rows.result.now c.remaining_depth.result c.deref.result.now (erased (tree_of_ref c.in-Is.term))
-    (c.rows-rows.ensures.rows ∙ c.tables.ensures) c.remaining_depth.ensures c.deref.ensures.value (omega (arith, c.len.ensures)) c.in-Is.ensures)
-    c.respond_with.ensures
+    (c.rows-rows.ensures.rows ∙ c.tables.ensures) c.remaining_depth.ensures c.deref.ensures.value (omega (arith, c.len.ensures)) c.in-Is.ensures.says)
+    c.respond_with.ensures.sound
 
 pub returns-in-Is-clause-decided : goal.returns-in-Is-clause-decided
 returns-in-Is-clause-decided c =
-    alias_decided-given c.args.self.now c.args.goal.now (erased (tree_of_ref c.in-Is.term)) c.respond_with.result
-    (alias-given c.args.self.now c.args.goal.now c.rows-rows.result.now c.remaining_depth.result c.deref.result.now (erased (tree_of_ref c.in-Is.term))
-    (c.rows-rows.ensures.rows ∙ c.tables.ensures) c.remaining_depth.ensures c.deref.ensures.value (omega (arith, c.len.ensures)) c.in-Is.ensures)
+    alias_decided-given c.args.self.now c.args.goal.now c.respond_with.result (λ n e. c.respond_with.ensures.decided n e c.in-Is.ensures.finds_term)
 
 pub returns-in-Undecided-clause-decided : goal.returns-in-Undecided-clause-decided
 returns-in-Undecided-clause-decided c =
     alias_decided-plain c.args.self.now c.args.goal.now c.respond-in-Undecided.result c.rows-rows.result.now c.remaining_depth.result c.deref.result.now
-    (c.rows-rows.ensures.rows ∙ c.tables.ensures) c.remaining_depth.ensures c.deref.ensures.value c.in-Undecided.ensures
+    (c.rows-rows.ensures.rows ∙ c.tables.ensures) c.remaining_depth.ensures c.deref.ensures.value c.in-Undecided.ensures.says
 
 pub returns-then-len-gt0-clause-decided : goal.returns-then-len-gt0-clause-decided
 returns-then-len-gt0-clause-decided c = alias_decided-environment c.args.self.now c.args.goal.now c.respond.result (omega (arith, c.len.ensures))
