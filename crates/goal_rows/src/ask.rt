@@ -139,5 +139,6 @@ fn goal_fault_name(fault: GoalFault) -> &'static str {
         GoalFault::UnknownVariable => "UnknownVariable",
         GoalFault::ExpectedTermNotFree => "ExpectedTermNotFree",
         GoalFault::NeverConst => "NeverConst",
+        GoalFault::GoalsPending => "GoalsPending",
     }
 }

@@ -1,6 +1,7 @@
 pub mod CompareLemmas
 pub mod EvalLemmas
 pub mod ErrorLemmas
+pub mod GoingBackLemmas
 pub mod ProjectLemmas
 pub mod AnswerLemmas
 pub mod SoundTrees
@@ -13,3 +14,5 @@ pub mod WholeProjections
 pub mod PlainIsWhole
 pub mod DecidedLemmas
 pub mod DecidedAliases
+pub mod VariableLemmas
+pub mod StoredLemmas

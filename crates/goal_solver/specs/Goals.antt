@@ -1,6 +1,5 @@
 -- The faults of goals, each with a fact of its own.
 use Rattle.std.specs.Prelude.{◌≡◌, ◌<◌, ℕ, Bool, true, false, ◌||◌, List}
-use Rattle.goal_terms.specs.declared.answers.VarKind.{VarKind}
 use Rattle.goal_terms.specs.declared.heads.Node.{Node}
 use Rattle.goal_terms.specs.declared.predicates.Clause.{Clause}
 use Rattle.goal_terms.specs.NodeTests.{is_unmade}
@@ -8,8 +7,10 @@ use Rattle.goal_tables.specs.Predicates.{lies_in_env, some_in_env}
 use Rattle.goal_tables.specs.declared.rows.Tables.{Tables}
 use Rattle.goal_tables.specs.declared.sites.TermFault.{TermFault}
 use Rattle.goal_tables.specs.declared.sites.TermFault.TheVariants as lies
+use Rattle.goal_solver.specs.Added.{has_goals}
+use Rattle.goal_solver.specs.State.{State, kinds_of}
 use Rattle.goal_solver.specs.declared.goals.GoalFault.{GoalFault}
-use Rattle.goal_solver.specs.declared.goals.GoalFault.TheVariants.{UnknownItem, WrongArgumentCount, WrongArgumentKind, UnknownVariable, ExpectedTermNotFree, NeverConst}
+use Rattle.goal_solver.specs.declared.goals.GoalFault.TheVariants.{UnknownItem, WrongArgumentCount, WrongArgumentKind, UnknownVariable, ExpectedTermNotFree, NeverConst, GoalsPending}
 
 -- the number of a fault: of several that apply, the one of the smallest number is answered
 abbrev pub number_of : GoalFault → ℕ
@@ -19,16 +20,18 @@ number_of WrongArgumentKind = 3
 number_of UnknownVariable = 4
 number_of ExpectedTermNotFree = 5
 number_of NeverConst = 6
+number_of GoalsPending = 7
 
--- whether a fault applies to a goal, by what its predicate says of faults in it, of nodes in it and of a variable that isn't free
+-- whether a fault applies to a goal in a context, by what its predicate says of faults in it, of nodes in it and of a variable that isn't free
 abbrev pub goal_has : {P : Type 0} → (P → Tables → TermFault → Bool) → (P → (Node → Bool) → Bool) → (P → List Clause → Bool) →
-    Tables → List VarKind → P → List Clause → GoalFault → Bool
-goal_has faulty passing taken t vs p env UnknownItem = faulty p t lies.UnknownItem || lies_in_env t lies.UnknownItem env
-goal_has faulty passing taken t vs p env WrongArgumentCount = faulty p t lies.WrongArgumentCount || lies_in_env t lies.WrongArgumentCount env
-goal_has faulty passing taken t vs p env WrongArgumentKind = faulty p t lies.WrongArgumentKind || lies_in_env t lies.WrongArgumentKind env
-goal_has faulty passing taken t vs p env UnknownVariable = passing p (is_unmade vs) || some_in_env (is_unmade vs) env
-goal_has faulty passing taken t vs p env ExpectedTermNotFree = taken p env
-goal_has faulty passing taken t vs p env NeverConst = faulty p t lies.NeverConst || lies_in_env t lies.NeverConst env
+    Tables → State → P → List Clause → GoalFault → Bool
+goal_has faulty passing taken t s p env UnknownItem = faulty p t lies.UnknownItem || lies_in_env t lies.UnknownItem env
+goal_has faulty passing taken t s p env WrongArgumentCount = faulty p t lies.WrongArgumentCount || lies_in_env t lies.WrongArgumentCount env
+goal_has faulty passing taken t s p env WrongArgumentKind = faulty p t lies.WrongArgumentKind || lies_in_env t lies.WrongArgumentKind env
+goal_has faulty passing taken t s p env UnknownVariable = passing p (is_unmade (kinds_of s)) || some_in_env (is_unmade (kinds_of s)) env
+goal_has faulty passing taken t s p env ExpectedTermNotFree = taken p env
+goal_has faulty passing taken t s p env NeverConst = faulty p t lies.NeverConst || lies_in_env t lies.NeverConst env
+goal_has faulty passing taken t s p env GoalsPending = has_goals s
 
 -- no fault applies
 abbrev pub IsAcceptedBy : (GoalFault → Bool) → Type 0

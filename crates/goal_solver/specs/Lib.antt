@@ -1,9 +1,13 @@
+pub mod Added
 pub mod Answers
 pub mod PlainEquality
 pub mod Errors
 pub mod Goals
 pub mod PlainLevels
+pub mod GoingBack
 pub mod State
+pub mod Stored
+pub mod Variables
 pub mod Verdicts
 pub mod PlainRows
 pub mod PlainGoals

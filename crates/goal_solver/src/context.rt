@@ -1,45 +1,72 @@
 //! The context of an evaluation.
-ghost use Rattle.std.specs.Prelude.{◌≡◌, ◌<◌, ◌≤◌, ◌^◌, ◌++◌, ◌∷◌, [], ◌↔◌, length, IsErr, IfOk, OnOk, OnErr, IsOkUnless};
-ghost use Rattle.goal_terms.specs.Tree.{variable};
-ghost use Rattle.goal_terms.specs.TreeOf.{tree_of_ty};
-ghost use Rattle.goal_terms.specs.declared.answers.VarKind.TheVariants as kind;
-ghost use Rattle.goal_terms.specs.declared.heads.Variable.TheVariants as variables;
-ghost use Rattle.goal_terms.specs.declared.terms.InferTy.TheVariants as infer;
+ghost use Rattle.std.specs.Prelude.{◌≡◌, ◌<◌, [], ◌↔◌, length, IsErr, IfOk};
+ghost use Rattle.goal_solver.specs.GoingBack.{GoesBack, lengths_of, restored};
+ghost use Rattle.goal_solver.specs.State.{State, kinds_of};
 
-use crate::faults::{DepthTooLarge, Fault};
+use crate::faults::DepthTooLarge;
+use goal_infer::state;
+use goal_infer::state::InferState;
 use goal_tables::checked::CheckedTables;
-use goal_terms::answers::{Certainty, Response, TraitGoalProvenVia, VarKind};
+use goal_terms::answers::{
+    Certainty, DelayedFault, GoalSource, OpaqueAccess, OpaqueTypeKey, Response, TraitGoalProvenVia,
+    VarKind,
+};
 use goal_terms::modes::TypingMode;
-use goal_terms::terms::{InferTy, Ty};
+use goal_terms::predicates::{Goal, Predicate};
+use goal_terms::term_table::TermTable;
+use goal_terms::terms::Ty;
+use std::alloc::Global;
 use std::marker::Model;
 
 /// The greatest depth limit that a context takes.
 pub const GREATEST_LIMIT: u32 = 128;
 
-/// What an evaluation goes over: the tables, which it borrows, and the variables made so far.
+/// What an evaluation goes over: the tables, which it borrows, and what was made, added, entered and
+/// recorded so far.
 #[derive(Drop)]
 pub struct EvalCtxt<'t> {
     tables: &'t CheckedTables,
     typing_mode: TypingMode,
     remaining_depth: u32,
     stop_on_rerun: bool,
-    variables: Vec<VarKind>,
+    terms: TermTable,
+    pub(crate) inference: InferState,
+    /// The kinds of the variables, in step with them.
+    pub(crate) kinds: Vec<VarKind>,
+    pub(crate) goals: Vec<(GoalSource, Goal<Predicate>)>,
+    pub(crate) storage: Vec<(OpaqueTypeKey, Ty)>,
+    pub(crate) accesses: Vec<OpaqueAccess>,
+    pub(crate) delayed_faults: Vec<DelayedFault>,
 }
 
 impl<'t> Model for EvalCtxt<'t> {
-    ghost use Rattle.std.specs.Prelude.{◌<◌, ◌^◌, length};
+    ghost use Rattle.std.specs.Prelude.{◌≡◌, ◌<◌, ◌^◌, length};
     ghost use Rattle.std.specs.Coded.{codes};
-    ghost use Rattle.goal_solver.specs.State.{State};
+    ghost use Rattle.goal_solver.specs.State.{State, kinds_in};
+    ghost use Rattle.goal_solver.specs.Stored.{HasOneTypeAKey, IsSet};
     ghost use Rattle.goal_tables.specs.contracts.rows.Tables as held;
+    ghost use Rattle.goal_terms.specs.TreeCode.{trees_code};
+    ghost use Rattle.goal_terms.specs.contracts.answers.OpaqueTypeKey as key;
     ghost use Rattle.goal_terms.specs.contracts.modes.TypingMode as mode;
+    ghost use Rattle.goal_terms.specs.contracts.predicates.Goal as goal;
+    ghost use Rattle.goal_terms.specs.contracts.predicates.Predicate as predicate;
+    ghost use Rattle.goal_terms.specs.contracts.terms.Ty as ty;
 
     ghost Value = { State };
 
-    ghost coded = { Prim.hlevel (codes, held.the_row.coded, mode.the_row.coded) };
+    ghost coded = { Prim.hlevel (codes, trees_code, held.the_row.coded, mode.the_row.coded, key.the_row.coded, (goal.the_row predicate.the_row).coded, ty.the_row.coded) };
 
-    ghost view = { λ c. record { tables = c.tables.now; typing_mode = c.typing_mode; remaining_depth = c.remaining_depth; stop_on_rerun = c.stop_on_rerun; variables = c.variables.items } };
+    ghost view = { λ c. record { tables = c.tables.now; typing_mode = c.typing_mode; remaining_depth = c.remaining_depth; stop_on_rerun = c.stop_on_rerun; terms = c.terms; inference = c.inference; goals = c.goals.items; storage = c.storage.items; accesses = c.accesses.items; delayed_faults = c.delayed_faults.items } };
 
-    ghost invariant = { λ c. length c.variables.items < 2 ^ 32 };
+    ghost invariant = { λ c. (length c.kinds.items < 2 ^ 32) × (c.kinds.items ≡ kinds_in c.inference.variables) × HasOneTypeAKey c.storage.items × IsSet c.accesses.items × IsSet c.delayed_faults.items };
+}
+
+/// How much a context holds of what a rollback undoes.
+#[derive(Clone, Copy, Debug, PartialEq, Eq, Hash)]
+pub(crate) struct Snapshot {
+    inference: state::Snapshot,
+    goals: usize,
+    storage: usize,
 }
 
 impl<'t> EvalCtxt<'t> {
@@ -53,18 +80,24 @@ impl<'t> EvalCtxt<'t> {
         stop_on_rerun: bool,
     ) -> Result<EvalCtxt<'t>, DepthTooLarge>
         ensures refused { IsErr result ↔ (128 < limit) }
-        ensures made { IfOk result (λ c. c ≡ record { tables = tables.now; typing_mode = typing_mode; remaining_depth = limit; stop_on_rerun = stop_on_rerun; variables = [] }) }
+        ensures made { IfOk result (λ c. c ≡ record { tables = tables.now; typing_mode = typing_mode; remaining_depth = limit; stop_on_rerun = stop_on_rerun; terms = []; inference = record { variables = []; trail = []; equations = [] }; goals = []; storage = []; accesses = []; delayed_faults = [] }) }
     {
         if limit > GREATEST_LIMIT {
             return Err(DepthTooLarge);
         }
-        let variables = Vec::new(*tables.rows().tables().traits.allocator());
+        let alloc = *tables.rows().tables().traits.allocator();
         Ok(EvalCtxt {
             tables,
             typing_mode,
             remaining_depth: limit,
             stop_on_rerun,
-            variables,
+            terms: TermTable::new(alloc),
+            inference: InferState::new(alloc),
+            kinds: Vec::new(alloc),
+            goals: Vec::new(alloc),
+            storage: Vec::new(alloc),
+            accesses: Vec::new(alloc),
+            delayed_faults: Vec::new(alloc),
         })
     }
 
@@ -82,24 +115,6 @@ impl<'t> EvalCtxt<'t> {
         self.remaining_depth
     }
 
-    /// A fresh type variable. It has the next number, and nothing else changes. Only memory is
-    /// refused; then nothing changes.
-    pub fn next_ty_infer(&mut self) -> Result<Ty, Fault>
-        ensures fresh { IfOk result (λ ty. tree_of_ty ty ≡ variable (variables.Ty (infer.TyVar (length self.old.variables)))) }
-        ensures ok { OnOk result (self.new ≡ record self.old { variables = self.old.variables ++ kind.Ty ∷ [] }) }
-        ensures err { OnErr result (self.new ≡ self.old) }
-        ensures only_memory { IsOkUnless result Fault.OutOfMemory }
-    {
-        let number = self.variables.len();
-        if number >= u32::MAX as usize {
-            return Err(Fault::OutOfMemory);
-        }
-        if self.variables.push(VarKind::Ty).is_err() {
-            return Err(Fault::OutOfMemory);
-        }
-        Ok(Ty::Infer(InferTy::TyVar(number as u32)))
-    }
-
     /// The tables.
     pub(crate) fn tables(&self) -> &'t CheckedTables
         ensures { result.now ≡ self.now.tables }
@@ -109,9 +124,36 @@ impl<'t> EvalCtxt<'t> {
 
     /// The kinds of the variables made so far.
     pub(crate) fn variables(&self) -> &[VarKind]
-        ensures { result.now ≡ self.now.variables }
+        ensures { result.now ≡ kinds_of self.now }
     {
-        self.variables.as_slice()
+        self.kinds.as_slice()
+    }
+
+    /// What the context's lists are made with.
+    pub(crate) fn allocator(&self) -> Global {
+        *self.kinds.allocator()
+    }
+
+    /// How much there is now of what a rollback undoes. It takes no memory.
+    pub(crate) fn snapshot(&self) -> Snapshot
+        ensures { result ≡ lengths_of self.now }
+    {
+        Snapshot {
+            inference: self.inference.snapshot(),
+            goals: self.goals.len(),
+            storage: self.storage.len(),
+        }
+    }
+
+    /// Undoes what was made, bound, added and entered since a snapshot. Terms, accesses and delayed
+    /// faults stay. It takes no memory.
+    pub(crate) fn rollback(&mut self, snapshot: Snapshot)
+        ensures undone { (before : State) → snapshot ≡ lengths_of before → GoesBack before self.old → self.new ≡ restored before self.old }
+    {
+        self.inference.rollback(snapshot.inference);
+        self.kinds.truncate(self.inference.len());
+        self.goals.truncate(snapshot.goals);
+        self.storage.truncate(snapshot.storage);
     }
 
     /// An answer that changes nothing. It takes no memory.
@@ -123,13 +165,13 @@ impl<'t> EvalCtxt<'t> {
         ensures certainty { result.certainty ≡ certainty }
         ensures proven_via { result.proven_via ≡ proven_via }
         ensures values { result.var_values.items ≡ [] }
-        ensures base { result.base ≡ length self.now.variables }
+        ensures base { result.base ≡ length (kinds_of self.now) }
     {
-        let alloc = *self.variables.allocator();
+        let alloc = self.allocator();
         Response {
             certainty,
             proven_via,
-            base: self.variables.len() as u32,
+            base: self.kinds.len() as u32,
             vars: Vec::new(alloc),
             var_values: Vec::new(alloc),
             region_equations: Vec::new(alloc),

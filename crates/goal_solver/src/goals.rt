@@ -2,6 +2,7 @@
 ghost use Rattle.std.specs.Prelude.{◌≡◌, ◌||◌, OnOk, IfErr};
 ghost use Rattle.goal_terms.specs.NodeTests.{is_unmade};
 ghost use Rattle.goal_tables.specs.Predicates.{lies_in_env as in_env, some_in_env as some_env};
+ghost use Rattle.goal_solver.specs.State.{kinds_of};
 ghost use Rattle.goal_solver.specs.Goals.{goal_has, IsAcceptedBy, IsSmallestOf};
 
 use crate::context::EvalCtxt;
@@ -34,6 +35,9 @@ pub enum GoalFault {
     /// Something const is said of a trait that doesn't allow it.
     #[error("never const")]
     NeverConst = 6,
+    /// Goals were added to the context.
+    #[error("goals are pending")]
+    GoalsPending = 7,
 }
 
 /// Whether a goal may be handed to a context. Parameters and placeholders of any number may stand
@@ -43,8 +47,8 @@ pub fn check_goal<P: PredicateTerms>(
     context: &EvalCtxt<'_>,
     goal: &Goal<P>,
 ) -> Result<(), GoalFault>
-    ensures accepted { OnOk result (IsAcceptedBy (goal_has P.has_fault P.has_passing P.wants_taken tables.now context.now.variables goal.now.predicate goal.now.param_env.items)) }
-    ensures refused { IfErr result (IsSmallestOf (goal_has P.has_fault P.has_passing P.wants_taken tables.now context.now.variables goal.now.predicate goal.now.param_env.items)) }
+    ensures accepted { OnOk result (IsAcceptedBy (goal_has P.has_fault P.has_passing P.wants_taken tables.now context.now goal.now.predicate goal.now.param_env.items)) }
+    ensures refused { IfErr result (IsSmallestOf (goal_has P.has_fault P.has_passing P.wants_taken tables.now context.now goal.now.predicate goal.now.param_env.items)) }
 {
     if lies_in_goal(tables, TermFault::UnknownItem, goal) {
         return Err(GoalFault::UnknownItem);
@@ -64,6 +68,9 @@ pub fn check_goal<P: PredicateTerms>(
     if lies_in_goal(tables, TermFault::NeverConst, goal) {
         return Err(GoalFault::NeverConst);
     }
+    if context.has_goals() {
+        return Err(GoalFault::GoalsPending);
+    }
     Ok(())
 }
 
@@ -75,7 +82,7 @@ fn lies_in_goal<P: PredicateTerms>(tables: &CheckedTables, fault: TermFault, goa
 }
 
 fn has_unmade_variable<P: PredicateTerms>(context: &EvalCtxt<'_>, goal: &Goal<P>) -> bool
-    ensures { result ≡ (P.has_passing goal.now.predicate (is_unmade context.now.variables) || some_env (is_unmade context.now.variables) goal.now.param_env.items) }
+    ensures { result ≡ (P.has_passing goal.now.predicate (is_unmade (kinds_of context.now)) || some_env (is_unmade (kinds_of context.now)) goal.now.param_env.items) }
 {
     let test = NodeTest::Unmade(context.variables());
     goal.predicate.some_passes(test) || some_in_env(test, &goal.param_env)

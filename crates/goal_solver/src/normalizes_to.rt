@@ -5,6 +5,7 @@ ghost use Rattle.goal_terms.specs.View.{tree_of_ref};
 ghost use Rattle.goal_terms.specs.Erased.{erased};
 ghost use Rattle.goal_terms.specs.declared.answers.Certainty.TheVariants as certainty;
 ghost use Rattle.goal_solver.specs.Answers.{IsAliasAnswer, IsAliasDecided, GivesTerm, expected_variable, general_variable_at};
+ghost use Rattle.goal_solver.specs.GoingBack.{GoesBack};
 ghost use Rattle.goal_solver.specs.Verdicts.{IsTerm};
 
 use crate::context::EvalCtxt;
@@ -32,6 +33,7 @@ impl EvalCtxt<'_> {
         ensures sound { IsAliasAnswer self.old goal.now result }
         ensures decided { IsAliasDecided self.old goal.now result }
         ensures unchanged { self.new ≡ self.old }
+        ensures goes_back { GoesBack self.old self.new }
     {
         if goal.param_env.len() > 0 {
             return Ok(self.respond(Certainty::Maybe, None));

@@ -1,6 +1,7 @@
 //! Trait goals.
 ghost use Rattle.std.specs.Prelude.{◌≡◌};
 ghost use Rattle.goal_solver.specs.Answers.{IsTraitAnswer, IsDecided};
+ghost use Rattle.goal_solver.specs.GoingBack.{GoesBack};
 
 use crate::context::EvalCtxt;
 use crate::eval::{Verdict, trait_goal};
@@ -16,6 +17,7 @@ impl EvalCtxt<'_> {
         ensures sound { IsTraitAnswer self.old goal.now result }
         ensures decided { IsDecided self.old goal.now result }
         ensures unchanged { self.new ≡ self.old }
+        ensures goes_back { GoesBack self.old self.new }
     {
         if goal.param_env.len() > 0 {
             return Ok(self.respond(Certainty::Maybe, None));

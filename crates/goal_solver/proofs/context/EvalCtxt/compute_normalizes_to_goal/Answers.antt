@@ -3,6 +3,7 @@ use Rattle.goal_terms.specs.Erased.{erased}
 use Rattle.goal_terms.specs.View.{tree_of_ref}
 use Rattle.goal_solver.proofs.AnswerLemmas.{alias-given, alias-refuted, answer-given}
 use Rattle.goal_solver.proofs.DecidedAliases.{alias_decided-given, alias_decided-environment, alias_decided-plain}
+use Rattle.goal_solver.proofs.GoingBackLemmas.{goes_back-same}
 use Rattle.goal_solver.proofs.context.EvalCtxt.compute_normalizes_to_goal.Goals as goal
 
 pub returns-in-Refuted-clause-sound : goal.returns-in-Refuted-clause-sound
@@ -28,3 +29,15 @@ returns-in-Undecided-clause-decided c =
 
 pub returns-then-len-gt0-clause-decided : goal.returns-then-len-gt0-clause-decided
 returns-then-len-gt0-clause-decided c = alias_decided-environment c.args.self.now c.args.goal.now c.respond.result (omega (arith, c.len.ensures))
+
+pub returns-then-len-gt0-clause-goes_back : goal.returns-then-len-gt0-clause-goes_back
+returns-then-len-gt0-clause-goes_back c = goes_back-same c.args.self.now
+
+pub returns-in-Undecided-clause-goes_back : goal.returns-in-Undecided-clause-goes_back
+returns-in-Undecided-clause-goes_back c = goes_back-same c.args.self.now
+
+pub returns-in-Refuted-clause-goes_back : goal.returns-in-Refuted-clause-goes_back
+returns-in-Refuted-clause-goes_back c = goes_back-same c.args.self.now
+
+pub returns-in-Is-clause-goes_back : goal.returns-in-Is-clause-goes_back
+returns-in-Is-clause-goes_back c = goes_back-same c.args.self.now

@@ -2,6 +2,7 @@ use Rattle.std.proofs.Common.{◌∙◌, sym, subst, arith}
 use Rattle.goal_solver.specs.Answers.{IsTraitResponse}
 use Rattle.goal_solver.proofs.AnswerLemmas.{trait-holds, trait-refuted}
 use Rattle.goal_solver.proofs.DecidedLemmas.{decided-yes, decided-environment, decided-plain}
+use Rattle.goal_solver.proofs.GoingBackLemmas.{goes_back-same}
 use Rattle.goal_solver.proofs.context.EvalCtxt.compute_trait_goal.Goals as goal
 
 pub returns-in-Holds-clause-sound : goal.returns-in-Holds-clause-sound
@@ -28,3 +29,15 @@ returns-in-Undecided-clause-decided c =
 
 pub returns-then-len-gt0-clause-decided : goal.returns-then-len-gt0-clause-decided
 returns-then-len-gt0-clause-decided c = decided-environment c.args.self.now c.args.goal.now c.respond.result (omega (arith, c.len.ensures))
+
+pub returns-then-len-gt0-clause-goes_back : goal.returns-then-len-gt0-clause-goes_back
+returns-then-len-gt0-clause-goes_back c = goes_back-same c.args.self.now
+
+pub returns-in-Holds-clause-goes_back : goal.returns-in-Holds-clause-goes_back
+returns-in-Holds-clause-goes_back c = goes_back-same c.args.self.now
+
+pub returns-in-Undecided-clause-goes_back : goal.returns-in-Undecided-clause-goes_back
+returns-in-Undecided-clause-goes_back c = goes_back-same c.args.self.now
+
+pub returns-in-Refuted-clause-goes_back : goal.returns-in-Refuted-clause-goes_back
+returns-in-Refuted-clause-goes_back c = goes_back-same c.args.self.now

@@ -1,0 +1,163 @@
+-- Going back composes, and what a rollback gives.
+use Rattle.std.proofs.Common.{◌≡◌, ℕ, zero, suc, ◌<◌, ◌≤◌, List, [], ◌∷◌, ◌++◌, length, take, drop, refl, sym, ap, ◌∙◌, subst, arith, le_refl, le_trans}
+use Rattle.std.proofs.lemmas.List.{length-take, take-take}
+use Rattle.std.proofs.Math.Seq.{take-length, take-append_seam}
+use Rattle.goal_terms.specs.Tree.{Tree}
+use Rattle.goal_terms.specs.TableMeaning.{Keeps}
+use Rattle.goal_terms.specs.declared.answers.DelayedFault.{DelayedFault}
+use Rattle.goal_terms.specs.declared.answers.GoalSource.{GoalSource}
+use Rattle.goal_terms.specs.declared.answers.OpaqueAccess.{OpaqueAccess}
+use Rattle.goal_terms.specs.declared.answers.OpaqueTypeKey.{OpaqueTypeKey}
+use Rattle.goal_terms.specs.declared.answers.VarKind.{VarKind}
+use Rattle.goal_terms.specs.declared.predicates.Goal.{Goal}
+use Rattle.goal_terms.specs.declared.predicates.Predicate.{Predicate}
+use Rattle.goal_terms.specs.declared.terms.Ty.{Ty}
+use Rattle.goal_infer.specs.Inference.{Inference, rolled_back}
+use Rattle.goal_infer.specs.Undo.{unbound_at, unbound}
+use Rattle.goal_infer.specs.declared.state.Snapshot as lengths
+use Rattle.goal_infer.specs.declared.undo.InferVariable.{InferVariable}
+use Rattle.goal_infer.proofs.UndoLemmas.{goes_back-same as inference_goes_back-same}
+use Rattle.goal_infer.proofs.GoesBackLemmas.{goes_back-through as inference_goes_back-through}
+use Rattle.goal_solver.specs.Added.{with_goals}
+use Rattle.goal_solver.specs.GoingBack.{BeginsWith, GoesBack, restored}
+use Rattle.goal_solver.specs.State.{State, kinds_in}
+
+-- a table of terms keeps its own terms, and those of a table whose terms it keeps
+keeps-same : (ts : List Tree) → Keeps ts ts
+keeps-same ts = record { longer = le_refl _; same = λ id h. refl }
+
+keeps-through : (ts us vs : List Tree) → Keeps ts us → Keeps us vs → Keeps ts vs
+keeps-through ts us vs g h = record {
+  longer = le_trans g.longer h.longer;
+  same = λ id e. h.same id (omega (arith, e, g.longer)) ∙ g.same id e;
+}
+
+-- a list's beginning is no longer than the list
+beginning-shorter : {A : Type 0} (xs ys : List A) → BeginsWith ys xs → length xs ≤ length ys
+beginning-shorter xs ys e = omega (arith, ap length e, length-take (length xs) ys)
+
+-- a beginning of a beginning is one
+pub begins-through : {A : Type 0} (xs ys zs : List A) → BeginsWith ys xs → BeginsWith zs ys → BeginsWith zs xs
+begins-through xs ys zs e h =
+    sym (take-take (length xs) (length ys) zs (beginning-shorter xs ys e)) ∙ ap (take (length xs)) h ∙ e
+
+-- a context goes back to itself
+pub goes_back-same : (s : State) → GoesBack s s
+goes_back-same s = record {
+  tables = refl;
+  typing_mode = refl;
+  remaining_depth = refl;
+  stop_on_rerun = refl;
+  terms = keeps-same s.terms;
+  inference = inference_goes_back-same s.inference;
+  goals = take-length s.goals;
+  storage = take-length s.storage;
+  accesses = take-length s.accesses;
+  delayed_faults = take-length s.delayed_faults;
+}
+
+pub goes_back-when_same : (s z : State) → z ≡ s → GoesBack s z
+goes_back-when_same s z e = subst (GoesBack s) (sym e) (goes_back-same s)
+
+-- what goes back to a context that goes back to another goes back to that
+pub goes_back-through : (a b c : State) → GoesBack a b → GoesBack b c → GoesBack a c
+goes_back-through a b c g h = record {
+  tables = h.tables ∙ g.tables;
+  typing_mode = h.typing_mode ∙ g.typing_mode;
+  remaining_depth = h.remaining_depth ∙ g.remaining_depth;
+  stop_on_rerun = h.stop_on_rerun ∙ g.stop_on_rerun;
+  terms = keeps-through a.terms b.terms c.terms g.terms h.terms;
+  inference = inference_goes_back-through a.inference b.inference c.inference g.inference h.inference;
+  goals = begins-through a.goals b.goals c.goals g.goals h.goals;
+  storage = begins-through a.storage b.storage c.storage g.storage h.storage;
+  accesses = begins-through a.accesses b.accesses c.accesses g.accesses h.accesses;
+  delayed_faults = begins-through a.delayed_faults b.delayed_faults c.delayed_faults g.delayed_faults h.delayed_faults;
+}
+
+-- a restored context goes back to the one that was restored
+pub goes_back-restored : (a b : State) → GoesBack a b → GoesBack a (restored a b)
+goes_back-restored a b g = record {
+  tables = refl;
+  typing_mode = refl;
+  remaining_depth = refl;
+  stop_on_rerun = refl;
+  terms = g.terms;
+  inference = inference_goes_back-same a.inference;
+  goals = take-length a.goals;
+  storage = take-length a.storage;
+  accesses = g.accesses;
+  delayed_faults = g.delayed_faults;
+}
+
+-- a context whose lists were lengthened goes back
+goes_back-lists : (s : State) (gs : List (GoalSource × Goal Predicate)) (es : List (OpaqueTypeKey × Ty)) (xs : List OpaqueAccess) (fs : List DelayedFault) →
+    BeginsWith gs s.goals → BeginsWith es s.storage → BeginsWith xs s.accesses → BeginsWith fs s.delayed_faults →
+    GoesBack s (record s { goals = gs; storage = es; accesses = xs; delayed_faults = fs })
+goes_back-lists s gs es xs fs a b c d = record {
+  tables = refl;
+  typing_mode = refl;
+  remaining_depth = refl;
+  stop_on_rerun = refl;
+  terms = keeps-same s.terms;
+  inference = inference_goes_back-same s.inference;
+  goals = a;
+  storage = b;
+  accesses = c;
+  delayed_faults = d;
+}
+
+pub goes_back-when_goals : (s z : State) (gs : List (GoalSource × Goal Predicate)) → z ≡ with_goals gs s → GoesBack s z
+goes_back-when_goals s z gs e =
+    subst (GoesBack s) (sym e)
+    (goes_back-lists s (s.goals ++ gs) s.storage s.accesses s.delayed_faults
+    (take-append_seam s.goals gs) (take-length s.storage) (take-length s.accesses) (take-length s.delayed_faults))
+
+pub goes_back-when_entry : (s z : State) (e : OpaqueTypeKey × Ty) → z ≡ record s { storage = s.storage ++ e ∷ [] } → GoesBack s z
+goes_back-when_entry s z e h =
+    subst (GoesBack s) (sym h)
+    (goes_back-lists s s.goals (s.storage ++ e ∷ []) s.accesses s.delayed_faults
+    (take-length s.goals) (take-append_seam s.storage (e ∷ [])) (take-length s.accesses) (take-length s.delayed_faults))
+
+pub goes_back-when_access : (s z : State) (x : OpaqueAccess) → z ≡ record s { accesses = s.accesses ++ x ∷ [] } → GoesBack s z
+goes_back-when_access s z x h =
+    subst (GoesBack s) (sym h)
+    (goes_back-lists s s.goals s.storage (s.accesses ++ x ∷ []) s.delayed_faults
+    (take-length s.goals) (take-length s.storage) (take-append_seam s.accesses (x ∷ [])) (take-length s.delayed_faults))
+
+pub goes_back-when_fault : (s z : State) (x : DelayedFault) → z ≡ record s { delayed_faults = s.delayed_faults ++ x ∷ [] } → GoesBack s z
+goes_back-when_fault s z x h =
+    subst (GoesBack s) (sym h)
+    (goes_back-lists s s.goals s.storage s.accesses (s.delayed_faults ++ x ∷ [])
+    (take-length s.goals) (take-length s.storage) (take-length s.accesses) (take-append_seam s.delayed_faults (x ∷ [])))
+
+-- taking bindings away changes no kind
+kinds-unbound_at : (n : ℕ) (vs : List InferVariable) → kinds_in (unbound_at n vs) ≡ kinds_in vs
+unfolding unbound_at
+kinds-unbound_at n [] = refl
+kinds-unbound_at zero (v ∷ vs) = refl
+kinds-unbound_at (suc n) (v ∷ vs) = ap (λ ks. v.kind ∷ ks) (kinds-unbound_at n vs)
+
+kinds-unbound : (ns : List ℕ) (vs : List InferVariable) → kinds_in (unbound ns vs) ≡ kinds_in vs
+unfolding unbound
+kinds-unbound [] vs = refl
+kinds-unbound (n ∷ ns) vs = kinds-unbound ns (unbound_at n vs) ∙ kinds-unbound_at n vs
+
+-- kinds are cut with their variables
+kinds-cut : (n : ℕ) (vs : List InferVariable) → take (length (take n vs)) (kinds_in vs) ≡ kinds_in (take n vs)
+kinds-cut zero vs = refl
+kinds-cut (suc n) [] = refl
+kinds-cut (suc n) (v ∷ vs) = ap (λ ks. v.kind ∷ ks) (kinds-cut n vs)
+
+-- so they are in step after a rollback
+pub kinds-rolled_back : (s z : Inference) (to : lengths.Snapshot) (n : ℕ) (ks ms : List VarKind) →
+    z ≡ rolled_back to s → n ≡ length z.variables → ms ≡ take n ks → ks ≡ kinds_in s.variables → ms ≡ kinds_in z.variables
+kinds-rolled_back s z to n ks ms e h p q =
+    let us : List InferVariable = unbound (drop to.trail s.trail) s.variables in
+    let vs : z.variables ≡ take to.variables us = ap (λ (i : Inference). i.variables) e in
+    p ∙ ap (λ k. take k ks) (h ∙ ap length vs)
+    ∙ ap (take (length (take to.variables us))) (q ∙ sym (kinds-unbound (drop to.trail s.trail) s.variables))
+    ∙ kinds-cut to.variables us ∙ ap kinds_in (sym vs)
+
+-- and no more of them
+pub cut-shorter : {A : Type 0} (n b : ℕ) (ks ms : List A) → ms ≡ take n ks → length ks < b → length ms < b
+cut-shorter n b ks ms e h = omega (arith, ap length e, length-take n ks, h)

@@ -1,0 +1,9 @@
+use Rattle.std.proofs.Common.{rules}
+use Rattle.goal_solver.proofs.GoingBackLemmas.{goes_back-when_same, goes_back-when_goals}
+use Rattle.goal_solver.proofs.context.EvalCtxt.add_goals.Goals as goal
+
+pub returns-then-is_err-clause-goes_back : goal.returns-then-is_err-clause-goes_back
+returns-then-is_err-clause-goes_back c = goes_back-when_same c.args.self.now _ (search rules)
+
+pub returns-clause-goes_back : goal.returns-clause-goes_back
+returns-clause-goes_back c = goes_back-when_goals c.args.self.now _ c.args.goals.items (search rules)
