@@ -11,13 +11,13 @@ use Rattle.goal_terms.specs.declared.heads.Variable.{Variable}
 use Rattle.goal_terms.specs.declared.term_nodes.TermId.{TermId}
 use Rattle.goal_infer.specs.Inference.{Inference}
 use Rattle.goal_infer.specs.Occurrence.{place_of, place_at}
-use Rattle.goal_infer.specs.Replacement.{number_of, kind_of_variable, same_variable, replaced, single, takes, OfKinds}
+use Rattle.goal_infer.specs.Replacement.{number_of, kind_of_variable, same_variable, replaced, takes, OfKinds}
 use Rattle.goal_infer.specs.Resolution.{term_at, binding_in, binding_of, unbound_count, bound_tree, bound_at, resolution_after, resolution, resolved, Agrees, IsSolved}
 use Rattle.goal_infer.specs.declared.occurs.Occurrence.TheVariants.{Nowhere}
 use Rattle.goal_infer.specs.declared.undo.InferVariable.{InferVariable}
 use Rattle.goal_infer.proofs.UndoLemmas.{item-within}
 use Rattle.goal_infer.proofs.KindLemmas.{variable-of_kind, kinds-single, kinds-replaced}
-use Rattle.goal_infer.proofs.ReplacementLemmas.{replaced-twice, replaced-pointwise, replaced-nowhere, place_at-nowhere, replaced-single, by_same, same_variable-self, single-here, single-elsewhere, single-other}
+use Rattle.goal_infer.proofs.ReplacementLemmas.{single, replaced-twice, replaced-pointwise, replaced-nowhere, place_at-nowhere, replaced-single, by_same, same_variable-self, single-here, single-elsewhere, single-other}
 
 module _ {A : Type 0} where
   set-here : (xs : List A) (n : ℕ) (x y : A) → slice_get xs n ≡ Some x → slice_get (slice_set xs n y) n ≡ Some y

@@ -15,7 +15,7 @@ use Rattle.goal_terms.specs.declared.heads.Variable.{Variable}
 use Rattle.goal_terms.specs.declared.term_nodes.TermId.{TermId}
 use Rattle.goal_infer.specs.Inference.{Inference}
 use Rattle.goal_infer.specs.Occurrence.{place_of, place_in_row, place_at, joined}
-use Rattle.goal_infer.specs.Replacement.{number_of, kind_of_variable, replaced, replaced_row, single}
+use Rattle.goal_infer.specs.Replacement.{number_of, kind_of_variable, replaced, replaced_row}
 use Rattle.goal_infer.specs.Resolution.{term_at, binding_at, resolution, resolved, IsSolved}
 use Rattle.goal_infer.specs.Unification.{kinds_of, is_made_in, is_alias, is_open, IsDefinite, KeepsDefinite, IsDecision, IsDecided}
 use Rattle.goal_infer.specs.declared.occurs.Occurrence.{Occurrence}
@@ -25,7 +25,7 @@ use Rattle.goal_infer.specs.declared.unify.Unified.{Unified}
 use Rattle.goal_infer.specs.declared.unify.Unified.TheVariants.{Yes, Undecided, No}
 use Rattle.goal_infer.proofs.BindLemmas.{with_binding, IsBindable, resolution-bound}
 use Rattle.goal_infer.proofs.PartLemmas.{is_above, standing, standing-parts, resolved-variable}
-use Rattle.goal_infer.proofs.ReplacementLemmas.{replaced-twice, by_same, single-here, single-elsewhere}
+use Rattle.goal_infer.proofs.ReplacementLemmas.{single, replaced-twice, by_same, single-here, single-elsewhere}
 
 either-false : (a b : Bool) → a || b ≡ false → (a ≡ false) × (b ≡ false)
 either-false true b e = absurd (false≢true (sym e))

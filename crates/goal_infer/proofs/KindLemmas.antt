@@ -17,8 +17,8 @@ use Rattle.goal_terms.specs.declared.heads.Node.TheVariants as nodes
 use Rattle.goal_terms.specs.declared.heads.Variable.{Variable}
 use Rattle.goal_terms.specs.declared.heads.Variable.TheVariants as variables
 use Rattle.goal_terms.specs.declared.terms.InferTy.TheVariants as infer
-use Rattle.goal_infer.specs.Replacement.{number_of, kind_of_variable, single, replaced, takes, OfKinds, is_type_sort, is_const_sort, is_integer, is_floating}
-use Rattle.goal_infer.proofs.ReplacementLemmas.{by_same, single-here, single-elsewhere}
+use Rattle.goal_infer.specs.Replacement.{number_of, kind_of_variable, replaced, takes, OfKinds, is_type_sort, is_const_sort, is_integer, is_floating}
+use Rattle.goal_infer.proofs.ReplacementLemmas.{single, by_same, single-here, single-elsewhere}
 
 integer-type : (n : Node) → IsTrue (is_integer n) → IsTrue (is_type_sort (sort_of n))
 integer-type (nodes.Head (head.Int i)) h = refl

@@ -10,3 +10,5 @@ pub mod UnifyLemmas
 pub mod DecisionLemmas
 pub mod PairLemmas
 pub mod SolvedLemmas
+pub mod SameLemmas
+pub mod IdentityLemmas

@@ -11,15 +11,16 @@ use Rattle.goal_terms.specs.declared.heads.Node.TheVariants as nodes
 use Rattle.goal_terms.specs.declared.heads.Variable.{Variable}
 use Rattle.goal_terms.specs.declared.term_nodes.TermId.{TermId}
 use Rattle.goal_infer.specs.Inference.{Inference}
-use Rattle.goal_infer.specs.Replacement.{replaced, height}
+use Rattle.goal_infer.specs.Replacement.{replaced}
 use Rattle.goal_infer.specs.Resolution.{unbound_count, resolved, Agrees, IsSolved}
-use Rattle.goal_infer.specs.Unification.{MakesSame, IsUnified, Advances, IsHead, HaveOneHead, work, ceiling}
+use Rattle.goal_infer.specs.Unification.{MakesSame, IsUnified, Advances, IsHead, HaveOneHead}
 use Rattle.goal_infer.specs.declared.unify.Unified.{Unified}
 use Rattle.goal_infer.specs.declared.unify.Unified.TheVariants.{Yes, Undecided, No}
 use Rattle.goal_infer.proofs.DecisionLemmas.{IsPaired}
 use Rattle.goal_infer.proofs.PartLemmas.{is_above, standing, standing-parts, height-part}
 use Rattle.goal_infer.proofs.UnifyLemmas.{answer-as, agrees-resolved, yes-same}
-use Rattle.goal_infer.proofs.WorkLemmas.{work-falls}
+use Rattle.goal_infer.proofs.WorkLemmas.{work, ceiling, work-falls}
+use Rattle.goal_infer.proofs.ReplacementLemmas.{height}
 
 -- a replacement makes the terms of two lists the same, below a place
 abbrev pub SameBelow : List Tree → List TermId → List TermId → ℕ → (Variable → Tree) → Type 0

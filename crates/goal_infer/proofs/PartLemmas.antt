@@ -12,13 +12,14 @@ use Rattle.goal_terms.specs.declared.heads.Node.TheVariants as nodes
 use Rattle.goal_terms.specs.declared.heads.Variable.{Variable}
 use Rattle.goal_terms.specs.declared.term_nodes.TermId.{TermId}
 use Rattle.goal_infer.specs.Inference.{Inference}
-use Rattle.goal_infer.specs.Replacement.{replaced, replaced_row, height, row_height}
+use Rattle.goal_infer.specs.Replacement.{replaced, replaced_row}
 use Rattle.goal_infer.specs.Resolution.{term_at, binding_at, resolution, resolved, IsSolved}
 use Rattle.goal_terms.specs.SameTree.{same_node}
 use Rattle.goal_infer.specs.Occurrence.{place_of, place_in_row, place_at, joined, place_under}
 use Rattle.goal_infer.specs.declared.occurs.Occurrence.{Occurrence}
 use Rattle.goal_infer.specs.declared.occurs.Occurrence.TheVariants.{Nowhere, InAliasesAlone, Outside}
 use Rattle.goal_infer.proofs.ResolveLemmas.{term_at-variable}
+use Rattle.goal_infer.proofs.ReplacementLemmas.{height, row_height}
 
 -- what stands at a number
 abbrev pub standing : List Tree → (Variable → Tree) → TermId → Tree

@@ -1,15 +1,30 @@
 -- Laws of putting trees for variables.
-use Rattle.std.proofs.Common.{◌≡◌, ◌≢◌, ◌<◌, ◌≤◌, Bool, true, false, refl, sym, ap, ◌∙◌, arith}
+use Rattle.std.proofs.Common.{◌≡◌, ◌≢◌, ◌<◌, ◌≤◌, Bool, true, false, refl, sym, ap, ◌∙◌, arith, ℕ, suc}
 use Rattle.std.specs.Prelude.{max, if◌then◌else◌}
 use Rattle.std.proofs.Math.Path.{fun_ext}
 use Rattle.goal_terms.specs.Tree.{Tree, Trees, node, alias, variable, none, more}
 use Rattle.goal_terms.specs.SameLaws.{same_node-true, same_node-refl}
 use Rattle.goal_terms.specs.declared.heads.Node.TheVariants as nodes
 use Rattle.goal_terms.specs.declared.heads.Variable.{Variable}
-use Rattle.goal_infer.specs.Replacement.{replaced, replaced_row, single, height, row_height, same_variable}
+use Rattle.goal_infer.specs.Replacement.{replaced, replaced_row, same_variable}
 use Rattle.goal_infer.specs.Occurrence.{place_of, place_in_row, joined, within_alias, place_at}
 use Rattle.goal_infer.specs.declared.occurs.Occurrence.{Occurrence}
 use Rattle.goal_infer.specs.declared.occurs.Occurrence.TheVariants.{Nowhere, InAliasesAlone, Outside}
+
+-- a tree is put for one variable
+unfoldable pub single : Variable → Tree → Variable → Tree
+single v t w = if same_variable w v then t else variable w
+
+-- how many nodes stand above the deepest
+unfoldable mutual
+  pub height : Tree → ℕ
+  height (node h ts) = suc (row_height ts)
+  height (alias k ts) = suc (row_height ts)
+  height (variable v) = 0
+
+  pub row_height : Trees → ℕ
+  row_height none = 0
+  row_height (more t ts) = max (height t) (row_height ts)
 
 -- each variable for itself
 mutual

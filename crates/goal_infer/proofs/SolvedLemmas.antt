@@ -1,20 +1,20 @@
 -- Which states are solved.
 use Rattle.std.proofs.Common.{◌≡◌, ◌≢◌, ℕ, zero, suc, ◌+◌, ◌<◌, ◌≤◌, Bool, true, false, List, [], ◌∷◌, ◌++◌, length, Option, Some, None, refl, sym, ap, ◌∙◌, subst, arith, length-append, inl, inr}
-use Rattle.std.specs.Prelude.{slice_get, if◌then◌else◌, ◌==◌}
+use Rattle.std.specs.Prelude.{◌↔◌, slice_get, if◌then◌else◌, ◌==◌}
 use Rattle.std.specs.List.{All}
 use Rattle.std.proofs.lemmas.Bool.{cases_lt}
 use Rattle.std.proofs.Math.Path.{fun_ext}
 use Rattle.goal_terms.specs.Tree.{Tree, variable}
 use Rattle.goal_terms.specs.Erased.{erased}
 use Rattle.goal_terms.specs.NodeTests.{same_var_kind}
-use Rattle.goal_terms.specs.TableMeaning.{Keeps}
+use Rattle.goal_terms.specs.TableMeaning.{tree_at, Keeps}
 use Rattle.goal_terms.specs.declared.answers.VarKind.{VarKind}
 use Rattle.goal_terms.specs.declared.heads.Variable.{Variable}
 use Rattle.goal_terms.specs.declared.term_nodes.TermId.{TermId}
 use Rattle.goal_terms.specs.declared.terms.Region.{Region}
 use Rattle.goal_infer.specs.Inference.{Inference}
 use Rattle.goal_infer.specs.Replacement.{number_of, kind_of_variable, replaced, OfKinds}
-use Rattle.goal_infer.specs.Resolution.{term_at, binding_in, binding_of, unbound_count, bound_tree, bound_at, resolution_after, resolution, Agrees, IsSolved}
+use Rattle.goal_infer.specs.Resolution.{term_at, binding_in, binding_of, unbound_count, bound_tree, bound_at, resolution_after, resolution, resolved, Agrees, IsSolved}
 use Rattle.goal_infer.specs.declared.undo.InferVariable.{InferVariable}
 use Rattle.goal_infer.proofs.KindLemmas.{takes-itself}
 
@@ -59,16 +59,16 @@ module _ (T U : List Tree) (s z : Inference) (bindings : (v : Variable) → bind
   after-as (n ∷ ns) ρ =
       after-as ns (λ v. replaced (bound_at U z n ρ) (ρ v)) ∙ ap (λ f. resolution_after T s ns (λ v. replaced f (ρ v))) (bound_at-as n ρ)
 
-  resolution-as : z.trail ≡ s.trail → resolution U z ≡ resolution T s
+  pub resolution-as : z.trail ≡ s.trail → resolution U z ≡ resolution T s
   unfolding resolution
   resolution-as e = ap (λ ns. resolution_after U z ns variable) e ∙ after-as s.trail variable
 
-  agrees-forth : (ρ : Variable → Tree) → Agrees T s ρ → Agrees U z ρ
+  pub agrees-forth : (ρ : Variable → Tree) → Agrees T s ρ → Agrees U z ρ
   unfolding Agrees
   agrees-forth ρ a v id e =
       let f : binding_of s v ≡ Some id = sym (bindings v) ∙ e in a v id f ∙ ap (replaced ρ) (sym (terms v id f))
 
-  agrees-back : (ρ : Variable → Tree) → Agrees U z ρ → Agrees T s ρ
+  pub agrees-back : (ρ : Variable → Tree) → Agrees U z ρ → Agrees T s ρ
   unfolding Agrees
   agrees-back ρ a v id e = a v id (bindings v ∙ e) ∙ ap (replaced ρ) (terms v id e)
 
@@ -147,3 +147,17 @@ unfolding term_at
 solved-kept T U s keeps solved =
     solved-as T U s s (λ v. refl) (λ v id f. ap erased (keeps.same id (solved.within v id f))) solved refl (λ v id f. omega (arith, solved.within v id f, keeps.longer))
     solved.off_trail solved.on_trail solved.counted
+
+-- what stays the same with it
+pub agrees-kept : (T U : List Tree) (s : Inference) → Keeps T U → IsSolved T s → (ρ : Variable → Tree) → Agrees U s ρ ↔ Agrees T s ρ
+unfolding term_at
+agrees-kept T U s keeps solved ρ = (
+  agrees-back T U s s (λ v. refl) (λ v id f. ap erased (keeps.same id (solved.within v id f))) ρ,
+  agrees-forth T U s s (λ v. refl) (λ v id f. ap erased (keeps.same id (solved.within v id f))) ρ,
+)
+
+pub resolved-kept : (T U : List Tree) (s : Inference) → Keeps T U → IsSolved T s → (id : TermId) → id.0 < length T → resolved U s id ≡ resolved T s id
+unfolding term_at resolved
+resolved-kept T U s keeps solved id l =
+    ap (λ r. replaced r (erased (tree_at U id))) (resolution-as T U s s (λ v. refl) (λ v other f. ap erased (keeps.same other (solved.within v other f))) refl)
+    ∙ ap (λ t. replaced (resolution T s) (erased t)) (keeps.same id l)

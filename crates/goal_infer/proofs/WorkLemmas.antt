@@ -1,6 +1,6 @@
 -- How high resolved terms get, and how the work falls.
 use Rattle.std.proofs.Common.{◌≡◌, ℕ, zero, suc, ◌+◌, ◌*◌, ◌<◌, ◌≤◌, Bool, true, false, List, [], ◌∷◌, length, Option, Some, None, sym, ap, subst, arith, inl, inr}
-use Rattle.std.specs.Prelude.{slice_index_or, if◌then◌else◌, ◌==◌}
+use Rattle.std.specs.Prelude.{max, slice_index_or, if◌then◌else◌, ◌==◌}
 use Rattle.std.proofs.Math.Nat.{mul-le-mul_right}
 use Rattle.goal_terms.specs.Tree.{Tree, Trees, node, alias, variable, none, more}
 use Rattle.goal_terms.specs.Erased.{erased}
@@ -10,9 +10,28 @@ use Rattle.goal_terms.specs.declared.heads.Head.TheVariants as head
 use Rattle.goal_terms.specs.declared.heads.Variable.{Variable}
 use Rattle.goal_terms.specs.declared.term_nodes.TermId.{TermId}
 use Rattle.goal_infer.specs.Inference.{Inference}
-use Rattle.goal_infer.specs.Replacement.{number_of, replaced, replaced_row, height, row_height}
+use Rattle.goal_infer.specs.Replacement.{number_of, replaced, replaced_row}
 use Rattle.goal_infer.specs.Resolution.{term_at, binding_of, unbound_count, bound_tree, bound_at, resolution_after, resolution, resolved, IsSolved}
-use Rattle.goal_infer.specs.Unification.{tallest, limit, ceiling, work, IsLater}
+use Rattle.goal_infer.specs.Unification.{IsLater}
+use Rattle.goal_infer.proofs.ReplacementLemmas.{height, row_height}
+
+-- the greatest height in a table
+unfoldable pub tallest : List Tree → ℕ
+tallest [] = 1
+tallest (t ∷ ts) = max (height (erased t)) (tallest ts)
+
+-- how high trees can get by so many bindings
+unfoldable pub limit : ℕ → ℕ → ℕ → ℕ
+limit top zero h = h
+limit top (suc n) h = limit top n (h + (top + h))
+
+-- how high resolved terms can get
+unfoldable pub ceiling : List Tree → ℕ → ℕ
+ceiling T n = tallest T + limit (tallest T) n 0
+
+-- how much there is left to do: more by an unbound variable than by any term
+unfoldable pub work : List Tree → Inference → TermId → ℕ
+work T s id = unbound_count s.variables * suc (ceiling T (length s.variables)) + height (resolved T s id)
 
 -- trees are put that are not higher than h
 abbrev IsLow : (Variable → Tree) → ℕ → Type 0

@@ -1,5 +1,5 @@
 -- Terms with trees put for their inference variables.
-use Rattle.std.specs.Prelude.{ℕ, suc, max, Bool, true, false, IsTrue, if◌then◌else◌}
+use Rattle.std.specs.Prelude.{ℕ, Bool, true, false, IsTrue}
 use Rattle.goal_terms.specs.Tree.{Tree, Trees, node, alias, variable, none, more, node_of}
 use Rattle.goal_terms.specs.SameTree.{same_node}
 use Rattle.goal_terms.specs.Sorts.{sort_of}
@@ -42,21 +42,6 @@ unfoldable mutual
   pub replaced_row : (Variable → Tree) → Trees → Trees
   replaced_row ρ none = none
   replaced_row ρ (more t ts) = more (replaced ρ t) (replaced_row ρ ts)
-
--- a tree is put for one variable
-unfoldable pub single : Variable → Tree → Variable → Tree
-single v t w = if same_variable w v then t else variable w
-
--- how many nodes stand above the deepest
-unfoldable mutual
-  pub height : Tree → ℕ
-  height (node h ts) = suc (row_height ts)
-  height (alias k ts) = suc (row_height ts)
-  height (variable v) = 0
-
-  pub row_height : Trees → ℕ
-  row_height none = 0
-  row_height (more t ts) = max (height t) (row_height ts)
 
 -- whether a sort is that of types
 abbrev pub is_type_sort : Sort → Bool

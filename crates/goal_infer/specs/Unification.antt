@@ -1,7 +1,6 @@
 -- What unification does to a state, and what its answers say.
-use Rattle.std.specs.Prelude.{◌≡◌, ◌≢◌, ◌⊎◌, ◌↔◌, ℕ, zero, suc, ◌+◌, ◌*◌, ◌<◌, max, IsTrue, List, [], ◌∷◌, length, map, Bool, true, false, not, if◌then◌else◌, Option, Some, None}
+use Rattle.std.specs.Prelude.{◌≡◌, ◌≢◌, ◌⊎◌, ◌↔◌, ◌<◌, IsTrue, List, map, Bool, true, false, not, if◌then◌else◌, Option, Some, None}
 use Rattle.goal_terms.specs.Tree.{Tree, variable, node_of}
-use Rattle.goal_terms.specs.Erased.{erased}
 use Rattle.goal_terms.specs.NodeTests.{is_made, some_node}
 use Rattle.goal_terms.specs.SameHead.{top_of}
 use Rattle.goal_terms.specs.TableMeaning.{tree_at}
@@ -11,7 +10,7 @@ use Rattle.goal_terms.specs.declared.heads.Node.TheVariants as nodes
 use Rattle.goal_terms.specs.declared.heads.Variable.{Variable}
 use Rattle.goal_terms.specs.declared.term_nodes.TermId.{TermId}
 use Rattle.goal_infer.specs.Inference.{Inference, GoesBack}
-use Rattle.goal_infer.specs.Replacement.{number_of, kind_of_variable, replaced, height, takes, OfKinds}
+use Rattle.goal_infer.specs.Replacement.{number_of, kind_of_variable, replaced, takes, OfKinds}
 use Rattle.goal_infer.specs.Resolution.{term_at, unbound_count, resolved, Agrees, IsSolved}
 use Rattle.goal_infer.specs.declared.unify.Unified.{Unified}
 use Rattle.goal_infer.specs.declared.unify.Unified.TheVariants.{Yes, Undecided, No}
@@ -70,24 +69,6 @@ abbrev pub TopsSay : List Tree → Inference → Inference → TermId → TermId
 TopsSay T before after l r (Some u) = IsUnified T before after (MakesSame T l r) u
 TopsSay T before after l r None = HaveOneHead T before after l r
 
--- the greatest height in a table
-unfoldable pub tallest : List Tree → ℕ
-tallest [] = 1
-tallest (t ∷ ts) = max (height (erased t)) (tallest ts)
-
--- how high trees can get by so many bindings
-unfoldable pub limit : ℕ → ℕ → ℕ → ℕ
-limit top zero h = h
-limit top (suc n) h = limit top n (h + (top + h))
-
--- how high resolved terms can get
-unfoldable pub ceiling : List Tree → ℕ → ℕ
-ceiling T n = tallest T + limit (tallest T) n 0
-
--- how much there is left to do: more by an unbound variable than by any term
-unfoldable pub work : List Tree → Inference → TermId → ℕ
-work T s id = unbound_count s.variables * suc (ceiling T (length s.variables)) + height (resolved T s id)
-
 -- the variable at the first node, if it may stand for what has the second at its top
 abbrev pub taker : Node → Node → Option Variable
 taker (nodes.Head h) m = None
@@ -132,3 +113,12 @@ BindingDecides T before after v id u = IsDefinite (kinds_of before) (resolved T 
 abbrev pub TopsDecide : List Tree → Inference → Inference → TermId → TermId → Option Unified → Type 0
 TopsDecide T before after l r (Some u) = IsDecided T before after l r u
 TopsDecide T before after l r None = Unit {0}
+
+-- where two terms are identical already, the answer says so, and nothing happened
+unfoldable pub IsIdentified : List Tree → Inference → Inference → TermId → TermId → Unified → Type 0
+IsIdentified T before after l r u = resolved T before l ≡ resolved T before r → (u ≡ Yes) × (after ≡ before)
+
+-- so it is with an answer from their tops
+abbrev pub TopsIdentify : List Tree → Inference → Inference → TermId → TermId → Option Unified → Type 0
+TopsIdentify T before after l r (Some u) = IsIdentified T before after l r u
+TopsIdentify T before after l r None = Unit {0}

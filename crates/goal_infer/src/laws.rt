@@ -1,12 +1,13 @@
 //! Laws, each the contract of a function that does nothing.
-ghost use Rattle.std.specs.Prelude.{◌≡◌, List, [], ◌∷◌, ◌++◌, None};
+ghost use Rattle.std.specs.Prelude.{◌≡◌, ◌<◌, ◌↔◌, length, List, [], ◌∷◌, ◌++◌, None};
 ghost use Rattle.goal_terms.specs.Tree.{Tree};
 ghost use Rattle.goal_terms.specs.TableMeaning.{Keeps};
 ghost use Rattle.goal_terms.specs.declared.heads.Variable.{Variable};
+ghost use Rattle.goal_terms.specs.declared.term_nodes.TermId.{TermId};
 ghost use Rattle.goal_terms.specs.declared.terms.Region.{Region};
 ghost use Rattle.goal_infer.specs.Inference.{Inference, GoesBack};
 ghost use Rattle.goal_infer.specs.Replacement.{OfKinds};
-ghost use Rattle.goal_infer.specs.Resolution.{Agrees, IsSolved};
+ghost use Rattle.goal_infer.specs.Resolution.{resolved, Agrees, IsSolved};
 ghost use Rattle.goal_infer.specs.declared.undo.InferVariable.{InferVariable};
 
 /// Every state goes back to itself, and what goes back to a state that goes back to another goes back
@@ -25,6 +26,15 @@ pub fn solved_states()
     ensures equation { (T : List Tree) (s : Inference) (e : Region × Region) → IsSolved T s →
         IsSolved T (record s { equations = s.equations ++ e ∷ [] }) }
     ensures table { (T U : List Tree) (s : Inference) → Keeps T U → IsSolved T s → IsSolved U s }
+{}
+
+/// Over a table that has grown, a solved state says of replacements and of the terms that were there what
+/// it said before.
+pub fn growth_changes_nothing()
+    ensures agreement { (T U : List Tree) (s : Inference) → Keeps T U → IsSolved T s →
+        (ρ : Variable → Tree) → Agrees U s ρ ↔ Agrees T s ρ }
+    ensures terms { (T U : List Tree) (s : Inference) → Keeps T U → IsSolved T s →
+        (id : TermId) → id.0 < length T → resolved U s id ≡ resolved T s id }
 {}
 
 /// For the variables of a solved state there are trees, of their kinds, with which each bound one is the

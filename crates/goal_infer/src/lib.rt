@@ -5,6 +5,7 @@
 pub mod laws;
 pub mod occurs;
 pub mod resolve;
+pub mod same_resolved;
 pub mod state;
 pub mod undo;
 pub mod unify;

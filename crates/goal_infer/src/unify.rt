@@ -6,10 +6,11 @@ ghost use Rattle.goal_infer.specs.Replacement.{takes, is_integer, is_floating};
 ghost use Rattle.goal_infer.specs.Resolution.{binding_at, binding_of, IsSolved};
 ghost use Rattle.goal_infer.specs.Unification.{IsOther, Becomes, MakesSame, IsUnified, Advances};
 ghost use Rattle.goal_infer.specs.Unification.{is_made_in, taker, is_alias, TopsSay, TopsDecide};
-ghost use Rattle.goal_infer.specs.Unification.{BindingDecides, IsDecided};
+ghost use Rattle.goal_infer.specs.Unification.{BindingDecides, IsDecided, TopsIdentify, IsIdentified};
 
 use crate::occurs::{Occurrence, occurs};
 use crate::resolve::{kind, number, resolve, same_kind};
+use crate::same_resolved::same_resolved;
 use crate::state::InferState;
 use goal_terms::compare::Regions;
 use goal_terms::heads::{Head, Node, Variable};
@@ -134,6 +135,7 @@ fn unify_tops(
     ensures advances { Advances table.now state.old state.new }
     ensures answer { IfOk result (λ u. TopsSay table.now state.old state.new left right u) }
     ensures decided { IfOk result (λ u. TopsDecide table.now state.old state.new left right u) }
+    ensures identified { IfOk result (λ u. TopsIdentify table.now state.old state.new left right u) }
 {
     if table.same_term(left, right) {
         return Ok(Some(Unified::Yes));
@@ -149,7 +151,7 @@ fn unify_tops(
         return Ok(Some(bound));
     }
     if either_alias(node, other) {
-        return Ok(Some(if table.same_erased(left, right) {
+        return Ok(Some(if same_resolved(table, state, left, right) {
             Unified::Yes
         } else {
             Unified::Undecided
@@ -162,15 +164,17 @@ fn unify_tops(
     }
 }
 
-/// Makes two terms the same, as far as their structure goes: lifetimes do not count, and no alias is
-/// looked into. It binds a variable only where both terms can be the same in no other way.
+/// Makes two terms of a table the same, as far as their structure goes: lifetimes do not count, and no
+/// alias is looked into. It binds a variable only where the terms can be the same in no other way.
 ///
 /// `Yes`: what the state now says is what it said before, and that the terms are the same. `Undecided`:
-/// aliases stand in the way, but nothing was bound that isn't so wherever the terms are the same. `No`:
-/// the terms are never the same, whatever stands for the unbound variables.
+/// an alias, or a variable that wasn't made, stands in the way; what was bound is so wherever the terms
+/// are the same. `No`: they never are, whatever stands for the unbound variables. Where neither term
+/// holds an alias or a variable that wasn't made, it is not `Undecided`. Terms that are identical after
+/// the bindings are `Yes`, and nothing is bound.
 ///
-/// `OutOfMemory` where the state could not grow; it may have got some of the bindings. After each
-/// answer, too, the state goes back to what it was by a rollback to a snapshot from before the call.
+/// `OutOfMemory` where the state could not grow; it may have got some of the bindings. After that, and
+/// after each answer, the state goes back by a rollback to what it was before the call.
 pub fn unify(
     table: &TermTable,
     state: &mut InferState,
@@ -184,6 +188,7 @@ pub fn unify(
     ensures answer { IfOk result
         (λ u. IsUnified table.now state.old state.new (MakesSame table.now left right) u) }
     ensures decided { IfOk result (λ u. IsDecided table.now state.old state.new left right u) }
+    ensures identified { IfOk result (λ u. IsIdentified table.now state.old state.new left right u) }
 {
     let left = resolve(table, state, left);
     let right = resolve(table, state, right);

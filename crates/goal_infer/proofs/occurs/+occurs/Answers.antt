@@ -4,9 +4,9 @@ use Rattle.goal_terms.specs.TableMeaning.{tree_at}
 use Rattle.goal_terms.specs.declared.term_nodes.TermId.{TermId}
 use Rattle.std.proofs.lemmas.List.Elements.{All-get_or}
 use Rattle.goal_infer.specs.Occurrence.{joined, place_under, place_of, place_at}
-use Rattle.goal_infer.specs.Replacement.{height}
 use Rattle.goal_infer.proofs.PartLemmas.{is_above, above-if, place-variable, place-parts, places_from, places-more, places-end, places-all, joined-nothing, height-part}
 use Rattle.goal_infer.proofs.occurs.+occurs.Goals as goal
+use Rattle.goal_infer.proofs.ReplacementLemmas.{height}
 
 pub returns-then-is_same : goal.returns-then-is_same
 returns-then-is_same t c =

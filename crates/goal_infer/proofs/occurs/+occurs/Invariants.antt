@@ -1,9 +1,9 @@
 use Rattle.std.proofs.Common.{◌≡◌}
 use Rattle.goal_infer.specs.Occurrence.{joined}
-use Rattle.goal_infer.specs.Replacement.{height}
 use Rattle.goal_infer.specs.Resolution.{resolved}
 use Rattle.goal_infer.proofs.PartLemmas.{places_from}
 use Rattle.goal_infer.proofs.occurs.+occurs.Given as goal
+use Rattle.goal_infer.proofs.ReplacementLemmas.{height}
 
 abbrev pub decreases-occurs : goal.decreases-occurs
 decreases-occurs l = height (resolved l.table.now l.state.now l.id)

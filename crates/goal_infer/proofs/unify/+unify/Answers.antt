@@ -1,10 +1,11 @@
 use Rattle.std.proofs.Common.{◌≡◌, ◌+◌, ◌<◌, length, ◌∙◌, sym, subst, refl, arith, get_or}
 use Rattle.std.proofs.lemmas.List.Elements.{All-get_or}
 use Rattle.goal_terms.specs.declared.term_nodes.TermId.{TermId}
-use Rattle.goal_infer.specs.Unification.{MakesSame, IsUnified, HaveOneHead, TopsSay, TopsDecide}
+use Rattle.goal_infer.specs.Unification.{MakesSame, IsUnified, HaveOneHead, TopsSay, TopsDecide, TopsIdentify}
 use Rattle.goal_infer.specs.declared.unify.Unified.TheVariants.{Yes, Undecided, No}
 use Rattle.goal_infer.proofs.PairLemmas.{SameBelow, said-first, said-yes, said-undecided, said-no, no-count, said-whole, said-given, less-work, left-paired, right-paired}
 use Rattle.goal_infer.proofs.DecisionLemmas.{IsPaired, decided-when_same, decided-given, decided-more, yes-decides, no-decides}
+use Rattle.goal_infer.proofs.IdentityLemmas.{IsWalked, identified-yes, identified-given, identified-count, identified-more}
 use Rattle.goal_infer.proofs.UnifyLemmas.{advances-through}
 use Rattle.goal_infer.proofs.unify.+unify.Goals as goal
 use Rattle.goal_infer.proofs.unify.+unify.Goals.{in-Yes, in-Undecided}
@@ -33,6 +34,7 @@ loop-i-init t c =
       said = said-first c.args.table.now c.args.state.now c.unify_tops.new.state c.parts-parts.result.now c.parts-others.result.now one.unchanged;
       going = λ e. absurd (cc);
       decided = decided-when_same c.args.table.now c.args.state.now c.unify_tops.new.state c.args.left c.args.right Yes one.unchanged yes-decides;
+      identified = identified-yes c.args.table.now c.args.state.now c.unify_tops.new.state c.args.left c.args.right one.unchanged;
     }
 
 pub unify-requires : goal.unify-requires
@@ -78,6 +80,16 @@ returns-in-No-clause-answer t c =
 
 pub loop-i-preserved : goal.loop-i-preserved
 loop-i-preserved t c =
+    let walked : IsWalked c.args.table.now c.args.state.now c.args.left c.args.right c.resolve-left.result c.resolve-right.result c.parts-parts.result.now c.parts-others.result.now =
+    record {
+      solved = c.requires.solved;
+      left = c.resolve-left.ensures.same;
+      right = c.resolve-right.ensures.same;
+      left_ended = c.resolve-left.ensures.unbound;
+      right_ended = c.resolve-right.ensures.unbound;
+      left_parts = c.parts-parts.ensures.trees;
+      right_parts = c.parts-others.ensures.trees;
+    } in
     let one : HaveOneHead c.args.table.now c.args.state.now c.unify_tops.new.state c.resolve-left.result c.resolve-right.result =
     subst (TopsSay c.args.table.now c.args.state.now c.unify_tops.new.state c.resolve-left.result c.resolve-right.result) c.in_default.is c.in_ok-answer.ensures.answer in
     let first : IsPaired c.args.table.now c.args.state.now c.args.left c.resolve-left.result c.parts-parts.result.now =
@@ -99,6 +111,9 @@ loop-i-preserved t c =
         decided = decided-more c.args.table.now c.args.state.now c.loop-i.state c.unify.new.state c.args.left c.args.right c.resolve-left.result c.resolve-right.result
             c.parts-parts.result.now c.parts-others.result.now first second c.loop-i.invariant.advances.kinds c.loop-i.i c.loop-i-test.true within c.loop-i.answer c.in_ok-unify.field-0 c.match-branch-4.answer
             c.loop-i.invariant.decided c.in_ok-unify.ensures.decided (λ f g e. f (sym w.answer-is ∙ e));
+        identified = identified-more c.args.table.now c.args.state.now c.args.left c.args.right c.resolve-left.result c.resolve-right.result
+            c.parts-parts.result.now c.parts-others.result.now walked c.loop-i.state c.unify.new.state c.loop-i.i c.loop-i-test.true c.loop-i.answer c.in_ok-unify.field-0 c.match-branch-4.answer
+            c.loop-i.invariant.identified c.in_ok-unify.ensures.identified (λ f g. w.answer-is ∙ f);
       }
       | in-Undecided w ↦ record {
         advances = advances-through c.args.table.now c.args.state.now c.loop-i.state c.unify.new.state c.loop-i.invariant.advances c.in_ok-unify.ensures.advances;
@@ -111,6 +126,9 @@ loop-i-preserved t c =
         decided = decided-more c.args.table.now c.args.state.now c.loop-i.state c.unify.new.state c.args.left c.args.right c.resolve-left.result c.resolve-right.result
             c.parts-parts.result.now c.parts-others.result.now first second c.loop-i.invariant.advances.kinds c.loop-i.i c.loop-i-test.true within c.loop-i.answer c.in_ok-unify.field-0 c.match-branch-4.answer
             c.loop-i.invariant.decided c.in_ok-unify.ensures.decided (λ f g e. g w.in-Undecided.is);
+        identified = identified-more c.args.table.now c.args.state.now c.args.left c.args.right c.resolve-left.result c.resolve-right.result
+            c.parts-parts.result.now c.parts-others.result.now walked c.loop-i.state c.unify.new.state c.loop-i.i c.loop-i-test.true c.loop-i.answer c.in_ok-unify.field-0 c.match-branch-4.answer
+            c.loop-i.invariant.identified c.in_ok-unify.ensures.identified (λ f g. let p : Undecided ≡ Yes = sym w.in-Undecided.is ∙ g in absurd (cc));
       }
     ]
 
@@ -149,3 +167,40 @@ returns-in-No-clause-decided t c =
     decided-more c.args.table.now c.args.state.now c.loop-i.state c.unify.new.state c.args.left c.args.right c.resolve-left.result c.resolve-right.result
     c.parts-parts.result.now c.parts-others.result.now first second c.loop-i.invariant.advances.kinds c.loop-i.i c.loop-i-test.true within c.loop-i.answer c.in_ok-unify.field-0 No
     c.loop-i.invariant.decided c.in_ok-unify.ensures.decided (λ f g. no-decides)
+
+pub returns-in-Some-clause-identified : goal.returns-in-Some-clause-identified
+returns-in-Some-clause-identified t c =
+    identified-given c.args.table.now c.args.state.now c.unify_tops.new.state c.resolve-left.result c.resolve-right.result c.args.left c.args.right
+    c.resolve-left.ensures.same c.resolve-right.ensures.same c.in-Some.answer
+    (subst (TopsIdentify c.args.table.now c.args.state.now c.unify_tops.new.state c.resolve-left.result c.resolve-right.result) c.in-Some.is c.in_ok-answer.ensures.identified)
+
+pub returns-then-others-count-clause-identified : goal.returns-then-others-count-clause-identified
+returns-then-others-count-clause-identified t c =
+    let walked : IsWalked c.args.table.now c.args.state.now c.args.left c.args.right c.resolve-left.result c.resolve-right.result c.parts-parts.result.now c.parts-others.result.now =
+    record {
+      solved = c.requires.solved;
+      left = c.resolve-left.ensures.same;
+      right = c.resolve-right.ensures.same;
+      left_ended = c.resolve-left.ensures.unbound;
+      right_ended = c.resolve-right.ensures.unbound;
+      left_parts = c.parts-parts.ensures.trees;
+      right_parts = c.parts-others.ensures.trees;
+    } in
+    identified-count c.args.table.now c.args.state.now c.args.left c.args.right c.resolve-left.result c.resolve-right.result c.parts-parts.result.now c.parts-others.result.now
+    walked c.unify_tops.new.state No c.if-others-count.true
+
+pub returns-in-No-clause-identified : goal.returns-in-No-clause-identified
+returns-in-No-clause-identified t c =
+    let walked : IsWalked c.args.table.now c.args.state.now c.args.left c.args.right c.resolve-left.result c.resolve-right.result c.parts-parts.result.now c.parts-others.result.now =
+    record {
+      solved = c.requires.solved;
+      left = c.resolve-left.ensures.same;
+      right = c.resolve-right.ensures.same;
+      left_ended = c.resolve-left.ensures.unbound;
+      right_ended = c.resolve-right.ensures.unbound;
+      left_parts = c.parts-parts.ensures.trees;
+      right_parts = c.parts-others.ensures.trees;
+    } in
+    identified-more c.args.table.now c.args.state.now c.args.left c.args.right c.resolve-left.result c.resolve-right.result
+    c.parts-parts.result.now c.parts-others.result.now walked c.loop-i.state c.unify.new.state c.loop-i.i c.loop-i-test.true c.loop-i.answer c.in_ok-unify.field-0 No
+    c.loop-i.invariant.identified c.in_ok-unify.ensures.identified (λ f g. let p : No ≡ Yes = sym c.in-No.is ∙ g in absurd (cc))

@@ -1,8 +1,9 @@
 use Rattle.std.proofs.Common.{◌≢◌}
-use Rattle.goal_infer.specs.Unification.{IsUnified, IsDecided, Advances, work}
+use Rattle.goal_infer.specs.Unification.{IsUnified, IsDecided, IsIdentified, Advances}
 use Rattle.goal_infer.specs.declared.unify.Unified.TheVariants.{No}
 use Rattle.goal_infer.proofs.PairLemmas.{SameBelow}
 use Rattle.goal_infer.proofs.unify.+unify.Given as goal
+use Rattle.goal_infer.proofs.WorkLemmas.{work}
 
 abbrev pub decreases-unify : goal.decreases-unify
 decreases-unify l = work l.table.now l.state.now l.left
@@ -13,4 +14,5 @@ invariant-loop-i l = record {
   said : IsUnified l.table l.fn.state l.state (SameBelow l.table l.parts l.others l.i) l.answer;
   going : l.answer ≢ No;
   decided : IsDecided l.table l.fn.state l.state l.fn.left l.fn.right l.answer;
+  identified : IsIdentified l.table l.fn.state l.state l.fn.left l.fn.right l.answer;
 }
