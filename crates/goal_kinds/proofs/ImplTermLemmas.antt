@@ -26,12 +26,12 @@ other_impl-known L c header own args known q h k =
     k.2 ∙ ap (λ s. s ++ own) e ∙ sym h.3
 
 -- its parameters are known
-other_impl-holds : (L : Level) (header own args : List Tree) (q : ImplRow) → OtherImplHolds L header own args q → OtherImplKnown L header own args q
+pub other_impl-holds : (L : Level) (header own args : List Tree) (q : ImplRow) → OtherImplHolds L header own args q → OtherImplKnown L header own args q
 unfolding OtherImplHolds OtherImplKnown Fits
 other_impl-holds L header own args q h = (h.0, h.1.0, h.3)
 
 -- and it isn't refuted
-no_other_impl_refuted : (L : Level) → IsConsistent L → (header own args : List Tree) (q : ImplRow) →
+pub no_other_impl_refuted : (L : Level) → IsConsistent L → (header own args : List Tree) (q : ImplRow) →
     OtherImplHolds L header own args q → OtherImplRefuted L header q → ⊥
 unfolding OtherImplHolds OtherImplRefuted Fits
 no_other_impl_refuted L c header own args q h k =
@@ -44,7 +44,7 @@ no_other_impl_refuted L c header own args q h k =
     k
 
 -- arguments for a definition are known
-translation-known : (L : Level) (r : ImplRow) (s : List Tree) (p : Projection) (t : Taken) (args : List Tree) →
+pub translation-known : (L : Level) (r : ImplRow) (s : List Tree) (p : Projection) (t : Taken) (args : List Tree) →
     Translated L r s p t args → KnownTranslated L r s p t args
 unfolding Translated KnownTranslated OfRow
 translation-known L r s p from_projection args h = h
@@ -62,7 +62,7 @@ one_translation L c r s p (from_other q) args known h k =
     OfRow-twice _ _ (λ o x y. other_impl-known L c (header_under r s) (own_args p) args known o x y) q h k
 
 -- nor is it refuted that there are some
-no_translation_refuted : (L : Level) → IsConsistent L → (r : ImplRow) (s : List Tree) (p : Projection) (t : Taken) (args : List Tree) →
+pub no_translation_refuted : (L : Level) → IsConsistent L → (r : ImplRow) (s : List Tree) (p : Projection) (t : Taken) (args : List Tree) →
     Translated L r s p t args → TranslationRefuted L r s t → ⊥
 unfolding Translated TranslationRefuted
 no_translation_refuted L c r s p from_projection args h k = k
@@ -83,7 +83,7 @@ one_said_term S L c r s p itself (evaluated w) t u h k = absurd h
 one_said_term S L c r s p itself not_said t u h k = absurd h
 
 -- then it isn't refuted
-no_said_refuted : (S : Setting) (L : Level) → IsConsistent L → (r : ImplRow) (s : List Tree) (p : Projection) (itself : Tree) (x : Said) (u : Tree) →
+pub no_said_refuted : (S : Setting) (L : Level) → IsConsistent L → (r : ImplRow) (s : List Tree) (p : Projection) (itself : Tree) (x : Said) (u : Tree) →
     SaidGives S L r s p itself x u → SaidRefuted S L r s p x → ⊥
 unfolding SaidGives SaidRefuted
 no_said_refuted S L c r s p itself (an_error n) u h k = k

@@ -18,7 +18,7 @@ use Rattle.goal_kinds.proofs.EqualLemmas.{one_head_form, no_head_form_refuted}
 use Rattle.goal_kinds.proofs.TermCandidateLemmas.{one_candidate_term, no_candidate_term_refuted}
 
 -- a group gives one term: that of each candidate which gives one
-one_group_term : (S : Setting) (L : Level) → IsConsistent L → (p : Projection) (itself : Tree) (xs : List Candidate) (t u : Tree) →
+pub one_group_term : (S : Setting) (L : Level) → IsConsistent L → (p : Projection) (itself : Tree) (xs : List Candidate) (t u : Tree) →
     GroupGives S L p itself xs t → GroupGives S L p itself xs u → t ≡ u
 unfolding GroupGives
 one_group_term S L c p itself xs t u h k =
@@ -27,7 +27,7 @@ one_group_term S L c p itself xs t u h k =
     xs h.0 k.1
 
 -- then not all of its candidates are refuted
-no_group_refuted : (S : Setting) (L : Level) → IsConsistent L → (p : Projection) (itself : Tree) (xs : List Candidate) (u : Tree) →
+pub no_group_refuted : (S : Setting) (L : Level) → IsConsistent L → (p : Projection) (itself : Tree) (xs : List Candidate) (u : Tree) →
     GroupGives S L p itself xs u → GroupRefuted S L p xs → ⊥
 unfolding GroupGives GroupRefuted
 no_group_refuted S L c p itself xs u h k = Exists-Each _ _ (no_candidate_term_refuted S L c p itself u) xs h.0 k

@@ -22,3 +22,6 @@ pub mod ExampleSettings
 pub mod FastReject
 pub mod Replacement
 pub mod KindedTerms
+pub mod Interned
+pub mod CandidateTops
+pub mod Tops

@@ -2,7 +2,8 @@
 use crate::answer::Answer;
 use crate::faults::RowsFault;
 use crate::names::TR;
-use crate::program_types::{projection_of, self_arguments};
+use crate::program_questions::metadata_of;
+use crate::program_types::{projection_of, self_arguments, trait_ref};
 use goal_solver::context::EvalCtxt;
 use goal_solver::faults::Fault;
 use goal_solver::goals::{GoalFault, check_goal};
@@ -10,9 +11,12 @@ use goal_tables::checked::CheckedTables;
 use goal_terms::answers::{Certainty, Response};
 use goal_terms::ids::AdtId;
 use goal_terms::modes::TypingMode;
-use goal_terms::predicates::{Goal, NormalizesTo, TraitPredicate, TraitRef};
+use goal_terms::predicates::{
+    BoundConstness, Goal, HostEffectPredicate, NormalizesTo, ProjectionPredicate, TraitPredicate,
+    TraitRef,
+};
 use goal_terms::scalars::UintTy;
-use goal_terms::terms::{GenericArg, Term, Ty};
+use goal_terms::terms::{AliasTerm, GenericArg, Term, Ty};
 use std::alloc::{AllocError, Global};
 
 /// What `<STRUCT as Tr>::A` stands for, with a limit on the depth.
@@ -22,15 +26,7 @@ pub fn ask_alias(
     adt: AdtId,
     limit: u32,
 ) -> Result<Answer, RowsFault> {
-    let Ok(mut context) = EvalCtxt::new(tables, analysis(alloc), limit, false) else {
-        return Ok(Answer::Refused("DepthTooLarge"));
-    };
-    let expected = context.next_ty_infer().map_err(from_fault)?;
-    let goal = alias_goal(alloc, adt, expected)?;
-    if let Err(fault) = check_goal(tables, &context, &goal) {
-        return Ok(Answer::Refused(goal_fault_name(fault)));
-    }
-    answer_of(context.compute_normalizes_to_goal(&goal))
+    ask_normalization(alloc, tables, projection_of(alloc, adt)?, limit)
 }
 
 /// Whether `STRUCT: Tr` holds, with a limit on the depth.
@@ -42,6 +38,76 @@ pub fn ask_trait(
 ) -> Result<Answer, RowsFault> {
     let goal = trait_goal(alloc, self_arguments(alloc, adt)?);
     ask_trait_goal(alloc, tables, &goal, limit)
+}
+
+/// What an alias stands for that is a type, with a limit on the depth.
+pub fn ask_normalization(
+    alloc: Global,
+    tables: &CheckedTables,
+    alias: AliasTerm,
+    limit: u32,
+) -> Result<Answer, RowsFault> {
+    let Ok(mut context) = EvalCtxt::new(tables, analysis(alloc), limit, false) else {
+        return Ok(Answer::Refused("DepthTooLarge"));
+    };
+    let expected = context.next_ty_infer().map_err(from_fault)?;
+    let goal = Goal {
+        param_env: Vec::new(alloc),
+        predicate: NormalizesTo {
+            alias,
+            term: Term::Ty(expected),
+        },
+    };
+    if let Err(fault) = check_goal(tables, &context, &goal) {
+        return Ok(Answer::Refused(goal_fault_name(fault)));
+    }
+    answer_of(context.compute_normalizes_to_goal(&goal))
+}
+
+/// Whether `<bool as Pointee>::Metadata == TYPE` holds, with a limit on the depth.
+pub fn ask_equation(
+    alloc: Global,
+    tables: &CheckedTables,
+    ty: Ty,
+    limit: u32,
+) -> Result<Answer, RowsFault> {
+    let Ok(mut context) = EvalCtxt::new(tables, analysis(alloc), limit, false) else {
+        return Ok(Answer::Refused("DepthTooLarge"));
+    };
+    let goal = Goal {
+        param_env: Vec::new(alloc),
+        predicate: ProjectionPredicate {
+            projection_term: metadata_of(alloc, Ty::Bool)?,
+            term: Term::Ty(ty),
+        },
+    };
+    if let Err(fault) = check_goal(tables, &context, &goal) {
+        return Ok(Answer::Refused(goal_fault_name(fault)));
+    }
+    answer_of(context.compute_projection_goal(&goal))
+}
+
+/// Whether `TYPE: const Tr` holds, with a limit on the depth.
+pub fn ask_const(
+    alloc: Global,
+    tables: &CheckedTables,
+    ty: Ty,
+    limit: u32,
+) -> Result<Answer, RowsFault> {
+    let Ok(mut context) = EvalCtxt::new(tables, analysis(alloc), limit, false) else {
+        return Ok(Answer::Refused("DepthTooLarge"));
+    };
+    let goal = Goal {
+        param_env: Vec::new(alloc),
+        predicate: HostEffectPredicate {
+            trait_ref: trait_ref(alloc, ty, TR)?,
+            constness: BoundConstness::Const,
+        },
+    };
+    if let Err(fault) = check_goal(tables, &context, &goal) {
+        return Ok(Answer::Refused(goal_fault_name(fault)));
+    }
+    answer_of(context.compute_host_effect_goal(&goal))
 }
 
 /// Whether a limit on the depth is taken.
@@ -90,17 +156,6 @@ fn trait_goal(alloc: Global, args: Vec<GenericArg>) -> Goal<TraitPredicate> {
             trait_ref: TraitRef { def_id: TR, args },
         },
     }
-}
-
-fn alias_goal(alloc: Global, adt: AdtId, expected: Ty) -> Result<Goal<NormalizesTo>, AllocError> {
-    let alias = projection_of(alloc, adt)?;
-    Ok(Goal {
-        param_env: Vec::new(alloc),
-        predicate: NormalizesTo {
-            alias,
-            term: Term::Ty(expected),
-        },
-    })
 }
 
 fn two_arguments(alloc: Global, adt: AdtId) -> Result<Vec<GenericArg>, AllocError> {

@@ -10,6 +10,7 @@ mod faults;
 mod names;
 mod program_aliases;
 mod program_impls;
+mod program_questions;
 mod program_tables;
 mod program_traits;
 mod program_types;

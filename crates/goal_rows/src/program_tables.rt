@@ -5,19 +5,10 @@ use crate::program_traits::{item_rows, lang_rows, trait_rows};
 use crate::program_types::adt_rows;
 use goal_tables::lang::LangRow;
 use goal_tables::rows::{
-    Container, DefRow, FreeRow, ImplRow, InherentImplRow, InherentRow, ItemRow, OpaqueRow,
-    SourceRow, Tables, TraitRow,
+    DefRow, FreeRow, ImplRow, InherentImplRow, InherentRow, ItemRow, OpaqueRow, SourceRow, Tables,
+    TraitRow,
 };
-use goal_terms::ids::ImplId;
 use std::alloc::{AllocError, Global};
-
-/// The tables that the program asks: of the impls those for structs with no parameters that define
-/// `A` or deny `Tr`, with their definitions, and all other rows of the whole tables.
-pub fn program_tables(alloc: Global) -> Result<Tables, AllocError> {
-    let mut tables = whole_tables(alloc)?;
-    keep_asked_impls(&mut tables);
-    Ok(tables)
-}
 
 /// The whole tables of the program: its traits, impls, aliases and structs, and the lang items.
 pub fn whole_tables(alloc: Global) -> Result<Tables, AllocError> {
@@ -40,28 +31,6 @@ pub fn whole_tables(alloc: Global) -> Result<Tables, AllocError> {
         closures: Vec::new(alloc),
         lang_items: traits.lang_items,
     })
-}
-
-/// Whether the program asks about an impl.
-fn is_asked(id: ImplId) -> bool {
-    3 <= id.0 && id.0 <= 6
-}
-
-/// Whether a definition stands in an impl that the program asks about.
-fn stands_in_asked(container: Container) -> bool {
-    match container {
-        Container::Impl(id) => is_asked(id),
-        Container::Trait(_) => false,
-    }
-}
-
-/// Drops the other impls, their definitions and their sources.
-fn keep_asked_impls(tables: &mut Tables) {
-    tables.impls.retain(|row| is_asked(row.id));
-    tables
-        .definitions
-        .retain(|row| stands_in_asked(row.container));
-    tables.sources.retain(|row| is_asked(row.impl_id));
 }
 
 /// The traits, their items, and the lang items.

@@ -1,93 +1,140 @@
--- The trees of owned copies, and how what the evaluator finds answers a goal.
-use Rattle.std.proofs.Common.{◌≡◌, ◌≤◌, ℕ, List, [], ◌∷◌, length, Result, Ok, Err, refl, subst, arith}
-use Rattle.goal_terms.specs.Tree.{Tree}
-use Rattle.goal_terms.specs.declared.answers.Certainty.{Certainty}
+-- What the calls answer at depth 0, and that no two answers disagree.
+use Rattle.std.proofs.Common.{◌≡◌, inl, inr, ℕ, zero, true, List, Result, Ok, Err, refl, subst, sym, ap, ◌∙◌}
+use Rattle.std.proofs.lemmas.Bool.{false≢true}
+use Rattle.std.specs.Prelude.{IfOk, IfErr}
 use Rattle.goal_terms.specs.declared.answers.Certainty.TheVariants as certainty
 use Rattle.goal_terms.specs.declared.answers.Response.{Response}
+use Rattle.goal_terms.specs.declared.predicates.BoundConstness.{BoundConstness}
+use Rattle.goal_terms.specs.PredicateTrees.{PredicateTree, holds, equals, holds_const}
+use Rattle.goal_terms.specs.TableMeaning.{Keeps}
+use Rattle.goal_terms.specs.Tree.{Tree}
+use Rattle.goal_terms.specs.declared.ids.TraitId.{TraitId}
+use Rattle.goal_terms.specs.declared.modes.TypingMode.{TypingMode}
 use Rattle.goal_terms.specs.declared.predicates.Clause.{Clause}
-use Rattle.goal_terms.specs.declared.predicates.Goal.{Goal}
-use Rattle.goal_terms.specs.declared.predicates.NormalizesTo.{NormalizesTo}
-use Rattle.goal_terms.specs.declared.predicates.TraitPredicate.{TraitPredicate}
-use Rattle.goal_terms.specs.declared.terms.GenericArg.{GenericArg}
-use Rattle.goal_terms.proofs.TreeLemmas.{tree_of_term-Ty, tree_of_term-Const}
-use Rattle.goal_tables.specs.declared.rows.Tables.{Tables}
-use Rattle.goal_solver.specs.Answers.{TraitGoalHolds, TraitGoalRefuted, AliasHasTerm, AliasHasNoTerm, GivesTermAs, GivesTerm, IsAliasResponse, IsAliasAnswer}
-use Rattle.goal_solver.specs.PlainLevels as plain
-use Rattle.goal_solver.specs.State.{State}
-use Rattle.goal_solver.specs.Verdicts.{erased_args}
+use Rattle.goal_terms.specs.declared.terms.AliasTermKind.{AliasTermKind}
+use Rattle.goal_kinds.specs.Levels.{level}
+use Rattle.goal_kinds.specs.Premises.{ClauseHolds, ClauseRefuted}
+use Rattle.goal_kinds.specs.Settings.{Setting, is_headline}
+use Rattle.goal_kinds.specs.Level.{Level}
+use Rattle.goal_kinds.proofs.AnswerLaws.{answers-agree}
+use Rattle.goal_solver.specs.Answers.{IsOwed, level_over, IsMaybe, IsOpen, IsUndecided, IsAliasOpen, IsHoldingResponse, IsPredicateAnswer, IsConclusion}
+use Rattle.goal_solver.specs.GoingBack.{GoesBack, restored}
+use Rattle.goal_solver.specs.Outcomes.{StandsFor, Says}
 use Rattle.goal_solver.specs.declared.faults.Fault.{Fault}
-use Rattle.goal_solver.specs.declared.faults.Fault.TheVariants as fault
-use Rattle.goal_solver.proofs.PlainIsWhole.{whole-holds, whole-refuted, whole-gives, whole-gives_refuted}
+use Rattle.goal_solver.specs.declared.outcomes.Outcome.{Outcome}
+use Rattle.goal_solver.specs.declared.outcomes.Outcome.TheVariants as outcome
+use Rattle.goal_solver.specs.declared.outcomes.Stop.{Stop}
+use Rattle.goal_solver.specs.declared.outcomes.Stop.TheVariants as stop
+use Rattle.goal_solver.specs.State.{State}
+use Rattle.goal_solver.proofs.GoingBackLemmas.{goes_back-same}
 
-pub ruleset owning = (tree_of_term-Ty, tree_of_term-Const)
+-- a context with more terms goes back to the one before
+pub goes_back-grown : (a b : State) → b ≡ record a { terms = b.terms } → Keeps a.terms b.terms → GoesBack a b
+goes_back-grown a b e k =
+    let same : GoesBack a a = goes_back-same a in
+    subst (GoesBack a) (sym e) (record {
+      tables = refl;
+      typing_mode = refl;
+      remaining_depth = refl;
+      stop_on_rerun = refl;
+      terms = k;
+      inference = same.inference;
+      goals = same.goals;
+      storage = same.storage;
+      accesses = same.accesses;
+      delayed_faults = same.delayed_faults;
+    })
 
--- an environment without clauses
-no-clauses : (xs : List Clause) → length xs ≤ 0 → xs ≡ []
-no-clauses [] h = refl
-no-clauses (x ∷ xs) h = absurd (omega arith)
+-- at depth 0 nothing holds, and nothing is refuted
+pub open-ground : (S : Setting) (n : ℕ) → n ≡ zero → (i : TraitId) (ts : List Tree) → IsOpen (level S n) i ts
+unfolding level
+open-ground S n e i ts = subst (λ (k : ℕ). IsOpen (level S k) i ts) (sym e) ((λ c h. h), (λ h. h))
 
--- what the evaluator finds of a trait goal answers it
-pub trait-holds : (s : State) (g : Goal TraitPredicate) (t : Tables) (n : ℕ) (xs : List GenericArg) → t ≡ s.tables → n ≡ s.remaining_depth →
-    xs ≡ g.predicate.trait_ref.args.items →
-    length g.param_env.items ≤ 0 → (plain.level t n).holds g.predicate.trait_ref.def_id (erased_args xs) → TraitGoalHolds s g
-trait-holds s g t n xs e f a l h =
-    let none : g.param_env.items ≡ [] = no-clauses g.param_env.items l in (
-      none,
-      whole-holds s.tables s.typing_mode s.remaining_depth g.param_env.items g.predicate.trait_ref.def_id (erased_args g.predicate.trait_ref.args.items) none
-          (subst (λ x. (plain.level x s.remaining_depth).holds g.predicate.trait_ref.def_id (erased_args g.predicate.trait_ref.args.items)) e
-          (subst (λ k. (plain.level t k).holds g.predicate.trait_ref.def_id (erased_args g.predicate.trait_ref.args.items)) f
-          (subst (λ ys. (plain.level t n).holds g.predicate.trait_ref.def_id (erased_args ys)) a h))),
+predicate-ground : (S : Setting) (p : PredicateTree) → IsUndecided (level S zero) p
+unfolding level ClauseHolds ClauseRefuted
+predicate-ground S (holds i ts) = ((λ h. h.1), (λ h. h))
+predicate-ground S (equals a t) = ((λ h. h), (λ h. h))
+predicate-ground S (holds_const c i ts) = ((λ h. h), (λ h. h))
+
+pub undecided-ground : (S : Setting) (n : ℕ) → n ≡ zero → (p : PredicateTree) → IsUndecided (level S n) p
+undecided-ground S n e p = subst (λ (k : ℕ). IsUndecided (level S k) p) (sym e) (predicate-ground S p)
+
+pub alias_open-ground : (S : Setting) (n : ℕ) → n ≡ zero → (k : AliasTermKind) (ts : List Tree) → IsAliasOpen (level S n) k ts
+unfolding level
+alias_open-ground S n e k ts = subst (λ (j : ℕ). IsAliasOpen (level S j) k ts) (sym e) ((λ t u h. h), (λ h. h))
+
+-- a mode that is owed an answer is one that the run stands for
+pub owed-stands : (a b z : State) (m : TypingMode) → b ≡ record a { terms = b.terms } → z ≡ restored b z → IsOwed z m → StandsFor a.typing_mode m
+owed-stands a b z m e f owed =
+    let same : z.typing_mode ≡ a.typing_mode = ap (λ (s : State). s.typing_mode) f ∙ ap (λ (s : State). s.typing_mode) e in (
+      owed.0,
+      elim owed.1 [
+        | inl h ↦ inl (sym same ∙ h)
+        | inr h ↦ inr (ap is_headline (sym same ∙ h.0))
+      ],
     )
 
-pub trait-refuted : (s : State) (g : Goal TraitPredicate) (t : Tables) (n : ℕ) (xs : List GenericArg) → t ≡ s.tables → n ≡ s.remaining_depth →
-    xs ≡ g.predicate.trait_ref.args.items →
-    length g.param_env.items ≤ 0 → (plain.level t n).trait_refuted g.predicate.trait_ref.def_id (erased_args xs) → TraitGoalRefuted s g
-trait-refuted s g t n xs e f a l h =
-    let none : g.param_env.items ≡ [] = no-clauses g.param_env.items l in (
-      none,
-      whole-refuted s.tables s.typing_mode s.remaining_depth g.param_env.items g.predicate.trait_ref.def_id (erased_args g.predicate.trait_ref.args.items) none
-          (subst (λ x. (plain.level x s.remaining_depth).trait_refuted g.predicate.trait_ref.def_id (erased_args g.predicate.trait_ref.args.items)) e
-          (subst (λ k. (plain.level t k).trait_refuted g.predicate.trait_ref.def_id (erased_args g.predicate.trait_ref.args.items)) f
-          (subst (λ ys. (plain.level t n).trait_refuted g.predicate.trait_ref.def_id (erased_args ys)) a h))),
-    )
+yes_is_not_maybe : certainty.Yes ≡ certainty.Maybe → ⊥
+yes_is_not_maybe e = absurd (cc)
 
--- what it finds of an alias answers the goal that normalizes it
-pub alias-given : (s : State) (g : Goal NormalizesTo) (t : Tables) (n : ℕ) (xs : List GenericArg) (u : Tree) → t ≡ s.tables → n ≡ s.remaining_depth →
-    xs ≡ g.predicate.alias.args.items →
-    length g.param_env.items ≤ 0 → (plain.level t n).gives g.predicate.alias.kind (erased_args xs) u → AliasHasTerm s g u
-alias-given s g t n xs u e f a l h =
-    let none : g.param_env.items ≡ [] = no-clauses g.param_env.items l in (
-      none,
-      whole-gives s.tables s.typing_mode s.remaining_depth g.param_env.items g.predicate.alias.kind (erased_args g.predicate.alias.args.items) u none
-          (subst (λ x. (plain.level x s.remaining_depth).gives g.predicate.alias.kind (erased_args g.predicate.alias.args.items) u) e
-          (subst (λ k. (plain.level t k).gives g.predicate.alias.kind (erased_args g.predicate.alias.args.items) u) f
-          (subst (λ ys. (plain.level t n).gives g.predicate.alias.kind (erased_args ys) u) a h))),
-    )
+-- so it is where only terms were added
+pub owed-grown : (a b : State) (m : TypingMode) → b ≡ record a { terms = b.terms } → IsOwed b m → StandsFor a.typing_mode m
+owed-grown a b m e owed = owed-stands a b b m e refl owed
 
-pub alias-refuted : (s : State) (g : Goal NormalizesTo) (t : Tables) (n : ℕ) (xs : List GenericArg) → t ≡ s.tables → n ≡ s.remaining_depth →
-    xs ≡ g.predicate.alias.args.items →
-    length g.param_env.items ≤ 0 → (plain.level t n).gives_refuted g.predicate.alias.kind (erased_args xs) → AliasHasNoTerm s g
-alias-refuted s g t n xs e f a l h =
-    let none : g.param_env.items ≡ [] = no-clauses g.param_env.items l in (
-      none,
-      whole-gives_refuted s.tables s.typing_mode s.remaining_depth g.param_env.items g.predicate.alias.kind (erased_args g.predicate.alias.args.items) none
-          (subst (λ x. (plain.level x s.remaining_depth).gives_refuted g.predicate.alias.kind (erased_args g.predicate.alias.args.items)) e
-          (subst (λ k. (plain.level t k).gives_refuted g.predicate.alias.kind (erased_args g.predicate.alias.args.items)) f
-          (subst (λ ys. (plain.level t n).gives_refuted g.predicate.alias.kind (erased_args ys)) a h))),
-    )
+-- a conclusion is as sound as the outcome, and undecided only where that is
+concluded-sound : (L : Level) (p : PredicateTree) (o : Result Outcome Stop) (r : Result Response Fault) → IfOk o (Says (ClauseHolds L p) (ClauseRefuted L p)) →
+    IsConclusion o r → IsPredicateAnswer L p r
+concluded-sound L p (Ok outcome.Holds) (Ok x) h c = subst (IsHoldingResponse L p) (sym c.0) h
+concluded-sound L p (Ok outcome.Holds) (Err f) h c = absurd (false≢true c.1)
+concluded-sound L p (Ok outcome.Refuted) r h c = subst (IsPredicateAnswer L p) (sym c) h
+concluded-sound L p (Ok outcome.Undecided) (Ok x) h c = subst (IsHoldingResponse L p) (sym c) tt
+concluded-sound L p (Ok outcome.Undecided) (Err f) h c = absurd c
+concluded-sound L p (Err s) r h c = subst (IsPredicateAnswer L p) (sym c) tt
 
-response-given : (s : State) (g : Goal NormalizesTo) (u : Tree) (c : Certainty) (r : Response) → AliasHasTerm s g u → GivesTermAs g.predicate.term u c r →
-    IsAliasResponse s g c r
-response-given s g u certainty.Yes r h d = (u, h, d)
-response-given s g u certainty.Maybe r h d = d
+concluded-open : (L : Level) (p : PredicateTree) (o : Result Outcome Stop) (r : Result Response Fault) → IfOk o (Says (ClauseHolds L p) (ClauseRefuted L p)) →
+    IsConclusion o r → IsMaybe r → IsUndecided L p
+concluded-open L p (Ok outcome.Holds) (Ok x) h c e = absurd (yes_is_not_maybe (sym c.0 ∙ e))
+concluded-open L p (Ok outcome.Holds) (Err f) h c e = absurd e
+concluded-open L p (Ok outcome.Refuted) r h c e = absurd (subst IsMaybe c e)
+concluded-open L p (Ok outcome.Undecided) r h c e = h
+concluded-open L p (Err s) r h c e = absurd (subst IsMaybe c e)
 
-fault-given : (s : State) (g : Goal NormalizesTo) (u : Tree) (f : Fault) → AliasHasTerm s g u → f ≡ fault.OutOfMemory → IsAliasAnswer s g (Err f)
-fault-given s g u fault.NoSolution h e = absurd (cc)
-fault-given s g u fault.RerunNonErased h e = absurd (cc)
-fault-given s g u fault.OutOfMemory h e = (u, h)
-fault-given s g u fault.NotForThisKind h e = absurd (cc)
+-- what an evaluation says of a predicate before a conclusion
+abbrev pub SaysOf : State → List Clause → PredicateTree → Result Outcome Stop → Type 0
+SaysOf a env p o = (m : TypingMode) → StandsFor a.typing_mode m → IfOk o (Says (ClauseHolds (level_over a m env) p) (ClauseRefuted (level_over a m env) p))
 
--- a response that gives the alias's term answers the goal
-pub answer-given : (s : State) (g : Goal NormalizesTo) (u : Tree) (r : Result Response Fault) → AliasHasTerm s g u → GivesTerm g.predicate.term u r → IsAliasAnswer s g r
-answer-given s g u (Ok r) h d = (d.0, response-given s g u r.certainty r h d.1)
-answer-given s g u (Err f) h d = fault-given s g u f h d
+-- a conclusion is owed
+abbrev pub IsConcluded : State → State → Result Outcome Stop → Result Response Fault → Type 0
+IsConcluded b z o r = (m : TypingMode) → IsOwed z m → (is_headline b.typing_mode ≡ true → IfErr o (λ s. s ≡ stop.OutOfMemory)) → IsConclusion o r
+
+-- the run is only stopped for want of memory, where its mode is one of the headline
+stops-later : (a b : State) (o : Result Outcome Stop) → b ≡ record a { terms = b.terms } → (is_headline a.typing_mode ≡ true → IfErr o (λ s. s ≡ stop.OutOfMemory)) →
+    is_headline b.typing_mode ≡ true → IfErr o (λ s. s ≡ stop.OutOfMemory)
+stops-later a b o e h k = h (ap (λ (s : State). is_headline s.typing_mode) (sym e) ∙ k)
+
+-- the call answers soundly, and leaves undecided only what is so
+pub predicate-sound : (a b z : State) (env : List Clause) (p : PredicateTree) (o : Result Outcome Stop) (r : Result Response Fault) → b ≡ record a { terms = b.terms } → z ≡ restored b z →
+    SaysOf a env p o → (is_headline a.typing_mode ≡ true → IfErr o (λ s. s ≡ stop.OutOfMemory)) → IsConcluded b z o r →
+    (m : TypingMode) → IsOwed z m → IsPredicateAnswer (level_over a m env) p r
+predicate-sound a b z env p o r e f says stops concluded m owed =
+    concluded-sound (level_over a m env) p o r (says m (owed-stands a b z m e f owed)) (concluded m owed (stops-later a b o e stops))
+
+pub predicate-decided : (a b z : State) (env : List Clause) (p : PredicateTree) (o : Result Outcome Stop) (r : Result Response Fault) → b ≡ record a { terms = b.terms } → z ≡ restored b z →
+    SaysOf a env p o → (is_headline a.typing_mode ≡ true → IfErr o (λ s. s ≡ stop.OutOfMemory)) → IsConcluded b z o r →
+    (m : TypingMode) → IsOwed z m → IsMaybe r → IsUndecided (level_over a m env) p
+predicate-decided a b z env p o r e f says stops concluded m owed =
+    concluded-open (level_over a m env) p o r (says m (owed-stands a b z m e f owed)) (concluded m owed (stops-later a b o e stops))
+
+-- what is said of const goals and of equations is said of their predicates
+pub const-says_of : (a : State) (env : List Clause) (c : BoundConstness) (i : TraitId) (ts : List Tree) (o : Result Outcome Stop) →
+    ((m : TypingMode) → StandsFor a.typing_mode m → IfOk o (Says ((level_over a m env).const_holds c i ts) ((level_over a m env).const_refuted c i ts))) → SaysOf a env (holds_const c i ts) o
+unfolding ClauseHolds ClauseRefuted
+const-says_of a env c i ts o h = h
+
+pub equation-says_of : (a : State) (env : List Clause) (t u : Tree) (o : Result Outcome Stop) →
+    ((m : TypingMode) → StandsFor a.typing_mode m → IfOk o (Says ((level_over a m env).equation_holds t u) ((level_over a m env).equation_refuted t u))) → SaysOf a env (equals t u) o
+unfolding ClauseHolds ClauseRefuted
+equation-says_of a env t u o h = h
+
+-- no two answers disagree
+pub ruleset answering = (answers-agree)

@@ -1,145 +1,141 @@
--- When an answer is justified.
-use Rattle.std.specs.Prelude.{◌≡◌, ◌⊎◌, true, ℕ, List, [], ◌∷◌, length, Option, Some, None, Result, Ok, Err}
-use Rattle.goal_terms.specs.Tree.{Tree, node_of}
-use Rattle.goal_terms.specs.declared.heads.Node.{Node}
-use Rattle.goal_terms.specs.declared.heads.Node.TheVariants as nodes
-use Rattle.goal_terms.specs.declared.heads.Variable.TheVariants as variables
-use Rattle.goal_terms.specs.declared.terms.InferTy.TheVariants as infer
-use Rattle.goal_terms.specs.TreeOf.{tree_of_term}
+-- When an answer to a goal is justified, and what it leaves undecided.
+use Rattle.std.specs.Prelude.{◌≡◌, ◌⊎◌, ◌<◌, ℕ, Bool, true, false, not, ◌||◌, ◌&&◌, List, [], ◌∷◌, length, map, Option, Some, None, Result, Ok, Err, IfOk, IsOk}
+use Rattle.goal_terms.specs.Closed.{is_closed}
 use Rattle.goal_terms.specs.Erased.{erased}
-use Rattle.goal_terms.specs.declared.answers.Certainty.TheVariants as certainty
+use Rattle.goal_terms.specs.NodeTests.{is_any_infer, general_variable_at}
+use Rattle.goal_terms.specs.PredicateTrees.{PredicateTree}
+use Rattle.goal_terms.specs.Sorts.{IsTerm}
+use Rattle.goal_terms.specs.Tree.{Tree, node_of}
+use Rattle.goal_terms.specs.TreeOf.{tree_of_term, tree_of_alias, tree_of_arg}
 use Rattle.goal_terms.specs.declared.answers.Certainty.{Certainty}
+use Rattle.goal_terms.specs.declared.answers.Certainty.TheVariants as certainty
 use Rattle.goal_terms.specs.declared.answers.Response.{Response}
 use Rattle.goal_terms.specs.declared.answers.TraitGoalProvenVia.{TraitGoalProvenVia}
-use Rattle.goal_terms.specs.declared.answers.TraitGoalProvenVia.TheVariants as via
+use Rattle.goal_terms.specs.declared.ids.TraitId.{TraitId}
+use Rattle.goal_terms.specs.declared.modes.TypingMode.{TypingMode}
+use Rattle.goal_terms.specs.declared.modes.TypingMode.TheVariants as mode
 use Rattle.goal_terms.specs.declared.predicates.Clause.{Clause}
-use Rattle.goal_terms.specs.declared.predicates.Goal.{Goal}
-use Rattle.goal_terms.specs.declared.predicates.TraitPredicate.{TraitPredicate}
-use Rattle.goal_terms.specs.declared.predicates.NormalizesTo.{NormalizesTo}
+use Rattle.goal_terms.specs.declared.terms.AliasTerm.{AliasTerm}
+use Rattle.goal_terms.specs.declared.terms.AliasTermKind.{AliasTermKind}
+use Rattle.goal_terms.specs.declared.terms.GenericArg.{GenericArg}
 use Rattle.goal_terms.specs.declared.terms.Term.{Term}
-use Rattle.goal_terms.specs.declared.ids.ItemId.{ItemId}
-use Rattle.goal_tables.specs.Rows.{item_of}
-use Rattle.goal_tables.specs.declared.rows.ItemRow.{ItemRow}
+use Rattle.goal_tables.specs.Predicates.{some_in_args, some_in_equation, some_in_env}
 use Rattle.goal_kinds.specs.Answers.{setting_of}
 use Rattle.goal_kinds.specs.Level.{Level}
 use Rattle.goal_kinds.specs.Levels.{level}
-use Rattle.goal_solver.specs.PlainGoals.{IsPlainTrait, IsPlainItem, ArePlain}
-use Rattle.goal_solver.specs.PlainRows.{is_plain_projection}
+use Rattle.goal_kinds.specs.Premises.{ClauseHolds, ClauseRefuted}
+use Rattle.goal_kinds.specs.Settings.{is_headline}
 use Rattle.goal_solver.specs.State.{State}
-use Rattle.goal_solver.specs.Verdicts.{erased_args, projected}
 use Rattle.goal_solver.specs.declared.faults.Fault.{Fault}
+use Rattle.goal_solver.specs.declared.outcomes.Outcome.{Outcome}
+use Rattle.goal_solver.specs.declared.outcomes.Outcome.TheVariants as outcome
+use Rattle.goal_solver.specs.declared.outcomes.Stop.{Stop}
 use Rattle.goal_solver.specs.declared.faults.Fault.TheVariants as fault
 
--- what trees no higher than the depth that is left prove over a goal's environment, in the context's mode, by the definitions of `goal_kinds`
-abbrev pub level_for : State → List Clause → Level
-level_for s clauses = level (setting_of s.tables s.typing_mode clauses) s.remaining_depth
+-- the headline modes whose answers a call owes, by what it leaves: the context's own, or each in the erased mode as long as nothing was recorded
+abbrev pub IsOwed : State → TypingMode → Type 0
+IsOwed s m = (is_headline m ≡ true) × ((s.typing_mode ≡ m) ⊎ ((s.typing_mode ≡ mode.ErasedNotCoherence) × (s.accesses ≡ [])))
 
--- the trait goal holds there, through the class of what is neither the environment nor a bound
-abbrev pub TraitGoalHolds : State → Goal TraitPredicate → Type 0
-TraitGoalHolds s g =
-    (g.param_env.items ≡ [])
-    × (level_for s g.param_env.items).through via.Misc g.predicate.trait_ref.def_id (erased_args g.predicate.trait_ref.args.items)
+-- what trees no higher than the depth that is left prove over an environment in a mode, by the definitions of `goal_kinds`
+abbrev pub level_over : State → TypingMode → List Clause → Level
+level_over s m clauses = level (setting_of s.tables m clauses) s.remaining_depth
 
--- it is refuted there
-abbrev pub TraitGoalRefuted : State → Goal TraitPredicate → Type 0
-TraitGoalRefuted s g =
-    (g.param_env.items ≡ [])
-    × (level_for s g.param_env.items).trait_refuted g.predicate.trait_ref.def_id (erased_args g.predicate.trait_ref.args.items)
+-- the arguments of a goal, lifetimes aside
+abbrev pub erased_args : List GenericArg → List Tree
+erased_args args = map erased (map tree_of_arg args)
 
--- the alias has this term there
-abbrev pub AliasHasTerm : State → Goal NormalizesTo → Tree → Type 0
-AliasHasTerm s g t =
-    (g.param_env.items ≡ [])
-    × (level_for s g.param_env.items).gives g.predicate.alias.kind (erased_args g.predicate.alias.args.items) t
+-- a goal of arguments, of an alias, or of an alias and a term holds no inference variable, and neither does its environment
+abbrev pub AreClosed : List GenericArg → List Clause → Type 0
+AreClosed args env = (some_in_args is_any_infer args || some_in_env is_any_infer env) ≡ false
 
--- it is refuted there that the alias has a term
-abbrev pub AliasHasNoTerm : State → Goal NormalizesTo → Type 0
-AliasHasNoTerm s g =
-    (g.param_env.items ≡ [])
-    × (level_for s g.param_env.items).gives_refuted g.predicate.alias.kind (erased_args g.predicate.alias.args.items)
+abbrev pub is_closed_alias : AliasTerm → List Clause → Bool
+is_closed_alias a env = is_closed (tree_of_alias a) && not (some_in_env is_any_infer env)
 
--- a justified answer to a trait goal: yes where it holds, refused where it is refuted, and never for want of memory
-abbrev pub IsTraitResponse : State → Goal TraitPredicate → Certainty → Response → Type 0
-IsTraitResponse s g certainty.Yes r = TraitGoalHolds s g × (r.proven_via ≡ Some via.Misc) × (r.var_values.items ≡ [])
-IsTraitResponse s g certainty.Maybe r = (r.proven_via ≡ None) × (r.var_values.items ≡ [])
+abbrev pub IsClosedEquation : AliasTerm → Term → List Clause → Type 0
+IsClosedEquation a e env = (some_in_equation is_any_infer a e || some_in_env is_any_infer env) ≡ false
 
-abbrev pub IsTraitAnswer : State → Goal TraitPredicate → Result Response Fault → Type 0
-IsTraitAnswer s g (Ok r) = IsTraitResponse s g r.certainty r
-IsTraitAnswer s g (Err fault.NoSolution) = TraitGoalRefuted s g
-IsTraitAnswer s g (Err fault.RerunNonErased) = ⊥
-IsTraitAnswer s g (Err fault.OutOfMemory) = ⊥
-IsTraitAnswer s g (Err fault.NotForThisKind) = ⊥
+-- an answer that leaves its goal undecided
+abbrev pub IsMaybe : Result Response Fault → Type 0
+IsMaybe (Ok r) = r.certainty ≡ certainty.Maybe
+IsMaybe (Err f) = ⊥
 
--- a goal with an empty environment whose terms are of constructors alone, of a trait that only plain impls may show
-abbrev pub IsPlainGoal : State → Goal TraitPredicate → Type 0
-IsPlainGoal s g =
-    (g.param_env.items ≡ []) × IsPlainTrait s.tables g.predicate.trait_ref.def_id × ArePlain (erased_args g.predicate.trait_ref.args.items)
+-- a yes to a trait goal names the class through which it holds, and a refusal is final
+abbrev pub IsTraitResponse : Level → TraitId → List Tree → Certainty → Response → Type 0
+IsTraitResponse L i ts certainty.Yes r = (c : TraitGoalProvenVia) × (r.proven_via ≡ Some c) × L.through c i ts
+IsTraitResponse L i ts certainty.Maybe r = Unit {0}
 
--- at the depth that is left the trait goal holds through no class, and isn't refuted
-abbrev pub IsOpen : State → Goal TraitPredicate → Type 0
-IsOpen s g =
-    ((v : TraitGoalProvenVia) → (level_for s g.param_env.items).through v g.predicate.trait_ref.def_id (erased_args g.predicate.trait_ref.args.items) → ⊥)
-    × ((level_for s g.param_env.items).trait_refuted g.predicate.trait_ref.def_id (erased_args g.predicate.trait_ref.args.items) → ⊥)
+abbrev pub IsTraitAnswer : Level → TraitId → List Tree → Result Response Fault → Type 0
+IsTraitAnswer L i ts (Ok r) = IsTraitResponse L i ts r.certainty r
+IsTraitAnswer L i ts (Err fault.NoSolution) = L.trait_refuted i ts
+IsTraitAnswer L i ts (Err f) = Unit {0}
 
--- the other direction, for plain goals: such a goal is undecided only without depth or arguments, and is open then
-abbrev pub IsDecided : State → Goal TraitPredicate → Result Response Fault → Type 0
-IsDecided s g (Ok r) =
-    r.certainty ≡ certainty.Maybe → IsPlainGoal s g → ((s.remaining_depth ≡ 0) ⊎ (g.predicate.trait_ref.args.items ≡ [])) × IsOpen s g
-IsDecided s g (Err f) = Unit {0}
+-- the trait goal holds through no class, and isn't refuted
+abbrev pub IsOpen : Level → TraitId → List Tree → Type 0
+IsOpen L i ts = ((c : TraitGoalProvenVia) → L.through c i ts → ⊥) × (L.trait_refuted i ts → ⊥)
 
--- a projection of an item that only plain impls give a term, with an empty environment and arguments of constructors alone
-abbrev pub IsPlainAlias : State → Goal NormalizesTo → Type 0
-IsPlainAlias s g =
-    (g.param_env.items ≡ [])
-    × ((i : ItemId) × (q : ItemRow) × (projected g.predicate.alias.kind ≡ Some i) × (item_of s.tables i ≡ Some q)
-    × (is_plain_projection s.tables q (length (erased_args g.predicate.alias.args.items)) ≡ true) × IsPlainItem s.tables q.trait_id q.id)
-    × ArePlain (erased_args g.predicate.alias.args.items)
+-- a yes to another predicate says that it holds, and a refusal is final
+abbrev pub IsHoldingResponse : Level → PredicateTree → Certainty → Type 0
+IsHoldingResponse L p certainty.Yes = ClauseHolds L p
+IsHoldingResponse L p certainty.Maybe = Unit {0}
 
--- at the depth that is left the alias has no term, and it isn't refuted that it has one
-abbrev pub IsAliasOpen : State → Goal NormalizesTo → Type 0
-IsAliasOpen s g =
-    ((t : Tree) → (level_for s g.param_env.items).gives g.predicate.alias.kind (erased_args g.predicate.alias.args.items) t → ⊥)
-    × ((level_for s g.param_env.items).gives_refuted g.predicate.alias.kind (erased_args g.predicate.alias.args.items) → ⊥)
+abbrev pub IsPredicateAnswer : Level → PredicateTree → Result Response Fault → Type 0
+IsPredicateAnswer L p (Ok r) = IsHoldingResponse L p r.certainty
+IsPredicateAnswer L p (Err fault.NoSolution) = ClauseRefuted L p
+IsPredicateAnswer L p (Err f) = Unit {0}
 
--- the number of a general variable
-abbrev pub general_variable_at : Node → Option ℕ
-general_variable_at (nodes.Variable (variables.Ty (infer.TyVar n))) = Some n
-general_variable_at (nodes.Variable (variables.Const n)) = Some n
-general_variable_at _ = None
+-- the predicate neither holds nor is refuted
+abbrev pub IsUndecided : Level → PredicateTree → Type 0
+IsUndecided L p = (ClauseHolds L p → ⊥) × (ClauseRefuted L p → ⊥)
 
 -- the variable that takes a goal's answer
 abbrev pub expected_variable : Term → Option ℕ
 expected_variable e = general_variable_at (node_of (tree_of_term e))
 
--- the other direction, for plain aliases whose answer a general variable takes: such an alias is undecided only at a depth of at most 1 or without arguments, and is open then
-abbrev pub IsAliasDecided : State → Goal NormalizesTo → Result Response Fault → Type 0
-IsAliasDecided s g (Ok r) =
-    (n : ℕ) → expected_variable g.predicate.term ≡ Some n → r.certainty ≡ certainty.Maybe → IsPlainAlias s g →
-    ((s.remaining_depth ≡ 0) ⊎ (s.remaining_depth ≡ 1) ⊎ (erased_args g.predicate.alias.args.items ≡ [])) × IsAliasOpen s g
-IsAliasDecided s g (Err f) = Unit {0}
+-- the answer lists this term as the value of a variable, lifetimes aside, and no other value
+abbrev pub GivesTo : ℕ → Tree → Response → Type 0
+GivesTo n t r = (u : Term) × (r.var_values.items ≡ (n, u) ∷ []) × (erased (tree_of_term u) ≡ t)
 
--- the answer lists this term as the value of that variable, lifetimes aside, and no other value
+-- as that of the variable that takes the goal's answer
 abbrev pub ListsValue : Term → Tree → Response → Type 0
-ListsValue e t r =
-    (n : ℕ) × (u : Term) × (expected_variable e ≡ Some n) × (r.var_values.items ≡ (n, u) ∷ []) × (erased (tree_of_term u) ≡ t)
+ListsValue e t r = (n : ℕ) × (expected_variable e ≡ Some n) × GivesTo n t r
 
--- a response that gives a term to the expected variable
-abbrev pub GivesTermAs : Term → Tree → Certainty → Response → Type 0
-GivesTermAs e t certainty.Yes r = ListsValue e t r
-GivesTermAs e t certainty.Maybe r = r.var_values.items ≡ []
+-- a yes to a goal that an alias normalizes gives its term to the expected variable, and a refusal is final
+abbrev pub IsAliasResponse : Level → AliasTermKind → List Tree → Term → Certainty → Response → Type 0
+IsAliasResponse L k ts e certainty.Yes r = (t : Tree) × L.gives k ts t × ListsValue e t r
+IsAliasResponse L k ts e certainty.Maybe r = Unit {0}
 
-abbrev pub GivesTerm : Term → Tree → Result Response Fault → Type 0
-GivesTerm e t (Ok r) = (r.proven_via ≡ None) × GivesTermAs e t r.certainty r
-GivesTerm e t (Err f) = f ≡ fault.OutOfMemory
+abbrev pub IsAliasAnswer : Level → AliasTermKind → List Tree → Term → Result Response Fault → Type 0
+IsAliasAnswer L k ts e (Ok r) = IsAliasResponse L k ts e r.certainty r
+IsAliasAnswer L k ts e (Err fault.NoSolution) = L.gives_refuted k ts
+IsAliasAnswer L k ts e (Err f) = Unit {0}
 
--- a justified answer to a goal that an alias normalizes: memory may run out only where there is a term to be copied
-abbrev pub IsAliasResponse : State → Goal NormalizesTo → Certainty → Response → Type 0
-IsAliasResponse s g certainty.Yes r = (t : Tree) × AliasHasTerm s g t × ListsValue g.predicate.term t r
-IsAliasResponse s g certainty.Maybe r = r.var_values.items ≡ []
+-- no type and no constant is the alias's term, and it isn't refuted that it has one
+abbrev pub IsAliasOpen : Level → AliasTermKind → List Tree → Type 0
+IsAliasOpen L k ts = ((t : Tree) → IsTerm t → L.gives k ts t → ⊥) × (L.gives_refuted k ts → ⊥)
 
-abbrev pub IsAliasAnswer : State → Goal NormalizesTo → Result Response Fault → Type 0
-IsAliasAnswer s g (Ok r) = (r.proven_via ≡ None) × IsAliasResponse s g r.certainty r
-IsAliasAnswer s g (Err fault.NoSolution) = AliasHasNoTerm s g
-IsAliasAnswer s g (Err fault.RerunNonErased) = ⊥
-IsAliasAnswer s g (Err fault.OutOfMemory) = (t : Tree) × AliasHasTerm s g t
-IsAliasAnswer s g (Err fault.NotForThisKind) = ⊥
+-- a response that changes nothing, but for values of variables; only a yes names a class
+abbrev pub IsQuiet : ℕ → Response → Type 0
+IsQuiet base r = (r.base ≡ base) × (r.vars.items ≡ []) × (r.region_equations.items ≡ []) × (r.opaque_entries.items ≡ [])
+
+abbrev pub AnswersQuietly : ℕ → Result Response Fault → Type 0
+AnswersQuietly base (Ok r) = IsQuiet base r
+AnswersQuietly base (Err f) = Unit {0}
+
+-- what is undecided lists no value and no class
+abbrev pub ListsNothing : Result Response Fault → Type 0
+ListsNothing (Ok r) = (r.proven_via ≡ None) × (r.var_values.items ≡ [])
+ListsNothing (Err f) = Unit {0}
+
+-- a fault of an evaluation: to be run again only in the erased mode, and with an access recorded; never that the goal is of another kind
+abbrev pub IsFaultOf : State → State → Result Response Fault → Type 0
+IsFaultOf before after (Ok r) = Unit {0}
+IsFaultOf before after (Err fault.RerunNonErased) = (before.typing_mode ≡ mode.ErasedNotCoherence) × (0 < length after.accesses)
+IsFaultOf before after (Err fault.NotForThisKind) = ⊥
+IsFaultOf before after (Err f) = Unit {0}
+
+-- the answer to a goal that holds or not, by its outcome
+abbrev pub IsConclusion : Result Outcome Stop → Result Response Fault → Type 0
+IsConclusion (Ok outcome.Holds) r = IfOk r (λ x. x.certainty ≡ certainty.Yes) × IsOk r
+IsConclusion (Ok outcome.Refuted) r = r ≡ Err fault.NoSolution
+IsConclusion (Ok outcome.Undecided) r = IsMaybe r
+IsConclusion (Err s) r = r ≡ Err fault.OutOfMemory

@@ -1,5 +1,6 @@
 //! The context of an evaluation.
 ghost use Rattle.std.specs.Prelude.{◌≡◌, ◌<◌, [], ◌↔◌, length, IsErr, IfOk};
+ghost use Rattle.goal_solver.specs.Answers.{IsQuiet};
 ghost use Rattle.goal_solver.specs.GoingBack.{GoesBack, lengths_of, restored};
 ghost use Rattle.goal_solver.specs.State.{State, kinds_of};
 
@@ -25,11 +26,11 @@ pub const GREATEST_LIMIT: u32 = 128;
 /// recorded so far.
 #[derive(Drop)]
 pub struct EvalCtxt<'t> {
-    tables: &'t CheckedTables,
-    typing_mode: TypingMode,
-    remaining_depth: u32,
-    stop_on_rerun: bool,
-    terms: TermTable,
+    pub(crate) tables: &'t CheckedTables,
+    pub(crate) typing_mode: TypingMode,
+    pub(crate) remaining_depth: u32,
+    pub(crate) stop_on_rerun: bool,
+    pub(crate) terms: TermTable,
     pub(crate) inference: InferState,
     /// The kinds of the variables, in step with them.
     pub(crate) kinds: Vec<VarKind>,
@@ -165,7 +166,7 @@ impl<'t> EvalCtxt<'t> {
         ensures certainty { result.certainty ≡ certainty }
         ensures proven_via { result.proven_via ≡ proven_via }
         ensures values { result.var_values.items ≡ [] }
-        ensures base { result.base ≡ length (kinds_of self.now) }
+        ensures quiet { IsQuiet (length (kinds_of self.now)) result }
     {
         let alloc = self.allocator();
         Response {

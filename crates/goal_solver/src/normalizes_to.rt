@@ -1,101 +1,90 @@
 //! Normalization of aliases.
-ghost use Rattle.std.specs.Prelude.{◌≡◌, ℕ, true, Some, is_some, IfOk, IfSome};
-ghost use Rattle.goal_terms.specs.TreeOf.{tree_of_term};
-ghost use Rattle.goal_terms.specs.View.{tree_of_ref};
-ghost use Rattle.goal_terms.specs.Erased.{erased};
+ghost use Rattle.std.specs.Prelude.{◌≡◌, ℕ, true, length, Some, IfOk, IsOkUnless};
+ghost use Rattle.goal_terms.specs.TableMeaning.{HasTerm};
 ghost use Rattle.goal_terms.specs.declared.answers.Certainty.TheVariants as certainty;
-ghost use Rattle.goal_solver.specs.Answers.{IsAliasAnswer, IsAliasDecided, GivesTerm, expected_variable, general_variable_at};
-ghost use Rattle.goal_solver.specs.GoingBack.{GoesBack};
-ghost use Rattle.goal_solver.specs.Verdicts.{IsTerm};
+ghost use Rattle.goal_terms.specs.declared.modes.TypingMode.{TypingMode};
+ghost use Rattle.goal_kinds.specs.Answers.{Answer, IsAnswer, decides, setting_of, which_term};
+ghost use Rattle.goal_kinds.specs.Interned.{erased_at};
+ghost use Rattle.goal_kinds.specs.Levels.{level};
+ghost use Rattle.goal_solver.specs.Answers.{IsOwed, level_over, erased_args, is_closed_alias, IsAliasAnswer, IsAliasOpen, GivesTo, expected_variable, IsMaybe, AnswersQuietly, IsFaultOf};
+ghost use Rattle.goal_solver.specs.GoingBack.{GoesBack, restored};
+ghost use Rattle.goal_solver.specs.State.{kinds_of};
 
+use crate::closed_goals::is_closed_alias;
 use crate::context::EvalCtxt;
-use crate::eval::{HeadForm, normalize};
 use crate::faults::Fault;
+use crate::outcomes::Found;
 use goal_terms::answers::{Certainty, Response};
-use goal_terms::heads::{Node, Variable};
+use goal_terms::node_tests::general_variable;
 use goal_terms::predicates::{Goal, NormalizesTo};
-use goal_terms::terms::{InferTy, Term};
-use goal_terms::view::TermRef;
-use std::alloc::AllocError;
+use goal_terms::term_nodes::TermId;
 
+#[tactic(auto, using(crate::proofs::AnswerLemmas::answering))]
 impl EvalCtxt<'_> {
-    /// The term that an alias normalizes to, as the value of the goal's expected variable. `Yes`: a
-    /// derivation no higher than the remaining depth gives the term. `NoSolution`: a refutation no
-    /// higher shows that there is none. A goal with an environment is `Maybe`. A plain alias
-    /// (`IsPlainAlias`) whose expected term is a general variable is `Maybe` only at a depth of at
-    /// most 1 or without arguments, and has then neither a term nor a refutation. Want of memory for
-    /// the copy of a term that is found is `OutOfMemory`. It changes nothing: the answer says what
-    /// would change.
+    /// The term that an alias normalizes to, as the value of the goal's expected variable. `Yes`: a derivation no
+    /// higher than the remaining depth gives the term. `NoSolution`: a refutation no higher shows that there is
+    /// none. `Maybe`, for a closed goal in a headline mode whose expected term is a general variable: there is
+    /// neither. A goal with other inference variables is `Maybe`, and a refuted one in coherence. No two answers at
+    /// any depths disagree. Inference state, added goals and storage are as before: the answer says what would
+    /// change. At depth 0 it takes no memory.
     pub fn compute_normalizes_to_goal(
         &mut self,
         goal: &Goal<NormalizesTo>,
     ) -> Result<Response, Fault>
-        ensures sound { IsAliasAnswer self.old goal.now result }
-        ensures decided { IsAliasDecided self.old goal.now result }
-        ensures unchanged { self.new ≡ self.old }
+        ensures sound { (m : TypingMode) → IsOwed self.new m → IsAliasAnswer (level_over self.old m goal.now.param_env.items) goal.now.predicate.alias.kind (erased_args goal.now.predicate.alias.args.items) goal.now.predicate.term result }
+        ensures decided { (m : TypingMode) (n : ℕ) → IsOwed self.new m → is_closed_alias goal.now.predicate.alias goal.now.param_env.items ≡ true → expected_variable goal.now.predicate.term ≡ Some n → IsMaybe result → IsAliasOpen (level_over self.old m goal.now.param_env.items) goal.now.predicate.alias.kind (erased_args goal.now.predicate.alias.args.items) }
+        ensures agrees { (m : TypingMode) (n k : ℕ) (a b : Answer) → decides a ≡ true → decides b ≡ true → IsAnswer (level (setting_of self.old.tables m goal.now.param_env.items) n) (which_term goal.now.predicate.alias.kind (erased_args goal.now.predicate.alias.args.items)) a → IsAnswer (level (setting_of self.old.tables m goal.now.param_env.items) k) (which_term goal.now.predicate.alias.kind (erased_args goal.now.predicate.alias.args.items)) b → a ≡ b }
+        ensures unchanged { self.new ≡ restored self.old self.new }
         ensures goes_back { GoesBack self.old self.new }
+        ensures fault { IsFaultOf self.old self.new result }
+        ensures quiet { AnswersQuietly (length (kinds_of self.old)) result }
     {
-        if goal.param_env.len() > 0 {
+        let Some(expected) = general_variable(goal.predicate.term.view().node()) else {
+            return Ok(self.respond(Certainty::Maybe, None));
+        };
+        if self.remaining_depth() == 0 {
             return Ok(self.respond(Certainty::Maybe, None));
         }
-        let alias = &goal.predicate.alias;
-        let rows = self.tables().rows();
-        match normalize(rows, alias.kind, &alias.args, self.remaining_depth()) {
-            HeadForm::Undecided => Ok(self.respond(Certainty::Maybe, None)),
-            HeadForm::Refuted => Err(Fault::NoSolution),
-            HeadForm::Is(term) => self.respond_with(&goal.predicate.term, term),
+        if !is_closed_alias(goal) {
+            return Ok(self.respond(Certainty::Maybe, None));
+        }
+        match self.alias_outcome(goal) {
+            Ok(Found::Is(id)) => self.respond_found(expected, id),
+            Ok(Found::Refuted) => self.refuted(),
+            Ok(Found::Undecided) => Ok(self.respond(Certainty::Maybe, None)),
+            Err(stop) => self.stopped(stop),
         }
     }
 
-    /// The answer that gives a term to the expected variable, if there is one. Where there is one, a
-    /// type or a constant is given to it.
-    fn respond_with(&self, expected: &Term, term: TermRef<'_>) -> Result<Response, Fault>
-        ensures sound { GivesTerm expected.now (erased (tree_of_ref term.entry)) result }
-        ensures decided { (n : ℕ) → expected_variable expected.now ≡ Some n → IsTerm term.entry → IfOk result (λ r. r.certainty ≡ certainty.Yes) }
+    /// The answer that gives what was found to a variable. Only a type or a constant can be given.
+    fn respond_found(&self, expected: u32, id: TermId) -> Result<Response, Fault>
+        ensures yes { HasTerm self.now.terms id → IfOk result (λ r. (r.certainty ≡ certainty.Yes) × GivesTo expected (erased_at self.now.terms id) r) }
+        ensures maybe { (HasTerm self.now.terms id → ⊥) → IfOk result (λ r. r.certainty ≡ certainty.Maybe) }
+        ensures only_memory { IsOkUnless result Fault.OutOfMemory }
+        ensures quiet { AnswersQuietly (length (kinds_of self.now)) result }
     {
-        let Some(number) = variable_number(expected) else {
-            return Ok(self.respond(Certainty::Maybe, None));
-        };
-        let Ok(owned) = own(term) else {
+        if self.terms.contains(id) {
+            self.respond_with(expected, id)
+        } else {
+            Ok(self.respond(Certainty::Maybe, None))
+        }
+    }
+
+    /// The answer that gives a term to a variable. Only memory is refused.
+    fn respond_with(&self, expected: u32, id: TermId) -> Result<Response, Fault>
+        requires { HasTerm self.now.terms id }
+        ensures yes { IfOk result (λ r. r.certainty ≡ certainty.Yes) }
+        ensures value { IfOk result (GivesTo expected (erased_at self.now.terms id)) }
+        ensures only_memory { IsOkUnless result Fault.OutOfMemory }
+        ensures quiet { AnswersQuietly (length (kinds_of self.now)) result }
+    {
+        let Ok(value) = self.terms.to_term(id) else {
             return Err(Fault::OutOfMemory);
         };
-        let Some(value) = owned else {
-            return Ok(self.respond(Certainty::Maybe, None));
-        };
         let mut response = self.respond(Certainty::Yes, None);
-        if response.var_values.push((number, value)).is_err() {
+        if response.var_values.push((expected, value)).is_err() {
             return Err(Fault::OutOfMemory);
         }
         Ok(response)
-    }
-}
-
-/// The number of the variable that takes the answer.
-fn variable_number(term: &Term) -> Option<u32>
-    ensures { result ≡ expected_variable term.now }
-{
-    number_of(term.view().node())
-}
-
-fn number_of(node: Node) -> Option<u32>
-    ensures { result ≡ general_variable_at node }
-{
-    match node {
-        Node::Variable(Variable::Ty(InferTy::TyVar(number))) => Some(number),
-        Node::Variable(Variable::Const(number)) => Some(number),
-        _ => None,
-    }
-}
-
-#[tactic(auto, using(crate::proofs::AnswerLemmas::owning))]
-/// A copy of a term that is a type or a constant.
-fn own(term: TermRef<'_>) -> Result<Option<Term>, AllocError>
-    ensures tree { IfOk result (λ found. IfSome found (λ owned. tree_of_term owned ≡ tree_of_ref term.entry)) }
-    ensures copied { IsTerm term.entry → IfOk result (λ found. is_some found ≡ true) }
-{
-    match term {
-        TermRef::Ty(ty) => Ok(Some(Term::Ty(ty.clone()?))),
-        TermRef::Const(value) => Ok(Some(Term::Const(value.clone()?))),
-        _ => Ok(None),
     }
 }

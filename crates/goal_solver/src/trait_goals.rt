@@ -1,38 +1,47 @@
 //! Trait goals.
-ghost use Rattle.std.specs.Prelude.{◌≡◌};
-ghost use Rattle.goal_solver.specs.Answers.{IsTraitAnswer, IsDecided};
-ghost use Rattle.goal_solver.specs.GoingBack.{GoesBack};
+ghost use Rattle.std.specs.Prelude.{◌≡◌, ℕ, true, length};
+ghost use Rattle.goal_terms.specs.PredicateTrees.{holds};
+ghost use Rattle.goal_terms.specs.declared.modes.TypingMode.{TypingMode};
+ghost use Rattle.goal_kinds.specs.Answers.{Answer, IsAnswer, decides, setting_of, whether};
+ghost use Rattle.goal_kinds.specs.Levels.{level};
+ghost use Rattle.goal_solver.specs.Answers.{IsOwed, level_over, erased_args, AreClosed, IsTraitAnswer, IsOpen, IsMaybe, AnswersQuietly, IsFaultOf};
+ghost use Rattle.goal_solver.specs.GoingBack.{GoesBack, restored};
+ghost use Rattle.goal_solver.specs.State.{kinds_of};
 
+use crate::closed_goals::has_variable;
 use crate::context::EvalCtxt;
-use crate::eval::{Verdict, trait_goal};
 use crate::faults::Fault;
-use goal_terms::answers::{Certainty, Response, TraitGoalProvenVia};
+use crate::outcomes::TraitOutcome;
+use goal_terms::answers::{Certainty, Response};
 use goal_terms::predicates::{Goal, TraitPredicate};
 
+#[tactic(auto, using(crate::proofs::AnswerLemmas::answering))]
 impl EvalCtxt<'_> {
-    /// Whether a trait goal holds. `Yes`: a derivation no higher than the remaining depth shows it,
-    /// through the class that the answer names. `NoSolution`: a refutation no higher does. A goal
-    /// with an environment is `Maybe`. It takes no memory, and changes nothing.
+    /// Whether a trait goal holds. `Yes`: a derivation no higher than the remaining depth shows it, through
+    /// the class that the answer names. `NoSolution`: a refutation no higher does. `Maybe`, for a closed goal
+    /// in a headline mode: there is neither. A goal with inference variables is `Maybe`, and a refuted one in
+    /// coherence. No two answers at any depths disagree. Inference state, added goals and storage are as
+    /// before. At depth 0 it takes no memory.
     pub fn compute_trait_goal(&mut self, goal: &Goal<TraitPredicate>) -> Result<Response, Fault>
-        ensures sound { IsTraitAnswer self.old goal.now result }
-        ensures decided { IsDecided self.old goal.now result }
-        ensures unchanged { self.new ≡ self.old }
+        ensures sound { (m : TypingMode) → IsOwed self.new m → IsTraitAnswer (level_over self.old m goal.now.param_env.items) goal.now.predicate.trait_ref.def_id (erased_args goal.now.predicate.trait_ref.args.items) result }
+        ensures decided { (m : TypingMode) → IsOwed self.new m → AreClosed goal.now.predicate.trait_ref.args.items goal.now.param_env.items → IsMaybe result → IsOpen (level_over self.old m goal.now.param_env.items) goal.now.predicate.trait_ref.def_id (erased_args goal.now.predicate.trait_ref.args.items) }
+        ensures agrees { (m : TypingMode) (n k : ℕ) (a b : Answer) → decides a ≡ true → decides b ≡ true → IsAnswer (level (setting_of self.old.tables m goal.now.param_env.items) n) (whether (holds goal.now.predicate.trait_ref.def_id (erased_args goal.now.predicate.trait_ref.args.items))) a → IsAnswer (level (setting_of self.old.tables m goal.now.param_env.items) k) (whether (holds goal.now.predicate.trait_ref.def_id (erased_args goal.now.predicate.trait_ref.args.items))) b → a ≡ b }
+        ensures unchanged { self.new ≡ restored self.old self.new }
         ensures goes_back { GoesBack self.old self.new }
+        ensures fault { IsFaultOf self.old self.new result }
+        ensures quiet { AnswersQuietly (length (kinds_of self.old)) result }
     {
-        if goal.param_env.len() > 0 {
+        if self.remaining_depth() == 0 {
             return Ok(self.respond(Certainty::Maybe, None));
         }
-        let trait_ref = &goal.predicate.trait_ref;
-        let rows = self.tables().rows();
-        match trait_goal(
-            rows,
-            trait_ref.def_id,
-            &trait_ref.args,
-            self.remaining_depth(),
-        ) {
-            Verdict::Holds => Ok(self.respond(Certainty::Yes, Some(TraitGoalProvenVia::Misc))),
-            Verdict::Undecided => Ok(self.respond(Certainty::Maybe, None)),
-            Verdict::Refuted => Err(Fault::NoSolution),
+        if has_variable(goal) {
+            return Ok(self.respond(Certainty::Maybe, None));
+        }
+        match self.trait_goal_outcome(goal) {
+            Ok(TraitOutcome::Holds(class)) => Ok(self.respond(Certainty::Yes, Some(class))),
+            Ok(TraitOutcome::Refuted) => self.refuted(),
+            Ok(TraitOutcome::Undecided) => Ok(self.respond(Certainty::Maybe, None)),
+            Err(stop) => self.stopped(stop),
         }
     }
 }

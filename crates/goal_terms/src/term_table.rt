@@ -45,7 +45,8 @@ impl TermTable {
         }
     }
 
-    pub(crate) fn allocator(&self) -> Global {
+    /// Where the table's memory comes from.
+    pub fn allocator(&self) -> Global {
         *self.nodes.allocator()
     }
 

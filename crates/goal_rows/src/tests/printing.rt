@@ -44,7 +44,7 @@ fn a_failed_write_ends_the_output(rt: HostRuntime) -> Result<(), Fail> {
     let alloc = rt.alloc();
     let mut whole = FailingOnce::new(alloc, usize::MAX);
     assert_eq!(rt; print_rows(alloc, &mut whole), Ok(()));
-    assert!(rt; whole.written.as_slice().starts_with(b"11a "));
+    assert!(rt; whole.written.as_slice().starts_with(b"01a "));
     assert!(rt; 8 <= whole.writes);
     for fails_at in 0..whole.writes {
         let mut out = FailingOnce::new(alloc, fails_at);

@@ -1,7 +1,7 @@
 //! The whole tables: they are accepted, and no longer with impl 10.
 use crate::names::{A, FOO, FOO_ASSOC, P, TR};
 use crate::program_impls::{simple_impl, source_row};
-use crate::program_tables::{program_tables, whole_tables};
+use crate::program_tables::whole_tables;
 use crate::program_types::{one_type, struct_row, trait_clause, trait_ref};
 use crate::tests::verdicts::{assert_accepted, assert_refused, assert_refused_first};
 use goal_tables::faults::TableFault;
@@ -38,7 +38,6 @@ fn add_free_parameter(alloc: Global, tables: &mut Tables) -> Result<(), AllocErr
 fn tables_of_the_program(rt: HostRuntime) -> Result<(), Fail> {
     let alloc = rt.alloc();
     assert_accepted(&rt, "the whole tables", whole_tables(alloc)?);
-    assert_accepted(&rt, "what the program asks", program_tables(alloc)?);
     Ok(())
 }
 

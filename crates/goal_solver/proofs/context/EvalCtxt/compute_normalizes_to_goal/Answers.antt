@@ -1,43 +1,56 @@
-use Rattle.std.proofs.Common.{◌∙◌, arith}
-use Rattle.goal_terms.specs.Erased.{erased}
-use Rattle.goal_terms.specs.View.{tree_of_ref}
-use Rattle.goal_solver.proofs.AnswerLemmas.{alias-given, alias-refuted, answer-given}
-use Rattle.goal_solver.proofs.DecidedAliases.{alias_decided-given, alias_decided-environment, alias_decided-plain}
+use Rattle.std.proofs.Common.{arith, sym, ◌∙◌, ap, subst}
+use Rattle.goal_terms.specs.NodeTests.{general_variable_at}
+use Rattle.goal_terms.specs.Tree.{node_of}
+use Rattle.goal_kinds.specs.Answers.{setting_of}
+use Rattle.goal_solver.specs.Outcomes.{FoundIn, SaysWhich}
+use Rattle.goal_solver.specs.Answers.{erased_args, level_over}
+use Rattle.goal_solver.proofs.AnswerLemmas.{alias_open-ground, goes_back-grown, owed-grown}
+use Rattle.goal_solver.proofs.FoundAnswers.{found-sound, found-open}
+use Rattle.goal_kinds.proofs.ConsistentLemmas.{each_level_is_consistent}
 use Rattle.goal_solver.proofs.GoingBackLemmas.{goes_back-same}
 use Rattle.goal_solver.proofs.context.EvalCtxt.compute_normalizes_to_goal.Goals as goal
 
-pub returns-in-Refuted-clause-sound : goal.returns-in-Refuted-clause-sound
-returns-in-Refuted-clause-sound c =
-    alias-refuted c.args.self.now c.args.goal.now c.rows-rows.result.now c.remaining_depth.result c.deref.result.now
-    (c.rows-rows.ensures.rows ∙ c.tables.ensures) c.remaining_depth.ensures c.deref.ensures.value (omega (arith, c.len.ensures)) c.in-Refuted.ensures.says
+pub returns-in_default-clause-goes_back : goal.returns-in_default-clause-goes_back
+returns-in_default-clause-goes_back c = goes_back-same c.args.self.now
 
-pub returns-in-Is-clause-sound : goal.returns-in-Is-clause-sound
-returns-in-Is-clause-sound c =
-    answer-given c.args.self.now c.args.goal.now (erased (tree_of_ref c.in-Is.term)) c.respond_with.result
-    (alias-given c.args.self.now c.args.goal.now c.rows-rows.result.now c.remaining_depth.result c.deref.result.now (erased (tree_of_ref c.in-Is.term))
-    (c.rows-rows.ensures.rows ∙ c.tables.ensures) c.remaining_depth.ensures c.deref.ensures.value (omega (arith, c.len.ensures)) c.in-Is.ensures.says)
-    c.respond_with.ensures.sound
+pub returns-then-remaining_depth-eq0-clause-decided : goal.returns-then-remaining_depth-eq0-clause-decided
+returns-then-remaining_depth-eq0-clause-decided c = λ m n owed closed expected undecided.
+    alias_open-ground (setting_of c.args.self.now.tables m c.args.goal.now.param_env.items) c.args.self.now.remaining_depth (omega (arith, c.remaining_depth.ensures, c.if-remaining_depth-eq0.true))
+    c.args.goal.now.predicate.alias.kind (erased_args c.args.goal.now.predicate.alias.args.items)
 
-pub returns-in-Is-clause-decided : goal.returns-in-Is-clause-decided
-returns-in-Is-clause-decided c =
-    alias_decided-given c.args.self.now c.args.goal.now c.respond_with.result (λ n e. c.respond_with.ensures.decided n e c.in-Is.ensures.finds_term)
+pub returns-then-remaining_depth-eq0-clause-goes_back : goal.returns-then-remaining_depth-eq0-clause-goes_back
+returns-then-remaining_depth-eq0-clause-goes_back c = goes_back-same c.args.self.now
 
-pub returns-in-Undecided-clause-decided : goal.returns-in-Undecided-clause-decided
-returns-in-Undecided-clause-decided c =
-    alias_decided-plain c.args.self.now c.args.goal.now c.respond-in-Undecided.result c.rows-rows.result.now c.remaining_depth.result c.deref.result.now
-    (c.rows-rows.ensures.rows ∙ c.tables.ensures) c.remaining_depth.ensures c.deref.ensures.value c.in-Undecided.ensures.says
+pub returns-then-not-is_closed_alias-clause-goes_back : goal.returns-then-not-is_closed_alias-clause-goes_back
+returns-then-not-is_closed_alias-clause-goes_back c = goes_back-same c.args.self.now
 
-pub returns-then-len-gt0-clause-decided : goal.returns-then-len-gt0-clause-decided
-returns-then-len-gt0-clause-decided c = alias_decided-environment c.args.self.now c.args.goal.now c.respond.result (omega (arith, c.len.ensures))
+pub returns-in-Ok-Is-clause-goes_back : goal.returns-in-Ok-Is-clause-goes_back
+returns-in-Ok-Is-clause-goes_back c = goes_back-grown c.args.self.now c.alias_outcome.new.self c.alias_outcome.ensures.unchanged c.alias_outcome.ensures.kept
 
-pub returns-then-len-gt0-clause-goes_back : goal.returns-then-len-gt0-clause-goes_back
-returns-then-len-gt0-clause-goes_back c = goes_back-same c.args.self.now
+pub returns-in-Ok-Refuted-clause-goes_back : goal.returns-in-Ok-Refuted-clause-goes_back
+returns-in-Ok-Refuted-clause-goes_back c = goes_back-grown c.args.self.now c.alias_outcome.new.self c.alias_outcome.ensures.unchanged c.alias_outcome.ensures.kept
 
-pub returns-in-Undecided-clause-goes_back : goal.returns-in-Undecided-clause-goes_back
-returns-in-Undecided-clause-goes_back c = goes_back-same c.args.self.now
+pub returns-in-Ok-Undecided-clause-goes_back : goal.returns-in-Ok-Undecided-clause-goes_back
+returns-in-Ok-Undecided-clause-goes_back c = goes_back-grown c.args.self.now c.alias_outcome.new.self c.alias_outcome.ensures.unchanged c.alias_outcome.ensures.kept
 
-pub returns-in-Refuted-clause-goes_back : goal.returns-in-Refuted-clause-goes_back
-returns-in-Refuted-clause-goes_back c = goes_back-same c.args.self.now
+pub returns-in-Ok-Is-clause-sound : goal.returns-in-Ok-Is-clause-sound
+returns-in-Ok-Is-clause-sound c = λ m owed.
+    found-sound (level_over c.args.self.now m c.args.goal.now.param_env.items)
+    c.args.goal.now.predicate.alias.kind (erased_args c.args.goal.now.predicate.alias.args.items) c.args.goal.now.predicate.term
+    c.alias_outcome.new.self.terms c.in-Ok-Is.id c.in-Some.expected
+    (sym (c.in-Some.ensures ∙ ap general_variable_at (c.node.ensures ∙ ap node_of c.view.ensures)))
+    (subst (FoundIn c.alias_outcome.new.self.terms) c.in-Ok-Is.field-0-is c.in-Ok-Is.ensures.within).0
+    (subst (SaysWhich ((level_over c.args.self.now m c.args.goal.now.param_env.items).gives c.args.goal.now.predicate.alias.kind (erased_args c.args.goal.now.predicate.alias.args.items)) ((level_over c.args.self.now m c.args.goal.now.param_env.items).gives_refuted c.args.goal.now.predicate.alias.kind (erased_args c.args.goal.now.predicate.alias.args.items)) c.alias_outcome.new.self.terms) c.in-Ok-Is.field-0-is
+    (c.in-Ok-Is.ensures.says m (owed-grown c.args.self.now c.alias_outcome.new.self m c.alias_outcome.ensures.unchanged owed)))
+    c.respond_found.result (c.respond_found.ensures.yes, c.respond_found.ensures.maybe, c.respond_found.ensures.only_memory)
 
-pub returns-in-Is-clause-goes_back : goal.returns-in-Is-clause-goes_back
-returns-in-Is-clause-goes_back c = goes_back-same c.args.self.now
+pub returns-in-Ok-Is-clause-decided : goal.returns-in-Ok-Is-clause-decided
+returns-in-Ok-Is-clause-decided c = λ m n owed closed expected undecided.
+    found-open (level_over c.args.self.now m c.args.goal.now.param_env.items)
+    (each_level_is_consistent (setting_of c.args.self.now.tables m c.args.goal.now.param_env.items) c.args.self.now.remaining_depth)
+    c.args.goal.now.predicate.alias.kind (erased_args c.args.goal.now.predicate.alias.args.items)
+    c.alias_outcome.new.self.terms c.in-Ok-Is.id c.in-Some.expected
+    (subst (FoundIn c.alias_outcome.new.self.terms) c.in-Ok-Is.field-0-is c.in-Ok-Is.ensures.within).0
+    (subst (SaysWhich ((level_over c.args.self.now m c.args.goal.now.param_env.items).gives c.args.goal.now.predicate.alias.kind (erased_args c.args.goal.now.predicate.alias.args.items)) ((level_over c.args.self.now m c.args.goal.now.param_env.items).gives_refuted c.args.goal.now.predicate.alias.kind (erased_args c.args.goal.now.predicate.alias.args.items)) c.alias_outcome.new.self.terms) c.in-Ok-Is.field-0-is
+    (c.in-Ok-Is.ensures.says m (owed-grown c.args.self.now c.alias_outcome.new.self m c.alias_outcome.ensures.unchanged owed)))
+    c.respond_found.result (c.respond_found.ensures.yes, c.respond_found.ensures.maybe, c.respond_found.ensures.only_memory) undecided

@@ -1,43 +1,26 @@
-use Rattle.std.proofs.Common.{◌∙◌, sym, subst, arith}
-use Rattle.goal_solver.specs.Answers.{IsTraitResponse}
-use Rattle.goal_solver.proofs.AnswerLemmas.{trait-holds, trait-refuted}
-use Rattle.goal_solver.proofs.DecidedLemmas.{decided-yes, decided-environment, decided-plain}
+use Rattle.std.proofs.Common.{arith}
+use Rattle.goal_kinds.specs.Answers.{setting_of}
+use Rattle.goal_solver.specs.Answers.{erased_args}
+use Rattle.goal_solver.proofs.AnswerLemmas.{open-ground, goes_back-grown}
 use Rattle.goal_solver.proofs.GoingBackLemmas.{goes_back-same}
 use Rattle.goal_solver.proofs.context.EvalCtxt.compute_trait_goal.Goals as goal
 
-pub returns-in-Holds-clause-sound : goal.returns-in-Holds-clause-sound
-returns-in-Holds-clause-sound c =
-    subst (λ y. IsTraitResponse c.args.self.now c.args.goal.now y c.respond-in-Holds.result) (sym c.respond-in-Holds.ensures.certainty) (
-      trait-holds c.args.self.now c.args.goal.now c.rows-rows.result.now c.remaining_depth.result c.deref.result.now
-          (c.rows-rows.ensures.rows ∙ c.tables.ensures) c.remaining_depth.ensures c.deref.ensures.value (omega (arith, c.len.ensures)) c.in-Holds.ensures,
-      c.respond-in-Holds.ensures.proven_via,
-      c.respond-in-Holds.ensures.values,
-    )
+pub returns-then-remaining_depth-eq0-clause-decided : goal.returns-then-remaining_depth-eq0-clause-decided
+returns-then-remaining_depth-eq0-clause-decided c = λ m owed closed undecided.
+    open-ground (setting_of c.args.self.now.tables m c.args.goal.now.param_env.items) c.args.self.now.remaining_depth (omega (arith, c.remaining_depth.ensures, c.if-remaining_depth-eq0.true))
+    c.args.goal.now.predicate.trait_ref.def_id (erased_args c.args.goal.now.predicate.trait_ref.args.items)
 
-pub returns-in-Refuted-clause-sound : goal.returns-in-Refuted-clause-sound
-returns-in-Refuted-clause-sound c =
-    trait-refuted c.args.self.now c.args.goal.now c.rows-rows.result.now c.remaining_depth.result c.deref.result.now
-    (c.rows-rows.ensures.rows ∙ c.tables.ensures) c.remaining_depth.ensures c.deref.ensures.value (omega (arith, c.len.ensures)) c.in-Refuted.ensures
+pub returns-then-remaining_depth-eq0-clause-goes_back : goal.returns-then-remaining_depth-eq0-clause-goes_back
+returns-then-remaining_depth-eq0-clause-goes_back c = goes_back-same c.args.self.now
 
-pub returns-in-Holds-clause-decided : goal.returns-in-Holds-clause-decided
-returns-in-Holds-clause-decided c = decided-yes c.args.self.now c.args.goal.now c.respond-in-Holds.result c.respond-in-Holds.ensures.certainty
+pub returns-then-has_variable-clause-goes_back : goal.returns-then-has_variable-clause-goes_back
+returns-then-has_variable-clause-goes_back c = goes_back-same c.args.self.now
 
-pub returns-in-Undecided-clause-decided : goal.returns-in-Undecided-clause-decided
-returns-in-Undecided-clause-decided c =
-    decided-plain c.args.self.now c.args.goal.now c.respond-in-Undecided.result c.rows-rows.result.now c.remaining_depth.result c.deref.result.now
-    (c.rows-rows.ensures.rows ∙ c.tables.ensures) c.remaining_depth.ensures c.deref.ensures.value c.in-Undecided.ensures
+pub returns-in-Ok-Holds-clause-goes_back : goal.returns-in-Ok-Holds-clause-goes_back
+returns-in-Ok-Holds-clause-goes_back c = goes_back-grown c.args.self.now c.trait_goal_outcome.new.self c.trait_goal_outcome.ensures.unchanged c.trait_goal_outcome.ensures.kept
 
-pub returns-then-len-gt0-clause-decided : goal.returns-then-len-gt0-clause-decided
-returns-then-len-gt0-clause-decided c = decided-environment c.args.self.now c.args.goal.now c.respond.result (omega (arith, c.len.ensures))
+pub returns-in-Ok-Refuted-clause-goes_back : goal.returns-in-Ok-Refuted-clause-goes_back
+returns-in-Ok-Refuted-clause-goes_back c = goes_back-grown c.args.self.now c.trait_goal_outcome.new.self c.trait_goal_outcome.ensures.unchanged c.trait_goal_outcome.ensures.kept
 
-pub returns-then-len-gt0-clause-goes_back : goal.returns-then-len-gt0-clause-goes_back
-returns-then-len-gt0-clause-goes_back c = goes_back-same c.args.self.now
-
-pub returns-in-Holds-clause-goes_back : goal.returns-in-Holds-clause-goes_back
-returns-in-Holds-clause-goes_back c = goes_back-same c.args.self.now
-
-pub returns-in-Undecided-clause-goes_back : goal.returns-in-Undecided-clause-goes_back
-returns-in-Undecided-clause-goes_back c = goes_back-same c.args.self.now
-
-pub returns-in-Refuted-clause-goes_back : goal.returns-in-Refuted-clause-goes_back
-returns-in-Refuted-clause-goes_back c = goes_back-same c.args.self.now
+pub returns-in-Ok-Undecided-clause-goes_back : goal.returns-in-Ok-Undecided-clause-goes_back
+returns-in-Ok-Undecided-clause-goes_back c = goes_back-grown c.args.self.now c.trait_goal_outcome.new.self c.trait_goal_outcome.ensures.unchanged c.trait_goal_outcome.ensures.kept

@@ -1,0 +1,34 @@
+use Rattle.std.proofs.Common.{arith}
+use Rattle.goal_terms.specs.PredicateTrees.{holds_const}
+use Rattle.goal_solver.specs.Answers.{erased_args}
+use Rattle.goal_kinds.specs.Answers.{setting_of}
+use Rattle.goal_solver.proofs.AnswerLemmas.{undecided-ground, predicate-sound, predicate-decided, const-says_of}
+use Rattle.goal_solver.proofs.GoingBackLemmas.{goes_back-same}
+use Rattle.goal_solver.proofs.context.EvalCtxt.compute_host_effect_goal.Goals as goal
+
+pub returns-then-remaining_depth-eq0-clause-decided : goal.returns-then-remaining_depth-eq0-clause-decided
+returns-then-remaining_depth-eq0-clause-decided c = λ m owed closed undecided.
+    undecided-ground (setting_of c.args.self.now.tables m c.args.goal.now.param_env.items) c.args.self.now.remaining_depth (omega (arith, c.remaining_depth.ensures, c.if-remaining_depth-eq0.true))
+    (holds_const c.args.goal.now.predicate.constness c.args.goal.now.predicate.trait_ref.def_id (erased_args c.args.goal.now.predicate.trait_ref.args.items))
+
+pub returns-then-remaining_depth-eq0-clause-goes_back : goal.returns-then-remaining_depth-eq0-clause-goes_back
+returns-then-remaining_depth-eq0-clause-goes_back c = goes_back-same c.args.self.now
+
+pub returns-then-has_variable-clause-goes_back : goal.returns-then-has_variable-clause-goes_back
+returns-then-has_variable-clause-goes_back c = goes_back-same c.args.self.now
+
+pub returns-clause-sound : goal.returns-clause-sound
+returns-clause-sound c =
+    predicate-sound c.args.self.now c.host_effect_goal_outcome-outcome.new.self c.conclude.new.self c.args.goal.now.param_env.items
+    (holds_const c.args.goal.now.predicate.constness c.args.goal.now.predicate.trait_ref.def_id (erased_args c.args.goal.now.predicate.trait_ref.args.items))
+    c.host_effect_goal_outcome-outcome.result c.conclude.result c.host_effect_goal_outcome-outcome.ensures.unchanged c.conclude.ensures.unchanged
+    (const-says_of c.args.self.now c.args.goal.now.param_env.items c.args.goal.now.predicate.constness c.args.goal.now.predicate.trait_ref.def_id (erased_args c.args.goal.now.predicate.trait_ref.args.items) c.host_effect_goal_outcome-outcome.result c.host_effect_goal_outcome-outcome.ensures.says)
+    c.host_effect_goal_outcome-outcome.ensures.stops c.conclude.ensures.owed
+
+pub returns-clause-decided : goal.returns-clause-decided
+returns-clause-decided c = λ m owed closed undecided.
+    predicate-decided c.args.self.now c.host_effect_goal_outcome-outcome.new.self c.conclude.new.self c.args.goal.now.param_env.items
+    (holds_const c.args.goal.now.predicate.constness c.args.goal.now.predicate.trait_ref.def_id (erased_args c.args.goal.now.predicate.trait_ref.args.items))
+    c.host_effect_goal_outcome-outcome.result c.conclude.result c.host_effect_goal_outcome-outcome.ensures.unchanged c.conclude.ensures.unchanged
+    (const-says_of c.args.self.now c.args.goal.now.param_env.items c.args.goal.now.predicate.constness c.args.goal.now.predicate.trait_ref.def_id (erased_args c.args.goal.now.predicate.trait_ref.args.items) c.host_effect_goal_outcome-outcome.result c.host_effect_goal_outcome-outcome.ensures.says)
+    c.host_effect_goal_outcome-outcome.ensures.stops c.conclude.ensures.owed m owed undecided

@@ -1,0 +1,35 @@
+use Rattle.std.proofs.Common.{arith}
+use Rattle.goal_terms.specs.Erased.{erased}
+use Rattle.goal_terms.specs.PredicateTrees.{equals}
+use Rattle.goal_terms.specs.TreeOf.{tree_of_alias, tree_of_term}
+use Rattle.goal_kinds.specs.Answers.{setting_of}
+use Rattle.goal_solver.proofs.AnswerLemmas.{undecided-ground, predicate-sound, predicate-decided, equation-says_of}
+use Rattle.goal_solver.proofs.GoingBackLemmas.{goes_back-same}
+use Rattle.goal_solver.proofs.context.EvalCtxt.compute_projection_goal.Goals as goal
+
+pub returns-then-remaining_depth-eq0-clause-decided : goal.returns-then-remaining_depth-eq0-clause-decided
+returns-then-remaining_depth-eq0-clause-decided c = λ m owed closed undecided.
+    undecided-ground (setting_of c.args.self.now.tables m c.args.goal.now.param_env.items) c.args.self.now.remaining_depth (omega (arith, c.remaining_depth.ensures, c.if-remaining_depth-eq0.true))
+    (equals (erased (tree_of_alias c.args.goal.now.predicate.projection_term)) (erased (tree_of_term c.args.goal.now.predicate.term)))
+
+pub returns-then-remaining_depth-eq0-clause-goes_back : goal.returns-then-remaining_depth-eq0-clause-goes_back
+returns-then-remaining_depth-eq0-clause-goes_back c = goes_back-same c.args.self.now
+
+pub returns-then-has_variable-clause-goes_back : goal.returns-then-has_variable-clause-goes_back
+returns-then-has_variable-clause-goes_back c = goes_back-same c.args.self.now
+
+pub returns-clause-sound : goal.returns-clause-sound
+returns-clause-sound c =
+    predicate-sound c.args.self.now c.projection_goal_outcome-outcome.new.self c.conclude.new.self c.args.goal.now.param_env.items
+    (equals (erased (tree_of_alias c.args.goal.now.predicate.projection_term)) (erased (tree_of_term c.args.goal.now.predicate.term)))
+    c.projection_goal_outcome-outcome.result c.conclude.result c.projection_goal_outcome-outcome.ensures.unchanged c.conclude.ensures.unchanged
+    (equation-says_of c.args.self.now c.args.goal.now.param_env.items (erased (tree_of_alias c.args.goal.now.predicate.projection_term)) (erased (tree_of_term c.args.goal.now.predicate.term)) c.projection_goal_outcome-outcome.result c.projection_goal_outcome-outcome.ensures.says)
+    c.projection_goal_outcome-outcome.ensures.stops c.conclude.ensures.owed
+
+pub returns-clause-decided : goal.returns-clause-decided
+returns-clause-decided c = λ m owed closed undecided.
+    predicate-decided c.args.self.now c.projection_goal_outcome-outcome.new.self c.conclude.new.self c.args.goal.now.param_env.items
+    (equals (erased (tree_of_alias c.args.goal.now.predicate.projection_term)) (erased (tree_of_term c.args.goal.now.predicate.term)))
+    c.projection_goal_outcome-outcome.result c.conclude.result c.projection_goal_outcome-outcome.ensures.unchanged c.conclude.ensures.unchanged
+    (equation-says_of c.args.self.now c.args.goal.now.param_env.items (erased (tree_of_alias c.args.goal.now.predicate.projection_term)) (erased (tree_of_term c.args.goal.now.predicate.term)) c.projection_goal_outcome-outcome.result c.projection_goal_outcome-outcome.ensures.says)
+    c.projection_goal_outcome-outcome.ensures.stops c.conclude.ensures.owed m owed undecided

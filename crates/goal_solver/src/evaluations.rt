@@ -1,0 +1,143 @@
+//! Goals, handed to the evaluation by the numbers of their terms.
+ghost use Rattle.std.specs.Prelude.{◌≡◌, true, IfOk, IfErr};
+ghost use Rattle.goal_terms.specs.Erased.{erased};
+ghost use Rattle.goal_terms.specs.TableMeaning.{Keeps};
+ghost use Rattle.goal_terms.specs.TreeOf.{tree_of_alias, tree_of_term};
+ghost use Rattle.goal_terms.specs.declared.modes.TypingMode.{TypingMode};
+ghost use Rattle.goal_kinds.specs.Settings.{is_headline};
+ghost use Rattle.goal_solver.specs.Answers.{level_over, erased_args};
+ghost use Rattle.goal_kinds.specs.Interned.{IsIn, erased_at};
+ghost use Rattle.goal_solver.specs.Outcomes.{StandsFor, level_in, Says, SaysThrough, SaysWhich, FoundIn};
+
+use crate::aliases::alias_term;
+use crate::const_candidates::const_outcome;
+use crate::context::EvalCtxt;
+use crate::interning::{intern_args, intern_equation};
+use crate::outcomes::{Found, Outcome, Setting, Stop, TraitOutcome};
+use crate::premises::premise_outcome;
+use crate::trait_candidates::trait_outcome;
+use goal_kinds::interned::{InternedPredicate, InternedPremise};
+use goal_terms::predicates::{
+    Goal, HostEffectPredicate, NormalizesTo, ProjectionPredicate, TraitPredicate,
+};
+use goal_terms::term_nodes::TermId;
+use goal_terms::term_table::TermTable;
+
+impl EvalCtxt<'_> {
+    /// What a trait goal comes to at the remaining depth. Nothing changes but that there may be more terms.
+    pub(crate) fn trait_goal_outcome(
+        &mut self,
+        goal: &Goal<TraitPredicate>,
+    ) -> Result<TraitOutcome, Stop>
+        ensures kept { Keeps self.old.terms self.new.terms }
+        ensures unchanged { self.new ≡ record self.old { terms = self.new.terms } }
+        ensures says { (m : TypingMode) → StandsFor self.old.typing_mode m → IfOk result (SaysThrough (λ c. (level_over self.old m goal.now.param_env.items).through c goal.now.predicate.trait_ref.def_id (erased_args goal.now.predicate.trait_ref.args.items)) ((level_over self.old m goal.now.param_env.items).trait_refuted goal.now.predicate.trait_ref.def_id (erased_args goal.now.predicate.trait_ref.args.items))) }
+        ensures stops { is_headline self.old.typing_mode ≡ true → IfErr result (λ s. s ≡ Stop.OutOfMemory) }
+    {
+        let trait_ref = &goal.predicate.trait_ref;
+        let alloc = self.allocator();
+        let ids = intern_args(alloc, &mut self.terms, &trait_ref.args)?;
+        let setting = Setting {
+            rows: self.tables.rows(),
+            typing_mode: &self.typing_mode,
+            environment: &goal.param_env,
+        };
+        let depth = self.remaining_depth;
+        trait_outcome(&setting, &mut self.terms, trait_ref.def_id, &ids, depth)
+    }
+
+    /// What a const trait goal comes to at the remaining depth. Nothing changes but that there may be more
+    /// terms.
+    pub(crate) fn host_effect_goal_outcome(
+        &mut self,
+        goal: &Goal<HostEffectPredicate>,
+    ) -> Result<Outcome, Stop>
+        ensures kept { Keeps self.old.terms self.new.terms }
+        ensures unchanged { self.new ≡ record self.old { terms = self.new.terms } }
+        ensures says { (m : TypingMode) → StandsFor self.old.typing_mode m → IfOk result (Says ((level_over self.old m goal.now.param_env.items).const_holds goal.now.predicate.constness goal.now.predicate.trait_ref.def_id (erased_args goal.now.predicate.trait_ref.args.items)) ((level_over self.old m goal.now.param_env.items).const_refuted goal.now.predicate.constness goal.now.predicate.trait_ref.def_id (erased_args goal.now.predicate.trait_ref.args.items))) }
+        ensures stops { is_headline self.old.typing_mode ≡ true → IfErr result (λ s. s ≡ Stop.OutOfMemory) }
+    {
+        let trait_ref = &goal.predicate.trait_ref;
+        let alloc = self.allocator();
+        let ids = intern_args(alloc, &mut self.terms, &trait_ref.args)?;
+        let setting = Setting {
+            rows: self.tables.rows(),
+            typing_mode: &self.typing_mode,
+            environment: &goal.param_env,
+        };
+        let depth = self.remaining_depth;
+        let constness = goal.predicate.constness;
+        const_outcome(
+            &setting,
+            &mut self.terms,
+            constness,
+            trait_ref.def_id,
+            &ids,
+            depth,
+        )
+    }
+
+    /// What the goal that an alias and a term are equal comes to at the remaining depth. Nothing changes but
+    /// that there may be more terms.
+    pub(crate) fn projection_goal_outcome(
+        &mut self,
+        goal: &Goal<ProjectionPredicate>,
+    ) -> Result<Outcome, Stop>
+        ensures kept { Keeps self.old.terms self.new.terms }
+        ensures unchanged { self.new ≡ record self.old { terms = self.new.terms } }
+        ensures says { (m : TypingMode) → StandsFor self.old.typing_mode m → IfOk result (Says ((level_over self.old m goal.now.param_env.items).equation_holds (erased (tree_of_alias goal.now.predicate.projection_term)) (erased (tree_of_term goal.now.predicate.term))) ((level_over self.old m goal.now.param_env.items).equation_refuted (erased (tree_of_alias goal.now.predicate.projection_term)) (erased (tree_of_term goal.now.predicate.term)))) }
+        ensures stops { is_headline self.old.typing_mode ≡ true → IfErr result (λ s. s ≡ Stop.OutOfMemory) }
+    {
+        let predicate = &goal.predicate;
+        let (alias, term) = intern_equation(
+            &mut self.terms,
+            &predicate.projection_term,
+            &predicate.term,
+        )?;
+        let setting = Setting {
+            rows: self.tables.rows(),
+            typing_mode: &self.typing_mode,
+            environment: &goal.param_env,
+        };
+        let depth = self.remaining_depth;
+        equation_outcome(&setting, &mut self.terms, alias, term, depth)
+    }
+
+    /// Which term an alias has at the remaining depth. Nothing changes but that there may be more terms.
+    pub(crate) fn alias_outcome(&mut self, goal: &Goal<NormalizesTo>) -> Result<Found, Stop>
+        ensures kept { Keeps self.old.terms self.new.terms }
+        ensures unchanged { self.new ≡ record self.old { terms = self.new.terms } }
+        ensures within { IfOk result (FoundIn self.new.terms) }
+        ensures says { (m : TypingMode) → StandsFor self.old.typing_mode m → IfOk result (SaysWhich ((level_over self.old m goal.now.param_env.items).gives goal.now.predicate.alias.kind (erased_args goal.now.predicate.alias.args.items)) ((level_over self.old m goal.now.param_env.items).gives_refuted goal.now.predicate.alias.kind (erased_args goal.now.predicate.alias.args.items)) self.new.terms) }
+        ensures stops { is_headline self.old.typing_mode ≡ true → IfErr result (λ s. s ≡ Stop.OutOfMemory) }
+    {
+        let alias = &goal.predicate.alias;
+        let alloc = self.allocator();
+        let ids = intern_args(alloc, &mut self.terms, &alias.args)?;
+        let setting = Setting {
+            rows: self.tables.rows(),
+            typing_mode: &self.typing_mode,
+            environment: &goal.param_env,
+        };
+        let depth = self.remaining_depth;
+        alias_term(&setting, &mut self.terms, alias.kind, &ids, depth)
+    }
+}
+
+/// Whether the goal that an alias and a term are equal holds at a depth.
+fn equation_outcome(
+    setting: &Setting<'_>,
+    terms: &mut TermTable,
+    alias: TermId,
+    term: TermId,
+    depth: u32,
+) -> Result<Outcome, Stop>
+    requires alias { IsIn terms.old alias }
+    requires term { IsIn terms.old term }
+    ensures kept { Keeps terms.old terms.new }
+    ensures stops { is_headline setting.now.typing_mode.now ≡ true → IfErr result (λ s. s ≡ Stop.OutOfMemory) }
+    ensures says { (m : TypingMode) → StandsFor setting.now.typing_mode.now m → IfOk result (Says ((level_in setting.now m depth).equation_holds (erased_at terms.old alias) (erased_at terms.old term)) ((level_in setting.now m depth).equation_refuted (erased_at terms.old alias) (erased_at terms.old term))) }
+{
+    let premise = InternedPremise::Predicate(InternedPredicate::Projection(alias, term));
+    premise_outcome(setting, terms, &premise, depth)
+}

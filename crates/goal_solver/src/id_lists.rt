@@ -1,0 +1,46 @@
+//! Lists of numbers of terms.
+ghost use Rattle.std.specs.Prelude.{◌≡◌, ◌∷◌, ◌++◌, [], IfOk, MatchOption};
+
+use crate::outcomes::Setting;
+use goal_terms::term_nodes::{OutOfMemory, TermId};
+use std::alloc::Global;
+
+/// What the lists of an evaluation are made with.
+pub(crate) fn memory(setting: &Setting<'_>) -> Global {
+    *setting.rows.tables().traits.allocator()
+}
+
+/// Some numbers, and then others.
+pub(crate) fn joined(
+    setting: &Setting<'_>,
+    first: &[TermId],
+    second: &[TermId],
+) -> Result<Vec<TermId>, OutOfMemory>
+    ensures { IfOk result (λ made. made.items ≡ first.now ++ second.now) }
+{
+    let mut made = Vec::new(memory(setting));
+    for id in first {
+        made.push(*id)?;
+    }
+    for id in second {
+        made.push(*id)?;
+    }
+    Ok(made)
+}
+
+/// Some numbers, in a list of their own.
+pub(crate) fn own_list(setting: &Setting<'_>, ids: &[TermId]) -> Result<Vec<TermId>, OutOfMemory>
+    ensures { IfOk result (λ made. made.items ≡ ids.now) }
+{
+    joined(setting, ids, &[])
+}
+
+/// The first of some numbers, and the others.
+pub(crate) fn split_first(ids: &[TermId]) -> Option<(TermId, &[TermId])>
+    ensures { MatchOption result (ids.now ≡ []) (λ p. ids.now ≡ p.0 ∷ p.1.now) }
+{
+    match ids {
+        [] => None,
+        [first, rest @ ..] => Some((*first, rest)),
+    }
+}

@@ -1,0 +1,47 @@
+//! The numbers of a goal's terms.
+ghost use Rattle.std.specs.Prelude.{◌≡◌, IfOk};
+ghost use Rattle.goal_terms.specs.Erased.{erased};
+ghost use Rattle.goal_terms.specs.TableMeaning.{Keeps};
+ghost use Rattle.goal_terms.specs.TreeOf.{tree_of_alias, tree_of_term};
+ghost use Rattle.goal_kinds.specs.Interned.{IsIn, AreIn, erased_at, erased_all};
+ghost use Rattle.goal_solver.specs.Answers.{erased_args};
+
+use goal_terms::term_nodes::{OutOfMemory, TermId};
+use goal_terms::term_table::TermTable;
+use goal_terms::terms::{AliasTerm, GenericArg, Term};
+use goal_terms::view::TermRef;
+use std::alloc::Global;
+
+/// The numbers of arguments, which the table gets. Want of memory or of numbers is the only refusal.
+pub(crate) fn intern_args(
+    alloc: Global,
+    terms: &mut TermTable,
+    args: &[GenericArg],
+) -> Result<Vec<TermId>, OutOfMemory>
+    ensures kept { Keeps terms.old terms.new }
+    ensures within { IfOk result (λ ids. AreIn terms.new ids.items) }
+    ensures trees { IfOk result (λ ids. erased_all terms.new ids.items ≡ erased_args args.now) }
+{
+    let mut ids = Vec::with_capacity(alloc, args.len())?;
+    for arg in args {
+        let id = terms.intern_part(arg.view())?;
+        ids.push(id)?;
+    }
+    Ok(ids)
+}
+
+/// The numbers of an alias and of a term, which the table gets. Want of memory or of numbers is the only
+/// refusal.
+pub(crate) fn intern_equation(
+    terms: &mut TermTable,
+    alias: &AliasTerm,
+    term: &Term,
+) -> Result<(TermId, TermId), OutOfMemory>
+    ensures kept { Keeps terms.old terms.new }
+    ensures within { IfOk result (λ p. IsIn terms.new p.0 × IsIn terms.new p.1) }
+    ensures trees { IfOk result (λ p. (erased_at terms.new p.0 ≡ erased (tree_of_alias alias.now)) × (erased_at terms.new p.1 ≡ erased (tree_of_term term.now))) }
+{
+    let first = terms.intern_part(TermRef::Alias(alias))?;
+    let second = terms.intern(term)?;
+    Ok((first, second))
+}

@@ -1,0 +1,47 @@
+//! Goals that an alias and a term are equal.
+ghost use Rattle.std.specs.Prelude.{◌≡◌, ℕ, true, length};
+ghost use Rattle.goal_terms.specs.Erased.{erased};
+ghost use Rattle.goal_terms.specs.PredicateTrees.{equals};
+ghost use Rattle.goal_terms.specs.TreeOf.{tree_of_alias, tree_of_term};
+ghost use Rattle.goal_terms.specs.declared.modes.TypingMode.{TypingMode};
+ghost use Rattle.goal_kinds.specs.Answers.{Answer, IsAnswer, decides, setting_of, whether};
+ghost use Rattle.goal_kinds.specs.Levels.{level};
+ghost use Rattle.goal_solver.specs.Answers.{IsOwed, level_over, IsClosedEquation, IsPredicateAnswer, IsUndecided, IsMaybe, AnswersQuietly, IsFaultOf};
+ghost use Rattle.goal_solver.specs.GoingBack.{GoesBack, restored};
+ghost use Rattle.goal_solver.specs.State.{kinds_of};
+
+use crate::closed_goals::has_variable;
+use crate::context::EvalCtxt;
+use crate::faults::Fault;
+use goal_terms::answers::{Certainty, Response};
+use goal_terms::predicates::{Goal, ProjectionPredicate};
+
+#[tactic(auto, using(crate::proofs::AnswerLemmas::answering))]
+impl EvalCtxt<'_> {
+    /// Whether an alias and a term are equal, lifetimes aside. `Yes`: a derivation no higher than the remaining
+    /// depth shows it. `NoSolution`: a refutation no higher does. `Maybe`, for a closed goal in a headline
+    /// mode: there is neither. A goal with inference variables is `Maybe`, and a refuted one in coherence. No
+    /// two answers at any depths disagree. Inference state, added goals and storage are as before. At depth 0
+    /// it takes no memory.
+    pub fn compute_projection_goal(
+        &mut self,
+        goal: &Goal<ProjectionPredicate>,
+    ) -> Result<Response, Fault>
+        ensures sound { (m : TypingMode) → IsOwed self.new m → IsPredicateAnswer (level_over self.old m goal.now.param_env.items) (equals (erased (tree_of_alias goal.now.predicate.projection_term)) (erased (tree_of_term goal.now.predicate.term))) result }
+        ensures decided { (m : TypingMode) → IsOwed self.new m → IsClosedEquation goal.now.predicate.projection_term goal.now.predicate.term goal.now.param_env.items → IsMaybe result → IsUndecided (level_over self.old m goal.now.param_env.items) (equals (erased (tree_of_alias goal.now.predicate.projection_term)) (erased (tree_of_term goal.now.predicate.term))) }
+        ensures agrees { (m : TypingMode) (n k : ℕ) (a b : Answer) → decides a ≡ true → decides b ≡ true → IsAnswer (level (setting_of self.old.tables m goal.now.param_env.items) n) (whether (equals (erased (tree_of_alias goal.now.predicate.projection_term)) (erased (tree_of_term goal.now.predicate.term)))) a → IsAnswer (level (setting_of self.old.tables m goal.now.param_env.items) k) (whether (equals (erased (tree_of_alias goal.now.predicate.projection_term)) (erased (tree_of_term goal.now.predicate.term)))) b → a ≡ b }
+        ensures unchanged { self.new ≡ restored self.old self.new }
+        ensures goes_back { GoesBack self.old self.new }
+        ensures fault { IsFaultOf self.old self.new result }
+        ensures quiet { AnswersQuietly (length (kinds_of self.old)) result }
+    {
+        if self.remaining_depth() == 0 {
+            return Ok(self.respond(Certainty::Maybe, None));
+        }
+        if has_variable(goal) {
+            return Ok(self.respond(Certainty::Maybe, None));
+        }
+        let outcome = self.projection_goal_outcome(goal);
+        self.conclude(outcome)
+    }
+}

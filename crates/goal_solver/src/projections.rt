@@ -1,0 +1,564 @@
+//! The terms of projections.
+ghost use Rattle.std.specs.Prelude.{true, IfErr, ◌≡◌, ◌⊎◌, IfOk, map};
+ghost use Rattle.std.specs.List.{All};
+ghost use Rattle.goal_terms.specs.TableMeaning.{Keeps};
+ghost use Rattle.goal_terms.specs.declared.modes.TypingMode.{TypingMode};
+ghost use Rattle.goal_kinds.specs.Builtins.{listed_by_size, term_rule};
+ghost use Rattle.goal_kinds.specs.Candidates.{environment, second_group};
+ghost use Rattle.goal_kinds.specs.Interned.{IsIn, AreIn, PredicateIn, PremiseIn, CandidateIn, ListedIn, erased_at, erased_all, predicate_at, premise_at, candidate_at, listed_at};
+ghost use Rattle.goal_kinds.specs.Level.{HasHeadForm, HeadFormRefuted};
+ghost use Rattle.goal_kinds.specs.Premises.{PremisesHold, PremisesRefuted};
+ghost use Rattle.goal_kinds.specs.Projections.{EquationGives, EquationRefuted, AssumptionGives, AssumptionTermRefuted, ListedGives, ListedRefuted, CandidateGives, TermRefuted, GroupGives, GroupRefuted, GroupsGive, GroupsRefuted, OwnUnformed, ItemGives, ItemRefuted, ProjectionGives, ProjectionRefuted};
+ghost use Rattle.goal_kinds.specs.Settings.{is_headline};
+ghost use Rattle.goal_solver.specs.Outcomes.{StandsFor, setting_in, level_in, Says, SaysWhich, FoundIn, ProjectionIn, projection_at};
+ghost use Rattle.goal_solver.specs.ProjectionParts.{EqualArgsGive, EqualArgsRefuted, HaveHeadForms, SomeUnformed, FormedGives, LaterGives, LaterRefuted, ReplacedGives, ReplacedRefuted, ThroughGives, ThroughRefuted};
+
+use crate::equality::compare_lists;
+use crate::head_forms::head_form;
+use crate::impl_terms::impl_term;
+use crate::merging::{behind, both, merge_terms};
+use crate::outcomes::{Found, Outcome, Projection, Setting, Stop, TraitOutcome};
+use crate::premises::{clauses_outcome, premises_outcome};
+use crate::projection_args::{
+    first_args, intern_alias, intern_unit, later_args, projected_args, with_self,
+};
+use crate::trait_candidates::trait_outcome;
+use goal_kinds::candidate_lists::{candidates_of_class, second_group};
+use goal_kinds::interned::{InternedCandidate, InternedPredicate, InternedPremise, ListedTerm};
+use goal_kinds::term_rules::term_rule;
+use goal_tables::rows::{ItemRow, TraitRow};
+use goal_terms::answers::TraitGoalProvenVia;
+use goal_terms::ids::{ItemId, TraitId};
+use goal_terms::term_nodes::TermId;
+use goal_terms::term_table::TermTable;
+use goal_terms::terms::AliasTermKind;
+use std::alloc::Global;
+
+/// A projection as it was given, whose trait goal holds through a class: the alias and its arguments, its
+/// item, and how many of its arguments are the trait's.
+#[derive(Clone, Copy)]
+struct Given<'e> {
+    kind: AliasTermKind,
+    item: &'e ItemRow,
+    trait_params: usize,
+    class: TraitGoalProvenVia,
+    args: &'e [TermId],
+}
+
+/// What lists are made with.
+fn memory(setting: &Setting<'_>) -> Global {
+    *setting.rows.tables().traits.allocator()
+}
+
+/// The term that a projection of an item has, one above a depth.
+#[cycle(closed)]
+pub fn projection_term(
+    setting: &Setting<'_>,
+    terms: &mut TermTable,
+    kind: AliasTermKind,
+    item: ItemId,
+    args: &[TermId],
+    depth: u32,
+) -> Result<Found, Stop>
+    requires { AreIn terms.old args.now }
+    ensures kept { Keeps terms.old terms.new }
+    ensures within { IfOk result (FoundIn terms.new) }
+    ensures stops { is_headline setting.now.typing_mode.now ≡ true → IfErr result (λ s. s ≡ Stop.OutOfMemory) }
+    ensures says { (m : TypingMode) → StandsFor setting.now.typing_mode.now m → IfOk result (SaysWhich (ProjectionGives (setting_in setting.now m) (level_in setting.now m depth) kind item (erased_all terms.old args.now)) (ProjectionRefuted (setting_in setting.now m) (level_in setting.now m depth) kind item (erased_all terms.old args.now)) terms.new) }
+{
+    let Some(row) = setting.rows.item_row(item) else {
+        return Ok(Found::Undecided);
+    };
+    let Some(trait_row) = setting.rows.trait_row(row.trait_id) else {
+        return Ok(Found::Undecided);
+    };
+    item_term(setting, terms, kind, row, trait_row, args, depth)
+}
+
+/// The term that a projection has by its item's row and its trait's.
+#[cycle(closed)]
+fn item_term(
+    setting: &Setting<'_>,
+    terms: &mut TermTable,
+    kind: AliasTermKind,
+    item: &ItemRow,
+    trait_row: &TraitRow,
+    args: &[TermId],
+    depth: u32,
+) -> Result<Found, Stop>
+    requires { AreIn terms.old args.now }
+    ensures kept { Keeps terms.old terms.new }
+    ensures within { IfOk result (FoundIn terms.new) }
+    ensures stops { is_headline setting.now.typing_mode.now ≡ true → IfErr result (λ s. s ≡ Stop.OutOfMemory) }
+    ensures says { (m : TypingMode) → StandsFor setting.now.typing_mode.now m → IfOk result (SaysWhich (λ u. ItemGives (setting_in setting.now m) (level_in setting.now m depth) kind (erased_all terms.old args.now) u item.now trait_row.now) (ItemRefuted (setting_in setting.now m) (level_in setting.now m depth) kind (erased_all terms.old args.now) item.now trait_row.now) terms.new) }
+{
+    if args.is_empty() {
+        return Ok(Found::Undecided);
+    }
+    let trait_params = trait_row.params.len();
+    let trait_args = first_args(args, trait_params);
+    match trait_outcome(setting, terms, item.trait_id, trait_args, depth)? {
+        TraitOutcome::Undecided => Ok(Found::Undecided),
+        TraitOutcome::Refuted => Ok(Found::Refuted),
+        TraitOutcome::Holds(class) => {
+            let given = Given {
+                kind,
+                item,
+                trait_params,
+                class,
+                args,
+            };
+            through_term(setting, terms, &given, depth)
+        }
+    }
+}
+
+/// The term of a projection whose trait goal holds.
+#[cycle(closed)]
+fn through_term(
+    setting: &Setting<'_>,
+    terms: &mut TermTable,
+    given: &Given<'_>,
+    depth: u32,
+) -> Result<Found, Stop>
+    requires { AreIn terms.old given.now.args.now }
+    ensures kept { Keeps terms.old terms.new }
+    ensures within { IfOk result (FoundIn terms.new) }
+    ensures stops { is_headline setting.now.typing_mode.now ≡ true → IfErr result (λ s. s ≡ Stop.OutOfMemory) }
+    ensures says { (m : TypingMode) → StandsFor setting.now.typing_mode.now m → IfOk result (SaysWhich (ThroughGives (setting_in setting.now m) (level_in setting.now m depth) given.now.kind given.now.item.now given.now.trait_params given.now.class (erased_all terms.old given.now.args.now)) (ThroughRefuted (setting_in setting.now m) (level_in setting.now m depth) given.now.kind given.now.item.now given.now.trait_params given.now.class (erased_all terms.old given.now.args.now)) terms.new) }
+{
+    let args = given.args;
+    if args.is_empty() {
+        return Ok(Found::Undecided);
+    }
+    match head_form(setting, terms, args[0], depth)? {
+        Found::Undecided => Ok(Found::Undecided),
+        Found::Refuted => Ok(Found::Undecided),
+        Found::Is(self_ty) => replaced_term(setting, terms, given, self_ty, depth),
+    }
+}
+
+/// The term of a projection whose trait goal holds, for the head form of its self type.
+#[cycle(closed)]
+fn replaced_term(
+    setting: &Setting<'_>,
+    terms: &mut TermTable,
+    given: &Given<'_>,
+    self_ty: TermId,
+    depth: u32,
+) -> Result<Found, Stop>
+    requires args { AreIn terms.old given.now.args.now }
+    requires self_ty { IsIn terms.old self_ty }
+    ensures kept { Keeps terms.old terms.new }
+    ensures within { IfOk result (FoundIn terms.new) }
+    ensures stops { is_headline setting.now.typing_mode.now ≡ true → IfErr result (λ s. s ≡ Stop.OutOfMemory) }
+    ensures says { (m : TypingMode) → StandsFor setting.now.typing_mode.now m → IfOk result (SaysWhich (ReplacedGives (setting_in setting.now m) (level_in setting.now m depth) given.now.kind given.now.item.now given.now.trait_params given.now.class (erased_all terms.old given.now.args.now) (erased_at terms.old self_ty)) (ReplacedRefuted (setting_in setting.now m) (level_in setting.now m depth) given.now.kind given.now.item.now given.now.trait_params given.now.class (erased_all terms.old given.now.args.now) (erased_at terms.old self_ty)) terms.new) }
+{
+    let alias = intern_alias(memory(setting), terms, given.kind, given.args)?;
+    let args = with_self(memory(setting), self_ty, given.args)?;
+    let itself = intern_alias(memory(setting), terms, given.kind, args.as_slice())?;
+    let projection = Projection {
+        item: given.item,
+        trait_params: given.trait_params,
+        args: args.as_slice(),
+        itself,
+    };
+    groups_term(
+        setting,
+        terms,
+        &projection,
+        self_ty,
+        alias,
+        given.class,
+        depth,
+    )
+}
+
+/// The term of a projection by the groups of candidates.
+#[cycle(closed)]
+fn groups_term(
+    setting: &Setting<'_>,
+    terms: &mut TermTable,
+    projection: &Projection<'_>,
+    self_ty: TermId,
+    given: TermId,
+    class: TraitGoalProvenVia,
+    depth: u32,
+) -> Result<Found, Stop>
+    requires projection { ProjectionIn terms.old projection.now }
+    requires self_ty { IsIn terms.old self_ty }
+    requires given { IsIn terms.old given }
+    ensures kept { Keeps terms.old terms.new }
+    ensures within { IfOk result (FoundIn terms.new) }
+    ensures stops { is_headline setting.now.typing_mode.now ≡ true → IfErr result (λ s. s ≡ Stop.OutOfMemory) }
+    ensures says { (m : TypingMode) → StandsFor setting.now.typing_mode.now m → IfOk result (SaysWhich (GroupsGive (setting_in setting.now m) (level_in setting.now m depth) class (projection_at terms.old projection.now) (erased_at terms.old projection.now.itself) (erased_at terms.old given) (second_group (setting_in setting.now m) projection.now.item.now.trait_id (erased_at terms.old self_ty) class)) (GroupsRefuted (setting_in setting.now m) (level_in setting.now m depth) class (projection_at terms.old projection.now) (erased_at terms.old projection.now.itself) (second_group (setting_in setting.now m) projection.now.item.now.trait_id (erased_at terms.old self_ty) class)) terms.new) }
+{
+    match environment_term(setting, terms, projection, self_ty, depth)? {
+        Found::Undecided => Ok(Found::Undecided),
+        Found::Is(term) => formed_term(setting, terms, projection, term, depth),
+        Found::Refuted => later_term(setting, terms, projection, self_ty, given, class, depth),
+    }
+}
+
+/// The term of a projection by the candidates after the environment.
+#[cycle(closed)]
+fn later_term(
+    setting: &Setting<'_>,
+    terms: &mut TermTable,
+    projection: &Projection<'_>,
+    self_ty: TermId,
+    given: TermId,
+    class: TraitGoalProvenVia,
+    depth: u32,
+) -> Result<Found, Stop>
+    requires projection { ProjectionIn terms.old projection.now }
+    requires self_ty { IsIn terms.old self_ty }
+    requires given { IsIn terms.old given }
+    ensures kept { Keeps terms.old terms.new }
+    ensures within { IfOk result (FoundIn terms.new) }
+    ensures stops { is_headline setting.now.typing_mode.now ≡ true → IfErr result (λ s. s ≡ Stop.OutOfMemory) }
+    ensures says { (m : TypingMode) → StandsFor setting.now.typing_mode.now m → IfOk result (SaysWhich (LaterGives (setting_in setting.now m) (level_in setting.now m depth) class (projection_at terms.old projection.now) (erased_at terms.old projection.now.itself) (erased_at terms.old given) (second_group (setting_in setting.now m) projection.now.item.now.trait_id (erased_at terms.old self_ty) class)) (LaterRefuted (setting_in setting.now m) (level_in setting.now m depth) class (projection_at terms.old projection.now) (erased_at terms.old projection.now.itself) (second_group (setting_in setting.now m) projection.now.item.now.trait_id (erased_at terms.old self_ty) class)) terms.new) }
+{
+    match second_term(setting, terms, projection, self_ty, class, depth)? {
+        Found::Undecided => Ok(Found::Undecided),
+        Found::Refuted => match class {
+            TraitGoalProvenVia::Misc => Ok(Found::Refuted),
+            _ => Ok(Found::Is(given)),
+        },
+        Found::Is(term) => match class {
+            TraitGoalProvenVia::Misc => Ok(Found::Is(term)),
+            _ => formed_term(setting, terms, projection, term, depth),
+        },
+    }
+}
+
+/// The term that the environment gives a projection.
+#[cycle(closed)]
+fn environment_term(
+    setting: &Setting<'_>,
+    terms: &mut TermTable,
+    projection: &Projection<'_>,
+    self_ty: TermId,
+    depth: u32,
+) -> Result<Found, Stop>
+    requires projection { ProjectionIn terms.old projection.now }
+    requires self_ty { IsIn terms.old self_ty }
+    ensures kept { Keeps terms.old terms.new }
+    ensures within { IfOk result (FoundIn terms.new) }
+    ensures stops { is_headline setting.now.typing_mode.now ≡ true → IfErr result (λ s. s ≡ Stop.OutOfMemory) }
+    ensures says { (m : TypingMode) → StandsFor setting.now.typing_mode.now m → IfOk result (SaysWhich (GroupGives (setting_in setting.now m) (level_in setting.now m depth) (projection_at terms.old projection.now) (erased_at terms.old projection.now.itself) (environment (setting_in setting.now m))) (GroupRefuted (setting_in setting.now m) (level_in setting.now m depth) (projection_at terms.old projection.now) (environment (setting_in setting.now m))) terms.new) }
+{
+    let candidates = candidates_of_class(
+        setting.rows,
+        setting.environment,
+        terms,
+        projection.item.trait_id,
+        self_ty,
+        TraitGoalProvenVia::ParamEnv,
+    )?;
+    group_term(setting, terms, projection, candidates.as_slice(), depth)
+}
+
+/// The term that the candidates after the environment give a projection.
+#[cycle(closed)]
+fn second_term(
+    setting: &Setting<'_>,
+    terms: &mut TermTable,
+    projection: &Projection<'_>,
+    self_ty: TermId,
+    class: TraitGoalProvenVia,
+    depth: u32,
+) -> Result<Found, Stop>
+    requires projection { ProjectionIn terms.old projection.now }
+    requires self_ty { IsIn terms.old self_ty }
+    ensures kept { Keeps terms.old terms.new }
+    ensures within { IfOk result (FoundIn terms.new) }
+    ensures stops { is_headline setting.now.typing_mode.now ≡ true → IfErr result (λ s. s ≡ Stop.OutOfMemory) }
+    ensures says { (m : TypingMode) → StandsFor setting.now.typing_mode.now m → IfOk result (SaysWhich (GroupGives (setting_in setting.now m) (level_in setting.now m depth) (projection_at terms.old projection.now) (erased_at terms.old projection.now.itself) (second_group (setting_in setting.now m) projection.now.item.now.trait_id (erased_at terms.old self_ty) class)) (GroupRefuted (setting_in setting.now m) (level_in setting.now m depth) (projection_at terms.old projection.now) (second_group (setting_in setting.now m) projection.now.item.now.trait_id (erased_at terms.old self_ty) class)) terms.new) }
+{
+    let candidates = second_group(
+        setting.rows,
+        setting.environment,
+        terms,
+        projection.item.trait_id,
+        self_ty,
+        class,
+    )?;
+    group_term(setting, terms, projection, candidates.as_slice(), depth)
+}
+
+/// A term, where a projection's own arguments have head forms.
+#[cycle(closed)]
+fn formed_term(
+    setting: &Setting<'_>,
+    terms: &mut TermTable,
+    projection: &Projection<'_>,
+    term: TermId,
+    depth: u32,
+) -> Result<Found, Stop>
+    requires projection { ProjectionIn terms.old projection.now }
+    requires term { IsIn terms.old term }
+    ensures kept { Keeps terms.old terms.new }
+    ensures within { IfOk result (FoundIn terms.new) }
+    ensures stops { is_headline setting.now.typing_mode.now ≡ true → IfErr result (λ s. s ≡ Stop.OutOfMemory) }
+    ensures says { (m : TypingMode) → StandsFor setting.now.typing_mode.now m → IfOk result (SaysWhich (FormedGives (level_in setting.now m depth) (projection_at terms.old projection.now) (erased_at terms.old term)) (OwnUnformed (level_in setting.now m depth) (projection_at terms.old projection.now)) terms.new) }
+{
+    let own = later_args(projection.args, projection.trait_params);
+    match head_forms_outcome(setting, terms, own, depth)? {
+        Outcome::Undecided => Ok(Found::Undecided),
+        Outcome::Refuted => Ok(Found::Refuted),
+        Outcome::Holds => Ok(Found::Is(term)),
+    }
+}
+
+/// Whether terms have head forms. One without a head form refutes it.
+#[cycle(closed)]
+fn head_forms_outcome(
+    setting: &Setting<'_>,
+    terms: &mut TermTable,
+    ids: &[TermId],
+    depth: u32,
+) -> Result<Outcome, Stop>
+    requires { AreIn terms.old ids.now }
+    ensures kept { Keeps terms.old terms.new }
+    ensures stops { is_headline setting.now.typing_mode.now ≡ true → IfErr result (λ s. s ≡ Stop.OutOfMemory) }
+    ensures says { (m : TypingMode) → StandsFor setting.now.typing_mode.now m → IfOk result (Says (HaveHeadForms (level_in setting.now m depth) (erased_all terms.old ids.now)) (SomeUnformed (level_in setting.now m depth) (erased_all terms.old ids.now))) }
+{
+    let mut outcome = Outcome::Holds;
+    for id in ids {
+        match head_form(setting, terms, *id, depth)? {
+            Found::Refuted => return Ok(Outcome::Refuted),
+            Found::Undecided => outcome = Outcome::Undecided,
+            Found::Is(_) => {}
+        }
+    }
+    Ok(outcome)
+}
+
+/// The term that a group of candidates gives a projection: all that give one have to give the same.
+#[cycle(closed)]
+fn group_term(
+    setting: &Setting<'_>,
+    terms: &mut TermTable,
+    projection: &Projection<'_>,
+    candidates: &[InternedCandidate<'_>],
+    depth: u32,
+) -> Result<Found, Stop>
+    requires projection { ProjectionIn terms.old projection.now }
+    requires candidates { All (CandidateIn terms.old) candidates.now }
+    ensures kept { Keeps terms.old terms.new }
+    ensures within { IfOk result (FoundIn terms.new) }
+    ensures stops { is_headline setting.now.typing_mode.now ≡ true → IfErr result (λ s. s ≡ Stop.OutOfMemory) }
+    ensures says { (m : TypingMode) → StandsFor setting.now.typing_mode.now m → IfOk result (SaysWhich (GroupGives (setting_in setting.now m) (level_in setting.now m depth) (projection_at terms.old projection.now) (erased_at terms.old projection.now.itself) (map (candidate_at terms.old) candidates.now)) (GroupRefuted (setting_in setting.now m) (level_in setting.now m depth) (projection_at terms.old projection.now) (map (candidate_at terms.old) candidates.now)) terms.new) }
+{
+    let mut found = Found::Refuted;
+    for candidate in candidates {
+        let next = candidate_term(setting, terms, projection, candidate, depth)?;
+        found = merge_terms(terms, found, next);
+        if let Found::Undecided = found {
+            return Ok(Found::Undecided);
+        }
+    }
+    Ok(found)
+}
+
+/// The term that a candidate gives a projection.
+#[cycle(closed)]
+fn candidate_term(
+    setting: &Setting<'_>,
+    terms: &mut TermTable,
+    projection: &Projection<'_>,
+    candidate: &InternedCandidate<'_>,
+    depth: u32,
+) -> Result<Found, Stop>
+    requires projection { ProjectionIn terms.old projection.now }
+    requires candidate { CandidateIn terms.old candidate.now }
+    ensures kept { Keeps terms.old terms.new }
+    ensures within { IfOk result (FoundIn terms.new) }
+    ensures stops { is_headline setting.now.typing_mode.now ≡ true → IfErr result (λ s. s ≡ Stop.OutOfMemory) }
+    ensures says { (m : TypingMode) → StandsFor setting.now.typing_mode.now m → IfOk result (SaysWhich (λ u. CandidateGives (setting_in setting.now m) (level_in setting.now m depth) (projection_at terms.old projection.now) (erased_at terms.old projection.now.itself) u (candidate_at terms.old candidate.now)) (TermRefuted (setting_in setting.now m) (level_in setting.now m depth) (projection_at terms.old projection.now) (candidate_at terms.old candidate.now)) terms.new) }
+{
+    match candidate {
+        InternedCandidate::Assumption(predicate) => {
+            assumption_term(setting, terms, projection, predicate, depth)
+        }
+        InternedCandidate::ImpliedBound(_, _) => Ok(Found::Refuted),
+        InternedCandidate::Impl(row) => impl_term(setting, terms, row, projection, depth),
+        InternedCandidate::BuiltIn => built_in_term(setting, terms, projection, depth),
+        InternedCandidate::Error => Ok(Found::Refuted),
+    }
+}
+
+/// The term that a clause gives a projection.
+#[cycle(closed)]
+fn assumption_term(
+    setting: &Setting<'_>,
+    terms: &mut TermTable,
+    projection: &Projection<'_>,
+    predicate: &InternedPredicate,
+    depth: u32,
+) -> Result<Found, Stop>
+    requires projection { ProjectionIn terms.old projection.now }
+    requires predicate { PredicateIn terms.old predicate.now }
+    ensures kept { Keeps terms.old terms.new }
+    ensures within { IfOk result (FoundIn terms.new) }
+    ensures stops { is_headline setting.now.typing_mode.now ≡ true → IfErr result (λ s. s ≡ Stop.OutOfMemory) }
+    ensures says { (m : TypingMode) → StandsFor setting.now.typing_mode.now m → IfOk result (SaysWhich (AssumptionGives (level_in setting.now m depth) (projection_at terms.old projection.now) (predicate_at terms.old predicate.now)) (AssumptionTermRefuted (level_in setting.now m depth) (projection_at terms.old projection.now) (predicate_at terms.old predicate.now)) terms.new) }
+{
+    match predicate {
+        InternedPredicate::Trait(_) => Ok(Found::Refuted),
+        InternedPredicate::HostEffect(_, _) => Ok(Found::Refuted),
+        InternedPredicate::Projection(alias, term) => {
+            equation_term(setting, terms, projection, *alias, *term, depth)
+        }
+    }
+}
+
+/// The term that a clause that an alias and a term are equal gives a projection.
+#[cycle(closed)]
+fn equation_term(
+    setting: &Setting<'_>,
+    terms: &mut TermTable,
+    projection: &Projection<'_>,
+    alias: TermId,
+    term: TermId,
+    depth: u32,
+) -> Result<Found, Stop>
+    requires projection { ProjectionIn terms.old projection.now }
+    requires alias { IsIn terms.old alias }
+    requires term { IsIn terms.old term }
+    ensures kept { Keeps terms.old terms.new }
+    ensures within { IfOk result (FoundIn terms.new) }
+    ensures stops { is_headline setting.now.typing_mode.now ≡ true → IfErr result (λ s. s ≡ Stop.OutOfMemory) }
+    ensures says { (m : TypingMode) → StandsFor setting.now.typing_mode.now m → IfOk result (SaysWhich (EquationGives (level_in setting.now m depth) (projection_at terms.old projection.now) (erased_at terms.old alias) (erased_at terms.old term)) (EquationRefuted (level_in setting.now m depth) (projection_at terms.old projection.now) (erased_at terms.old alias) (erased_at terms.old term)) terms.new) }
+{
+    let Some(args) = projected_args(memory(setting), terms, alias, projection.item.id)? else {
+        return Ok(Found::Refuted);
+    };
+    equal_args_term(setting, terms, projection, args.as_slice(), term, depth)
+}
+
+/// The term of a clause on a projection of the same item, by its arguments.
+#[cycle(closed)]
+fn equal_args_term(
+    setting: &Setting<'_>,
+    terms: &mut TermTable,
+    projection: &Projection<'_>,
+    args: &[TermId],
+    term: TermId,
+    depth: u32,
+) -> Result<Found, Stop>
+    requires projection { ProjectionIn terms.old projection.now }
+    requires args { AreIn terms.old args.now }
+    requires term { IsIn terms.old term }
+    ensures kept { Keeps terms.old terms.new }
+    ensures within { IfOk result (FoundIn terms.new) }
+    ensures stops { is_headline setting.now.typing_mode.now ≡ true → IfErr result (λ s. s ≡ Stop.OutOfMemory) }
+    ensures says { (m : TypingMode) → StandsFor setting.now.typing_mode.now m → IfOk result (SaysWhich (EqualArgsGive (level_in setting.now m depth) (projection_at terms.old projection.now) (erased_all terms.old args.now) (erased_at terms.old term)) (EqualArgsRefuted (level_in setting.now m depth) (projection_at terms.old projection.now) (erased_all terms.old args.now) (erased_at terms.old term)) terms.new) }
+{
+    let equal = compare_lists(setting, terms, args, projection.args, depth)?;
+    if let Outcome::Refuted = equal {
+        return Ok(Found::Refuted);
+    }
+    let clauses = projection.item.own_predicates.as_slice();
+    let hold = clauses_outcome(setting, terms, clauses, projection.args, depth)?;
+    if let Outcome::Refuted = hold {
+        return Ok(Found::Refuted);
+    }
+    let found = head_form(setting, terms, term, depth)?;
+    Ok(behind(both(equal, hold), found))
+}
+
+/// The term that a built-in rule gives a projection.
+#[cycle(closed)]
+fn built_in_term(
+    setting: &Setting<'_>,
+    terms: &mut TermTable,
+    projection: &Projection<'_>,
+    depth: u32,
+) -> Result<Found, Stop>
+    requires { ProjectionIn terms.old projection.now }
+    ensures kept { Keeps terms.old terms.new }
+    ensures within { IfOk result (FoundIn terms.new) }
+    ensures stops { is_headline setting.now.typing_mode.now ≡ true → IfErr result (λ s. s ≡ Stop.OutOfMemory) }
+    ensures says { (m : TypingMode) → StandsFor setting.now.typing_mode.now m → IfOk result (SaysWhich (ListedGives (level_in setting.now m depth) (projection_at terms.old projection.now) (erased_at terms.old projection.now.itself) (term_rule setting.now.rows.now projection.now.item.now.id (erased_all terms.old projection.now.args.now))) (ListedRefuted (level_in setting.now m depth) (term_rule setting.now.rows.now projection.now.item.now.id (erased_all terms.old projection.now.args.now))) terms.new) }
+{
+    let rule = term_rule(setting.rows, terms, projection.item.id, projection.args)?;
+    listed_term(setting, terms, projection, &rule, depth)
+}
+
+/// The term that what a built-in rule lists gives a projection.
+#[cycle(closed)]
+fn listed_term(
+    setting: &Setting<'_>,
+    terms: &mut TermTable,
+    projection: &Projection<'_>,
+    rule: &ListedTerm,
+    depth: u32,
+) -> Result<Found, Stop>
+    requires projection { ProjectionIn terms.old projection.now }
+    requires rule { ListedIn terms.old rule.now }
+    ensures kept { Keeps terms.old terms.new }
+    ensures within { IfOk result (FoundIn terms.new) }
+    ensures stops { is_headline setting.now.typing_mode.now ≡ true → IfErr result (λ s. s ≡ Stop.OutOfMemory) }
+    ensures says { (m : TypingMode) → StandsFor setting.now.typing_mode.now m → IfOk result (SaysWhich (ListedGives (level_in setting.now m depth) (projection_at terms.old projection.now) (erased_at terms.old projection.now.itself) (listed_at terms.old rule.now)) (ListedRefuted (level_in setting.now m depth) (listed_at terms.old rule.now)) terms.new) }
+{
+    match rule {
+        ListedTerm::Nothing => Ok(Found::Refuted),
+        ListedTerm::Rigid => Ok(Found::Is(projection.itself)),
+        ListedTerm::Behind(premises, term) => {
+            behind_term(setting, terms, premises.as_slice(), *term, depth)
+        }
+        ListedTerm::BySize(sized) => sized_term(setting, terms, projection, *sized, depth),
+    }
+}
+
+/// The head form of a term, behind premises.
+#[cycle(closed)]
+fn behind_term(
+    setting: &Setting<'_>,
+    terms: &mut TermTable,
+    premises: &[InternedPremise],
+    term: TermId,
+    depth: u32,
+) -> Result<Found, Stop>
+    requires premises { All (PremiseIn terms.old) premises.now }
+    requires term { IsIn terms.old term }
+    ensures kept { Keeps terms.old terms.new }
+    ensures within { IfOk result (FoundIn terms.new) }
+    ensures stops { is_headline setting.now.typing_mode.now ≡ true → IfErr result (λ s. s ≡ Stop.OutOfMemory) }
+    ensures says { (m : TypingMode) → StandsFor setting.now.typing_mode.now m → IfOk result (SaysWhich (λ u. PremisesHold (level_in setting.now m depth) (map (premise_at terms.old) premises.now) × HasHeadForm (level_in setting.now m depth) (erased_at terms.old term) u) (PremisesRefuted (level_in setting.now m depth) (map (premise_at terms.old) premises.now) ⊎ HeadFormRefuted (level_in setting.now m depth) (erased_at terms.old term)) terms.new) }
+{
+    let hold = premises_outcome(setting, terms, premises, depth)?;
+    if let Outcome::Refuted = hold {
+        return Ok(Found::Refuted);
+    }
+    let found = head_form(setting, terms, term, depth)?;
+    Ok(behind(hold, found))
+}
+
+/// The term of a projection that is `()` where its self type is `Sized`, and else stays.
+#[cycle(closed)]
+fn sized_term(
+    setting: &Setting<'_>,
+    terms: &mut TermTable,
+    projection: &Projection<'_>,
+    sized: TraitId,
+    depth: u32,
+) -> Result<Found, Stop>
+    requires { ProjectionIn terms.old projection.now }
+    ensures kept { Keeps terms.old terms.new }
+    ensures within { IfOk result (FoundIn terms.new) }
+    ensures stops { is_headline setting.now.typing_mode.now ≡ true → IfErr result (λ s. s ≡ Stop.OutOfMemory) }
+    ensures says { (m : TypingMode) → StandsFor setting.now.typing_mode.now m → IfOk result (SaysWhich (ListedGives (level_in setting.now m depth) (projection_at terms.old projection.now) (erased_at terms.old projection.now.itself) (listed_by_size sized)) (ListedRefuted (level_in setting.now m depth) (listed_by_size sized)) terms.new) }
+{
+    let self_args = first_args(projection.args, 1);
+    match trait_outcome(setting, terms, sized, self_args, depth)? {
+        TraitOutcome::Undecided => Ok(Found::Undecided),
+        TraitOutcome::Refuted => Ok(Found::Is(projection.itself)),
+        TraitOutcome::Holds(_) => {
+            let unit = intern_unit(memory(setting), terms)?;
+            Ok(Found::Is(unit))
+        }
+    }
+}
