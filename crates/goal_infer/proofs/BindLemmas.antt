@@ -20,12 +20,12 @@ use Rattle.goal_infer.proofs.KindLemmas.{variable-of_kind, kinds-single, kinds-r
 use Rattle.goal_infer.proofs.ReplacementLemmas.{single, replaced-twice, replaced-pointwise, replaced-nowhere, place_at-nowhere, replaced-single, by_same, same_variable-self, single-here, single-elsewhere, single-other}
 
 module _ {A : Type 0} where
-  set-here : (xs : List A) (n : ℕ) (x y : A) → slice_get xs n ≡ Some x → slice_get (slice_set xs n y) n ≡ Some y
+  pub set-here : (xs : List A) (n : ℕ) (x y : A) → slice_get xs n ≡ Some x → slice_get (slice_set xs n y) n ≡ Some y
   set-here [] n x y e = absurd (cc)
   set-here (z ∷ xs) zero x y e = refl
   set-here (z ∷ xs) (suc n) x y e = set-here xs n x y e
 
-  set-elsewhere : (xs : List A) (n m : ℕ) (y : A) → m ≢ n → slice_get (slice_set xs n y) m ≡ slice_get xs m
+  pub set-elsewhere : (xs : List A) (n m : ℕ) (y : A) → m ≢ n → slice_get (slice_set xs n y) m ≡ slice_get xs m
   set-elsewhere [] n m y e = refl
   set-elsewhere (z ∷ xs) zero zero y e = absurd (e refl)
   set-elsewhere (z ∷ xs) zero (suc m) y e = refl

@@ -3,7 +3,7 @@ use Rattle.std.proofs.Common.{◌≡◌, ◌≢◌, ℕ, zero, suc, ◌<◌, Boo
 use Rattle.std.specs.Prelude.{◌||◌, not}
 use Rattle.std.proofs.lemmas.Bool.{false≢true}
 use Rattle.goal_terms.specs.Tree.{Tree, Trees, node, alias, variable, none, more, node_of, parts_of, forest}
-use Rattle.goal_terms.specs.Erased.{erased, compared_node}
+use Rattle.goal_terms.specs.Erased.{erased, erased_head, compared_node}
 use Rattle.goal_terms.specs.NodeTests.{is_made, some_node, some_in_row}
 use Rattle.goal_terms.specs.TableMeaning.{tree_at}
 use Rattle.goal_terms.specs.TreeWith.{tree_with}
@@ -27,11 +27,11 @@ use Rattle.goal_infer.proofs.BindLemmas.{with_binding, IsBindable, resolution-bo
 use Rattle.goal_infer.proofs.PartLemmas.{is_above, standing, standing-parts, resolved-variable}
 use Rattle.goal_infer.proofs.ReplacementLemmas.{single, replaced-twice, by_same, single-here, single-elsewhere}
 
-either-false : (a b : Bool) → a || b ≡ false → (a ≡ false) × (b ≡ false)
+pub either-false : (a b : Bool) → a || b ≡ false → (a ≡ false) × (b ≡ false)
 either-false true b e = absurd (false≢true (sym e))
 either-false false b e = (refl, e)
 
-both-false : (a b : Bool) → a ≡ false → b ≡ false → a || b ≡ false
+pub both-false : (a b : Bool) → a ≡ false → b ≡ false → a || b ≡ false
 both-false a b e f = ap (λ q. q || b) e ∙ f
 
 -- in a definite term a variable stands outside of aliases or nowhere
@@ -59,13 +59,13 @@ mutual
       joined-outside (place_of v t) (place_in_row v ts) (place-definite ks v t both.0) (row-definite ks v ts both.1)
 
 -- definite trees put for variables that were made
-abbrev PutsDefinite : List VarKind → (Variable → Tree) → Type 0
+abbrev pub PutsDefinite : List VarKind → (Variable → Tree) → Type 0
 PutsDefinite ks σ = (w : Variable) → is_open ks (nodes.Variable w) ≡ false → some_node (is_open ks) (σ w) ≡ false
 
 mutual
   unfolding some_node replaced
 
-  definite-replaced : (ks : List VarKind) (σ : Variable → Tree) → PutsDefinite ks σ → (t : Tree) → some_node (is_open ks) t ≡ false → some_node (is_open ks) (replaced σ t) ≡ false
+  pub definite-replaced : (ks : List VarKind) (σ : Variable → Tree) → PutsDefinite ks σ → (t : Tree) → some_node (is_open ks) t ≡ false → some_node (is_open ks) (replaced σ t) ≡ false
   definite-replaced ks σ p (node h ts) e = row-replaced ks σ p ts e
   definite-replaced ks σ p (alias k ts) e = absurd (false≢true (sym e))
   definite-replaced ks σ p (variable w) e = p w e
@@ -76,7 +76,7 @@ mutual
       let both : (some_node (is_open ks) t ≡ false) × (some_in_row (is_open ks) ts ≡ false) = either-false (some_node (is_open ks) t) (some_in_row (is_open ks) ts) e in
       both-false (some_node (is_open ks) (replaced σ t)) (some_in_row (is_open ks) (replaced_row σ ts)) (definite-replaced ks σ p t both.0) (row-replaced ks σ p ts both.1)
 
-puts-single : (ks : List VarKind) (v : Variable) (t : Tree) → some_node (is_open ks) t ≡ false → PutsDefinite ks (single v t)
+pub puts-single : (ks : List VarKind) (v : Variable) (t : Tree) → some_node (is_open ks) t ≡ false → PutsDefinite ks (single v t)
 unfolding some_node
 puts-single ks v t e w h =
     by_same v w (some_node (is_open ks) (single v t w) ≡ false) (λ p. ap (some_node (is_open ks)) (single-here v w t p) ∙ e)
@@ -103,13 +103,6 @@ keeps-binding T s v x id b d other e =
     (replaced (resolution T s) (term_at T other)) e
 
 -- decisions
-pub decision-same : (T : List Tree) (s : Inference) (u : Unified) → u ≢ Undecided → IsDecision T s s u
-decision-same T s u e = (e, keeps-same T s s refl)
-
-pub decided-same : (T : List Tree) (s : Inference) (l r : TermId) (u : Unified) → u ≢ Undecided → IsDecided T s s l r u
-unfolding IsDecided
-decided-same T s l r u e dl dr = decision-same T s u e
-
 pub yes-decides : Yes ≢ Undecided
 yes-decides e = absurd (cc)
 
@@ -143,59 +136,23 @@ alias-undecided T s l r e u dl dr = on (is_alias (node_of (tree_at T l))) refl w
   on true f = absurd (false≢true (sym dl ∙ alias-open (kinds_of s) (resolution T s) (tree_at T l) f))
   on false f = absurd (false≢true (sym dr ∙ alias-open (kinds_of s) (resolution T s) (tree_at T r) (sym (ap (λ q. q || is_alias (node_of (tree_at T r))) f) ∙ e)))
 
--- the parts of a definite term are definite
+-- what stands nowhere in a term stands nowhere in its parts
 some-part : (p : Node → Bool) (f : TermId → Tree) (ids : List TermId) (i : ℕ) (d : TermId) → some_in_row p (forest (map f ids)) ≡ false → i < length ids → some_node p (f (get_or ids i d)) ≡ false
 unfolding some_node
 some-part p f [] i d e l = absurd (omega arith)
 some-part p f (id ∷ ids) zero d e l = (either-false (some_node p (f id)) (some_in_row p (forest (map f ids))) e).0
 some-part p f (id ∷ ids) (suc i) d e l = some-part p f ids i d (either-false (some_node p (f id)) (some_in_row p (forest (map f ids))) e).1 (omega arith)
 
-some-with : (ks : List VarKind) (n : Node) (us : List Tree) → is_above n → some_node (is_open ks) (tree_with (compared_node Forgotten n) us) ≡ false → some_in_row (is_open ks) (forest us) ≡ false
+some-with : (p : Node → Bool) (n : Node) (us : List Tree) → is_above n → some_node p (tree_with (compared_node Forgotten n) us) ≡ false → some_in_row p (forest us) ≡ false
 unfolding some_node
-some-with ks (nodes.Head h) us p e = e
-some-with ks (nodes.Alias k) us p e = absurd (false≢true (sym e))
-some-with ks (nodes.Variable v) us p e = absurd p
+some-with p (nodes.Head h) us q e = (either-false (p (nodes.Head (erased_head h))) (some_in_row p (forest us)) e).1
+some-with p (nodes.Alias k) us q e = (either-false (p (nodes.Alias k)) (some_in_row p (forest us)) e).1
+some-with p (nodes.Variable v) us q e = absurd q
 
-pub definite-part : (T : List Tree) (s : Inference) (id : TermId) (ids : List TermId) (i : ℕ) → map (tree_at T) ids ≡ parts_of (tree_at T id) →
-    is_above (node_of (tree_at T id)) → i < length ids → IsDefinite (kinds_of s) (resolved T s id) → IsDefinite (kinds_of s) (resolved T s (get_or ids i (record { 0 = 0 })))
-unfolding IsDefinite resolved
-definite-part T s id ids i e p l d =
-    some-part (is_open (kinds_of s)) (standing T (resolution T s)) ids i (record { 0 = 0 })
-    (some-with (kinds_of s) (node_of (tree_at T id)) (map (standing T (resolution T s)) ids) p
-    (sym (ap (some_node (is_open (kinds_of s))) (standing-parts T (resolution T s) id ids e p)) ∙ d)) l
-
-pub decided-when_same : (T : List Tree) (s z : Inference) (l r : TermId) (u : Unified) → z ≡ s → u ≢ Undecided → IsDecided T s z l r u
-unfolding IsDecided
-decided-when_same T s z l r u e f dl dr = (f, keeps-same T s z e)
-
--- given terms in place of resolved ones
-pub decided-given : (T : List Tree) (s z : Inference) (a b c d : TermId) → resolved T s a ≡ resolved T s c → resolved T s b ≡ resolved T s d → (u : Unified) →
-    IsDecided T s z a b u → IsDecided T s z c d u
-unfolding IsDecided
-decided-given T s z a b c d e f u h dl dr = h (subst (IsDefinite (kinds_of s)) (sym e) dl) (subst (IsDefinite (kinds_of s)) (sym f) dr)
-
--- one more pair
-pair-definite : (T : List Tree) (s y : Inference) (given whole : TermId) → resolved T s whole ≡ resolved T s given → kinds_of y ≡ kinds_of s → KeepsDefinite T s y →
-    (ids : List TermId) (i : ℕ) → map (tree_at T) ids ≡ parts_of (tree_at T whole) → is_above (node_of (tree_at T whole)) → i < length ids →
-    IsDefinite (kinds_of s) (resolved T s given) → IsDefinite (kinds_of y) (resolved T y (get_or ids i (record { 0 = 0 })))
-unfolding KeepsDefinite
-pair-definite T s y given whole e k keeps ids i p above l d =
-    subst (λ ks. IsDefinite ks (resolved T y (get_or ids i (record { 0 = 0 })))) (sym k)
-    (keeps (get_or ids i (record { 0 = 0 })) (definite-part T s whole ids i p above l (subst (IsDefinite (kinds_of s)) (sym e) d)))
-
--- what is known of the two terms whose parts are walked
-pub record IsPaired (T : List Tree) (s : Inference) (given whole : TermId) (ids : List TermId) : Type 0 where
-  pub same : resolved T s whole ≡ resolved T s given
-  pub parts : map (tree_at T) ids ≡ parts_of (tree_at T whole)
-  pub above : is_above (node_of (tree_at T whole))
-
-pub decided-more : (T : List Tree) (s y z : Inference) (l r l' r' : TermId) (ls rs : List TermId) → IsPaired T s l l' ls → IsPaired T s r r' rs → kinds_of y ≡ kinds_of s →
-    (i : ℕ) → i < length ls → i < length rs → (a u b : Unified) → IsDecided T s y l r a →
-    IsDecided T y z (get_or ls i (record { 0 = 0 })) (get_or rs i (record { 0 = 0 })) u → (a ≢ Undecided → u ≢ Undecided → b ≢ Undecided) → IsDecided T s z l r b
-unfolding IsDecided
-decided-more T s y z l r l' r' ls rs p q k i f g a u b before here after dl dr =
-    let old : IsDecision T s y a = before dl dr in
-    let new : IsDecision T y z u = here
-    (pair-definite T s y l l' p.same k old.1 ls i p.parts p.above f dl)
-    (pair-definite T s y r r' q.same k old.1 rs i q.parts q.above g dr) in
-    (after old.0 new.0, keeps-through T s y z k old.1 new.1)
+pub never-in-part : (p : Node → Bool) (T : List Tree) (s : Inference) (id : TermId) (ids : List TermId) (i : ℕ) → map (tree_at T) ids ≡ parts_of (tree_at T id) →
+    is_above (node_of (tree_at T id)) → i < length ids → some_node p (resolved T s id) ≡ false → some_node p (resolved T s (get_or ids i (record { 0 = 0 }))) ≡ false
+unfolding resolved
+never-in-part p T s id ids i e q l d =
+    some-part p (standing T (resolution T s)) ids i (record { 0 = 0 })
+    (some-with p (node_of (tree_at T id)) (map (standing T (resolution T s)) ids) q
+    (sym (ap (some_node p) (standing-parts T (resolution T s) id ids e q)) ∙ d)) l

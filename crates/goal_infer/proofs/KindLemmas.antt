@@ -20,13 +20,13 @@ use Rattle.goal_terms.specs.declared.terms.InferTy.TheVariants as infer
 use Rattle.goal_infer.specs.Replacement.{number_of, kind_of_variable, replaced, takes, OfKinds, is_type_sort, is_const_sort, is_integer, is_floating}
 use Rattle.goal_infer.proofs.ReplacementLemmas.{single, by_same, single-here, single-elsewhere}
 
-integer-type : (n : Node) → IsTrue (is_integer n) → IsTrue (is_type_sort (sort_of n))
+pub integer-type : (n : Node) → IsTrue (is_integer n) → IsTrue (is_type_sort (sort_of n))
 integer-type (nodes.Head (head.Int i)) h = refl
 integer-type (nodes.Head (head.Uint i)) h = refl
 integer-type (nodes.Variable (variables.Ty (infer.IntVar n))) h = refl
 integer-type _ h = absurd (false≢true h)
 
-floating-type : (n : Node) → IsTrue (is_floating n) → IsTrue (is_type_sort (sort_of n))
+pub floating-type : (n : Node) → IsTrue (is_floating n) → IsTrue (is_type_sort (sort_of n))
 floating-type (nodes.Head (head.Float i)) h = refl
 floating-type (nodes.Variable (variables.Ty (infer.FloatVar n))) h = refl
 floating-type _ h = absurd (false≢true h)
@@ -77,7 +77,7 @@ unfolding OfKinds
 kinds-replaced σ ρ f g v = takes-replaced v σ (ρ v) f (g v)
 
 -- a variable is its number and its kind
-same_var_kind-true : (k l : VarKind) → same_var_kind k l ≡ true → k ≡ l
+pub same_var_kind-true : (k l : VarKind) → same_var_kind k l ≡ true → k ≡ l
 same_var_kind-true kind.Ty kind.Ty e = refl
 same_var_kind-true kind.Int kind.Int e = refl
 same_var_kind-true kind.Float kind.Float e = refl
@@ -108,7 +108,7 @@ pub variable-of_kind : (k : VarKind) (v w : Variable) → number_of v ≡ number
 variable-of_kind k v w e f g = variable-is v w e (sym (same_var_kind-true k (kind_of_variable v) f) ∙ same_var_kind-true k (kind_of_variable w) g)
 
 -- lifetimes say nothing of kinds
-sort-erased : (h : Head) → sort_of_head (erased_head h) ≡ sort_of_head h
+pub sort-erased : (h : Head) → sort_of_head (erased_head h) ≡ sort_of_head h
 sort-erased (head.Ref r m) = refl
 sort-erased (head.FnPtr b i f) = refl
 sort-erased (head.Dynamic n r) = refl

@@ -9,6 +9,13 @@ pub mod WorkLemmas
 pub mod UnifyLemmas
 pub mod DecisionLemmas
 pub mod PairLemmas
+pub mod ListLemmas
 pub mod SolvedLemmas
 pub mod SameLemmas
 pub mod IdentityLemmas
+pub mod PlainLemmas
+pub mod ClashLemmas
+pub mod BindingLemmas
+pub mod FollowLemmas
+pub mod RegionStateLemmas
+pub mod RegionEquationLemmas

@@ -16,7 +16,6 @@ use Rattle.goal_infer.specs.Resolution.{unbound_count, resolved, Agrees, IsSolve
 use Rattle.goal_infer.specs.Unification.{MakesSame, IsUnified, Advances, IsHead, HaveOneHead}
 use Rattle.goal_infer.specs.declared.unify.Unified.{Unified}
 use Rattle.goal_infer.specs.declared.unify.Unified.TheVariants.{Yes, Undecided, No}
-use Rattle.goal_infer.proofs.DecisionLemmas.{IsPaired}
 use Rattle.goal_infer.proofs.PartLemmas.{is_above, standing, standing-parts, height-part}
 use Rattle.goal_infer.proofs.UnifyLemmas.{answer-as, agrees-resolved, yes-same}
 use Rattle.goal_infer.proofs.WorkLemmas.{work, ceiling, work-falls}
@@ -75,25 +74,25 @@ said-no T s y z ls rs i n u l going h m ρ kinds a b =
 
 -- lists of terms that are the same
 module _ (f : TermId → Tree) (d : TermId) where
-  maps-at : (ls rs : List TermId) → map f ls ≡ map f rs → (k : ℕ) → k < length ls → f (get_or ls k d) ≡ f (get_or rs k d)
+  pub maps-at : (ls rs : List TermId) → map f ls ≡ map f rs → (k : ℕ) → k < length ls → f (get_or ls k d) ≡ f (get_or rs k d)
   maps-at [] rs e k l = absurd (omega arith)
   maps-at (x ∷ ls) [] e k l = absurd (cc)
   maps-at (x ∷ ls) (y ∷ rs) e zero l = cc
   maps-at (x ∷ ls) (y ∷ rs) e (suc k) l = let p : map f ls ≡ map f rs = cc in maps-at ls rs p k (omega arith)
 
-  maps-same : (ls rs : List TermId) → length rs ≡ length ls → ((k : ℕ) → k < length ls → f (get_or ls k d) ≡ f (get_or rs k d)) → map f ls ≡ map f rs
+  pub maps-same : (ls rs : List TermId) → length rs ≡ length ls → ((k : ℕ) → k < length ls → f (get_or ls k d) ≡ f (get_or rs k d)) → map f ls ≡ map f rs
   maps-same [] [] e h = refl
   maps-same [] (y ∷ rs) e h = absurd (omega arith)
   maps-same (x ∷ ls) [] e h = absurd (omega arith)
   maps-same (x ∷ ls) (y ∷ rs) e h =
       ap (λ t. t ∷ map f ls) (h 0 (omega arith)) ∙ ap (λ ts. f y ∷ ts) (maps-same ls rs (omega arith) (λ k l. h (suc k) (omega arith)))
 
-head-above : (n : Node) → IsHead n → is_above n
+pub head-above : (n : Node) → IsHead n → is_above n
 head-above (nodes.Head h) p = tt
 head-above (nodes.Alias k) p = absurd p
 head-above (nodes.Variable v) p = absurd p
 
-head-other : (t u : Tree) → IsHead (node_of t) → top_of t ≡ top_of u → IsHead (node_of u)
+pub head-other : (t u : Tree) → IsHead (node_of t) → top_of t ≡ top_of u → IsHead (node_of u)
 head-other (node h ts) (node k us) p e = tt
 head-other (node h ts) (alias k us) p e = absurd (cc)
 head-other (node h ts) (variable v) p e = absurd (cc)
@@ -108,10 +107,10 @@ parts_with (variable v) us p = absurd p
 -- two terms with one constructor, by their parts
 module _ (T : List Tree) (s : Inference) (z : Inference) (l r : TermId) (one : HaveOneHead T s z l r) (ls rs : List TermId)
     (lp : map (tree_at T) ls ≡ parts_of (tree_at T l)) (rp : map (tree_at T) rs ≡ parts_of (tree_at T r)) where
-  left-is : (ρ : Variable → Tree) → standing T ρ l ≡ tree_with (top_of (tree_at T l)) (map (standing T ρ) ls)
+  pub left-is : (ρ : Variable → Tree) → standing T ρ l ≡ tree_with (top_of (tree_at T l)) (map (standing T ρ) ls)
   left-is ρ = standing-parts T ρ l ls lp (head-above (node_of (tree_at T l)) one.head)
 
-  right-is : (ρ : Variable → Tree) → standing T ρ r ≡ tree_with (top_of (tree_at T r)) (map (standing T ρ) rs)
+  pub right-is : (ρ : Variable → Tree) → standing T ρ r ≡ tree_with (top_of (tree_at T r)) (map (standing T ρ) rs)
   right-is ρ = standing-parts T ρ r rs rp (head-above (node_of (tree_at T r)) (head-other (tree_at T l) (tree_at T r) one.head one.same))
 
   maps-if : (ρ : Variable → Tree) → MakesSame T l r ρ → map (standing T ρ) ls ≡ map (standing T ρ) rs
@@ -169,13 +168,3 @@ less-work T s z advances given whole same ids i parts head l =
     (sym (length-map z.variables (λ x. x.kind)) ∙ ap length advances.kinds ∙ length-map s.variables (λ x. x.kind))
     whole (get_or ids i (record { 0 = 0 }))
     (height-part T s whole ids i (record { 0 = 0 }) parts (head-above (node_of (tree_at T whole)) head) l))
-
--- the two terms, as they are paired
-pub left-paired : (T : List Tree) (s z : Inference) (given l r : TermId) → HaveOneHead T s z l r → (ls : List TermId) → resolved T s l ≡ resolved T s given →
-    map (tree_at T) ls ≡ parts_of (tree_at T l) → IsPaired T s given l ls
-left-paired T s z given l r one ls e p = record { same = e; parts = p; above = head-above (node_of (tree_at T l)) one.head }
-
-pub right-paired : (T : List Tree) (s z : Inference) (given l r : TermId) → HaveOneHead T s z l r → (rs : List TermId) → resolved T s r ≡ resolved T s given →
-    map (tree_at T) rs ≡ parts_of (tree_at T r) → IsPaired T s given r rs
-right-paired T s z given l r one rs e p =
-    record { same = e; parts = p; above = head-above (node_of (tree_at T r)) (head-other (tree_at T l) (tree_at T r) one.head one.same) }

@@ -14,7 +14,7 @@ use Rattle.goal_infer.proofs.PartLemmas.{is_above, height-part}
 use Rattle.goal_infer.proofs.ReplacementLemmas.{height}
 
 -- a tree after the bindings of a state
-pub settled : List Tree → Inference → Tree → Tree
+unfoldable pub settled : List Tree → Inference → Tree → Tree
 settled T s t = replaced (resolution T s) (erased t)
 
 pub settled-is : (T : List Tree) (s : Inference) (id : TermId) → settled T s (tree_at T id) ≡ resolved T s id
@@ -33,7 +33,7 @@ settled-top T s solved (node h ts) e = refl
 settled-top T s solved (alias k ts) e = refl
 settled-top T s solved (variable v) e = ap node_of (solved.free v e)
 
-settled-parts : (T : List Tree) (s : Inference) → IsSolved T s → (t : Tree) → binding_at s (node_of t) ≡ None → parts_of (settled T s t) ≡ map (settled T s) (parts_of t)
+pub settled-parts : (T : List Tree) (s : Inference) → IsSolved T s → (t : Tree) → binding_at s (node_of t) ≡ None → parts_of (settled T s t) ≡ map (settled T s) (parts_of t)
 unfolding settled replaced erased
 settled-parts T s solved (node h ts) e = row-settled T s ts
 settled-parts T s solved (alias k ts) e = row-settled T s ts

@@ -170,7 +170,7 @@ unfolding resolved term_at
 takes-resolved T s solved v id e =
     takes-replaced v (resolution T s) (erased (tree_at T id)) solved.kinds (takes-erased v (tree_at T id) ∙ e)
 
-ended-variable : (T : List Tree) (s : Inference) (id : TermId) → binding_at s (node_of (tree_at T id)) ≡ None → (w : Variable) → term_at T id ≡ variable w → binding_of s w ≡ None
+pub ended-variable : (T : List Tree) (s : Inference) (id : TermId) → binding_at s (node_of (tree_at T id)) ≡ None → (w : Variable) → term_at T id ≡ variable w → binding_of s w ≡ None
 unfolding term_at
 ended-variable T s id ended w e = sym (ap (binding_at s) (node_of-variable (tree_at T id) w e)) ∙ ended
 

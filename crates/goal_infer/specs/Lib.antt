@@ -4,3 +4,7 @@ pub mod Replacement
 pub mod Occurrence
 pub mod Resolution
 pub mod Unification
+pub mod ListUnification
+pub mod Binding
+pub mod Following
+pub mod RegionEquations

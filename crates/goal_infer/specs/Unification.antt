@@ -1,8 +1,9 @@
 -- What unification does to a state, and what its answers say.
-use Rattle.std.specs.Prelude.{◌≡◌, ◌≢◌, ◌⊎◌, ◌↔◌, ◌<◌, IsTrue, List, map, Bool, true, false, not, if◌then◌else◌, Option, Some, None}
-use Rattle.goal_terms.specs.Tree.{Tree, variable, node_of}
-use Rattle.goal_terms.specs.NodeTests.{is_made, some_node}
+use Rattle.std.specs.Prelude.{◌≡◌, ◌≢◌, ◌⊎◌, ◌↔◌, ◌<◌, ◌&&◌, ◌||◌, IsTrue, List, map, Bool, true, false, not, if◌then◌else◌, Option, Some, None}
+use Rattle.goal_terms.specs.Tree.{Tree, Trees, node, variable, none, more, node_of}
+use Rattle.goal_terms.specs.NodeTests.{is_made, is_any_infer, some_node}
 use Rattle.goal_terms.specs.SameHead.{top_of}
+use Rattle.goal_terms.specs.SameTree.{same_node, same_tree}
 use Rattle.goal_terms.specs.TableMeaning.{tree_at}
 use Rattle.goal_terms.specs.declared.answers.VarKind.{VarKind}
 use Rattle.goal_terms.specs.declared.heads.Node.{Node}
@@ -91,19 +92,46 @@ is_open ks (nodes.Variable v) = not (is_made ks (number_of v) (kind_of_variable 
 unfoldable pub IsDefinite : List VarKind → Tree → Type 0
 IsDefinite ks t = some_node (is_open ks) t ≡ false
 
+-- whether nothing in two terms is left open
+abbrev pub both_definite : List VarKind → Tree → Tree → Bool
+both_definite ks t u = not (some_node (is_open ks) t || some_node (is_open ks) u)
+
+-- whether two terms leave nothing open where they part: at each place that both reach through the same constructors, they are identical, have different constructors or are definite
+unfoldable mutual
+  pub are_plain : List VarKind → Tree → Tree → Bool
+  are_plain ks (node h ts) (node k us) = not (same_node (nodes.Head h) (nodes.Head k)) || rows_are_plain ks ts us
+  are_plain ks t u = same_tree t u || both_definite ks t u
+
+  pub rows_are_plain : List VarKind → Trees → Trees → Bool
+  rows_are_plain ks (more t ts) (more u us) = are_plain ks t u && rows_are_plain ks ts us
+  rows_are_plain ks ts us = true
+
+-- two terms of a table are plain, after all bindings
+unfoldable pub ArePlain : List VarKind → List Tree → Inference → TermId → TermId → Type 0
+ArePlain ks T s l r = are_plain ks (resolved T s l) (resolved T s r) ≡ true
+
 -- what is definite stays so
 unfoldable pub KeepsDefinite : List Tree → Inference → Inference → Type 0
 KeepsDefinite T before after =
     (id : TermId) → IsDefinite (kinds_of before) (resolved T before id) → IsDefinite (kinds_of before) (resolved T after id)
 
--- an answer is a decision
+-- what is plain stays so
+unfoldable pub KeepsPlain : List Tree → Inference → Inference → Type 0
+KeepsPlain T before after =
+    (l r : TermId) → ArePlain (kinds_of before) T before l r → ArePlain (kinds_of before) T after l r
+
+-- an answer is a decision, and what was definite or plain stays so
 abbrev pub IsDecision : List Tree → Inference → Inference → Unified → Type 0
-IsDecision T before after u = (u ≢ Undecided) × KeepsDefinite T before after
+IsDecision T before after u = (u ≢ Undecided) × KeepsDefinite T before after × KeepsPlain T before after
 
 -- the answer for two definite terms is a decision
 unfoldable pub IsDecided : List Tree → Inference → Inference → TermId → TermId → Unified → Type 0
 IsDecided T before after l r u =
     IsDefinite (kinds_of before) (resolved T before l) → IsDefinite (kinds_of before) (resolved T before r) → IsDecision T before after u
+
+-- the answer for two plain terms is a decision
+unfoldable pub IsDecidedWherePlain : List Tree → Inference → Inference → TermId → TermId → Unified → Type 0
+IsDecidedWherePlain T before after l r u = ArePlain (kinds_of before) T before l r → IsDecision T before after u
 
 -- the answer for a variable that was made and a definite term is a decision
 abbrev pub BindingDecides : List Tree → Inference → Inference → Variable → TermId → Unified → Type 0
@@ -111,7 +139,7 @@ BindingDecides T before after v id u = IsDefinite (kinds_of before) (resolved T 
 
 -- so it is with an answer from their tops
 abbrev pub TopsDecide : List Tree → Inference → Inference → TermId → TermId → Option Unified → Type 0
-TopsDecide T before after l r (Some u) = IsDecided T before after l r u
+TopsDecide T before after l r (Some u) = IsDecidedWherePlain T before after l r u
 TopsDecide T before after l r None = Unit {0}
 
 -- where two terms are identical already, the answer says so, and nothing happened
@@ -122,3 +150,32 @@ IsIdentified T before after l r u = resolved T before l ≡ resolved T before r 
 abbrev pub TopsIdentify : List Tree → Inference → Inference → TermId → TermId → Option Unified → Type 0
 TopsIdentify T before after l r (Some u) = IsIdentified T before after l r u
 TopsIdentify T before after l r None = Unit {0}
+
+-- a term that holds no variable
+abbrev pub IsClosed : Tree → Type 0
+IsClosed t = some_node is_any_infer t ≡ false
+
+-- two terms differ for good: at a place that both reach through the same constructors two constructors differ, or two rows in length
+unfoldable mutual
+  pub Clash : Tree → Tree → Type 0
+  Clash (node h ts) (node k us) = (h ≢ k) ⊎ RowsClash ts us
+  Clash t u = ⊥
+
+  pub RowsClash : Trees → Trees → Type 0
+  RowsClash none none = ⊥
+  RowsClash none (more u us) = Unit {0}
+  RowsClash (more t ts) none = Unit {0}
+  RowsClash (more t ts) (more u us) = Clash t u ⊎ RowsClash ts us
+
+-- where the answer is no, two terms without variables clash
+unfoldable pub IsClashing : List Tree → Inference → TermId → TermId → Unified → Type 0
+IsClashing T s l r u = u ≡ No → IsClosed (resolved T s l) → IsClosed (resolved T s r) → Clash (resolved T s l) (resolved T s r)
+
+-- so it is with an answer from their tops
+abbrev pub TopsClash : List Tree → Inference → TermId → TermId → Option Unified → Type 0
+TopsClash T s l r (Some u) = IsClashing T s l r u
+TopsClash T s l r None = Unit {0}
+
+-- for two terms without variables nothing happens, whatever the answer
+unfoldable pub IsUntouched : List Tree → Inference → Inference → TermId → TermId → Type 0
+IsUntouched T before after l r = IsClosed (resolved T before l) → IsClosed (resolved T before r) → after ≡ before

@@ -1,13 +1,15 @@
 //! Laws, each the contract of a function that does nothing.
-ghost use Rattle.std.specs.Prelude.{◌≡◌, ◌<◌, ◌↔◌, length, List, [], ◌∷◌, ◌++◌, None};
+ghost use Rattle.std.specs.Prelude.{◌≡◌, ◌≢◌, ◌<◌, ◌↔◌, IsTrue, length, List, [], ◌∷◌, ◌++◌, Some, None};
 ghost use Rattle.goal_terms.specs.Tree.{Tree};
 ghost use Rattle.goal_terms.specs.TableMeaning.{Keeps};
 ghost use Rattle.goal_terms.specs.declared.heads.Variable.{Variable};
 ghost use Rattle.goal_terms.specs.declared.term_nodes.TermId.{TermId};
 ghost use Rattle.goal_terms.specs.declared.terms.Region.{Region};
+ghost use Rattle.goal_infer.specs.Binding.{IsBound};
 ghost use Rattle.goal_infer.specs.Inference.{Inference, GoesBack};
 ghost use Rattle.goal_infer.specs.Replacement.{OfKinds};
-ghost use Rattle.goal_infer.specs.Resolution.{resolved, Agrees, IsSolved};
+ghost use Rattle.goal_infer.specs.Resolution.{binding_of, resolved, Agrees, IsSolved};
+ghost use Rattle.goal_infer.specs.Unification.{is_made_in};
 ghost use Rattle.goal_infer.specs.declared.undo.InferVariable.{InferVariable};
 
 /// Every state goes back to itself, and what goes back to a state that goes back to another goes back
@@ -42,4 +44,13 @@ pub fn growth_changes_nothing()
 pub fn solved_states_can_be_met()
     ensures { (T : List Tree) (s : Inference) → IsSolved T s →
         (ρ : Variable → Tree) × OfKinds ρ × Agrees T s ρ }
+{}
+
+/// A variable that was made and got a binding is bound to its number, and every other variable, with
+/// another number or of another kind, is bound as it was.
+pub fn one_binding_changes_one_variable()
+    ensures own { (T : List Tree) (before after : Inference) (v : Variable) (id : TermId) → IsTrue (is_made_in before v) →
+        (bound : IsBound T before after v id) → binding_of after v ≡ Some bound.root }
+    ensures others { (T : List Tree) (before after : Inference) (v : Variable) (id : TermId) → IsTrue (is_made_in before v) →
+        IsBound T before after v id → (w : Variable) → w ≢ v → binding_of after w ≡ binding_of before w }
 {}

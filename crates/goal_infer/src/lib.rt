@@ -2,10 +2,14 @@
 //! which changes are undone.
 #![tactic(auto)]
 
+pub mod bindings;
+pub mod followed;
 pub mod laws;
 pub mod occurs;
+pub mod region_equations;
 pub mod resolve;
 pub mod same_resolved;
 pub mod state;
 pub mod undo;
 pub mod unify;
+pub mod unify_all;

@@ -84,6 +84,7 @@ pub fn resolve(table: &TermTable, state: &InferState, id: TermId) -> TermId
     ensures within { result.0 < length table.now }
     ensures unbound { binding_at state.now (node_of (tree_at table.now result)) ≡ None }
     ensures same { resolved table.now state.now result ≡ resolved table.now state.now id }
+    ensures itself { binding_at state.now (node_of (tree_at table.now id)) ≡ None → result ≡ id }
 {
     let mut current = id;
     for _ in 0..state.len() {

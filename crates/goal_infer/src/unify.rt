@@ -6,7 +6,9 @@ ghost use Rattle.goal_infer.specs.Replacement.{takes, is_integer, is_floating};
 ghost use Rattle.goal_infer.specs.Resolution.{binding_at, binding_of, IsSolved};
 ghost use Rattle.goal_infer.specs.Unification.{IsOther, Becomes, MakesSame, IsUnified, Advances};
 ghost use Rattle.goal_infer.specs.Unification.{is_made_in, taker, is_alias, TopsSay, TopsDecide};
-ghost use Rattle.goal_infer.specs.Unification.{BindingDecides, IsDecided, TopsIdentify, IsIdentified};
+ghost use Rattle.goal_infer.specs.Unification.{BindingDecides, IsDecided, IsDecidedWherePlain};
+ghost use Rattle.goal_infer.specs.Unification.{TopsIdentify, IsIdentified};
+ghost use Rattle.goal_infer.specs.Unification.{TopsClash, IsClashing, IsUntouched};
 
 use crate::occurs::{Occurrence, occurs};
 use crate::resolve::{kind, number, resolve, same_kind};
@@ -134,8 +136,10 @@ fn unify_tops(
     requires second_ended { binding_at state.old (node_of (tree_at table.now right)) ≡ None }
     ensures advances { Advances table.now state.old state.new }
     ensures answer { IfOk result (λ u. TopsSay table.now state.old state.new left right u) }
-    ensures decided { IfOk result (λ u. TopsDecide table.now state.old state.new left right u) }
+    ensures plain { IfOk result (λ u. TopsDecide table.now state.old state.new left right u) }
     ensures identified { IfOk result (λ u. TopsIdentify table.now state.old state.new left right u) }
+    ensures clash { IfOk result (λ u. TopsClash table.now state.old left right u) }
+    ensures closed { IsUntouched table.now state.old state.new left right }
 {
     if table.same_term(left, right) {
         return Ok(Some(Unified::Yes));
@@ -170,8 +174,11 @@ fn unify_tops(
 /// `Yes`: what the state now says is what it said before, and that the terms are the same. `Undecided`:
 /// an alias, or a variable that wasn't made, stands in the way; what was bound is so wherever the terms
 /// are the same. `No`: they never are, whatever stands for the unbound variables. Where neither term
-/// holds an alias or a variable that wasn't made, it is not `Undecided`. Terms that are identical after
-/// the bindings are `Yes`, and nothing is bound.
+/// holds an alias or a variable that wasn't made, it is not `Undecided`; nor is it where such things
+/// stand only at places at which the terms are identical, or below constructors that differ. Terms that
+/// are identical after the bindings are `Yes`, and nothing is bound. Between terms without variables
+/// nothing is ever bound, and `No` comes only of two constructors that differ at a place that both
+/// reach through the same constructors, or of parts that differ in number.
 ///
 /// `OutOfMemory` where the state could not grow; it may have got some of the bindings. After that, and
 /// after each answer, the state goes back by a rollback to what it was before the call.
@@ -188,7 +195,11 @@ pub fn unify(
     ensures answer { IfOk result
         (λ u. IsUnified table.now state.old state.new (MakesSame table.now left right) u) }
     ensures decided { IfOk result (λ u. IsDecided table.now state.old state.new left right u) }
+    ensures plain { IfOk result
+        (λ u. IsDecidedWherePlain table.now state.old state.new left right u) }
     ensures identified { IfOk result (λ u. IsIdentified table.now state.old state.new left right u) }
+    ensures clash { IfOk result (λ u. IsClashing table.now state.old left right u) }
+    ensures closed { IsUntouched table.now state.old state.new left right }
 {
     let left = resolve(table, state, left);
     let right = resolve(table, state, right);

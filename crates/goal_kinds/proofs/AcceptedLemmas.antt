@@ -43,7 +43,7 @@ one_found true o x y p e f g = let same : y ≡ x = cc in sym (ap p same) ∙ f
 one_found false o x y p e f g = g e
 
 -- what a look-up finds fails a test that no row passes
-found_fails : {A : Type 0} (test p : A → Bool) (xs : List A) (x : A) → find test xs ≡ Some x → list_any p xs ≡ false → p x ≡ false
+pub found_fails : {A : Type 0} (test p : A → Bool) (xs : List A) (x : A) → find test xs ≡ Some x → list_any p xs ≡ false → p x ≡ false
 found_fails test p [] x e f = absurd (cc)
 found_fails test p (y ∷ ys) x e f =
     let each : (p y ≡ false) × (list_any p ys ≡ false) = both_fail (p y) (list_any p ys) f in

@@ -59,7 +59,7 @@ unfolding Exists
 found-at t x xs r true e later h = let s : x ≡ r = cc in (inl s, ap t (sym s) ∙ e)
 found-at t x xs r false e later h = (inr (later h).0, (later h).1)
 
-found : {A : Type 0} (t : A → Bool) (xs : List A) (r : A) → find t xs ≡ Some r → IsIn r xs × (t r ≡ true)
+pub found : {A : Type 0} (t : A → Bool) (xs : List A) (r : A) → find t xs ≡ Some r → IsIn r xs × (t r ≡ true)
 found t [] r h = absurd (cc)
 found t (x ∷ xs) r h = found-at t x xs r (t x) refl (found t xs r) h
 

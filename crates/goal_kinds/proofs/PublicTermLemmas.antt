@@ -2,7 +2,7 @@
 use Rattle.std.proofs.Common.{◌≡◌, ℕ, zero, suc, ◌≤◌, Bool, true, false, List, [], ◌∷◌, ◌++◌, length, map, refl, sym, ap, ◌∙◌, subst, arith}
 use Rattle.std.specs.Prelude.{if◌then◌else◌}
 use Rattle.goal_terms.specs.Tree.{Tree, Trees, node, alias, variable, none, more, forest, list_of, parts_of, tree_size}
-use Rattle.goal_terms.specs.TreeOf.{leaf, is_type_kind, at_type, at_const, tree_of_ty, tree_of_const, tree_of_arg, tree_of_term, tree_of_clause, tree_of_sig}
+use Rattle.goal_terms.specs.TreeOf.{leaf, is_type_kind, at_type, at_const, tree_of_ty, tree_of_const, tree_of_arg, tree_of_term, tree_of_alias, tree_of_clause, tree_of_sig}
 use Rattle.goal_terms.specs.View.{tree_of_ref}
 use Rattle.goal_terms.specs.declared.heads.Head.{Head}
 use Rattle.goal_terms.specs.declared.heads.Head.TheVariants as head
@@ -175,7 +175,7 @@ forest_of-list (more t ts) = ap (λ us. more t us) (forest_of-list ts)
 through-parts : (t : Tree) → IsFit t → RowFitsThroughout (forest (parts_of t)) → FitsThroughout t
 unfolding IsFit FitsThroughout
 through-parts (node h ts) fit row = (fit, subst RowFitsThroughout (forest_of-list ts) row)
-through-parts (alias k ts) fit row = tt
+through-parts (alias k ts) fit row = (fit, subst RowFitsThroughout (forest_of-list ts) row)
 through-parts (variable v) fit row = tt
 
 -- what is shown by a view of few nodes fits throughout
@@ -200,3 +200,19 @@ pub arg_through : (a : GenericArg) → FitsThroughout (tree_of_arg a)
 arg_through a =
     let seen : IsViewed (tree_of_arg a) = arg_viewed a in
     subst FitsThroughout seen.1 (through_below (tree_size (tree_of_ref seen.0)) seen.0 (omega arith))
+
+-- and so does each term that is shown by a view
+ref_through : (r : TermRef) → FitsThroughout (tree_of_ref r)
+ref_through r = through_below (tree_size (tree_of_ref r)) r (omega arith)
+
+pub ty_through : (t : Ty) → FitsThroughout (tree_of_ty t)
+ty_through t = ref_through (ty_ref t)
+
+pub sig_through : (s : FnSig) → FitsThroughout (tree_of_sig s)
+sig_through s = ref_through (view.Signature (record { ref_ptr = (0, 0); now = s }))
+
+pub alias_through : (a : AliasTerm) → FitsThroughout (tree_of_alias a)
+alias_through a = ref_through (view.Alias (record { ref_ptr = (0, 0); now = a }))
+
+pub term_through : (t : Term) → FitsThroughout (tree_of_term t)
+term_through t = let seen : IsViewed (tree_of_term t) = term_viewed t in subst FitsThroughout seen.1 (ref_through seen.0)

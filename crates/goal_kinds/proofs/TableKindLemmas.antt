@@ -35,7 +35,7 @@ both_fail true b e = absurd (false≢true (sym e))
 both_fail false b e = (refl, e)
 
 -- a test whose contrary fails passes
-not_false : (a : Bool) → not a ≡ false → a ≡ true
+pub not_false : (a : Bool) → not a ≡ false → a ≡ true
 not_false true e = refl
 not_false false e = absurd (false≢true (sym e))
 
@@ -168,7 +168,7 @@ known_then : {A B : Type 0} (f : A → Option B) (o : Option A) → ((x : A) →
 known_then f None g e = e
 known_then f (Some x) g e = g x refl
 
-known_clause : (t : Tables) (i : ItemId) → HasTraitsOfItems t → is_none (item_of t i) ≡ false → is_none (clause_params t i) ≡ false
+pub known_clause : (t : Tables) (i : ItemId) → HasTraitsOfItems t → is_none (item_of t i) ≡ false → is_none (clause_params t i) ≡ false
 known_clause t i traits e =
     known_then (λ r. option_map (λ ps. drop 1 ps ++ kind_of_value r.is_const ∷ []) (projection_params t i)) (item_of t i)
     (λ r p. known_map (λ ps. drop 1 ps ++ kind_of_value r.is_const ∷ []) (projection_params t i)

@@ -1,8 +1,9 @@
 -- Terms in which each constructor has parts of the kinds that it takes.
 use Rattle.std.specs.Prelude.{◌≡◌, ◌+◌, false, List, [], ◌∷◌, map, replicate, unwrap_or}
+use Rattle.std.specs.List.{All}
 use Rattle.goal_terms.specs.Erased.{erased_head}
 use Rattle.goal_terms.specs.Kinds.{kind_of}
-use Rattle.goal_terms.specs.Sorts.{HeadFits}
+use Rattle.goal_terms.specs.Sorts.{IsArgument, HeadFits}
 use Rattle.goal_terms.specs.Tree.{Tree, Trees, node, alias, variable, none, more, list_of, node_of}
 use Rattle.goal_terms.specs.declared.answers.ParamKind.{ParamKind}
 use Rattle.goal_terms.specs.declared.answers.ParamKind.TheVariants as kind
@@ -10,8 +11,10 @@ use Rattle.goal_terms.specs.declared.heads.Head.{Head}
 use Rattle.goal_terms.specs.declared.heads.Head.TheVariants.{Array, Slice, RawPtr, Ref, FnPtr, Dynamic, Tuple}
 use Rattle.goal_terms.specs.declared.heads.Node.TheVariants as nodes
 use Rattle.goal_terms.specs.declared.ids.TraitId.{TraitId}
+use Rattle.goal_terms.specs.declared.predicates.Clause.{Clause}
 use Rattle.goal_terms.specs.declared.terms.GenericArg.{GenericArg}
 use Rattle.goal_tables.specs.Clauses.{lies_in_trait_args}
+use Rattle.goal_tables.specs.Predicates.{lies_in_env}
 use Rattle.goal_tables.specs.Sites.{params_of, lies_in}
 use Rattle.goal_tables.specs.declared.rows.Tables.{Tables}
 use Rattle.goal_tables.specs.declared.sites.TermFault.TheVariants.{UnknownItem, WrongArgumentCount, WrongArgumentKind}
@@ -42,11 +45,11 @@ kinds_over t (Dynamic count r) = replicate count kind.Ty
 kinds_over t (Tuple count) = replicate count kind.Ty
 kinds_over t h = unwrap_or (params_of t (nodes.Head h)) []
 
--- outside aliases the parts of each constructor fit it, as those of a public term do
+-- the parts of each constructor fit it, as those of a public term do
 unfoldable mutual
   pub FitsThroughout : Tree → Type 0
   FitsThroughout (node h ts) = HeadFits h (list_of ts) × RowFitsThroughout ts
-  FitsThroughout (alias k ts) = Unit {0}
+  FitsThroughout (alias k ts) = All IsArgument (list_of ts) × RowFitsThroughout ts
   FitsThroughout (variable v) = Unit {0}
 
   pub RowFitsThroughout : Trees → Type 0
@@ -66,3 +69,10 @@ IsAcceptedRef t params i args =
     (lies_in_trait_args t params UnknownItem i args ≡ false)
     × (lies_in_trait_args t params WrongArgumentCount i args ≡ false)
     × (lies_in_trait_args t params WrongArgumentKind i args ≡ false)
+
+-- nor in an environment
+abbrev pub NoKindFaultInEnv : Tables → List Clause → Type 0
+NoKindFaultInEnv t env =
+    (lies_in_env t UnknownItem env ≡ false)
+    × (lies_in_env t WrongArgumentCount env ≡ false)
+    × (lies_in_env t WrongArgumentKind env ≡ false)

@@ -5,13 +5,17 @@ ghost use Rattle.goal_tables.specs.declared.lang.LangItem.TheVariants as lang;
 ghost use Rattle.goal_kinds.specs.Builtins.{signature_of, output_rule};
 ghost use Rattle.goal_kinds.specs.Interned.{IsIn, AreIn, ListedIn, erased_at, erased_all, listed_at};
 
+use crate::call_premises::{call_premises, output_of};
+use crate::call_rules::signature_of;
 use crate::interned::ListedTerm;
+use crate::row_terms::allocator_of;
+use goal_tables::lang::LangItem;
 use goal_tables::lookup::IndexedTables;
 use goal_terms::term_nodes::{OutOfMemory, TermId};
 use goal_terms::term_table::TermTable;
 
 /// What is said of an item `Output`: the output of the signature by which the self type is called, where
-/// the call's premises hold.
+/// the call's premises hold. The table gets the terms. Want of memory or of numbers is the only refusal.
 pub(crate) fn output_rule(
     rows: &IndexedTables,
     terms: &mut TermTable,
@@ -24,5 +28,15 @@ pub(crate) fn output_rule(
     ensures within { IfOk result (ListedIn terms.new) }
     ensures listed { IfOk result (λ l. listed_at terms.new l ≡ output_rule rows.now (erased_all terms.old args.now) (signature_of rows.now lang.FnOnce (erased_at terms.old self_ty))) }
 {
-    Err(OutOfMemory)
+    let Some(sig) = signature_of(rows, terms, LangItem::FnOnce, self_ty)? else {
+        return Ok(ListedTerm::Nothing);
+    };
+    let Some(output) = output_of(terms, sig) else {
+        return Ok(ListedTerm::Nothing);
+    };
+    let Some(sized) = rows.lang_trait(LangItem::Sized) else {
+        return Ok(ListedTerm::Nothing);
+    };
+    let premises = call_premises(allocator_of(rows), terms, sized, sig, args, output)?;
+    Ok(ListedTerm::Behind(premises, output))
 }

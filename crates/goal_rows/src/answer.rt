@@ -1,16 +1,30 @@
 use crate::names::ProgramNames;
+use goal_solver::faults::{DepthTooLarge, Fault};
+use goal_solver::goals::GoalFault;
+use goal_tables::faults::TableFault;
 use goal_terms::terms::Term;
 use goal_terms::text::Shown;
 use std::fmt;
 
-/// The answer of a row. A `Yes` has the type or constant that an alias stands for, and a `Refused`
-/// the name of the fault of the question.
+/// The answer of a row. A `Yes` has the type or constant that an alias stands for, and `Faults` the
+/// number of delayed faults.
 #[derive(Debug, Drop)]
 pub enum Answer {
     Yes(Option<Term>),
     No,
     Maybe,
-    Refused(&'static str),
+    Faults(usize),
+    Refused(Refusal),
+}
+
+/// Why a question was refused: its tables, its goal or its limit on the depth was not taken, or the
+/// run was given up.
+#[derive(Clone, Copy, Debug, PartialEq, Eq)]
+pub enum Refusal {
+    Tables(TableFault),
+    Goal(GoalFault),
+    Depth(DepthTooLarge),
+    Run(Fault),
 }
 
 impl fmt::Display for Answer {
@@ -26,7 +40,20 @@ impl fmt::Display for Answer {
             }
             Answer::No => write!(f, "no"),
             Answer::Maybe => write!(f, "maybe"),
-            Answer::Refused(fault) => write!(f, "refused {fault}"),
+            Answer::Faults(count) => write!(f, "faults {count}"),
+            Answer::Refused(refusal) => write!(f, "refused {refusal}"),
+        }
+    }
+}
+
+/// The name of the fault.
+impl fmt::Display for Refusal {
+    fn fmt<W: fmt::Write>(&self, f: &mut fmt::Formatter<W>) -> fmt::Result {
+        match self {
+            Refusal::Tables(fault) => write!(f, "{fault:?}"),
+            Refusal::Goal(fault) => write!(f, "{fault:?}"),
+            Refusal::Depth(fault) => write!(f, "{fault:?}"),
+            Refusal::Run(fault) => write!(f, "{fault:?}"),
         }
     }
 }

@@ -1,176 +1,197 @@
 //! The questions of the rows, one function a kind.
-use crate::answer::Answer;
+use crate::answer::{Answer, Refusal};
+use crate::asked_terms::{AskedAlias, AskedType};
 use crate::faults::RowsFault;
 use crate::names::TR;
-use crate::program_questions::metadata_of;
-use crate::program_types::{projection_of, self_arguments, trait_ref};
+use crate::program_tables::tables_with_projection_impl;
+use crate::program_types::{trait_ref, two_types};
+use crate::settings::{Environment, Mode};
 use goal_solver::context::EvalCtxt;
 use goal_solver::faults::Fault;
-use goal_solver::goals::{GoalFault, check_goal};
-use goal_tables::checked::CheckedTables;
+use goal_solver::goals::check_goal;
+use goal_tables::checked::{CheckedTables, check_tables};
+use goal_tables::faults::TableFault;
 use goal_terms::answers::{Certainty, Response};
-use goal_terms::ids::AdtId;
-use goal_terms::modes::TypingMode;
 use goal_terms::predicates::{
     BoundConstness, Goal, HostEffectPredicate, NormalizesTo, ProjectionPredicate, TraitPredicate,
     TraitRef,
 };
 use goal_terms::scalars::UintTy;
-use goal_terms::terms::{AliasTerm, GenericArg, Term, Ty};
-use std::alloc::{AllocError, Global};
+use goal_terms::terms::{AliasTermKind, Term, Ty};
+use std::alloc::Global;
 
-/// What `<STRUCT as Tr>::A` stands for, with a limit on the depth.
-pub fn ask_alias(
-    alloc: Global,
-    tables: &CheckedTables,
-    adt: AdtId,
-    limit: u32,
-) -> Result<Answer, RowsFault> {
-    ask_normalization(alloc, tables, projection_of(alloc, adt)?, limit)
+/// What a row asks.
+#[derive(Clone, Copy, Debug, PartialEq, Eq)]
+pub enum Asked {
+    /// What an alias stands for.
+    Term(AskedAlias),
+    /// How many faults were delayed once it was asked what an alias stands for.
+    DelayedFaults(AskedAlias),
+    /// Whether an alias and a type are equal.
+    Equal(AskedAlias, AskedType),
+    /// Whether `TYPE: Tr` holds.
+    Holds(AskedType),
+    /// Whether `TYPE: const Tr` holds.
+    HoldsConst(AskedType),
+    /// Whether `TYPE: [const] Tr` holds.
+    HoldsMaybeConst(AskedType),
+    /// Whether a goal of `Tr` with a type and `u8` for its arguments is taken.
+    TwoArguments(AskedType),
+    /// Whether the limit on the depth is taken.
+    Limit,
+    /// Whether the tables are accepted with an impl for a projection.
+    ProjectionImpl,
 }
 
-/// Whether `STRUCT: Tr` holds, with a limit on the depth.
-pub fn ask_trait(
-    alloc: Global,
-    tables: &CheckedTables,
-    adt: AdtId,
-    limit: u32,
-) -> Result<Answer, RowsFault> {
-    let goal = trait_goal(alloc, self_arguments(alloc, adt)?);
-    ask_trait_goal(alloc, tables, &goal, limit)
+/// What is asked, under which clauses, in which phase of checking, and with which limit on the depth.
+#[derive(Clone, Copy, Debug, PartialEq, Eq)]
+pub struct Question {
+    pub asked: Asked,
+    pub environment: Environment,
+    pub mode: Mode,
+    pub limit: u32,
 }
 
-/// What an alias stands for that is a type, with a limit on the depth.
-pub fn ask_normalization(
+/// A context, and the clauses under which it is asked.
+#[derive(Drop)]
+struct Asker<'t> {
     alloc: Global,
-    tables: &CheckedTables,
-    alias: AliasTerm,
-    limit: u32,
-) -> Result<Answer, RowsFault> {
-    let Ok(mut context) = EvalCtxt::new(tables, analysis(alloc), limit, false) else {
-        return Ok(Answer::Refused("DepthTooLarge"));
+    tables: &'t CheckedTables,
+    context: EvalCtxt<'t>,
+    environment: Environment,
+}
+
+/// The answer to a question, over the tables of the program.
+pub fn ask(alloc: Global, tables: &CheckedTables, question: Question) -> Result<Answer, RowsFault> {
+    let mode = question.mode.typing_mode(alloc);
+    let context = match EvalCtxt::new(tables, mode, question.limit, false) {
+        Ok(context) => context,
+        Err(fault) => return Ok(Answer::Refused(Refusal::Depth(fault))),
     };
-    let expected = context.next_ty_infer().map_err(from_fault)?;
-    let goal = Goal {
-        param_env: Vec::new(alloc),
-        predicate: NormalizesTo {
-            alias,
-            term: Term::Ty(expected),
-        },
+    let mut asker = Asker {
+        alloc,
+        tables,
+        context,
+        environment: question.environment,
     };
-    if let Err(fault) = check_goal(tables, &context, &goal) {
-        return Ok(Answer::Refused(goal_fault_name(fault)));
+    match question.asked {
+        Asked::Term(alias) => asker.ask_term(alias),
+        Asked::DelayedFaults(alias) => asker.ask_delayed_faults(alias),
+        Asked::Equal(alias, ty) => asker.ask_equation(alias, ty),
+        Asked::Holds(ty) => asker.ask_trait(ty),
+        Asked::HoldsConst(ty) => asker.ask_const(ty, BoundConstness::Const),
+        Asked::HoldsMaybeConst(ty) => asker.ask_const(ty, BoundConstness::Maybe),
+        Asked::TwoArguments(ty) => asker.ask_two_arguments(ty),
+        Asked::Limit => Ok(Answer::Yes(None)),
+        Asked::ProjectionImpl => ask_projection_impl(alloc),
     }
-    answer_of(context.compute_normalizes_to_goal(&goal))
 }
 
-/// Whether `<bool as Pointee>::Metadata == TYPE` holds, with a limit on the depth.
-pub fn ask_equation(
-    alloc: Global,
-    tables: &CheckedTables,
-    ty: Ty,
-    limit: u32,
-) -> Result<Answer, RowsFault> {
-    let Ok(mut context) = EvalCtxt::new(tables, analysis(alloc), limit, false) else {
-        return Ok(Answer::Refused("DepthTooLarge"));
-    };
-    let goal = Goal {
-        param_env: Vec::new(alloc),
-        predicate: ProjectionPredicate {
-            projection_term: metadata_of(alloc, Ty::Bool)?,
-            term: Term::Ty(ty),
-        },
-    };
-    if let Err(fault) = check_goal(tables, &context, &goal) {
-        return Ok(Answer::Refused(goal_fault_name(fault)));
+impl Asker<'_> {
+    /// What an alias stands for.
+    fn ask_term(&mut self, asked: AskedAlias) -> Result<Answer, RowsFault> {
+        let alias = asked.alias(self.alloc)?;
+        let term = self.expected_term(alias.kind)?;
+        let goal = self.goal(NormalizesTo { alias, term })?;
+        if let Err(fault) = check_goal(self.tables, &self.context, &goal) {
+            return Ok(Answer::Refused(Refusal::Goal(fault)));
+        }
+        answer_of(self.context.compute_normalizes_to_goal(&goal))
     }
-    answer_of(context.compute_projection_goal(&goal))
-}
 
-/// Whether `TYPE: const Tr` holds, with a limit on the depth.
-pub fn ask_const(
-    alloc: Global,
-    tables: &CheckedTables,
-    ty: Ty,
-    limit: u32,
-) -> Result<Answer, RowsFault> {
-    let Ok(mut context) = EvalCtxt::new(tables, analysis(alloc), limit, false) else {
-        return Ok(Answer::Refused("DepthTooLarge"));
-    };
-    let goal = Goal {
-        param_env: Vec::new(alloc),
-        predicate: HostEffectPredicate {
-            trait_ref: trait_ref(alloc, ty, TR)?,
-            constness: BoundConstness::Const,
-        },
-    };
-    if let Err(fault) = check_goal(tables, &context, &goal) {
-        return Ok(Answer::Refused(goal_fault_name(fault)));
+    /// How many faults are delayed once it was asked what an alias stands for.
+    fn ask_delayed_faults(&mut self, asked: AskedAlias) -> Result<Answer, RowsFault> {
+        let _ = self.ask_term(asked)?;
+        Ok(Answer::Faults(self.context.delayed_faults().len()))
     }
-    answer_of(context.compute_host_effect_goal(&goal))
+
+    /// Whether an alias and a type are equal.
+    fn ask_equation(&mut self, asked: AskedAlias, ty: AskedType) -> Result<Answer, RowsFault> {
+        let goal = self.goal(ProjectionPredicate {
+            projection_term: asked.alias(self.alloc)?,
+            term: Term::Ty(ty.ty(self.alloc)?),
+        })?;
+        if let Err(fault) = check_goal(self.tables, &self.context, &goal) {
+            return Ok(Answer::Refused(Refusal::Goal(fault)));
+        }
+        answer_of(self.context.compute_projection_goal(&goal))
+    }
+
+    /// Whether `TYPE: Tr` holds.
+    fn ask_trait(&mut self, asked: AskedType) -> Result<Answer, RowsFault> {
+        let ty = asked.ty(self.alloc)?;
+        self.ask_trait_ref(trait_ref(self.alloc, ty, TR)?)
+    }
+
+    /// Whether a goal of `Tr` with a type and `u8` for its arguments is taken.
+    fn ask_two_arguments(&mut self, asked: AskedType) -> Result<Answer, RowsFault> {
+        let ty = asked.ty(self.alloc)?;
+        self.ask_trait_ref(TraitRef {
+            def_id: TR,
+            args: two_types(self.alloc, ty, Ty::Uint(UintTy::U8))?,
+        })
+    }
+
+    fn ask_trait_ref(&mut self, trait_ref: TraitRef) -> Result<Answer, RowsFault> {
+        let goal = self.goal(TraitPredicate { trait_ref })?;
+        if let Err(fault) = check_goal(self.tables, &self.context, &goal) {
+            return Ok(Answer::Refused(Refusal::Goal(fault)));
+        }
+        answer_of(self.context.compute_trait_goal(&goal))
+    }
+
+    /// Whether `TYPE: Tr` holds as a const trait.
+    fn ask_const(
+        &mut self,
+        asked: AskedType,
+        constness: BoundConstness,
+    ) -> Result<Answer, RowsFault> {
+        let ty = asked.ty(self.alloc)?;
+        let goal = self.goal(HostEffectPredicate {
+            trait_ref: trait_ref(self.alloc, ty, TR)?,
+            constness,
+        })?;
+        if let Err(fault) = check_goal(self.tables, &self.context, &goal) {
+            return Ok(Answer::Refused(Refusal::Goal(fault)));
+        }
+        answer_of(self.context.compute_host_effect_goal(&goal))
+    }
+
+    /// A predicate under the clauses that are assumed.
+    fn goal<P: Drop>(&self, predicate: P) -> Result<Goal<P>, RowsFault> {
+        Ok(Goal {
+            param_env: self.environment.clauses(self.alloc)?,
+            predicate,
+        })
+    }
+
+    /// A fresh variable for what an alias stands for, a type or a constant.
+    fn expected_term(&mut self, kind: AliasTermKind) -> Result<Term, RowsFault> {
+        if kind.is_type() {
+            let ty = self.context.next_ty_infer().map_err(from_fault)?;
+            Ok(Term::Ty(ty))
+        } else {
+            let value = self.context.next_const_infer().map_err(from_fault)?;
+            Ok(Term::Const(value))
+        }
+    }
 }
 
-/// Whether a limit on the depth is taken.
-pub fn ask_depth(alloc: Global, tables: &CheckedTables, limit: u32) -> Result<Answer, RowsFault> {
-    match EvalCtxt::new(tables, analysis(alloc), limit, false) {
+/// Whether the tables are accepted with an impl for a projection.
+fn ask_projection_impl(alloc: Global) -> Result<Answer, RowsFault> {
+    match check_tables(tables_with_projection_impl(alloc)?) {
         Ok(_) => Ok(Answer::Yes(None)),
-        Err(_) => Ok(Answer::Refused("DepthTooLarge")),
+        Err(TableFault::OutOfMemory) => Err(RowsFault::OutOfMemory),
+        Err(fault) => Ok(Answer::Refused(Refusal::Tables(fault))),
     }
-}
-
-/// Whether a goal of `Tr` with a struct and `u8` for its arguments is taken.
-pub fn ask_arguments(
-    alloc: Global,
-    tables: &CheckedTables,
-    adt: AdtId,
-) -> Result<Answer, RowsFault> {
-    let goal = trait_goal(alloc, two_arguments(alloc, adt)?);
-    ask_trait_goal(alloc, tables, &goal, 1)
-}
-
-fn ask_trait_goal(
-    alloc: Global,
-    tables: &CheckedTables,
-    goal: &Goal<TraitPredicate>,
-    limit: u32,
-) -> Result<Answer, RowsFault> {
-    let Ok(mut context) = EvalCtxt::new(tables, analysis(alloc), limit, false) else {
-        return Ok(Answer::Refused("DepthTooLarge"));
-    };
-    if let Err(fault) = check_goal(tables, &context, goal) {
-        return Ok(Answer::Refused(goal_fault_name(fault)));
-    }
-    answer_of(context.compute_trait_goal(goal))
-}
-
-fn analysis(alloc: Global) -> TypingMode {
-    TypingMode::Analysis {
-        defining_opaque_types: Vec::new(alloc),
-    }
-}
-
-fn trait_goal(alloc: Global, args: Vec<GenericArg>) -> Goal<TraitPredicate> {
-    Goal {
-        param_env: Vec::new(alloc),
-        predicate: TraitPredicate {
-            trait_ref: TraitRef { def_id: TR, args },
-        },
-    }
-}
-
-fn two_arguments(alloc: Global, adt: AdtId) -> Result<Vec<GenericArg>, AllocError> {
-    let mut args = self_arguments(alloc, adt)?;
-    args.push(GenericArg::Ty(Ty::Uint(UintTy::U8)))?;
-    Ok(args)
 }
 
 fn answer_of(answered: Result<Response, Fault>) -> Result<Answer, RowsFault> {
     match answered {
         Ok(response) => Ok(certain_answer(response)),
         Err(Fault::NoSolution) => Ok(Answer::No),
-        Err(Fault::RerunNonErased) => Ok(Answer::Refused("RerunNonErased")),
-        Err(Fault::NotForThisKind) => Ok(Answer::Refused("NotForThisKind")),
         Err(Fault::OutOfMemory) => Err(RowsFault::OutOfMemory),
+        Err(fault) => Ok(Answer::Refused(Refusal::Run(fault))),
     }
 }
 
@@ -182,18 +203,7 @@ fn certain_answer(response: Response) -> Answer {
     }
 }
 
+/// Where a variable is refused, memory is.
 fn from_fault(_fault: Fault) -> RowsFault {
     RowsFault::OutOfMemory
-}
-
-fn goal_fault_name(fault: GoalFault) -> &'static str {
-    match fault {
-        GoalFault::UnknownItem => "UnknownItem",
-        GoalFault::WrongArgumentCount => "WrongArgumentCount",
-        GoalFault::WrongArgumentKind => "WrongArgumentKind",
-        GoalFault::UnknownVariable => "UnknownVariable",
-        GoalFault::ExpectedTermNotFree => "ExpectedTermNotFree",
-        GoalFault::NeverConst => "NeverConst",
-        GoalFault::GoalsPending => "GoalsPending",
-    }
 }

@@ -110,6 +110,24 @@ pub const W: AdtId = AdtId(7);
 /// The struct `P`.
 pub const P: AdtId = AdtId(8);
 
+/// The free alias `A<T> = Vec<T>`.
+pub const FREE_A: FreeId = FreeId(0);
+
+/// The free alias `B<T> = Vec<T> where T: Tr`.
+pub const FREE_B: FreeId = FreeId(1);
+
+/// The free alias `F = u8`.
+pub const FREE_F: FreeId = FreeId(2);
+
+/// The free constant `C`.
+pub const FREE_C: FreeId = FreeId(3);
+
+/// The opaque type `Hid`.
+pub const HID: OpaqueId = OpaqueId(0);
+
+/// The inherent item `I` of `Vec<T>`.
+pub const INHERENT_I: InherentId = InherentId(0);
+
 /// The names of the program.
 #[derive(Clone, Copy)]
 pub struct ProgramNames;

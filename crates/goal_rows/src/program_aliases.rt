@@ -1,9 +1,9 @@
 //! The free aliases, the inherent item and the opaque type of the program that the rows ask about.
-use crate::names::{TR, VEC};
+use crate::names::{FREE_A, FREE_B, FREE_C, FREE_F, HID, INHERENT_I, TR, VEC};
 use crate::program_types::{struct_of, trait_clause, trait_ref};
 use goal_tables::rows::{FreeRow, InherentImplRow, InherentRow, OpaqueRow};
 use goal_terms::answers::ParamKind;
-use goal_terms::ids::{FreeId, InherentId, InherentImplId, OpaqueId};
+use goal_terms::ids::{FreeId, InherentImplId};
 use goal_terms::scalars::UintTy;
 use goal_terms::terms::{Term, Ty};
 use std::alloc::{AllocError, Global};
@@ -11,10 +11,10 @@ use std::alloc::{AllocError, Global};
 /// The free aliases.
 pub fn free_rows(alloc: Global) -> Result<Vec<FreeRow>, AllocError> {
     let mut rows = Vec::new(alloc);
-    rows.push(list_alias(alloc, FreeId(0))?)?;
+    rows.push(list_alias(alloc, FREE_A)?)?;
     rows.push(bounded_alias(alloc)?)?;
-    rows.push(free_type(alloc, FreeId(2), Ty::Uint(UintTy::U8)))?;
-    rows.push(free_const(alloc, FreeId(3)))?;
+    rows.push(free_type(alloc, FREE_F, Ty::Uint(UintTy::U8)))?;
+    rows.push(free_const(alloc, FREE_C))?;
     Ok(rows)
 }
 
@@ -50,7 +50,7 @@ fn list_alias(alloc: Global, id: FreeId) -> Result<FreeRow, AllocError> {
 
 /// `type B<T> = Vec<T> where T: Tr`.
 fn bounded_alias(alloc: Global) -> Result<FreeRow, AllocError> {
-    let mut row = list_alias(alloc, FreeId(1))?;
+    let mut row = list_alias(alloc, FREE_B)?;
     row.predicates = vec![in alloc; trait_clause(trait_ref(alloc, Ty::Param(0), TR)?)]?;
     Ok(row)
 }
@@ -72,7 +72,7 @@ pub fn inherent_impl_rows(alloc: Global) -> Result<Vec<InherentImplRow>, AllocEr
 pub fn inherent_rows(alloc: Global) -> Result<Vec<InherentRow>, AllocError> {
     let pair = Ty::Tuple(vec![in alloc; Ty::Param(0), Ty::Param(0)]?);
     let row = InherentRow {
-        id: InherentId(0),
+        id: INHERENT_I,
         impl_id: InherentImplId(0),
         is_const: false,
         own_params: Vec::new(alloc),
@@ -85,7 +85,7 @@ pub fn inherent_rows(alloc: Global) -> Result<Vec<InherentRow>, AllocError> {
 /// The opaque type `Hid`, whose hidden type is `u8`.
 pub fn opaque_rows(alloc: Global) -> Result<Vec<OpaqueRow>, AllocError> {
     let row = OpaqueRow {
-        id: OpaqueId(0),
+        id: HID,
         params: Vec::new(alloc),
         is_local: false,
         hidden: Ty::Uint(UintTy::U8),

@@ -1,5 +1,7 @@
 //! The impls of the program that the rows ask about, their definitions, and which they use.
-use crate::names::{A, BOX, PAIR, PAIR_A, Q, TR, TRAIT, TRAIT_ASSOC, VEC, W, X, Y, Z};
+use crate::names::{
+    A, BOX, FOO, FOO_ASSOC, PAIR, PAIR_A, Q, TR, TRAIT, TRAIT_ASSOC, VEC, W, X, Y, Z,
+};
 use crate::program_types::{
     one_type, plain_type, projection_of, self_arguments, struct_of, trait_clause, trait_ref,
     two_types,
@@ -155,6 +157,17 @@ fn impl_for_str(alloc: Global) -> Result<ImplRow, AllocError> {
     Ok(row)
 }
 
+/// `impl<T> Tr for <T as Foo>::Assoc where T: Foo`. Its header doesn't fix `T`, so no tables with it are
+/// accepted.
+pub fn projection_impl(alloc: Global) -> Result<ImplRow, AllocError> {
+    let params = vec![in alloc; ParamKind::Ty]?;
+    let self_type = Ty::Alias(projection_of(alloc, FOO_ASSOC, Ty::Param(0))?);
+    let args = one_type(alloc, self_type)?;
+    let mut row = simple_impl(alloc, ImplId(10), TR, params, args);
+    row.predicates = vec![in alloc; trait_clause(trait_ref(alloc, Ty::Param(0), FOO)?)]?;
+    Ok(row)
+}
+
 /// `impl<T> const Tr for Vec<T> where T: Tr`, with the const condition `T: Tr`.
 fn const_impl_for_vec(alloc: Global) -> Result<ImplRow, AllocError> {
     let params = vec![in alloc; ParamKind::Ty]?;
@@ -198,7 +211,7 @@ fn definition_value(alloc: Global, value: Value) -> Result<DefValue, AllocError>
             Ty::Tuple(vec![in alloc; Ty::Param(0), Ty::Param(1), Ty::Param(2)]?)
         }
         Value::BoxOfParam => struct_of(alloc, BOX, Ty::Param(0))?,
-        Value::OwnProjection(id) => Ty::Alias(projection_of(alloc, id)?),
+        Value::OwnProjection(id) => Ty::Alias(projection_of(alloc, A, plain_type(alloc, id))?),
         Value::U8 => Ty::Uint(UintTy::U8),
         Value::Param => Ty::Param(0),
     };

@@ -1,6 +1,7 @@
 //! The tables of the program that the rows ask about.
+use crate::names::A;
 use crate::program_aliases::{free_rows, inherent_impl_rows, inherent_rows, opaque_rows};
-use crate::program_impls::{definition_rows, impl_rows, source_rows};
+use crate::program_impls::{definition_rows, impl_rows, projection_impl, source_row, source_rows};
 use crate::program_traits::{item_rows, lang_rows, trait_rows};
 use crate::program_types::adt_rows;
 use goal_tables::lang::LangRow;
@@ -8,6 +9,7 @@ use goal_tables::rows::{
     DefRow, FreeRow, ImplRow, InherentImplRow, InherentRow, ItemRow, OpaqueRow, SourceRow, Tables,
     TraitRow,
 };
+use goal_terms::ids::{DefId, ImplId};
 use std::alloc::{AllocError, Global};
 
 /// The whole tables of the program: its traits, impls, aliases and structs, and the lang items.
@@ -31,6 +33,14 @@ pub fn whole_tables(alloc: Global) -> Result<Tables, AllocError> {
         closures: Vec::new(alloc),
         lang_items: traits.lang_items,
     })
+}
+
+/// The whole tables with one impl more, whose header is a projection.
+pub fn tables_with_projection_impl(alloc: Global) -> Result<Tables, AllocError> {
+    let mut tables = whole_tables(alloc)?;
+    tables.impls.push(projection_impl(alloc)?)?;
+    tables.sources.push(source_row(ImplId(10), A, DefId(6)))?;
+    Ok(tables)
 }
 
 /// The traits, their items, and the lang items.

@@ -3,13 +3,16 @@ ghost use Rattle.std.specs.Prelude.{◌≡◌, IfOk, [], ◌∷◌, map};
 ghost use Rattle.goal_terms.specs.TreeOf.{tree_of_ty, tree_of_arg, tree_of_alias};
 ghost use Rattle.goal_rows.specs.Asked.{plain_tree, struct_tree, projection_tree};
 
-use crate::names::{A, BOX, DYN_METADATA, P, Q, VEC, W, X, Y, Z};
+use crate::names::{BOX, DYN_METADATA, P, Q, VEC, W, X, Y, Z};
 use goal_tables::rows::{AdtKind, AdtRow};
 use goal_terms::answers::ParamKind;
-use goal_terms::ids::{AdtId, TraitId};
-use goal_terms::predicates::{Clause, ClauseKind, TraitPredicate, TraitRef};
+use goal_terms::ids::{AdtId, ItemId, TraitId};
+use goal_terms::predicates::{
+    BoundConstness, Clause, ClauseKind, HostEffectPredicate, ProjectionPredicate, TraitPredicate,
+    TraitRef,
+};
 use goal_terms::scalars::UintTy;
-use goal_terms::terms::{AliasTerm, AliasTermKind, GenericArg, Ty};
+use goal_terms::terms::{AliasTerm, AliasTermKind, GenericArg, Term, Ty};
 use std::alloc::{AllocError, Global};
 
 /// The structs with a type parameter.
@@ -35,14 +38,13 @@ pub fn self_arguments(alloc: Global, id: AdtId) -> Result<Vec<GenericArg>, Alloc
 }
 
 #[tactic(auto, using(goal_terms::proofs::TreeLemmas::tree_equations))]
-/// The alias `<STRUCT as Tr>::A`.
-pub fn projection_of(alloc: Global, id: AdtId) -> Result<AliasTerm, AllocError>
-    ensures { IfOk result (λ alias. tree_of_alias alias ≡ projection_tree A id) }
+/// The projection of a type from a type, `<TYPE as TRAIT>::ITEM`.
+pub fn projection_of(alloc: Global, item: ItemId, ty: Ty) -> Result<AliasTerm, AllocError>
+    ensures { IfOk result (λ alias. tree_of_alias alias ≡ projection_tree item (tree_of_ty ty)) }
 {
-    let args = self_arguments(alloc, id)?;
     Ok(AliasTerm {
-        kind: AliasTermKind::ProjectionTy(A),
-        args,
+        kind: AliasTermKind::ProjectionTy(item),
+        args: one_type(alloc, ty)?,
     })
 }
 
@@ -89,6 +91,34 @@ pub fn trait_clause(trait_ref: TraitRef) -> Clause
     Clause {
         bound_regions: 0,
         kind: ClauseKind::Trait(TraitPredicate { trait_ref }),
+    }
+}
+
+/// The clause that a trait reference holds as a const trait. It binds no lifetimes.
+pub fn const_clause(trait_ref: TraitRef, constness: BoundConstness) -> Clause
+    ensures binds_nothing { result.bound_regions ≡ 0 }
+    ensures says { result.kind ≡ ClauseKind.HostEffect (record { trait_ref = trait_ref; constness = constness }) }
+{
+    Clause {
+        bound_regions: 0,
+        kind: ClauseKind::HostEffect(HostEffectPredicate {
+            trait_ref,
+            constness,
+        }),
+    }
+}
+
+/// The clause that an alias and a term are equal. It binds no lifetimes.
+pub fn equation_clause(projection_term: AliasTerm, term: Term) -> Clause
+    ensures binds_nothing { result.bound_regions ≡ 0 }
+    ensures says { result.kind ≡ ClauseKind.Projection (record { projection_term = projection_term; term = term }) }
+{
+    Clause {
+        bound_regions: 0,
+        kind: ClauseKind::Projection(ProjectionPredicate {
+            projection_term,
+            term,
+        }),
     }
 }
 

@@ -40,9 +40,11 @@ goes_back-grown a b e k =
       terms = k;
       inference = same.inference;
       goals = same.goals;
+      taken = same.taken;
       storage = same.storage;
       accesses = same.accesses;
       delayed_faults = same.delayed_faults;
+      mark = refl;
     })
 
 -- at depth 0 nothing holds, and nothing is refuted

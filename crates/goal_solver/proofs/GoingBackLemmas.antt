@@ -12,15 +12,19 @@ use Rattle.goal_terms.specs.declared.answers.VarKind.{VarKind}
 use Rattle.goal_terms.specs.declared.predicates.Goal.{Goal}
 use Rattle.goal_terms.specs.declared.predicates.Predicate.{Predicate}
 use Rattle.goal_terms.specs.declared.terms.Ty.{Ty}
+use Rattle.goal_infer.specs.Inference as inference
 use Rattle.goal_infer.specs.Inference.{Inference, rolled_back}
+use Rattle.goal_infer.specs.Resolution.{IsSolved}
 use Rattle.goal_infer.specs.Undo.{unbound_at, unbound}
 use Rattle.goal_infer.specs.declared.state.Snapshot as lengths
 use Rattle.goal_infer.specs.declared.undo.InferVariable.{InferVariable}
+use Rattle.goal_infer.proofs.SolvedLemmas.{solved-kept}
 use Rattle.goal_infer.proofs.UndoLemmas.{goes_back-same as inference_goes_back-same}
 use Rattle.goal_infer.proofs.GoesBackLemmas.{goes_back-through as inference_goes_back-through}
 use Rattle.goal_solver.specs.Added.{with_goals}
-use Rattle.goal_solver.specs.GoingBack.{BeginsWith, GoesBack, restored}
-use Rattle.goal_solver.specs.State.{State, kinds_in}
+use Rattle.goal_solver.specs.GoingBack.{BeginsWith, GoesBack, lengths_of, restored, begun}
+use Rattle.goal_solver.specs.State.{State, AreTaken, IsValid, kinds_in}
+use Rattle.goal_solver.specs.declared.context.Snapshot.{Snapshot}
 
 -- a table of terms keeps its own terms, and those of a table whose terms it keeps
 keeps-same : (ts : List Tree) → Keeps ts ts
@@ -51,9 +55,11 @@ goes_back-same s = record {
   terms = keeps-same s.terms;
   inference = inference_goes_back-same s.inference;
   goals = take-length s.goals;
+  taken = take-length s.taken;
   storage = take-length s.storage;
   accesses = take-length s.accesses;
   delayed_faults = take-length s.delayed_faults;
+  mark = refl;
 }
 
 pub goes_back-when_same : (s z : State) → z ≡ s → GoesBack s z
@@ -69,9 +75,11 @@ goes_back-through a b c g h = record {
   terms = keeps-through a.terms b.terms c.terms g.terms h.terms;
   inference = inference_goes_back-through a.inference b.inference c.inference g.inference h.inference;
   goals = begins-through a.goals b.goals c.goals g.goals h.goals;
+  taken = begins-through a.taken b.taken c.taken g.taken h.taken;
   storage = begins-through a.storage b.storage c.storage g.storage h.storage;
   accesses = begins-through a.accesses b.accesses c.accesses g.accesses h.accesses;
   delayed_faults = begins-through a.delayed_faults b.delayed_faults c.delayed_faults g.delayed_faults h.delayed_faults;
+  mark = h.mark ∙ g.mark;
 }
 
 -- a restored context goes back to the one that was restored
@@ -84,10 +92,31 @@ goes_back-restored a b g = record {
   terms = g.terms;
   inference = inference_goes_back-same a.inference;
   goals = take-length a.goals;
+  taken = take-length a.taken;
   storage = take-length a.storage;
   accesses = g.accesses;
   delayed_faults = g.delayed_faults;
+  mark = refl;
 }
+
+-- so does one that was restored from within a trial
+pub goes_back-tried : (a b : State) → GoesBack (begun a) b → GoesBack a (restored a b)
+goes_back-tried a b g =
+    let back = goes_back-restored (begun a) b g in
+    record {
+      tables = refl;
+      typing_mode = refl;
+      remaining_depth = refl;
+      stop_on_rerun = refl;
+      terms = back.terms;
+      inference = back.inference;
+      goals = back.goals;
+      taken = back.taken;
+      storage = back.storage;
+      accesses = back.accesses;
+      delayed_faults = back.delayed_faults;
+      mark = refl;
+    }
 
 -- a context whose lists were lengthened goes back
 goes_back-lists : (s : State) (gs : List (GoalSource × Goal Predicate)) (es : List (OpaqueTypeKey × Ty)) (xs : List OpaqueAccess) (fs : List DelayedFault) →
@@ -101,9 +130,11 @@ goes_back-lists s gs es xs fs a b c d = record {
   terms = keeps-same s.terms;
   inference = inference_goes_back-same s.inference;
   goals = a;
+  taken = take-length s.taken;
   storage = b;
   accesses = c;
   delayed_faults = d;
+  mark = refl;
 }
 
 pub goes_back-when_goals : (s z : State) (gs : List (GoalSource × Goal Predicate)) → z ≡ with_goals gs s → GoesBack s z
@@ -161,3 +192,32 @@ kinds-rolled_back s z to n ks ms e h p q =
 -- and no more of them
 pub cut-shorter : {A : Type 0} (n b : ℕ) (ks ms : List A) → ms ≡ take n ks → length ks < b → length ms < b
 cut-shorter n b ks ms e h = omega (arith, ap length e, length-take n ks, h)
+
+-- a context that a rollback restores is solved, over the terms that there are then
+pub solved-restored : (s before : State) (to : Snapshot) (z : Inference) → to ≡ lengths_of before → GoesBack before s → IsValid before →
+    ((i : Inference) → to.inference ≡ inference.lengths_of i → inference.GoesBack i s.inference → z ≡ i) → IsSolved s.terms z
+solved-restored s before to z e g v restored =
+    subst (IsSolved s.terms) (sym (restored before.inference (ap (λ (t : Snapshot). t.inference) e) g.inference))
+    (solved-kept before.terms s.terms before.inference g.terms v.solved)
+
+-- and the goals that were taken out are some of those that there are
+pub taken-restored : (s before : State) (to : Snapshot) (gs : List (GoalSource × Goal Predicate)) (ns : List ℕ) → to ≡ lengths_of before → GoesBack before s → IsValid before →
+    gs ≡ take to.goals s.goals → ns ≡ take to.taken s.taken → AreTaken gs ns
+taken-restored s before to gs ns e g v p q =
+    subst (λ z. AreTaken z ns) (sym (p ∙ ap (λ (t : Snapshot). take t.goals s.goals) e ∙ g.goals))
+    (subst (AreTaken before.goals) (sym (q ∙ ap (λ (t : Snapshot). take t.taken s.taken) e ∙ g.taken)) v.taken)
+
+-- none is taken out of none
+pub taken-none : AreTaken [] []
+taken-none = record { within = λ k d l. absurd (omega arith); once = λ i j x y e. absurd (cc) }
+
+-- what is so of a context is so where a trial begins
+pub valid-begun : (s : State) → IsValid s → IsValid (begun s)
+valid-begun s v = record { solved = v.solved; taken = v.taken }
+
+-- a solved state is solved over more terms
+pub solved-grown : (ts us : List Tree) (s : Inference) → Keeps ts us → IsSolved ts s → IsSolved us s
+solved-grown = solved-kept
+
+pub solved-grown_twice : (ts us vs : List Tree) (s : Inference) → Keeps ts us → Keeps us vs → IsSolved ts s → IsSolved vs s
+solved-grown_twice ts us vs s g h solved = solved-kept us vs s h (solved-kept ts us s g solved)

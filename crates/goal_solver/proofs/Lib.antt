@@ -30,3 +30,7 @@ pub mod HeaderPartLemmas
 pub mod HeaderOutcomeLemmas
 pub mod HeaderMatchLemmas
 pub mod FoundAnswers
+pub mod BindingLemmas
+pub mod AliasShapeLemmas
+pub mod CloneLemmas
+pub mod ResponseLemmas

@@ -10,9 +10,11 @@ use Rattle.goal_infer.specs.Inference as inference
 use Rattle.goal_infer.specs.Inference.{Inference}
 use Rattle.goal_infer.specs.Undo as undo
 use Rattle.goal_infer.specs.declared.undo.InferVariable.{InferVariable}
+use Rattle.goal_infer.specs.Resolution.{IsSolved}
+use Rattle.goal_infer.proofs.SolvedLemmas.{solved-more}
 use Rattle.goal_infer.proofs.UndoLemmas.{state-is}
 use Rattle.goal_solver.specs.GoingBack.{GoesBack, restored}
-use Rattle.goal_solver.specs.State.{State, kinds_of}
+use Rattle.goal_solver.specs.State.{State, kinds_in, kinds_of}
 use Rattle.goal_solver.specs.Variables.{unbound, with_kinds, with_variables, kind_for, fresh_arg, fresh_args}
 use Rattle.goal_solver.proofs.GoingBackLemmas.{goes_back-same}
 
@@ -36,9 +38,11 @@ goes_back-variables s ks =
       terms = same.terms;
       inference = inference-with_kinds s.inference ks;
       goals = same.goals;
+      taken = same.taken;
       storage = same.storage;
       accesses = same.accesses;
       delayed_faults = same.delayed_faults;
+      mark = refl;
     }
 
 pub goes_back-when_made : (s z : State) (ks : List VarKind) → z ≡ with_variables ks s → GoesBack s z
@@ -107,6 +111,19 @@ fresh-more s a ps i d ts us t h e f g u =
 -- a rollback after some were made gives the context before
 pub restored-variables : (s a : State) (ks : List VarKind) → a ≡ with_variables ks s → restored s a ≡ s
 restored-variables s a ks e = ap (restored s) e
+
+-- a solved state with a fresh variable is solved
+pub solved-made : (T : List Tree) (s z : Inference) (k : VarKind) → z ≡ record s { variables = s.variables ++ unbound k ∷ [] } → IsSolved T s → IsSolved T z
+solved-made T s z k e solved = subst (IsSolved T) (sym e) (solved-more T s (unbound k) refl solved)
+
+-- one more kind is no more than there may be, and in step with one more variable
+pub kinds-fewer : (ks ms : List VarKind) (k : VarKind) → ms ≡ ks ++ k ∷ [] → length ks < 4294967295 → length ms < 4294967296
+kinds-fewer ks ms k e h = omega (arith, ap length e, length-append ks (k ∷ []), h)
+
+pub kinds-pushed : (ks ms : List VarKind) (k : VarKind) (s z : Inference) → ms ≡ ks ++ k ∷ [] → ks ≡ kinds_in s.variables →
+    z ≡ record s { variables = s.variables ++ unbound k ∷ [] } → ms ≡ kinds_in z.variables
+kinds-pushed ks ms k s z e h q =
+    e ∙ ap (λ n. n ++ k ∷ []) h ∙ sym (map-append (λ (v : InferVariable). v.kind) s.variables (unbound k ∷ [])) ∙ sym (ap (λ (i : Inference). kinds_in i.variables) q)
 
 -- what holds holds of an error, if there is one
 pub on_err : {T E P : Type 0} (r : Result T E) → P → OnErr r P

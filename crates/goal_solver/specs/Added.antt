@@ -12,9 +12,9 @@ use Rattle.goal_terms.specs.declared.terms.Ty.{Ty}
 use Rattle.goal_solver.specs.State.{State}
 use Rattle.goal_solver.specs.Stored.{IsSameKey}
 
--- whether goals were added
+-- whether there are goals that were added and not taken out
 abbrev pub has_goals : State → Bool
-has_goals s = nat_lt 0 (length s.goals)
+has_goals s = nat_lt (length s.taken) (length s.goals)
 
 -- a context with goals added after the others, and nothing else changed
 abbrev pub with_goals : List (GoalSource × Goal Predicate) → State → State

@@ -14,3 +14,5 @@ pub mod ConstParts
 pub mod Combined
 pub mod Sayings
 pub mod HeaderWords
+pub mod Relating
+pub mod Binding

@@ -1,5 +1,6 @@
 -- What a context holds.
-use Rattle.std.specs.Prelude.{ℕ, Bool, List, map}
+use Rattle.std.specs.Prelude.{◌<◌, ℕ, Bool, List, length, map}
+use Rattle.std.specs.List.{All}
 use Rattle.goal_terms.specs.Tree.{Tree}
 use Rattle.goal_terms.specs.declared.answers.DelayedFault.{DelayedFault}
 use Rattle.goal_terms.specs.declared.answers.GoalSource.{GoalSource}
@@ -11,11 +12,15 @@ use Rattle.goal_terms.specs.declared.predicates.Goal.{Goal}
 use Rattle.goal_terms.specs.declared.predicates.Predicate.{Predicate}
 use Rattle.goal_terms.specs.declared.terms.Ty.{Ty}
 use Rattle.goal_infer.specs.Inference.{Inference}
+use Rattle.goal_infer.specs.Resolution.{IsSolved}
 use Rattle.goal_infer.specs.declared.undo.InferVariable.{InferVariable}
 use Rattle.goal_tables.specs.declared.rows.Tables.{Tables}
+use Rattle.goal_solver.specs.Stored.{IsSet}
+use Rattle.goal_solver.specs.declared.context.Mark.{Mark}
 
 -- the tables, the typing mode, the depth that is left, whether to stop where the erased mode doesn't suffice, the terms that have numbers,
--- the variables with their bindings and equations, the goals that were added, the hidden types, and what was recorded
+-- the variables with their bindings and equations, the goals that were added, which of them were taken out, the hidden types, what was recorded, and how much there was
+-- when the innermost trial began
 pub record State : Type 0 where
   pub tables : Tables
   pub typing_mode : TypingMode
@@ -24,9 +29,11 @@ pub record State : Type 0 where
   pub terms : List Tree
   pub inference : Inference
   pub goals : List (GoalSource × Goal Predicate)
+  pub taken : List ℕ
   pub storage : List (OpaqueTypeKey × Ty)
   pub accesses : List OpaqueAccess
   pub delayed_faults : List DelayedFault
+  pub mark : Mark
 
 -- the kinds of some variables
 abbrev pub kinds_in : List InferVariable → List VarKind
@@ -35,3 +42,13 @@ kinds_in vs = map (λ (v : InferVariable). v.kind) vs
 -- the kinds of the variables made so far
 abbrev pub kinds_of : State → List VarKind
 kinds_of s = kinds_in s.inference.variables
+
+-- the places of the goals that were taken out are places of goals that were added, and none stands twice
+pub record AreTaken (goals : List (GoalSource × Goal Predicate)) (places : List ℕ) : Type 0 where
+  pub within : All (λ i. i < length goals) places
+  pub once : IsSet places
+
+-- what is so of every context: its inference state is solved, and the goals that were taken out are some of those that were added
+pub record IsValid (s : State) : Type 0 where
+  pub solved : IsSolved s.terms s.inference
+  pub taken : AreTaken s.goals s.taken

@@ -37,10 +37,10 @@ impl EvalCtxt<'_> {
         Ok(())
     }
 
-    /// Whether goals were added.
+    /// Whether there are goals that were added and not taken out.
     pub(crate) fn has_goals(&self) -> bool
         ensures { result ≡ has_goals self.now }
     {
-        self.goals.len() > 0
+        self.taken.len() < self.goals.len()
     }
 }

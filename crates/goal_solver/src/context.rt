@@ -1,8 +1,8 @@
 //! The context of an evaluation.
 ghost use Rattle.std.specs.Prelude.{◌≡◌, ◌<◌, [], ◌↔◌, length, IsErr, IfOk};
 ghost use Rattle.goal_solver.specs.Answers.{IsQuiet};
-ghost use Rattle.goal_solver.specs.GoingBack.{GoesBack, lengths_of, restored};
-ghost use Rattle.goal_solver.specs.State.{State, kinds_of};
+ghost use Rattle.goal_solver.specs.GoingBack.{GoesBack, lengths_of, restored, begun};
+ghost use Rattle.goal_solver.specs.State.{State, IsValid, kinds_of};
 
 use crate::faults::DepthTooLarge;
 use goal_infer::state;
@@ -35,15 +35,19 @@ pub struct EvalCtxt<'t> {
     /// The kinds of the variables, in step with them.
     pub(crate) kinds: Vec<VarKind>,
     pub(crate) goals: Vec<(GoalSource, Goal<Predicate>)>,
+    /// The places of the goals that were taken out, in order.
+    pub(crate) taken: Vec<usize>,
     pub(crate) storage: Vec<(OpaqueTypeKey, Ty)>,
     pub(crate) accesses: Vec<OpaqueAccess>,
     pub(crate) delayed_faults: Vec<DelayedFault>,
+    pub(crate) mark: Mark,
 }
 
 impl<'t> Model for EvalCtxt<'t> {
     ghost use Rattle.std.specs.Prelude.{◌≡◌, ◌<◌, ◌^◌, length};
     ghost use Rattle.std.specs.Coded.{codes};
-    ghost use Rattle.goal_solver.specs.State.{State, kinds_in};
+    ghost use Rattle.goal_infer.specs.Resolution.{IsSolved};
+    ghost use Rattle.goal_solver.specs.State.{State, kinds_in, AreTaken};
     ghost use Rattle.goal_solver.specs.Stored.{HasOneTypeAKey, IsSet};
     ghost use Rattle.goal_tables.specs.contracts.rows.Tables as held;
     ghost use Rattle.goal_terms.specs.TreeCode.{trees_code};
@@ -57,9 +61,9 @@ impl<'t> Model for EvalCtxt<'t> {
 
     ghost coded = { Prim.hlevel (codes, trees_code, held.the_row.coded, mode.the_row.coded, key.the_row.coded, (goal.the_row predicate.the_row).coded, ty.the_row.coded) };
 
-    ghost view = { λ c. record { tables = c.tables.now; typing_mode = c.typing_mode; remaining_depth = c.remaining_depth; stop_on_rerun = c.stop_on_rerun; terms = c.terms; inference = c.inference; goals = c.goals.items; storage = c.storage.items; accesses = c.accesses.items; delayed_faults = c.delayed_faults.items } };
+    ghost view = { λ c. record { tables = c.tables.now; typing_mode = c.typing_mode; remaining_depth = c.remaining_depth; stop_on_rerun = c.stop_on_rerun; terms = c.terms; inference = c.inference; goals = c.goals.items; taken = c.taken.items; storage = c.storage.items; accesses = c.accesses.items; delayed_faults = c.delayed_faults.items; mark = c.mark } };
 
-    ghost invariant = { λ c. (length c.kinds.items < 2 ^ 32) × (c.kinds.items ≡ kinds_in c.inference.variables) × HasOneTypeAKey c.storage.items × IsSet c.accesses.items × IsSet c.delayed_faults.items };
+    ghost invariant = { λ c. (length c.kinds.items < 2 ^ 32) × (c.kinds.items ≡ kinds_in c.inference.variables) × HasOneTypeAKey c.storage.items × IsSet c.accesses.items × IsSet c.delayed_faults.items × IsSolved c.terms c.inference × AreTaken c.goals.items c.taken.items };
 }
 
 /// How much a context holds of what a rollback undoes.
@@ -67,7 +71,15 @@ impl<'t> Model for EvalCtxt<'t> {
 pub(crate) struct Snapshot {
     inference: state::Snapshot,
     goals: usize,
+    taken: usize,
     storage: usize,
+}
+
+/// How much a context held of what a response lists when the innermost trial began.
+#[derive(Clone, Copy, Debug, PartialEq, Eq, Hash)]
+pub(crate) struct Mark {
+    pub(crate) inference: state::Snapshot,
+    pub(crate) storage: usize,
 }
 
 impl<'t> EvalCtxt<'t> {
@@ -81,24 +93,31 @@ impl<'t> EvalCtxt<'t> {
         stop_on_rerun: bool,
     ) -> Result<EvalCtxt<'t>, DepthTooLarge>
         ensures refused { IsErr result ↔ (128 < limit) }
-        ensures made { IfOk result (λ c. c ≡ record { tables = tables.now; typing_mode = typing_mode; remaining_depth = limit; stop_on_rerun = stop_on_rerun; terms = []; inference = record { variables = []; trail = []; equations = [] }; goals = []; storage = []; accesses = []; delayed_faults = [] }) }
+        ensures made { IfOk result (λ c. c ≡ record { tables = tables.now; typing_mode = typing_mode; remaining_depth = limit; stop_on_rerun = stop_on_rerun; terms = []; inference = record { variables = []; trail = []; equations = [] }; goals = []; taken = []; storage = []; accesses = []; delayed_faults = []; mark = record { inference = record { variables = 0; trail = 0; equations = 0 }; storage = 0 } }) }
     {
         if limit > GREATEST_LIMIT {
             return Err(DepthTooLarge);
         }
         let alloc = *tables.rows().tables().traits.allocator();
+        let inference = InferState::new(alloc);
+        let mark = Mark {
+            inference: inference.snapshot(),
+            storage: 0,
+        };
         Ok(EvalCtxt {
             tables,
             typing_mode,
             remaining_depth: limit,
             stop_on_rerun,
             terms: TermTable::new(alloc),
-            inference: InferState::new(alloc),
+            inference,
             kinds: Vec::new(alloc),
             goals: Vec::new(alloc),
+            taken: Vec::new(alloc),
             storage: Vec::new(alloc),
             accesses: Vec::new(alloc),
             delayed_faults: Vec::new(alloc),
+            mark,
         })
     }
 
@@ -142,6 +161,7 @@ impl<'t> EvalCtxt<'t> {
         Snapshot {
             inference: self.inference.snapshot(),
             goals: self.goals.len(),
+            taken: self.taken.len(),
             storage: self.storage.len(),
         }
     }
@@ -149,12 +169,43 @@ impl<'t> EvalCtxt<'t> {
     /// Undoes what was made, bound, added and entered since a snapshot. Terms, accesses and delayed
     /// faults stay. It takes no memory.
     pub(crate) fn rollback(&mut self, snapshot: Snapshot)
+        requires valid { (before : State) × (snapshot ≡ lengths_of before) × GoesBack before self.old × IsValid before }
         ensures undone { (before : State) → snapshot ≡ lengths_of before → GoesBack before self.old → self.new ≡ restored before self.old }
     {
         self.inference.rollback(snapshot.inference);
         self.kinds.truncate(self.inference.len());
         self.goals.truncate(snapshot.goals);
+        self.taken.truncate(snapshot.taken);
         self.storage.truncate(snapshot.storage);
+    }
+
+    /// What is so of every context: its inference state is solved, and the goals that were taken out are some
+    /// of those that were added.
+    pub(crate) fn holds_together(&self)
+        ensures { IsValid self.now }
+    {
+        let _held = &self.inference;
+    }
+
+    /// Begins a trial: what is made, bound, equated and entered from now on is what a response lists. It
+    /// answers where the trial around it began, and takes no memory.
+    pub(crate) fn begin(&mut self) -> Mark
+        ensures began { self.new ≡ begun self.old }
+        ensures around { result ≡ self.old.mark }
+    {
+        let around = self.mark;
+        self.mark = Mark {
+            inference: self.inference.snapshot(),
+            storage: self.storage.len(),
+        };
+        around
+    }
+
+    /// Ends a trial: the one around it began at `mark`. It takes no memory.
+    pub(crate) fn end(&mut self, mark: Mark)
+        ensures { self.new ≡ record self.old { mark = mark } }
+    {
+        self.mark = mark;
     }
 
     /// An answer that changes nothing. It takes no memory.

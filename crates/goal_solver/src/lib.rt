@@ -3,6 +3,7 @@
 
 pub mod added_goals;
 pub mod aliases;
+mod apply;
 mod asked_args;
 mod closed_goals;
 mod combined;
@@ -25,6 +26,7 @@ mod host_effect_goals;
 mod id_lists;
 pub mod impl_terms;
 mod instances;
+mod instantiate;
 mod interning;
 pub mod joined;
 pub mod laws;

@@ -1,5 +1,5 @@
 //! What a typing mode says.
-ghost use Rattle.std.specs.Prelude.{◌≡◌, ◌==◌};
+ghost use Rattle.std.specs.Prelude.{◌≡◌, ◌==◌, true, false};
 ghost use Rattle.std.specs.List.{list_any};
 ghost use Rattle.goal_kinds.specs.Settings.{is_headline as is_of_headline, reveals as reveals_row, takes_defaults as takes_them};
 
@@ -22,6 +22,13 @@ pub(crate) fn is_headline(mode: &TypingMode) -> bool
         } => defining_opaque_types.is_empty(),
         TypingMode::PostBorrowckAnalysis { .. } | TypingMode::PostAnalysis => true,
     }
+}
+
+/// Whether a mode is coherence, which is none of the headline.
+pub(crate) fn is_coherence(mode: &TypingMode) -> bool
+    ensures { result ≡ true → is_of_headline mode.now ≡ false }
+{
+    matches!(mode, TypingMode::Coherence)
 }
 
 /// Whether a mode shows the hidden type of an opaque type.

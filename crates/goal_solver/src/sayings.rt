@@ -8,7 +8,7 @@ ghost use Rattle.goal_kinds.specs.Settings.{is_headline as is_of_headline};
 ghost use Rattle.goal_solver.specs.Outcomes.{StandsFor, setting_in};
 ghost use Rattle.goal_solver.specs.Sayings.{said_at};
 
-use crate::mode_tests::{is_headline, takes_defaults};
+use crate::mode_tests::{is_coherence, is_headline, takes_defaults};
 use crate::outcomes::{Setting, Stop};
 use goal_tables::lookup::IndexedTables;
 use goal_tables::rows::{Container, DefRow, DefValue, ImplRow, ItemRow, Source};
@@ -41,7 +41,8 @@ pub fn said_of<'t>(setting: &Setting<'t>, row: &ImplRow, item: &ItemRow) -> Resu
     }
 }
 
-/// What an impl says by a definition, which may be a default.
+/// What an impl says by a definition, which may be a default. In coherence a default, and a value that is missing in
+/// an impl whose self type is known to be unsized, decide nothing.
 fn said_by_def<'t>(
     setting: &Setting<'t>,
     row: &ImplRow,
@@ -57,7 +58,11 @@ fn said_by_def<'t>(
     if is_default && !takes_defaults(setting.typing_mode) {
         return Ok(Said::Itself);
     }
-    Ok(said_in(setting.rows, row, def_id))
+    let said = said_in(setting.rows, row, def_id);
+    if matches!(said, Said::Itself) && is_coherence(setting.typing_mode) {
+        return Err(Stop::ReadsMode(OpaqueAccess::Always));
+    }
+    Ok(said)
 }
 
 /// What an impl says by a definition that it takes.

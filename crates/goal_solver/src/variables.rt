@@ -86,6 +86,7 @@ impl EvalCtxt<'_> {
         ensures goes_back { GoesBack self.old self.new }
         ensures only_memory { IsOkUnless result Fault.OutOfMemory }
     {
+        self.holds_together();
         let before = self.snapshot();
         let made = self.fresh_args(params);
         if made.is_err() {
@@ -126,7 +127,7 @@ impl EvalCtxt<'_> {
     }
 
     /// The number of a fresh variable of a kind.
-    fn next_variable(&mut self, kind: VarKind) -> Result<u32, Fault>
+    pub(crate) fn next_variable(&mut self, kind: VarKind) -> Result<u32, Fault>
         ensures number { IfOk result (λ n. n ≡ length (kinds_of self.old)) }
         ensures made { OnOk result (self.new ≡ with_variables (kind ∷ []) self.old) }
         ensures unchanged { OnErr result (self.new ≡ self.old) }

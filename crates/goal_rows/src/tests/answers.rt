@@ -1,5 +1,6 @@
 //! The text of answers.
-use crate::answer::Answer;
+use crate::answer::{Answer, Refusal};
+use goal_solver::faults::{DepthTooLarge, Fault};
 use goal_terms::scalars::UintTy;
 use goal_terms::terms::{Const, Term, Ty};
 use std::test::Fail;
@@ -12,7 +13,15 @@ fn each_answer(rt: HostRuntime) -> Result<(), Fail> {
         (Answer::Yes(Some(Term::Const(Const::Value(3)))), "yes 3"),
         (Answer::No, "no"),
         (Answer::Maybe, "maybe"),
-        (Answer::Refused("DepthTooLarge"), "refused DepthTooLarge"),
+        (Answer::Faults(2), "faults 2"),
+        (
+            Answer::Refused(Refusal::Depth(DepthTooLarge)),
+            "refused DepthTooLarge",
+        ),
+        (
+            Answer::Refused(Refusal::Run(Fault::RerunNonErased)),
+            "refused RerunNonErased",
+        ),
     ];
     for (answer, expected) in &table {
         let text = format!(in rt.alloc(); "{answer}")?;

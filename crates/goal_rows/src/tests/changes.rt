@@ -5,7 +5,7 @@ use crate::program_types::{plain_type, self_arguments, trait_ref};
 use goal_tables::rows::{Container, DefRow, DefValue, ImplRow, InherentRow, Tables, TraitRow};
 use goal_terms::answers::ParamKind;
 use goal_terms::ids::{DefId, ImplId, InherentId, InherentImplId, ItemId, TraitId};
-use goal_terms::predicates::{BoundConstness, Clause, ClauseKind, HostEffectPredicate, TraitRef};
+use goal_terms::predicates::TraitRef;
 use goal_terms::terms::{FnSig, Ty};
 use std::alloc::{AllocError, Global};
 
@@ -68,17 +68,6 @@ pub fn own_ref(alloc: Global) -> Result<TraitRef, AllocError> {
 /// The trait reference `P: Tr`, of a trait that allows const.
 pub fn tr_ref(alloc: Global) -> Result<TraitRef, AllocError> {
     trait_ref(alloc, plain_type(alloc, P), TR)
-}
-
-/// The clause that a trait reference holds as a const one.
-pub fn const_clause(trait_ref: TraitRef) -> Clause {
-    Clause {
-        bound_regions: 0,
-        kind: ClauseKind::HostEffect(HostEffectPredicate {
-            trait_ref,
-            constness: BoundConstness::Const,
-        }),
-    }
 }
 
 /// The signature `fn() -> bool`.

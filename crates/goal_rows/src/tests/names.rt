@@ -1,5 +1,5 @@
 //! The text of types by the names of the program.
-use crate::names::{ProgramNames, VEC, X};
+use crate::names::{A, ProgramNames, VEC, X};
 use crate::program_types::{plain_type, projection_of, self_arguments};
 use goal_terms::ids::{AdtId, FreeId, InherentId, ItemId, OpaqueId, TraitId};
 use goal_terms::scalars::UintTy;
@@ -71,7 +71,7 @@ const PROJECTIONS: [(u32, usize, &str); 13] = [
 fn projections(rt: HostRuntime) -> Result<(), Fail> {
     let alloc = rt.alloc();
     for (number, further, expected) in PROJECTIONS {
-        let mut alias = projection_of(alloc, X)?;
+        let mut alias = projection_of(alloc, A, plain_type(alloc, X))?;
         alias.kind = AliasTermKind::ProjectionTy(ItemId(number));
         for _ in 0..further {
             alias.args.push(GenericArg::Ty(Ty::Uint(UintTy::U8)))?;

@@ -2,14 +2,13 @@
 use crate::names::{COPY, DISCRIMINANT_KIND, FIELD, FN_PTR, POINTEE, SIZED, TR, TUPLE};
 use crate::program_aliases::free_type;
 use crate::program_tables::whole_tables;
-use crate::program_types::struct_row;
-use crate::tests::changes::{
-    const_clause, impl_for_p, no_input, own_ref, plain_trait, push_impl_of_tr,
-};
+use crate::program_types::{const_clause, struct_row};
+use crate::tests::changes::{impl_for_p, no_input, own_ref, plain_trait, push_impl_of_tr};
 use crate::tests::verdicts::{assert_accepted, assert_refused};
 use goal_tables::faults::TableFault;
 use goal_tables::rows::{ClosureKind, ClosureRow, ConstBounds, FnRow, OpaqueRow, Tables};
 use goal_terms::ids::{AdtId, ClosureId, FnId, FreeId, OpaqueId, TraitId};
+use goal_terms::predicates::BoundConstness;
 use goal_terms::terms::Ty;
 use std::alloc::{AllocError, Global};
 use std::test::Fail;
@@ -71,7 +70,8 @@ fn say_in_condition(alloc: Global, tables: &mut Tables) -> Result<(), AllocError
 
 fn say_in_clause(alloc: Global, tables: &mut Tables) -> Result<(), AllocError> {
     let mut row = free_type(alloc, FreeId(4), Ty::Bool);
-    row.predicates.push(const_clause(own_ref(alloc)?))?;
+    row.predicates
+        .push(const_clause(own_ref(alloc)?, BoundConstness::Const))?;
     tables.free_aliases.push(row)?;
     Ok(())
 }

@@ -1,4 +1,4 @@
-use Rattle.std.proofs.Common.{◌≡◌, Some, ◌∙◌, ap, arith}
+use Rattle.std.proofs.Common.{◌≡◌, Some, None, ◌∙◌, ap, arith}
 use Rattle.goal_terms.specs.Tree.{node_of}
 use Rattle.goal_terms.specs.TableMeaning.{tree_at}
 use Rattle.goal_infer.specs.Resolution.{binding_at}
@@ -12,6 +12,10 @@ loop-preserved c =
     record {
       within = next-within c.args.table.now c.args.state.now c.requires.solved c.loop.current c.in-Some.next found;
       same = next-same c.args.table.now c.args.state.now c.requires.solved c.loop.current c.in-Some.next found ∙ c.loop.invariant.same;
+      itself = λ e.
+          let p : Some c.in-Some.next ≡ None =
+          found ∙ ap (λ i. binding_at c.args.state.now (node_of (tree_at c.args.table.now i))) (c.loop.invariant.itself e) ∙ e in
+          absurd (cc);
       near = near-next c.args.table.now c.args.state.now c.loop.current c.in-Some.next c.loop.counter c.loop.invariant.near found;
     }
 

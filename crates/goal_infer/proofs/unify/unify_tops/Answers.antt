@@ -5,11 +5,14 @@ use Rattle.goal_terms.specs.Tree.{node_of}
 use Rattle.goal_terms.specs.TableMeaning.{tree_at}
 use Rattle.goal_terms.proofs.SameTermLemmas.{tops-same, tops-differ}
 use Rattle.goal_infer.specs.Replacement.{takes}
-use Rattle.goal_infer.specs.Unification.{is_alias, IsDecided}
+use Rattle.goal_infer.specs.Resolution.{resolved}
+use Rattle.goal_infer.specs.Unification.{kinds_of, is_alias, IsDefinite, IsDecidedWherePlain}
 use Rattle.goal_infer.specs.declared.unify.Unified.TheVariants.{Yes, Undecided, No}
-use Rattle.goal_infer.proofs.DecisionLemmas.{decided-same, yes-decides, no-decides, definite-made, alias-undecided}
+use Rattle.goal_infer.proofs.ClashLemmas.{untouched-same, untouched-left, untouched-right, clash-never, clash-left, clash-right, clash-tops}
+use Rattle.goal_infer.proofs.DecisionLemmas.{yes-decides, no-decides, definite-made}
 use Rattle.goal_terms.specs.declared.heads.Node.TheVariants as nodes
 use Rattle.goal_infer.proofs.IdentityLemmas.{yes-resolved, identified-yes, identified-never, other-resolved, tops-resolved}
+use Rattle.goal_infer.proofs.PlainLemmas.{plain-decided, apart-left, apart-right, plain-alias}
 use Rattle.goal_infer.proofs.UnifyLemmas.{advances-same, undecided-same, yes-one, other-term, becomes-left, becomes-right, taken-node, untaken, no-clash, one-head}
 use Rattle.goal_infer.proofs.unify.unify_tops.Goals as goal
 
@@ -82,34 +85,48 @@ returns-else-is_same-clause-answer c =
     ∙ untaken c.node-other.result c.node-node.result c.taking-2.result c.taking-2.ensures c.in_default-taking.not-Some v (c.node-other.ensures.top ∙ p))
     (tops-differ _ _ _ _ c.is_same.result c.is_same.ensures c.node-node.ensures.top c.node-other.ensures.top c.if-is_same.false)
 
-pub returns-then-same_term-clause-decided : goal.returns-then-same_term-clause-decided
-returns-then-same_term-clause-decided c = decided-same c.args.table.now c.args.state.now c.args.left c.args.right Yes yes-decides
+pub returns-then-same_term-clause-plain : goal.returns-then-same_term-clause-plain
+returns-then-same_term-clause-plain c = plain-decided c.args.table.now c.args.state.now c.args.state.now c.args.left c.args.right Yes refl yes-decides
 
-pub returns-in-Some-clause-decided : goal.returns-in-Some-clause-decided
-unfolding IsDecided
-returns-in-Some-clause-decided c dl dr =
-    c.in_ok-bound.ensures.decided dr
-    (definite-made c.args.table.now c.args.state.now c.requires.solved c.in-Some.variable c.args.left
-    (sym c.node-node.ensures.top ∙ taken-node c.node-node.result c.node-other.result c.in-Some.variable c.in-Some.ensures) c.requires.first_ended dl)
+pub returns-in-Some-clause-plain : goal.returns-in-Some-clause-plain
+unfolding IsDecidedWherePlain
+returns-in-Some-clause-plain c p =
+    let v : node_of (tree_at c.args.table.now c.args.left) ≡ nodes.Variable c.in-Some.variable =
+    sym c.node-node.ensures.top ∙ taken-node c.node-node.result c.node-other.result c.in-Some.variable c.in-Some.ensures in
+    let both : IsDefinite (kinds_of c.args.state.now) (resolved c.args.table.now c.args.state.now c.args.left)
+    × IsDefinite (kinds_of c.args.state.now) (resolved c.args.table.now c.args.state.now c.args.right) =
+    apart-left c.args.table.now c.args.state.now c.requires.solved c.in-Some.variable c.args.left c.args.right v c.requires.first_ended
+    (other-resolved c.args.table.now c.args.state.now c.requires.solved c.in-Some.variable c.args.left c.args.right v c.requires.first_ended c.requires.second_ended
+    (other-term c.args.table.now c.args.left c.args.right c.in-Some.variable (λ e. false≢true (sym c.if-same_term.false ∙ c.same_term.ensures.identical.1 e)) v)) p in
+    c.in_ok-bound.ensures.decided both.1
+    (definite-made c.args.table.now c.args.state.now c.requires.solved c.in-Some.variable c.args.left v c.requires.first_ended both.0)
 
-pub returns-in-Some-taking-clause-decided : goal.returns-in-Some-taking-clause-decided
-unfolding IsDecided
-returns-in-Some-taking-clause-decided c dl dr =
-    c.in_ok-bound-2.ensures.decided dl
-    (definite-made c.args.table.now c.args.state.now c.requires.solved c.in-Some-taking.variable c.args.right
-    (sym c.node-other.ensures.top ∙ taken-node c.node-other.result c.node-node.result c.in-Some-taking.variable c.in-Some-taking.ensures) c.requires.second_ended dr)
+pub returns-in-Some-taking-clause-plain : goal.returns-in-Some-taking-clause-plain
+unfolding IsDecidedWherePlain
+returns-in-Some-taking-clause-plain c p =
+    let v : node_of (tree_at c.args.table.now c.args.right) ≡ nodes.Variable c.in-Some-taking.variable =
+    sym c.node-other.ensures.top ∙ taken-node c.node-other.result c.node-node.result c.in-Some-taking.variable c.in-Some-taking.ensures in
+    let both : IsDefinite (kinds_of c.args.state.now) (resolved c.args.table.now c.args.state.now c.args.left)
+    × IsDefinite (kinds_of c.args.state.now) (resolved c.args.table.now c.args.state.now c.args.right) =
+    apart-right c.args.table.now c.args.state.now c.requires.solved c.in-Some-taking.variable c.args.left c.args.right v c.requires.second_ended
+    (λ same. other-resolved c.args.table.now c.args.state.now c.requires.solved c.in-Some-taking.variable c.args.right c.args.left v c.requires.second_ended c.requires.first_ended
+    (other-term c.args.table.now c.args.right c.args.left c.in-Some-taking.variable (λ e. false≢true (sym c.if-same_term.false ∙ c.same_term.ensures.identical.1 (sym e))) v)
+    (sym same)) p in
+    c.in_ok-bound-2.ensures.decided both.0
+    (definite-made c.args.table.now c.args.state.now c.requires.solved c.in-Some-taking.variable c.args.right v c.requires.second_ended both.1)
 
-pub returns-then-same_resolved-clause-decided : goal.returns-then-same_resolved-clause-decided
-returns-then-same_resolved-clause-decided c = decided-same c.args.table.now c.args.state.now c.args.left c.args.right Yes yes-decides
+pub returns-then-same_resolved-clause-plain : goal.returns-then-same_resolved-clause-plain
+returns-then-same_resolved-clause-plain c = plain-decided c.args.table.now c.args.state.now c.args.state.now c.args.left c.args.right Yes refl yes-decides
 
-pub returns-else-same_resolved-clause-decided : goal.returns-else-same_resolved-clause-decided
-returns-else-same_resolved-clause-decided c =
-    alias-undecided c.args.table.now c.args.state.now c.args.left c.args.right
+pub returns-else-same_resolved-clause-plain : goal.returns-else-same_resolved-clause-plain
+returns-else-same_resolved-clause-plain c =
+    plain-alias c.args.table.now c.args.state.now c.args.left c.args.right
     (ap (λ n. is_alias n || is_alias (node_of (tree_at c.args.table.now c.args.right))) (sym c.node-node.ensures.top)
-    ∙ ap (λ n. is_alias c.node-node.result || is_alias n) (sym c.node-other.ensures.top) ∙ sym c.either_alias.ensures ∙ c.if-either_alias.true) Undecided
+    ∙ ap (λ n. is_alias c.node-node.result || is_alias n) (sym c.node-other.ensures.top) ∙ sym c.either_alias.ensures ∙ c.if-either_alias.true)
+    (λ same. false≢true (sym c.if-same_resolved.false ∙ c.same_resolved.ensures.1 same)) Undecided
 
-pub returns-else-is_same-clause-decided : goal.returns-else-is_same-clause-decided
-returns-else-is_same-clause-decided c = decided-same c.args.table.now c.args.state.now c.args.left c.args.right No no-decides
+pub returns-else-is_same-clause-plain : goal.returns-else-is_same-clause-plain
+returns-else-is_same-clause-plain c = plain-decided c.args.table.now c.args.state.now c.args.state.now c.args.left c.args.right No refl no-decides
 
 pub returns-then-same_term-clause-identified : goal.returns-then-same_term-clause-identified
 returns-then-same_term-clause-identified c = identified-yes c.args.table.now c.args.state.now c.args.state.now c.args.left c.args.right refl
@@ -144,3 +161,64 @@ returns-else-is_same-clause-identified c =
     identified-never c.args.table.now c.args.state.now c.args.state.now c.args.left c.args.right No
     (tops-resolved c.args.table.now c.args.state.now c.requires.solved c.args.left c.args.right c.requires.first_ended c.requires.second_ended
     (tops-differ _ _ _ _ c.is_same.result c.is_same.ensures c.node-node.ensures.top c.node-other.ensures.top c.if-is_same.false))
+
+pub returns-then-same_term-clause-clash : goal.returns-then-same_term-clause-clash
+returns-then-same_term-clause-clash c = clash-never c.args.table.now c.args.state.now c.args.left c.args.right Yes (λ e. absurd (cc))
+
+pub returns-in-Some-clause-clash : goal.returns-in-Some-clause-clash
+returns-in-Some-clause-clash c =
+    clash-left c.args.table.now c.args.state.now c.requires.solved c.in-Some.variable c.args.left c.args.right
+    (sym c.node-node.ensures.top ∙ taken-node c.node-node.result c.node-other.result c.in-Some.variable c.in-Some.ensures) c.requires.first_ended c.in_ok-bound.bound
+
+pub returns-in-Some-taking-clause-clash : goal.returns-in-Some-taking-clause-clash
+returns-in-Some-taking-clause-clash c =
+    clash-right c.args.table.now c.args.state.now c.requires.solved c.in-Some-taking.variable c.args.left c.args.right
+    (sym c.node-other.ensures.top ∙ taken-node c.node-other.result c.node-node.result c.in-Some-taking.variable c.in-Some-taking.ensures) c.requires.second_ended c.in_ok-bound-2.bound
+
+pub returns-then-same_resolved-clause-clash : goal.returns-then-same_resolved-clause-clash
+returns-then-same_resolved-clause-clash c = clash-never c.args.table.now c.args.state.now c.args.left c.args.right Yes (λ e. absurd (cc))
+
+pub returns-else-same_resolved-clause-clash : goal.returns-else-same_resolved-clause-clash
+returns-else-same_resolved-clause-clash c = clash-never c.args.table.now c.args.state.now c.args.left c.args.right Undecided (λ e. absurd (cc))
+
+pub returns-else-is_same-clause-clash : goal.returns-else-is_same-clause-clash
+returns-else-is_same-clause-clash c =
+    clash-tops c.args.table.now c.args.state.now c.requires.solved c.args.left c.args.right c.requires.first_ended c.requires.second_ended
+    (ap (λ n. is_alias n || is_alias (node_of (tree_at c.args.table.now c.args.right))) (sym c.node-node.ensures.top)
+    ∙ ap (λ n. is_alias c.node-node.result || is_alias n) (sym c.node-other.ensures.top) ∙ sym c.either_alias.ensures ∙ c.if-either_alias.false)
+    (tops-differ _ _ _ _ c.is_same.result c.is_same.ensures c.node-node.ensures.top c.node-other.ensures.top c.if-is_same.false) No
+
+pub returns-then-same_term-clause-closed : goal.returns-then-same_term-clause-closed
+returns-then-same_term-clause-closed c = untouched-same c.args.table.now c.args.state.now c.args.state.now c.args.left c.args.right refl
+
+pub returns-then-same_resolved-clause-closed : goal.returns-then-same_resolved-clause-closed
+returns-then-same_resolved-clause-closed c = untouched-same c.args.table.now c.args.state.now c.args.state.now c.args.left c.args.right refl
+
+pub returns-else-same_resolved-clause-closed : goal.returns-else-same_resolved-clause-closed
+returns-else-same_resolved-clause-closed c = untouched-same c.args.table.now c.args.state.now c.args.state.now c.args.left c.args.right refl
+
+pub returns-then-is_same-clause-closed : goal.returns-then-is_same-clause-closed
+returns-then-is_same-clause-closed c = untouched-same c.args.table.now c.args.state.now c.args.state.now c.args.left c.args.right refl
+
+pub returns-else-is_same-clause-closed : goal.returns-else-is_same-clause-closed
+returns-else-is_same-clause-closed c = untouched-same c.args.table.now c.args.state.now c.args.state.now c.args.left c.args.right refl
+
+pub returns-in_err-bound-clause-closed : goal.returns-in_err-bound-clause-closed
+returns-in_err-bound-clause-closed c =
+    untouched-left c.args.table.now c.args.state.now c.bind_resolved.new.state c.requires.solved c.in-Some.variable c.args.left c.args.right
+    (sym c.node-node.ensures.top ∙ taken-node c.node-node.result c.node-other.result c.in-Some.variable c.in-Some.ensures) c.requires.first_ended
+
+pub returns-in-Some-clause-closed : goal.returns-in-Some-clause-closed
+returns-in-Some-clause-closed c =
+    untouched-left c.args.table.now c.args.state.now c.bind_resolved.new.state c.requires.solved c.in-Some.variable c.args.left c.args.right
+    (sym c.node-node.ensures.top ∙ taken-node c.node-node.result c.node-other.result c.in-Some.variable c.in-Some.ensures) c.requires.first_ended
+
+pub returns-in_err-bound-2-clause-closed : goal.returns-in_err-bound-2-clause-closed
+returns-in_err-bound-2-clause-closed c =
+    untouched-right c.args.table.now c.args.state.now c.bind_resolved-in-Some-taking.new.state c.requires.solved c.in-Some-taking.variable c.args.left c.args.right
+    (sym c.node-other.ensures.top ∙ taken-node c.node-other.result c.node-node.result c.in-Some-taking.variable c.in-Some-taking.ensures) c.requires.second_ended
+
+pub returns-in-Some-taking-clause-closed : goal.returns-in-Some-taking-clause-closed
+returns-in-Some-taking-clause-closed c =
+    untouched-right c.args.table.now c.args.state.now c.bind_resolved-in-Some-taking.new.state c.requires.solved c.in-Some-taking.variable c.args.left c.args.right
+    (sym c.node-other.ensures.top ∙ taken-node c.node-other.result c.node-node.result c.in-Some-taking.variable c.in-Some-taking.ensures) c.requires.second_ended

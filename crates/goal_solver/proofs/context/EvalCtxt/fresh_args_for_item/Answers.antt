@@ -17,3 +17,13 @@ returns-then-is_err-clause-goes_back c =
 
 pub returns-else-is_err-clause-goes_back : goal.returns-else-is_err-clause-goes_back
 returns-else-is_err-clause-goes_back c = goes_back-when_made c.args.self.now c.fresh_args-made.new.self _ c.fresh_args-made.ensures.partly.1
+
+pub rollback-requires : goal.rollback-requires
+rollback-requires c = record {
+  valid = (
+    c.args.self.now,
+    c.snapshot-before.ensures,
+    goes_back-when_made c.args.self.now c.fresh_args-made.new.self _ c.fresh_args-made.ensures.partly.1,
+    c.holds_together.ensures,
+  );
+}

@@ -16,6 +16,8 @@ invariant_of-self-2 c = (
   c.self.invariant.2,
   set-pushed c.self.inside.accesses.items c.push.new.self.items c.args.access (search rules) (search rules) c.self.invariant.3,
   c.self.invariant.4,
+  c.self.invariant.5,
+  c.self.invariant.6,
 )
 
 pub returns-clause-goes_back : goal.returns-clause-goes_back

@@ -16,6 +16,8 @@ invariant_of-self-2 c = (
   c.self.invariant.2,
   c.self.invariant.3,
   set-pushed c.self.inside.delayed_faults.items c.push.new.self.items c.args.fault (search rules) (search rules) c.self.invariant.4,
+  c.self.invariant.5,
+  c.self.invariant.6,
 )
 
 pub returns-clause-goes_back : goal.returns-clause-goes_back

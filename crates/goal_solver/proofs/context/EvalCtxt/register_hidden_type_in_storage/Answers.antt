@@ -31,7 +31,7 @@ returns-else-is_err-clause-one_type c =
     (λ i d p r. absent d (place-contains c.as_slice.result.now i d (ap (λ (es : List (OpaqueTypeKey × Ty)). slice_get es i) c.as_slice.ensures.value ∙ p), r)) c.self.invariant.2
 
 pub invariant_of-self-in-Ok-None : goal.invariant_of-self-in-Ok-None
-invariant_of-self-in-Ok-None c = (c.self.invariant.0, c.self.invariant.1, returns-else-is_err-clause-one_type c, c.self.invariant.3, c.self.invariant.4)
+invariant_of-self-in-Ok-None c = (c.self.invariant.0, c.self.invariant.1, returns-else-is_err-clause-one_type c, c.self.invariant.3, c.self.invariant.4, c.self.invariant.5, c.self.invariant.6)
 
 pub returns-else-is_err-clause-goes_back : goal.returns-else-is_err-clause-goes_back
 returns-else-is_err-clause-goes_back c =

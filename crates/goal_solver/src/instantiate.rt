@@ -1,0 +1,186 @@
+//! Giving the expected term of an alias its value.
+ghost use Rattle.std.specs.Prelude.{◌≡◌, ◌<◌, true, false, length, OnOk, OnErr, IsOkUnless};
+ghost use Rattle.goal_terms.specs.Tree.{node_of};
+ghost use Rattle.goal_terms.specs.TableMeaning.{tree_at};
+ghost use Rattle.goal_terms.specs.TreeOf.{tree_of_alias, tree_of_ty, tree_of_const, tree_of_term};
+ghost use Rattle.goal_terms.specs.View.{tree_of_ref};
+ghost use Rattle.goal_solver.specs.Binding.{IsFreeFor, BindsTo, OfVariable, AddsNormalization};
+ghost use Rattle.goal_solver.specs.GoingBack.{GoesBack, restored};
+ghost use Rattle.goal_solver.specs.Pending.{is_alias};
+
+use crate::context::EvalCtxt;
+use crate::faults::Fault;
+use goal_infer::bindings::bind_term;
+use goal_terms::answers::GoalSource;
+use goal_terms::heads::{Node, Variable};
+use goal_terms::predicates::{Clause, Goal, NormalizesTo, Predicate};
+use goal_terms::term_nodes::TermId;
+use goal_terms::terms::{AliasTerm, Const, Term, Ty};
+use goal_terms::view::TermRef;
+
+impl EvalCtxt<'_> {
+    /// Binds the variable that `term` is to an alias as it stands. The variable must be unbound and of the alias's
+    /// kind, and must not stand in the alias. Only memory is refused; then inference state is as before.
+    pub fn relate_rigid_alias_non_alias(
+        &mut self,
+        environment: &[Clause],
+        alias: &AliasTerm,
+        term: &Term,
+    ) -> Result<(), Fault>
+        requires free { OfVariable term.now (IsFreeFor self.old (tree_of_alias alias.now)) }
+        ensures bound { OnOk result (OfVariable term.now (BindsTo self.old self.new (tree_of_alias alias.now))) }
+        ensures unchanged { OnErr result (self.new ≡ restored self.old self.new) }
+        ensures goes_back { GoesBack self.old self.new }
+        ensures only_memory { IsOkUnless result Fault.OutOfMemory }
+    {
+        let _ = environment;
+        self.bind_expected(term, TermRef::Alias(alias))
+    }
+
+    /// Binds the expected term of a goal to an alias as it stands, as `relate_rigid_alias_non_alias` does.
+    pub fn structurally_instantiate_normalizes_to_term(
+        &mut self,
+        goal: &Goal<NormalizesTo>,
+        alias: &AliasTerm,
+    ) -> Result<(), Fault>
+        requires free { OfVariable goal.now.predicate.term (IsFreeFor self.old (tree_of_alias alias.now)) }
+        ensures bound { OnOk result (OfVariable goal.now.predicate.term (BindsTo self.old self.new (tree_of_alias alias.now))) }
+        ensures unchanged { OnErr result (self.new ≡ restored self.old self.new) }
+        ensures goes_back { GoesBack self.old self.new }
+        ensures only_memory { IsOkUnless result Fault.OutOfMemory }
+    {
+        self.bind_expected(&goal.predicate.term, TermRef::Alias(alias))
+    }
+
+    /// Gives the expected term of a goal a term. One that is no alias is bound to it as it stands; for an alias the
+    /// goal is added that it normalizes to the expected term. Only memory is refused; then inference state and
+    /// added goals are as before.
+    pub fn instantiate_normalizes_to_term(
+        &mut self,
+        goal: &Goal<NormalizesTo>,
+        term: Term,
+    ) -> Result<(), Fault>
+        requires free { OfVariable goal.now.predicate.term (IsFreeFor self.old (tree_of_term term)) }
+        ensures bound { is_alias (node_of (tree_of_term term)) ≡ false → OnOk result (OfVariable goal.now.predicate.term (BindsTo self.old self.new (tree_of_term term))) }
+        ensures added { is_alias (node_of (tree_of_term term)) ≡ true → OnOk result (AddsNormalization self.old self.new (tree_of_term term) (tree_of_term goal.now.predicate.term) goal.now.param_env.items) }
+        ensures unchanged { OnErr result (self.new ≡ restored self.old self.new) }
+        ensures goes_back { GoesBack self.old self.new }
+        ensures only_memory { IsOkUnless result Fault.OutOfMemory }
+    {
+        if let Node::Alias(_) = term.view().node() {
+            self.add_normalization(goal, into_alias(term))
+        } else {
+            self.bind_expected(&goal.predicate.term, term.view())
+        }
+    }
+
+    /// Adds the goal that an alias normalizes to the expected term of a goal, under its environment. Only memory is
+    /// refused; then nothing is added.
+    fn add_normalization(
+        &mut self,
+        goal: &Goal<NormalizesTo>,
+        alias: AliasTerm,
+    ) -> Result<(), Fault>
+        ensures added { OnOk result (AddsNormalization self.old self.new (tree_of_alias alias) (tree_of_term goal.now.predicate.term) goal.now.param_env.items) }
+        ensures unchanged { OnErr result (self.new ≡ self.old) }
+        ensures goes_back { GoesBack self.old self.new }
+        ensures only_memory { IsOkUnless result Fault.OutOfMemory }
+    {
+        let Ok(param_env) = goal.param_env.clone() else {
+            return Err(Fault::OutOfMemory);
+        };
+        let Ok(term) = goal.predicate.term.clone() else {
+            return Err(Fault::OutOfMemory);
+        };
+        let predicate = Predicate::NormalizesTo(NormalizesTo { alias, term });
+        self.add_goal(
+            GoalSource::TypeRelating,
+            Goal {
+                param_env,
+                predicate,
+            },
+        )
+    }
+
+    /// Binds the variable that a term is to a part of a term as it stands. The variable must be unbound and of the
+    /// part's kind, and must not stand in the part. Only memory is refused; then inference state is as before.
+    fn bind_expected(&mut self, expected: &Term, part: TermRef<'_>) -> Result<(), Fault>
+        requires free { OfVariable expected.now (IsFreeFor self.old (tree_of_ref part)) }
+        ensures bound { OnOk result (OfVariable expected.now (BindsTo self.old self.new (tree_of_ref part.entry))) }
+        ensures unchanged { OnErr result (self.new ≡ restored self.old self.new) }
+        ensures goes_back { GoesBack self.old self.new }
+        ensures only_memory { IsOkUnless result Fault.OutOfMemory }
+    {
+        match expected.view().node() {
+            Node::Variable(variable) => self.bind_to(variable, part),
+            Node::Head(_) | Node::Alias(_) => unreachable!(),
+        }
+    }
+
+    /// Binds a variable to a part of a term as it stands. The variable must be unbound and of the part's kind, and
+    /// must not stand in the part. Only memory is refused; then inference state is as before.
+    pub(crate) fn bind_to(&mut self, variable: Variable, part: TermRef<'_>) -> Result<(), Fault>
+        requires free { IsFreeFor self.old (tree_of_ref part) variable }
+        ensures bound { OnOk result (BindsTo self.old self.new (tree_of_ref part.entry) variable) }
+        ensures unchanged { OnErr result (self.new ≡ restored self.old self.new) }
+        ensures goes_back { GoesBack self.old self.new }
+        ensures only_memory { IsOkUnless result Fault.OutOfMemory }
+    {
+        self.holds_together();
+        match self.terms.intern_part(part) {
+            Ok(id) => self.bind_number(variable, id),
+            Err(_) => Err(Fault::OutOfMemory),
+        }
+    }
+
+    /// Binds a variable to the term of a number, as `bind_to` does. Only memory is refused; then nothing changes.
+    fn bind_number(&mut self, variable: Variable, id: TermId) -> Result<(), Fault>
+        requires within { id.0 < length self.old.terms }
+        requires free { IsFreeFor self.old (tree_at self.old.terms id) variable }
+        ensures bound { OnOk result (BindsTo self.old self.new (tree_at self.old.terms id) variable) }
+        ensures unchanged { OnErr result (self.new ≡ self.old) }
+        ensures goes_back { GoesBack self.old self.new }
+        ensures only_memory { IsOkUnless result Fault.OutOfMemory }
+    {
+        let Ok(()) = bind_term(&self.terms, &mut self.inference, variable, id) else {
+            return Err(Fault::OutOfMemory);
+        };
+        Ok(())
+    }
+}
+
+#[tactic(auto, using(goal_terms::proofs::TreeLemmas::tree_equations))]
+/// The alias that a term is.
+fn into_alias(term: Term) -> AliasTerm
+    requires { is_alias (node_of (tree_of_term term)) ≡ true }
+    ensures { tree_of_alias result ≡ tree_of_term term }
+{
+    match term {
+        Term::Ty(ty) => type_alias(ty),
+        Term::Const(value) => const_alias(value),
+    }
+}
+
+#[tactic(auto, using(goal_terms::proofs::TreeLemmas::tree_equations))]
+/// The alias that a type is.
+fn type_alias(ty: Ty) -> AliasTerm
+    requires { is_alias (node_of (tree_of_ty ty)) ≡ true }
+    ensures { tree_of_alias result ≡ tree_of_ty ty }
+{
+    match ty {
+        Ty::Alias(alias) => alias,
+        _ => unreachable!(),
+    }
+}
+
+#[tactic(auto, using(goal_terms::proofs::TreeLemmas::tree_equations))]
+/// The alias that a constant is.
+fn const_alias(value: Const) -> AliasTerm
+    requires { is_alias (node_of (tree_of_const value)) ≡ true }
+    ensures { tree_of_alias result ≡ tree_of_const value }
+{
+    match value {
+        Const::Alias(alias) => alias,
+        _ => unreachable!(),
+    }
+}
