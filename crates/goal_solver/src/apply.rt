@@ -21,9 +21,8 @@ impl EvalCtxt<'_> {
     /// Applies a response, and answers its certainty: its variables are made, then its values are given to their
     /// variables, in order, and its equations and hidden types are added. The response must count the variables
     /// that there are. When a value's turn comes its variable must be unbound, and the value be of the variable's
-    /// kind and not hold it, bindings followed. No hidden type may be listed for a key that has one. So it is with
-    /// an answer of this context, if nothing happened since. Only memory is refused; then inference state and
-    /// storage are as before.
+    /// kind and not hold it, bindings followed. No hidden type may be listed for a key that has one. Only memory is
+    /// refused; then inference state and storage are as before.
     pub fn apply_response(&mut self, response: &Response) -> Result<Certainty, Fault>
         requires { IsApplicable self.old response.now }
         ensures certainty { IfOk result (λ c. c ≡ response.now.certainty) }

@@ -10,8 +10,7 @@ use crate::faults::Fault;
 impl<'t> EvalCtxt<'t> {
     /// What `f` answers. Inference state, added goals and storage are as before, whatever it answers;
     /// accesses, delayed faults and the numbers of terms stay. It takes no memory of its own. `f` must
-    /// leave a context that goes back to the one that it was handed, as every call on a context does. A response
-    /// that `f` asks for lists what was made, bound, equated and entered since `f` began.
+    /// leave a context that goes back to the one that it was handed, as every call on a context does.
     pub fn probe<R, F: FnOnce(&mut EvalCtxt<'t>) -> Result<R, Fault>>(
         &mut self,
         f: F,
