@@ -12,9 +12,12 @@ use std::marker::Model;
 /// How much a state holds: its variables, its trail and its equations.
 #[derive(Clone, Copy, Debug, PartialEq, Eq, Hash)]
 pub struct Snapshot {
-    variables: usize,
-    trail: usize,
-    equations: usize,
+    /// How many variables there are.
+    pub variables: usize,
+    /// How many of them were bound.
+    pub trail: usize,
+    /// How many equations there are.
+    pub equations: usize,
 }
 
 /// Variables with their bindings, and equations of regions. The trail has the variables that were
@@ -65,6 +68,13 @@ impl InferState {
         ensures { slice_get self.now.variables number ≡ Some result }
     {
         self.variables.as_slice()[number as usize]
+    }
+
+    /// The numbers of the variables that were bound, in the order in which they were.
+    pub fn trail(&self) -> &[u32]
+        ensures { result.now ≡ self.now.trail }
+    {
+        self.trail.as_slice()
     }
 
     /// The regions that must be equal, in pairs, in the order in which they were added.

@@ -130,7 +130,7 @@ kinds_of-trees [] = refl
 kinds_of-trees (a ∷ args) = ap (λ ks. kind_of (node_of (tree_of_arg a)) ∷ ks) (kinds_of-trees args)
 
 -- accepted arguments have the kinds of the trait's parameters
-kinds_of_accepted : (t : Tables) (ps : List ParamKind) (i : TraitId) (args : List GenericArg) → IsAcceptedRef t ps i args →
+pub kinds_of_accepted : (t : Tables) (ps : List ParamKind) (i : TraitId) (args : List GenericArg) → IsAcceptedRef t ps i args →
     kinds_of_terms (trees_of args) ≡ unwrap_or (trait_params t i) []
 unfolding own_fault
 kinds_of_accepted t ps i args ok =
@@ -158,7 +158,7 @@ args_kinded t ps traits (x ∷ xs) a b c =
     both_fail (lies_in t ps WrongArgumentKind (tree_of_arg x)) (lies_in_args t ps WrongArgumentKind xs) c in
     (accepted_kinded t ps traits (tree_of_arg x) (arg_through x) (u.0, v.0, w.0), args_kinded t ps traits xs u.1 v.1 w.1)
 
-ref_kinded : (t : Tables) (ps : List ParamKind) → HasTraitsOfItems t → (i : TraitId) (args : List GenericArg) → IsAcceptedRef t ps i args →
+pub ref_kinded : (t : Tables) (ps : List ParamKind) → HasTraitsOfItems t → (i : TraitId) (args : List GenericArg) → IsAcceptedRef t ps i args →
     Each (IsKinded (kinds_over t)) (trees_of args)
 ref_kinded t ps traits i args ok =
     args_kinded t ps traits args

@@ -12,7 +12,7 @@ use Rattle.goal_kinds.specs.Laws.{IsConsistent}
 use Rattle.goal_kinds.specs.Level.{Level}
 use Rattle.goal_kinds.specs.Premises.{Premise, PremisesRefuted, clauses_under}
 use Rattle.goal_kinds.specs.Settings.{Setting}
-use Rattle.goal_kinds.specs.TraitGoals.{AssumptionHolds, AssumptionRefuted, header_of, ImplHoldsUnder, ImplHolds, ImplRefuted, RuleHolds, RuleRefuted, CandidateHolds, CandidateRefuted}
+use Rattle.goal_kinds.specs.TraitGoals.{AssumptionHolds, AssumptionRefuted, header_of, ImplHoldsUnder, ImplHolds, ImplRefuted, TraitRuleHolds, TraitRuleRefuted, CandidateHolds, CandidateRefuted}
 use Rattle.goal_kinds.specs.Words.{Pairs, SomePair}
 use Rattle.goal_kinds.proofs.EqualLemmas.{no_pair_apart}
 use Rattle.goal_kinds.proofs.PremiseLemmas.{no_premises_refuted}
@@ -52,8 +52,8 @@ no_impl_refuted L c args r s h k =
     k
 
 -- a rule whose premises hold isn't refuted
-pub no_rule_refuted : (L : Level) → IsConsistent L → (o : Option (List Premise)) → RuleHolds L o → RuleRefuted L o → ⊥
-unfolding RuleHolds RuleRefuted
+pub no_rule_refuted : (L : Level) → IsConsistent L → (o : Option (List Premise)) → TraitRuleHolds L o → TraitRuleRefuted L o → ⊥
+unfolding TraitRuleHolds TraitRuleRefuted
 no_rule_refuted L c None h k = h
 no_rule_refuted L c (Some ps) h k = no_premises_refuted L c ps h k
 

@@ -37,7 +37,7 @@ use Rattle.goal_kinds.specs.Level.{Level, nothing, HasHeadForm, HeadFormRefuted}
 use Rattle.goal_kinds.specs.Levels.{level}
 use Rattle.goal_kinds.specs.Premises.{ClauseHolds, ClauseRefuted, PremiseHolds, PremiseRefuted, PremisesHold, PremisesRefuted}
 use Rattle.goal_kinds.specs.Projections.{EquationGives, EquationRefuted, AssumptionGives, AssumptionTermRefuted, ListedGives, ListedRefuted, CandidateGives, TermRefuted, GroupGives, GroupRefuted, OwnFormed, OwnUnformed, GroupsGive, GroupsRefuted, ItemGives, ItemRefuted, ProjectionGives, ProjectionRefuted}
-use Rattle.goal_kinds.specs.TraitGoals.{header_of, AssumptionHolds, AssumptionRefuted, ImplHoldsUnder, ImplHolds, ImplRefuted, RuleHolds, RuleRefuted, CandidateHolds, CandidateRefuted, TraitHolds, TraitRefuted}
+use Rattle.goal_kinds.specs.TraitGoals.{header_of, AssumptionHolds, AssumptionRefuted, ImplHoldsUnder, ImplHolds, ImplRefuted, TraitRuleHolds, TraitRuleRefuted, CandidateHolds, CandidateRefuted, TraitHolds, TraitRefuted}
 use Rattle.goal_kinds.specs.Words.{Each, Exists, Pairs, SomePair, OfRow, Either}
 
 -- opens all definitions
@@ -54,7 +54,7 @@ unfolding folded folded_node depth_below argument_of kind_of kind_of_head erased
     HasHeadForm HeadFormRefuted level ClauseHolds ClauseRefuted PremiseHolds PremiseRefuted PremisesHold PremisesRefuted
     EquationGives EquationRefuted AssumptionGives AssumptionTermRefuted ListedGives ListedRefuted CandidateGives TermRefuted GroupGives GroupRefuted OwnFormed OwnUnformed
     GroupsGive GroupsRefuted ItemGives ItemRefuted ProjectionGives ProjectionRefuted
-    AssumptionHolds AssumptionRefuted ImplHoldsUnder ImplHolds ImplRefuted RuleHolds RuleRefuted CandidateHolds CandidateRefuted TraitHolds TraitRefuted
+    AssumptionHolds AssumptionRefuted ImplHoldsUnder ImplHolds ImplRefuted TraitRuleHolds TraitRuleRefuted CandidateHolds CandidateRefuted TraitHolds TraitRefuted
     Each Exists Pairs SomePair OfRow Either
 opened = tt
 

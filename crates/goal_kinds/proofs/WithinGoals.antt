@@ -12,7 +12,7 @@ use Rattle.goal_kinds.specs.Laws.{IsWithin, IsAlike, with_impls_and_mode}
 use Rattle.goal_kinds.specs.Level.{Level}
 use Rattle.goal_kinds.specs.Premises.{Premise, clauses_under}
 use Rattle.goal_kinds.specs.Settings.{Setting}
-use Rattle.goal_kinds.specs.TraitGoals.{AssumptionHolds, AssumptionRefuted, header_of, ImplHoldsUnder, ImplHolds, ImplRefuted, RuleHolds, RuleRefuted, CandidateHolds, CandidateRefuted, TraitHolds, TraitRefuted}
+use Rattle.goal_kinds.specs.TraitGoals.{AssumptionHolds, AssumptionRefuted, header_of, ImplHoldsUnder, ImplHolds, ImplRefuted, TraitRuleHolds, TraitRuleRefuted, CandidateHolds, CandidateRefuted, TraitHolds, TraitRefuted}
 use Rattle.goal_kinds.proofs.AlikeCandidates.{alike-class_of, alike-classes_before, alike-all_candidates}
 use Rattle.goal_kinds.proofs.Members.{exists-map_same, each-map_same}
 use Rattle.goal_kinds.proofs.OtherImpls.{other_impls-trait_rule}
@@ -53,13 +53,13 @@ within-impl_refuted w args r (inr (inr h)) =
     inr (inr (h.0, within-all_known w r.params.items (header_of r) args h.0 h.1, within-premises_refuted w (clauses_under h.0 r.predicates.items) h.2))
 
 -- a rule's premises
-within-rule_holds : {L M : Level} → IsWithin L M → (o : Option (List Premise)) → RuleHolds L o → RuleHolds M o
-unfolding RuleHolds
+within-rule_holds : {L M : Level} → IsWithin L M → (o : Option (List Premise)) → TraitRuleHolds L o → TraitRuleHolds M o
+unfolding TraitRuleHolds
 within-rule_holds w None h = h
 within-rule_holds w (Some ps) h = within-premises_hold w ps h
 
-within-rule_refuted : {L M : Level} → IsWithin L M → (o : Option (List Premise)) → RuleRefuted L o → RuleRefuted M o
-unfolding RuleRefuted
+within-rule_refuted : {L M : Level} → IsWithin L M → (o : Option (List Premise)) → TraitRuleRefuted L o → TraitRuleRefuted M o
+unfolding TraitRuleRefuted
 within-rule_refuted w None h = h
 within-rule_refuted w (Some ps) h = within-premises_refuted w ps h
 
@@ -71,7 +71,7 @@ within-candidate_holds w S v m i args (assumption p) h = within-assumption_holds
 within-candidate_holds w S v m i args (implied_bound b cs) h = h
 within-candidate_holds w S v m i args (by_impl r) h = within-impl_holds w args r h
 within-candidate_holds {M = M} w S v m i args built_in h =
-    subst (RuleHolds M) (sym (other_impls-trait_rule S.tables v i args)) (within-rule_holds w (trait_rule S.tables i args) h)
+    subst (TraitRuleHolds M) (sym (other_impls-trait_rule S.tables v i args)) (within-rule_holds w (trait_rule S.tables i args) h)
 within-candidate_holds w S v m i args error h = h
 
 within-candidate_refuted : {L M : Level} → IsWithin L M → (S : Setting) (v : Vec ImplRow Global) (m : TypingMode) (i : TraitId) (args : List Tree) (c : Candidate) →
@@ -81,7 +81,7 @@ within-candidate_refuted w S v m i args (assumption p) h = within-assumption_ref
 within-candidate_refuted w S v m i args (implied_bound b cs) h = h
 within-candidate_refuted w S v m i args (by_impl r) h = within-impl_refuted w args r h
 within-candidate_refuted {M = M} w S v m i args built_in h =
-    subst (RuleRefuted M) (sym (other_impls-trait_rule S.tables v i args)) (within-rule_refuted w (trait_rule S.tables i args) h)
+    subst (TraitRuleRefuted M) (sym (other_impls-trait_rule S.tables v i args)) (within-rule_refuted w (trait_rule S.tables i args) h)
 within-candidate_refuted w S v m i args error h = h
 
 -- a trait goal holds, or is refuted

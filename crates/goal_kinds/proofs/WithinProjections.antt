@@ -73,7 +73,7 @@ within-listed_refuted w listed_rigid g = g
 within-listed_refuted w (listed_by_size sized) g = g
 
 -- a candidate gives a projection's term, or none
-within-candidate_gives : {L M : Level} {S : Setting} {v : Vec ImplRow Global} {m : TypingMode} → IsWithin L M → IsAlike S v m →
+pub within-candidate_gives : {L M : Level} {S : Setting} {v : Vec ImplRow Global} {m : TypingMode} → IsWithin L M → IsAlike S v m →
     (p : Projection) (itself u : Tree) (c : Candidate) → CandidateGives S L p itself u c → CandidateGives (with_impls_and_mode S v m) M p itself u c
 unfolding CandidateGives
 within-candidate_gives w a p itself u (assumption q) g = within-assumption_gives w p q u g
@@ -84,7 +84,7 @@ within-candidate_gives {M = M} {S = S} {v} w a p itself u built_in g =
     (within-listed_gives w p itself (term_rule S.tables p.item.id p.args) u g)
 within-candidate_gives w a p itself u error g = g
 
-within-term_refuted : {L M : Level} {S : Setting} {v : Vec ImplRow Global} {m : TypingMode} → IsWithin L M → IsAlike S v m →
+pub within-term_refuted : {L M : Level} {S : Setting} {v : Vec ImplRow Global} {m : TypingMode} → IsWithin L M → IsAlike S v m →
     (p : Projection) (c : Candidate) → TermRefuted S L p c → TermRefuted (with_impls_and_mode S v m) M p c
 unfolding TermRefuted
 within-term_refuted w a p (assumption q) g = within-assumption_term_refuted w p q g

@@ -1,7 +1,6 @@
 -- Rules and candidates whose terms are given by their numbers in a table: what they stand for.
-use Rattle.std.specs.Prelude.{◌<◌, List, length, map, Option, Some, None}
+use Rattle.std.specs.Prelude.{◌<◌, List, length, map}
 use Rattle.std.specs.List.{All}
-use Rattle.std.specs.Option.{option_map}
 use Rattle.goal_terms.specs.Erased.{erased}
 use Rattle.goal_terms.specs.PredicateTrees.{PredicateTree, holds, equals, holds_const}
 use Rattle.goal_terms.specs.Sorts.{IsArgument}

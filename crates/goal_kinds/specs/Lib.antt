@@ -25,3 +25,11 @@ pub mod KindedTerms
 pub mod Interned
 pub mod CandidateTops
 pub mod Tops
+pub mod Rules
+pub mod RuleModes
+pub mod RuleWords
+pub mod ProjectionEntries
+pub mod DefinitionEntries
+pub mod CandidateRules
+pub mod TraitEntries
+pub mod ProjectionKind

@@ -53,13 +53,13 @@ ImplRefuted L args r =
     ⊎ ((s : List Tree) × AllKnown L r.params.items (header_of r) args s × PremisesRefuted L (clauses_under s r.predicates.items))
 
 -- a rule's premises hold; or there is no rule, or one of its premises is refuted
-unfoldable pub RuleHolds : Level → Option (List Premise) → Type 0
-RuleHolds L None = ⊥
-RuleHolds L (Some ps) = PremisesHold L ps
+unfoldable pub TraitRuleHolds : Level → Option (List Premise) → Type 0
+TraitRuleHolds L None = ⊥
+TraitRuleHolds L (Some ps) = PremisesHold L ps
 
-unfoldable pub RuleRefuted : Level → Option (List Premise) → Type 0
-RuleRefuted L None = Unit {0}
-RuleRefuted L (Some ps) = PremisesRefuted L ps
+unfoldable pub TraitRuleRefuted : Level → Option (List Premise) → Type 0
+TraitRuleRefuted L None = Unit {0}
+TraitRuleRefuted L (Some ps) = PremisesRefuted L ps
 
 -- whether an error stands in some of the terms
 abbrev pub any_error : List Tree → Bool
@@ -70,7 +70,7 @@ unfoldable pub CandidateHolds : Setting → Level → TraitId → List Tree → 
 CandidateHolds S L i args (assumption p) = AssumptionHolds L i args p
 CandidateHolds S L i args (implied_bound b cs) = ⊥
 CandidateHolds S L i args (by_impl r) = ImplHolds L args r
-CandidateHolds S L i args built_in = RuleHolds L (trait_rule S.tables i args)
+CandidateHolds S L i args built_in = TraitRuleHolds L (trait_rule S.tables i args)
 CandidateHolds S L i args error = any_error args ≡ true
 
 -- a candidate cannot show it, now or at any greater height
@@ -78,7 +78,7 @@ unfoldable pub CandidateRefuted : Setting → Level → TraitId → List Tree �
 CandidateRefuted S L i args (assumption p) = AssumptionRefuted L i args p
 CandidateRefuted S L i args (implied_bound b cs) = Unit {0}
 CandidateRefuted S L i args (by_impl r) = ImplRefuted L args r
-CandidateRefuted S L i args built_in = RuleRefuted L (trait_rule S.tables i args)
+CandidateRefuted S L i args built_in = TraitRuleRefuted L (trait_rule S.tables i args)
 CandidateRefuted S L i args error = any_error args ≡ false
 
 -- a trait goal holds through a class: the self type has a head form, a candidate of the class holds for it, and all of the classes before are refuted

@@ -20,7 +20,7 @@ use Rattle.goal_kinds.proofs.AnswerLaws.{answers-agree}
 use Rattle.goal_solver.specs.Answers.{IsOwed, level_over, IsMaybe, IsOpen, IsUndecided, IsAliasOpen, IsHoldingResponse, IsPredicateAnswer, IsConclusion}
 use Rattle.goal_solver.specs.GoingBack.{GoesBack, restored}
 use Rattle.goal_solver.specs.Outcomes.{StandsFor, Says}
-use Rattle.goal_solver.specs.declared.faults.Fault.{Fault}
+use Rattle.goal_kinds.specs.declared.faults.Fault.{Fault}
 use Rattle.goal_solver.specs.declared.outcomes.Outcome.{Outcome}
 use Rattle.goal_solver.specs.declared.outcomes.Outcome.TheVariants as outcome
 use Rattle.goal_solver.specs.declared.outcomes.Stop.{Stop}

@@ -17,8 +17,8 @@ use Rattle.goal_kinds.specs.Interned.{erased_at}
 use Rattle.goal_kinds.specs.Laws.{IsConsistent}
 use Rattle.goal_kinds.specs.Level.{Level}
 use Rattle.goal_solver.specs.Answers.{GivesTo, expected_variable, IsAliasResponse, IsAliasAnswer, IsAliasOpen, IsMaybe}
-use Rattle.goal_solver.specs.declared.faults.Fault.{Fault}
-use Rattle.goal_solver.specs.declared.faults.Fault.TheVariants as fault
+use Rattle.goal_kinds.specs.declared.faults.Fault.{Fault}
+use Rattle.goal_kinds.specs.declared.faults.Fault.TheVariants as fault
 
 -- a term's sort doesn't depend on its lifetimes
 head_sort-erased : (h : Head) → sort_of_head (erased_head h) ≡ sort_of_head h
@@ -28,14 +28,14 @@ head_sort-erased (Dynamic n r) = refl
 head_sort-erased (Lifetime r) = refl
 head_sort-erased h = refl
 
-sort-erased : (t : Tree) → sort_of (node_of (erased t)) ≡ sort_of (node_of t)
+pub sort-erased : (t : Tree) → sort_of (node_of (erased t)) ≡ sort_of (node_of t)
 unfolding erased
 sort-erased (node h ts) = head_sort-erased h
 sort-erased (alias k ts) = refl
 sort-erased (variable v) = refl
 
 -- whether a term is a type or a constant
-is_term : Tree → Bool
+unfoldable pub is_term : Tree → Bool
 is_term t = is_term_sort (sort_of (node_of t))
 
 -- what the answer says where what is found is a type or a constant, and where it isn't

@@ -50,7 +50,7 @@ pub interned-all : (T U : List Tree) (ids : List TermId) (args : List GenericArg
 interned-all T U ids args i so_far l = erased_all-map U ids ∙ ap (map erased) (so_far.2 ∙ take_all i (trees_of args) l)
 
 -- a term that makes an argument
-is_argument-term : (s : Sort) → IsTrue (is_term_sort s) → IsTrue (is_argument_sort s)
+pub is_argument-term : (s : Sort) → IsTrue (is_term_sort s) → IsTrue (is_argument_sort s)
 is_argument-term sorts.Ty h = refl
 is_argument-term sorts.Const h = refl
 is_argument-term sorts.Lifetime h = absurd (cc)
@@ -70,3 +70,11 @@ pub equation-interned : (U V : List Tree) (a b : TermId) (x : AliasTerm) (y : Te
 equation-interned U V a b x y l e k m f =
     let first : IsIn U a = (l, subst IsArgument (sym e) (alias_is_argument x)) in
     (in-grown U V k a first, (m, subst IsArgument (sym f) (is_argument-term (sort_of (node_of (tree_of_term y))) (term_sort y))))
+
+-- two terms, one after the other, have their numbers
+pub pair-interned : (U V : List Tree) (a b : TermId) (x y : Term) → a.0 < length U → tree_at U a ≡ tree_of_term x → Keeps U V → b.0 < length V →
+    tree_at V b ≡ tree_of_term y → (IsIn V a × IsIn V b) × (tree_at V a ≡ tree_of_term x)
+pair-interned U V a b x y l e k m f =
+    let term : (t : Term) → IsArgument (tree_of_term t) = λ t. is_argument-term (sort_of (node_of (tree_of_term t))) (term_sort t) in
+    let first : IsIn U a = (l, subst IsArgument (sym e) (term x)) in
+    ((in-grown U V k a first, (m, subst IsArgument (sym f) (term y))), k.same a l ∙ e)

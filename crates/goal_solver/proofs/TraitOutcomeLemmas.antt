@@ -28,7 +28,7 @@ use Rattle.goal_kinds.specs.Level.{Level, HasHeadForm, HeadFormRefuted}
 use Rattle.goal_kinds.specs.Levels.{level}
 use Rattle.goal_kinds.specs.Premises.{Premise, PremisesHold, PremisesRefuted, clauses_under}
 use Rattle.goal_kinds.specs.Settings.{Setting}
-use Rattle.goal_kinds.specs.TraitGoals.{any_error, header_of, AssumptionHolds, AssumptionRefuted, ImplHoldsUnder, ImplHolds, ImplRefuted, RuleHolds, RuleRefuted, CandidateHolds, CandidateRefuted, TraitHolds, TraitRefuted}
+use Rattle.goal_kinds.specs.TraitGoals.{any_error, header_of, AssumptionHolds, AssumptionRefuted, ImplHoldsUnder, ImplHolds, ImplRefuted, TraitRuleHolds, TraitRuleRefuted, CandidateHolds, CandidateRefuted, TraitHolds, TraitRefuted}
 use Rattle.goal_kinds.specs.Words.{Each, Exists, Pairs, SomePair}
 use Rattle.goal_kinds.specs.declared.interned.InternedCandidate.{InternedCandidate}
 use Rattle.goal_kinds.specs.declared.interned.InternedCandidate.TheVariants as candidates
@@ -103,24 +103,24 @@ same-trait L T i args p r ids res e f g h =
     (subst (λ xs. Says (Pairs L.equal (erased_all T xs) args) (SomePair L.unequal (erased_all T xs) args) o) g s)) h)
 
 -- a rule
-no-rule : (L : Level) (o : Option (List Premise)) → None ≡ o → RuleRefuted L o
-unfolding RuleRefuted
+no-rule : (L : Level) (o : Option (List Premise)) → None ≡ o → TraitRuleRefuted L o
+unfolding TraitRuleRefuted
 no-rule L None e = tt
 no-rule L (Some ps) e = absurd (cc)
 
 some-rule : (L : Level) (o : Option (List Premise)) (ps : List Premise) (res : Result Outcome Stop) → Some ps ≡ o →
-    IfOk res (Says (PremisesHold L ps) (PremisesRefuted L ps)) → IfOk res (Says (RuleHolds L o) (RuleRefuted L o))
-unfolding RuleHolds RuleRefuted
-some-rule L o ps res e h = subst (λ q. IfOk res (Says (RuleHolds L q) (RuleRefuted L q))) e h
+    IfOk res (Says (PremisesHold L ps) (PremisesRefuted L ps)) → IfOk res (Says (TraitRuleHolds L o) (TraitRuleRefuted L o))
+unfolding TraitRuleHolds TraitRuleRefuted
+some-rule L o ps res e h = subst (λ q. IfOk res (Says (TraitRuleHolds L q) (TraitRuleRefuted L q))) e h
 
 -- the rule of a trait, by what is made of it in a table
 pub rule-none : (L : Level) (U : List Tree) (o : Option (Vec InternedPremise Global)) (q : Option (List Premise)) → o ≡ None →
-    option_map (λ (ps : Vec InternedPremise Global). map (premise_at U) ps.items) o ≡ q → RuleRefuted L q
+    option_map (λ (ps : Vec InternedPremise Global). map (premise_at U) ps.items) o ≡ q → TraitRuleRefuted L q
 rule-none L U o q e f = no-rule L q (ap (option_map (λ (ps : Vec InternedPremise Global). map (premise_at U) ps.items)) (sym e) ∙ f)
 
 pub rule-some : (L : Level) (U : List Tree) (o : Option (Vec InternedPremise Global)) (q : Option (List Premise)) (v : Vec InternedPremise Global) (xs : List InternedPremise) (res : Result Outcome Stop) →
     o ≡ Some v → option_map (λ (ps : Vec InternedPremise Global). map (premise_at U) ps.items) o ≡ q → xs ≡ v.items →
-    IfOk res (Says (PremisesHold L (map (premise_at U) xs)) (PremisesRefuted L (map (premise_at U) xs))) → IfOk res (Says (RuleHolds L q) (RuleRefuted L q))
+    IfOk res (Says (PremisesHold L (map (premise_at U) xs)) (PremisesRefuted L (map (premise_at U) xs))) → IfOk res (Says (TraitRuleHolds L q) (TraitRuleRefuted L q))
 rule-some L U o q v xs res e f g h =
     some-rule L q (map (premise_at U) v.items) res (ap (option_map (λ (ps : Vec InternedPremise Global). map (premise_at U) ps.items)) (sym e) ∙ f)
     (subst (λ ys. IfOk res (Says (PremisesHold L (map (premise_at U) ys)) (PremisesRefuted L (map (premise_at U) ys)))) g h)
@@ -156,7 +156,7 @@ impl-candidate S L i args T U x r h o e k f =
     (subst (λ q. Says (ImplHolds L args r.now) (ImplRefuted L args r.now) q) (sym f) (impl-says L r.now args U h k))
 
 pub rule-candidate : (S : Setting) (L : Level) (i : TraitId) (args T : List Tree) (x : InternedCandidate) (res : Result Outcome Stop) → x ≡ candidates.BuiltIn →
-    IfOk res (Says (RuleHolds L (trait_rule S.tables i args)) (RuleRefuted L (trait_rule S.tables i args))) → IfOk res (SaysCandidate S L i args (candidate_at T x))
+    IfOk res (Says (TraitRuleHolds L (trait_rule S.tables i args)) (TraitRuleRefuted L (trait_rule S.tables i args))) → IfOk res (SaysCandidate S L i args (candidate_at T x))
 unfolding CandidateHolds CandidateRefuted
 rule-candidate S L i args T x res e h = subst (λ y. IfOk res (SaysCandidate S L i args (candidate_at T y))) (sym e) h
 

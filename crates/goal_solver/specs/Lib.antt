@@ -16,3 +16,10 @@ pub mod Sayings
 pub mod HeaderWords
 pub mod Relating
 pub mod Binding
+pub mod Settled
+pub mod Equating
+pub mod FreeVariables
+pub mod AddedGoals
+pub mod Responses
+pub mod HeadForms
+pub mod RunRules

@@ -1,9 +1,10 @@
 //! What the calls answer where an evaluation is stopped or a goal refuted.
-ghost use Rattle.std.specs.Prelude.{◌≡◌, ◌≢◌, true, false, Err, IfErr};
+ghost use Rattle.std.specs.Prelude.{◌≡◌, ◌≢◌, ◌⊎◌, true, false, [], Err, IfOk, IfErr};
 ghost use Rattle.goal_terms.specs.declared.modes.TypingMode.{TypingMode as modes};
 ghost use Rattle.goal_kinds.specs.Settings.{is_headline};
 ghost use Rattle.goal_solver.specs.Answers.{IsOwed, IsFaultOf, AnswersQuietly, ListsNothing, IsConclusion};
 ghost use Rattle.goal_solver.specs.GoingBack.{GoesBack, restored};
+ghost use Rattle.goal_solver.specs.Relating.{SaysYes, Refuses, IsFaultFor};
 ghost use Rattle.goal_solver.specs.State.{kinds_of};
 ghost use Rattle.std.specs.Prelude.{length};
 
@@ -26,17 +27,31 @@ impl EvalCtxt<'_> {
         ensures quiet { AnswersQuietly (length (kinds_of self.old)) result }
         ensures nothing { ListsNothing result }
     {
+        let certainty = self.undecided_by(stop)?;
+        Ok(self.respond(certainty, None))
+    }
+
+    /// What equating terms answers where its evaluation was stopped, as `stopped` does for a goal: that it is
+    /// undecided, or to be run again in another mode. Inference state, added goals and storage are as before.
+    pub(crate) fn undecided_by(&mut self, stop: Stop) -> Result<Certainty, Fault>
+        ensures owed { (m : modes) → IsOwed self.new m → (is_headline self.old.typing_mode ≡ true → stop ≡ Stop.OutOfMemory) → result ≡ Err Fault.OutOfMemory }
+        ensures memory { stop ≡ Stop.OutOfMemory → result ≡ Err Fault.OutOfMemory }
+        ensures undecided { SaysYes result ⊎ Refuses result → ⊥ }
+        ensures alone { self.new ≡ record self.old { accesses = self.new.accesses } }
+        ensures goes_back { GoesBack self.old self.new }
+        ensures fault { IsFaultFor self.old self.new result }
+    {
         let Stop::ReadsMode(access) = stop else {
             return Err(Fault::OutOfMemory);
         };
         if !self.is_erased() {
-            return Ok(self.respond(Certainty::Maybe, None));
+            return Ok(Certainty::Maybe);
         }
         self.record_access(access)?;
         if self.stop_on_rerun || matches!(access, OpaqueAccess::Always) {
             return Err(Fault::RerunNonErased);
         }
-        Ok(self.respond(Certainty::Maybe, None))
+        Ok(Certainty::Maybe)
     }
 
     /// What a call answers to a goal that is refuted. In coherence no refusal is final yet, so the goal is
@@ -59,6 +74,7 @@ impl EvalCtxt<'_> {
         ensures unchanged { self.new ≡ restored self.old self.new }
         ensures goes_back { GoesBack self.old self.new }
         ensures fault { IsFaultOf self.old self.new result }
+        ensures lists { IfOk result (λ r. r.var_values.items ≡ []) }
         ensures quiet { AnswersQuietly (length (kinds_of self.old)) result }
     {
         match outcome {

@@ -1,8 +1,10 @@
 //! The context of an evaluation.
 ghost use Rattle.std.specs.Prelude.{◌≡◌, ◌<◌, [], ◌↔◌, length, IsErr, IfOk};
+ghost use Rattle.goal_tables.specs.Faults.{IsChecked};
 ghost use Rattle.goal_solver.specs.Answers.{IsQuiet};
 ghost use Rattle.goal_solver.specs.GoingBack.{GoesBack, lengths_of, restored, begun};
 ghost use Rattle.goal_solver.specs.State.{State, IsValid, kinds_of};
+ghost use Rattle.goal_solver.specs.Stored.{HasOneTypeAKey};
 
 use crate::faults::DepthTooLarge;
 use goal_infer::state;
@@ -185,6 +187,15 @@ impl<'t> EvalCtxt<'t> {
         ensures { IsValid self.now }
     {
         let _held = &self.inference;
+    }
+
+    /// What is so of every context besides: its tables are accepted, and each key of its storage has one type.
+    pub(crate) fn is_well_formed(&self)
+        ensures tables { IsChecked self.now.tables }
+        ensures storage { HasOneTypeAKey self.now.storage }
+    {
+        let _rows = self.tables.rows();
+        let _held = &self.storage;
     }
 
     /// Begins a trial: what is made, bound, equated and entered from now on is what a response lists. It

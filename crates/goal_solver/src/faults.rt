@@ -1,21 +1,5 @@
+pub use goal_kinds::faults::Fault;
 use thiserror::Error;
-
-/// Why a goal gets no answer.
-#[derive(Clone, Copy, Debug, PartialEq, Eq, Hash, Error)]
-pub enum Fault {
-    /// The goal is refuted.
-    #[error("no solution")]
-    NoSolution = 1,
-    /// The erased mode doesn't suffice.
-    #[error("to be run again in another mode")]
-    RerunNonErased = 2,
-    /// A growth was refused.
-    #[error("out of memory")]
-    OutOfMemory = 3,
-    /// A rule was called for a kind of goal that it isn't for.
-    #[error("not for this kind of goal")]
-    NotForThisKind = 4,
-}
 
 /// A depth limit above 128.
 #[derive(Clone, Copy, Debug, PartialEq, Eq, Hash, Error)]

@@ -3,7 +3,7 @@ ghost use Rattle.std.specs.Prelude.{◌≡◌, ◌||◌, OnOk, IfErr};
 ghost use Rattle.goal_terms.specs.NodeTests.{is_unmade};
 ghost use Rattle.goal_tables.specs.Predicates.{lies_in_env as in_env, some_in_env as some_env};
 ghost use Rattle.goal_solver.specs.State.{kinds_of};
-ghost use Rattle.goal_solver.specs.Goals.{goal_has, IsAcceptedBy, IsSmallestOf};
+ghost use Rattle.goal_solver.specs.Goals.{goal_has, IsAcceptedBy, IsSmallestOf, wants_taken};
 
 use crate::context::EvalCtxt;
 use goal_tables::checked::CheckedTables;
@@ -28,8 +28,8 @@ pub enum GoalFault {
     /// A variable stands that the context hasn't made, or made of another kind.
     #[error("unknown variable")]
     UnknownVariable = 4,
-    /// The expected term of an alias is no general variable, or stands in the alias or in the
-    /// environment.
+    /// The expected term of an alias is no unbound general variable, or stands in the alias, in the
+    /// environment or in a hidden type of the context, bindings being followed.
     #[error("the expected term is not free")]
     ExpectedTermNotFree = 5,
     /// Something const is said of a trait that doesn't allow it.
@@ -47,8 +47,8 @@ pub fn check_goal<P: PredicateTerms>(
     context: &EvalCtxt<'_>,
     goal: &Goal<P>,
 ) -> Result<(), GoalFault>
-    ensures accepted { OnOk result (IsAcceptedBy (goal_has P.has_fault P.has_passing P.wants_taken tables.now context.now goal.now.predicate goal.now.param_env.items)) }
-    ensures refused { IfErr result (IsSmallestOf (goal_has P.has_fault P.has_passing P.wants_taken tables.now context.now goal.now.predicate goal.now.param_env.items)) }
+    ensures accepted { OnOk result (IsAcceptedBy (goal_has P.has_fault P.has_passing P.normalization tables.now context.now goal.now.predicate goal.now.param_env.items)) }
+    ensures refused { IfErr result (IsSmallestOf (goal_has P.has_fault P.has_passing P.normalization tables.now context.now goal.now.predicate goal.now.param_env.items)) }
 {
     if lies_in_goal(tables, TermFault::UnknownItem, goal) {
         return Err(GoalFault::UnknownItem);
@@ -62,7 +62,7 @@ pub fn check_goal<P: PredicateTerms>(
     if has_unmade_variable(context, goal) {
         return Err(GoalFault::UnknownVariable);
     }
-    if goal.predicate.lacks_free_variable(&goal.param_env) {
+    if lacks_free_term(context, goal) {
         return Err(GoalFault::ExpectedTermNotFree);
     }
     if lies_in_goal(tables, TermFault::NeverConst, goal) {
@@ -86,4 +86,13 @@ fn has_unmade_variable<P: PredicateTerms>(context: &EvalCtxt<'_>, goal: &Goal<P>
 {
     let test = NodeTest::Unmade(context.variables());
     goal.predicate.some_passes(test) || some_in_env(test, &goal.param_env)
+}
+
+fn lacks_free_term<P: PredicateTerms>(context: &EvalCtxt<'_>, goal: &Goal<P>) -> bool
+    ensures { result ≡ wants_taken context.now (P.normalization goal.now.predicate) goal.now.param_env.items }
+{
+    match goal.predicate.normalizes_to() {
+        None => false,
+        Some(asked) => context.lacks_free_term(asked, &goal.param_env),
+    }
 }

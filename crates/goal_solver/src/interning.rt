@@ -1,8 +1,8 @@
 //! The numbers of a goal's terms.
-ghost use Rattle.std.specs.Prelude.{◌≡◌, IfOk};
+ghost use Rattle.std.specs.Prelude.{◌≡◌, map, IfOk};
 ghost use Rattle.goal_terms.specs.Erased.{erased};
-ghost use Rattle.goal_terms.specs.TableMeaning.{Keeps};
-ghost use Rattle.goal_terms.specs.TreeOf.{tree_of_alias, tree_of_term};
+ghost use Rattle.goal_terms.specs.TableMeaning.{tree_at, Keeps};
+ghost use Rattle.goal_terms.specs.TreeOf.{tree_of_alias, tree_of_arg, tree_of_term};
 ghost use Rattle.goal_kinds.specs.Interned.{IsIn, AreIn, erased_at, erased_all};
 ghost use Rattle.goal_solver.specs.Answers.{erased_args};
 
@@ -21,6 +21,7 @@ pub(crate) fn intern_args(
     ensures kept { Keeps terms.old terms.new }
     ensures within { IfOk result (λ ids. AreIn terms.new ids.items) }
     ensures trees { IfOk result (λ ids. erased_all terms.new ids.items ≡ erased_args args.now) }
+    ensures exact { IfOk result (λ ids. map (tree_at terms.new) ids.items ≡ map tree_of_arg args.now) }
 {
     let mut ids = Vec::with_capacity(alloc, args.len())?;
     for arg in args {
@@ -43,5 +44,20 @@ pub(crate) fn intern_equation(
 {
     let first = terms.intern_part(TermRef::Alias(alias))?;
     let second = terms.intern(term)?;
+    Ok((first, second))
+}
+
+/// The numbers of two terms, which the table gets. Want of memory or of numbers is the only refusal.
+pub(crate) fn intern_pair(
+    terms: &mut TermTable,
+    left: &Term,
+    right: &Term,
+) -> Result<(TermId, TermId), OutOfMemory>
+    ensures kept { Keeps terms.old terms.new }
+    ensures within { IfOk result (λ p. IsIn terms.new p.0 × IsIn terms.new p.1) }
+    ensures exact { IfOk result (λ p. (tree_at terms.new p.0 ≡ tree_of_term left.now) × (tree_at terms.new p.1 ≡ tree_of_term right.now)) }
+{
+    let first = terms.intern(left)?;
+    let second = terms.intern(right)?;
     Ok((first, second))
 }

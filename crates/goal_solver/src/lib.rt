@@ -1,6 +1,7 @@
 //! The solver: which term an alias stands for, and whether a trait holds.
 #![tactic(auto)]
 
+pub mod added_evaluation;
 pub mod added_goals;
 pub mod aliases;
 mod apply;
@@ -12,8 +13,11 @@ pub mod const_candidates;
 mod const_parts;
 pub mod context;
 pub mod equality;
+mod equate_lifetimes;
 mod evaluations;
 pub mod faults;
+mod free_variables;
+mod goal_outcomes;
 pub mod goals;
 pub mod head_forms;
 pub mod header_args;
@@ -33,6 +37,7 @@ pub mod laws;
 mod merging;
 mod mode_tests;
 mod normalizes_to;
+mod open_terms;
 pub mod outcomes;
 pub mod pairs;
 pub mod premises;
@@ -41,9 +46,18 @@ mod projection_args;
 mod projection_goals;
 pub mod projections;
 pub mod records;
+mod relate;
+mod relate_all;
+mod respond;
+mod rule_entries;
+mod rule_runs;
+mod rule_variables;
+pub mod run_rule;
 pub mod sayings;
 pub mod self_types;
+mod settled;
 pub mod storage;
+pub mod structural;
 pub mod term_errors;
 pub mod trait_candidates;
 mod trait_goals;

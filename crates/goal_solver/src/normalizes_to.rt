@@ -3,10 +3,12 @@ ghost use Rattle.std.specs.Prelude.{◌≡◌, ℕ, true, length, Some, IfOk, Is
 ghost use Rattle.goal_terms.specs.TableMeaning.{HasTerm};
 ghost use Rattle.goal_terms.specs.declared.answers.Certainty.TheVariants as certainty;
 ghost use Rattle.goal_terms.specs.declared.modes.TypingMode.{TypingMode};
-ghost use Rattle.goal_kinds.specs.Answers.{Answer, IsAnswer, decides, setting_of, which_term};
+ghost use Rattle.goal_kinds.specs.Answers.{Answer, IsAnswer, decides, setting_of, which_term, maybe};
 ghost use Rattle.goal_kinds.specs.Interned.{erased_at};
 ghost use Rattle.goal_kinds.specs.Levels.{level};
 ghost use Rattle.goal_solver.specs.Answers.{IsOwed, level_over, erased_args, is_closed_alias, IsAliasAnswer, IsAliasOpen, GivesTo, expected_variable, IsMaybe, AnswersQuietly, IsFaultOf};
+ghost use Rattle.goal_solver.specs.Binding.{IsApplicable};
+ghost use Rattle.goal_solver.specs.Goals.{IsAcceptedNormalization};
 ghost use Rattle.goal_solver.specs.GoingBack.{GoesBack, restored};
 ghost use Rattle.goal_solver.specs.State.{kinds_of};
 
@@ -24,9 +26,10 @@ impl EvalCtxt<'_> {
     /// The term that an alias normalizes to, as the value of the goal's expected variable. `Yes`: a derivation no
     /// higher than the remaining depth gives the term. `NoSolution`: a refutation no higher shows that there is
     /// none. `Maybe`, for a closed goal in a headline mode whose expected term is a general variable: there is
-    /// neither. A goal with other inference variables is `Maybe`, and a refuted one in coherence. No two answers at
+    /// neither, at least no type and no constant; for a goal that [`crate::goals::check_goal`] accepts, nothing else
+    /// either. A goal with other inference variables is `Maybe`, and a refuted one in coherence. No two answers at
     /// any depths disagree. Inference state, added goals and storage are as before: the answer says what would
-    /// change. At depth 0 it takes no memory.
+    /// change, and it can be applied, if the goal was accepted. At depth 0 it takes no memory.
     pub fn compute_normalizes_to_goal(
         &mut self,
         goal: &Goal<NormalizesTo>,
@@ -38,7 +41,10 @@ impl EvalCtxt<'_> {
         ensures goes_back { GoesBack self.old self.new }
         ensures fault { IsFaultOf self.old self.new result }
         ensures quiet { AnswersQuietly (length (kinds_of self.old)) result }
+        ensures whole { (m : TypingMode) (n : ℕ) → IsOwed self.new m → IsAcceptedNormalization self.old goal.now.predicate goal.now.param_env.items → is_closed_alias goal.now.predicate.alias goal.now.param_env.items ≡ true → expected_variable goal.now.predicate.term ≡ Some n → IsMaybe result → IsAnswer (level_over self.old m goal.now.param_env.items) (which_term goal.now.predicate.alias.kind (erased_args goal.now.predicate.alias.args.items)) maybe }
+        ensures applies { IsAcceptedNormalization self.old goal.now.predicate goal.now.param_env.items → IfOk result (IsApplicable self.new) }
     {
+        self.is_well_formed();
         let Some(expected) = general_variable(goal.predicate.term.view().node()) else {
             return Ok(self.respond(Certainty::Maybe, None));
         };
@@ -57,7 +63,7 @@ impl EvalCtxt<'_> {
     }
 
     /// The answer that gives what was found to a variable. Only a type or a constant can be given.
-    fn respond_found(&self, expected: u32, id: TermId) -> Result<Response, Fault>
+    pub(crate) fn respond_found(&self, expected: u32, id: TermId) -> Result<Response, Fault>
         ensures yes { HasTerm self.now.terms id → IfOk result (λ r. (r.certainty ≡ certainty.Yes) × GivesTo expected (erased_at self.now.terms id) r) }
         ensures maybe { (HasTerm self.now.terms id → ⊥) → IfOk result (λ r. r.certainty ≡ certainty.Maybe) }
         ensures only_memory { IsOkUnless result Fault.OutOfMemory }

@@ -1,5 +1,5 @@
 //! Goals that an alias and a term are equal.
-ghost use Rattle.std.specs.Prelude.{◌≡◌, ℕ, true, length};
+ghost use Rattle.std.specs.Prelude.{◌≡◌, ℕ, true, length, IfOk};
 ghost use Rattle.goal_terms.specs.Erased.{erased};
 ghost use Rattle.goal_terms.specs.PredicateTrees.{equals};
 ghost use Rattle.goal_terms.specs.TreeOf.{tree_of_alias, tree_of_term};
@@ -7,6 +7,7 @@ ghost use Rattle.goal_terms.specs.declared.modes.TypingMode.{TypingMode};
 ghost use Rattle.goal_kinds.specs.Answers.{Answer, IsAnswer, decides, setting_of, whether};
 ghost use Rattle.goal_kinds.specs.Levels.{level};
 ghost use Rattle.goal_solver.specs.Answers.{IsOwed, level_over, IsClosedEquation, IsPredicateAnswer, IsUndecided, IsMaybe, AnswersQuietly, IsFaultOf};
+ghost use Rattle.goal_solver.specs.Binding.{IsApplicable};
 ghost use Rattle.goal_solver.specs.GoingBack.{GoesBack, restored};
 ghost use Rattle.goal_solver.specs.State.{kinds_of};
 
@@ -21,7 +22,7 @@ impl EvalCtxt<'_> {
     /// Whether an alias and a term are equal, lifetimes aside. `Yes`: a derivation no higher than the remaining
     /// depth shows it. `NoSolution`: a refutation no higher does. `Maybe`, for a closed goal in a headline
     /// mode: there is neither. A goal with inference variables is `Maybe`, and a refuted one in coherence. No
-    /// two answers at any depths disagree. Inference state, added goals and storage are as before. At depth 0
+    /// two answers at any depths disagree. Inference state, added goals and storage are as before; the answer can be applied. At depth 0
     /// it takes no memory.
     pub fn compute_projection_goal(
         &mut self,
@@ -34,7 +35,9 @@ impl EvalCtxt<'_> {
         ensures goes_back { GoesBack self.old self.new }
         ensures fault { IsFaultOf self.old self.new result }
         ensures quiet { AnswersQuietly (length (kinds_of self.old)) result }
+        ensures applies { IfOk result (IsApplicable self.new) }
     {
+        self.is_well_formed();
         if self.remaining_depth() == 0 {
             return Ok(self.respond(Certainty::Maybe, None));
         }

@@ -6,7 +6,7 @@ ghost use Rattle.goal_terms.specs.declared.modes.TypingMode.{TypingMode};
 ghost use Rattle.goal_kinds.specs.Builtins.{trait_rule};
 ghost use Rattle.goal_kinds.specs.Candidates.{class_of};
 ghost use Rattle.goal_kinds.specs.Interned.{IsIn, AreIn, PredicateIn, CandidateIn, erased_at, erased_all, predicate_at, candidate_at};
-ghost use Rattle.goal_kinds.specs.TraitGoals.{any_error, AssumptionHolds, AssumptionRefuted, RuleHolds, RuleRefuted, CandidateHolds, CandidateRefuted};
+ghost use Rattle.goal_kinds.specs.TraitGoals.{any_error, AssumptionHolds, AssumptionRefuted, TraitRuleHolds, TraitRuleRefuted, CandidateHolds, CandidateRefuted};
 ghost use Rattle.goal_kinds.specs.Words.{Each, Exists};
 ghost use Rattle.goal_kinds.specs.Settings.{is_headline};
 ghost use Rattle.goal_solver.specs.Outcomes.{StandsFor, setting_in, level_in, Says, SaysThrough, SaysImpl, MatchIn};
@@ -217,7 +217,7 @@ fn rule_outcome(
     requires { AreIn terms.old args.now }
     ensures kept { Keeps terms.old terms.new }
     ensures stops { is_headline setting.now.typing_mode.now ≡ true → IfErr result (λ s. s ≡ Stop.OutOfMemory) }
-    ensures says { (m : TypingMode) → StandsFor setting.now.typing_mode.now m → IfOk result (Says (RuleHolds (level_in setting.now m depth) (trait_rule setting.now.rows.now trait_id (erased_all terms.old args.now))) (RuleRefuted (level_in setting.now m depth) (trait_rule setting.now.rows.now trait_id (erased_all terms.old args.now)))) }
+    ensures says { (m : TypingMode) → StandsFor setting.now.typing_mode.now m → IfOk result (Says (TraitRuleHolds (level_in setting.now m depth) (trait_rule setting.now.rows.now trait_id (erased_all terms.old args.now))) (TraitRuleRefuted (level_in setting.now m depth) (trait_rule setting.now.rows.now trait_id (erased_all terms.old args.now)))) }
 {
     match trait_rule(setting.rows, terms, trait_id, args)? {
         None => Ok(Outcome::Refuted),

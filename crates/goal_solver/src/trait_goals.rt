@@ -1,10 +1,11 @@
 //! Trait goals.
-ghost use Rattle.std.specs.Prelude.{◌≡◌, ℕ, true, length};
+ghost use Rattle.std.specs.Prelude.{◌≡◌, ℕ, true, length, IfOk};
 ghost use Rattle.goal_terms.specs.PredicateTrees.{holds};
 ghost use Rattle.goal_terms.specs.declared.modes.TypingMode.{TypingMode};
 ghost use Rattle.goal_kinds.specs.Answers.{Answer, IsAnswer, decides, setting_of, whether};
 ghost use Rattle.goal_kinds.specs.Levels.{level};
 ghost use Rattle.goal_solver.specs.Answers.{IsOwed, level_over, erased_args, AreClosed, IsTraitAnswer, IsOpen, IsMaybe, AnswersQuietly, IsFaultOf};
+ghost use Rattle.goal_solver.specs.Binding.{IsApplicable};
 ghost use Rattle.goal_solver.specs.GoingBack.{GoesBack, restored};
 ghost use Rattle.goal_solver.specs.State.{kinds_of};
 
@@ -21,7 +22,7 @@ impl EvalCtxt<'_> {
     /// the class that the answer names. `NoSolution`: a refutation no higher does. `Maybe`, for a closed goal
     /// in a headline mode: there is neither. A goal with inference variables is `Maybe`, and a refuted one in
     /// coherence. No two answers at any depths disagree. Inference state, added goals and storage are as
-    /// before. At depth 0 it takes no memory.
+    /// before; the answer can be applied. At depth 0 it takes no memory.
     pub fn compute_trait_goal(&mut self, goal: &Goal<TraitPredicate>) -> Result<Response, Fault>
         ensures sound { (m : TypingMode) → IsOwed self.new m → IsTraitAnswer (level_over self.old m goal.now.param_env.items) goal.now.predicate.trait_ref.def_id (erased_args goal.now.predicate.trait_ref.args.items) result }
         ensures decided { (m : TypingMode) → IsOwed self.new m → AreClosed goal.now.predicate.trait_ref.args.items goal.now.param_env.items → IsMaybe result → IsOpen (level_over self.old m goal.now.param_env.items) goal.now.predicate.trait_ref.def_id (erased_args goal.now.predicate.trait_ref.args.items) }
@@ -30,7 +31,9 @@ impl EvalCtxt<'_> {
         ensures goes_back { GoesBack self.old self.new }
         ensures fault { IsFaultOf self.old self.new result }
         ensures quiet { AnswersQuietly (length (kinds_of self.old)) result }
+        ensures applies { IfOk result (IsApplicable self.new) }
     {
+        self.is_well_formed();
         if self.remaining_depth() == 0 {
             return Ok(self.respond(Certainty::Maybe, None));
         }

@@ -1,16 +1,16 @@
 //! The terms of predicates and of environments, as the checks of goals go over them.
-ghost use Rattle.std.specs.Prelude.{◌≡◌, [], Bool, List};
+ghost use Rattle.std.specs.Prelude.{◌≡◌, [], Bool, Option, option_copied};
 ghost use Rattle.goal_terms.specs.NodeTests.{passes};
 ghost use Rattle.goal_terms.specs.declared.heads.Node.{Node as node};
-ghost use Rattle.goal_terms.specs.declared.predicates.Clause.{Clause as clause};
-ghost use Rattle.goal_tables.specs.Predicates.{lies_in_env as in_env, some_in_args as some_args, some_in_equation as some_equation, some_in_clause_kind as some_clause_kind, some_in_env as some_env, number_is_taken as is_taken, lacks_free_term as lacks};
+ghost use Rattle.goal_terms.specs.declared.predicates.NormalizesTo.{NormalizesTo as normalizes};
+ghost use Rattle.goal_tables.specs.Predicates.{lies_in_env as in_env, some_in_args as some_args, some_in_equation as some_equation, some_in_clause_kind as some_clause_kind, some_in_env as some_env};
 ghost use Rattle.goal_tables.specs.declared.rows.Tables.{Tables as tables};
 ghost use Rattle.goal_tables.specs.declared.sites.TermFault.{TermFault as term_fault};
 
 use crate::lookup::IndexedTables;
 use crate::params::Params;
 use crate::sites::TermFault;
-use goal_terms::node_tests::{NodeTest, general_variable};
+use goal_terms::node_tests::NodeTest;
 use goal_terms::predicates::{
     Clause, ClauseKind, HostEffectPredicate, NormalizesTo, Predicate, ProjectionPredicate,
     TraitPredicate,
@@ -26,8 +26,8 @@ pub trait PredicateTerms {
     /// Whether something in the predicate passes a test.
     ghost has_passing: { Self → (node → Bool) → Bool };
 
-    /// Whether the predicate wants a term for a variable, and the variable is none or is taken.
-    ghost wants_taken: { Self → List clause → Bool };
+    /// The goal of an alias's term, if the predicate is one.
+    ghost normalization: { Self → Option normalizes };
 
     /// Whether a fault lies in the predicate.
     fn lies_in(&self, rows: &IndexedTables, fault: TermFault) -> bool
@@ -37,21 +37,21 @@ pub trait PredicateTerms {
     fn some_passes(&self, test: NodeTest<'_>) -> bool
         ensures { result ≡ has_passing self.now (passes test.entry) };
 
-    /// Whether the predicate wants a term for a variable that isn't free, under an environment.
-    fn lacks_free_variable(&self, env: &[Clause]) -> bool
-        ensures { result ≡ wants_taken self.now env.now };
+    /// The goal of an alias's term, if the predicate is one.
+    fn normalizes_to(&self) -> Option<&NormalizesTo>
+        ensures { option_copied result ≡ normalization self.now };
 }
 
 impl PredicateTerms for TraitPredicate {
-    ghost use Rattle.std.specs.Prelude.{[], false};
+    ghost use Rattle.std.specs.Prelude.{[], None, Some};
     ghost use Rattle.goal_tables.specs.Clauses.{lies_in_trait_ref, lies_in_const_ref, lies_in_equation};
-    ghost use Rattle.goal_tables.specs.Predicates.{some_in_args, some_in_equation, lacks_free_term, lies_in_predicate, some_in_predicate, wants_taken_term};
+    ghost use Rattle.goal_tables.specs.Predicates.{some_in_args, some_in_equation, lies_in_predicate, some_in_predicate, normalization_of};
 
     ghost has_fault = { λ p t f. lies_in_trait_ref t [] f p.trait_ref };
 
     ghost has_passing = { λ p test. some_in_args test p.trait_ref.args.items };
 
-    ghost wants_taken = { λ p env. false };
+    ghost normalization = { λ p. None };
 
     fn lies_in(&self, rows: &IndexedTables, fault: TermFault) -> bool {
         rows.lies_in_trait_ref(Params::of(&[]), fault, &self.trait_ref)
@@ -61,21 +61,21 @@ impl PredicateTerms for TraitPredicate {
         some_in_args(test, &self.trait_ref.args)
     }
 
-    fn lacks_free_variable(&self, _env: &[Clause]) -> bool {
-        false
+    fn normalizes_to(&self) -> Option<&NormalizesTo> {
+        None
     }
 }
 
 impl PredicateTerms for HostEffectPredicate {
-    ghost use Rattle.std.specs.Prelude.{[], false};
+    ghost use Rattle.std.specs.Prelude.{[], None, Some};
     ghost use Rattle.goal_tables.specs.Clauses.{lies_in_trait_ref, lies_in_const_ref, lies_in_equation};
-    ghost use Rattle.goal_tables.specs.Predicates.{some_in_args, some_in_equation, lacks_free_term, lies_in_predicate, some_in_predicate, wants_taken_term};
+    ghost use Rattle.goal_tables.specs.Predicates.{some_in_args, some_in_equation, lies_in_predicate, some_in_predicate, normalization_of};
 
     ghost has_fault = { λ p t f. lies_in_const_ref t [] f p.trait_ref };
 
     ghost has_passing = { λ p test. some_in_args test p.trait_ref.args.items };
 
-    ghost wants_taken = { λ p env. false };
+    ghost normalization = { λ p. None };
 
     fn lies_in(&self, rows: &IndexedTables, fault: TermFault) -> bool {
         rows.lies_in_const_ref(Params::of(&[]), fault, &self.trait_ref)
@@ -85,21 +85,21 @@ impl PredicateTerms for HostEffectPredicate {
         some_in_args(test, &self.trait_ref.args)
     }
 
-    fn lacks_free_variable(&self, _env: &[Clause]) -> bool {
-        false
+    fn normalizes_to(&self) -> Option<&NormalizesTo> {
+        None
     }
 }
 
 impl PredicateTerms for ProjectionPredicate {
-    ghost use Rattle.std.specs.Prelude.{[], false};
+    ghost use Rattle.std.specs.Prelude.{[], None, Some};
     ghost use Rattle.goal_tables.specs.Clauses.{lies_in_trait_ref, lies_in_const_ref, lies_in_equation};
-    ghost use Rattle.goal_tables.specs.Predicates.{some_in_args, some_in_equation, lacks_free_term, lies_in_predicate, some_in_predicate, wants_taken_term};
+    ghost use Rattle.goal_tables.specs.Predicates.{some_in_args, some_in_equation, lies_in_predicate, some_in_predicate, normalization_of};
 
     ghost has_fault = { λ p t f. lies_in_equation t [] f p.projection_term p.term };
 
     ghost has_passing = { λ p test. some_in_equation test p.projection_term p.term };
 
-    ghost wants_taken = { λ p env. false };
+    ghost normalization = { λ p. None };
 
     fn lies_in(&self, rows: &IndexedTables, fault: TermFault) -> bool {
         rows.lies_in_equation(Params::of(&[]), fault, &self.projection_term, &self.term)
@@ -109,21 +109,21 @@ impl PredicateTerms for ProjectionPredicate {
         some_in_equation(test, &self.projection_term, &self.term)
     }
 
-    fn lacks_free_variable(&self, _env: &[Clause]) -> bool {
-        false
+    fn normalizes_to(&self) -> Option<&NormalizesTo> {
+        None
     }
 }
 
 impl PredicateTerms for NormalizesTo {
-    ghost use Rattle.std.specs.Prelude.{[], false};
+    ghost use Rattle.std.specs.Prelude.{[], None, Some};
     ghost use Rattle.goal_tables.specs.Clauses.{lies_in_trait_ref, lies_in_const_ref, lies_in_equation};
-    ghost use Rattle.goal_tables.specs.Predicates.{some_in_args, some_in_equation, lacks_free_term, lies_in_predicate, some_in_predicate, wants_taken_term};
+    ghost use Rattle.goal_tables.specs.Predicates.{some_in_args, some_in_equation, lies_in_predicate, some_in_predicate, normalization_of};
 
     ghost has_fault = { λ p t f. lies_in_equation t [] f p.alias p.term };
 
     ghost has_passing = { λ p test. some_in_equation test p.alias p.term };
 
-    ghost wants_taken = { λ p env. lacks_free_term p.alias p.term env };
+    ghost normalization = { λ p. Some p };
 
     fn lies_in(&self, rows: &IndexedTables, fault: TermFault) -> bool {
         rows.lies_in_equation(Params::of(&[]), fault, &self.alias, &self.term)
@@ -133,21 +133,21 @@ impl PredicateTerms for NormalizesTo {
         some_in_equation(test, &self.alias, &self.term)
     }
 
-    fn lacks_free_variable(&self, env: &[Clause]) -> bool {
-        number_is_taken(general_variable(self.term.view().node()), &self.alias, env)
+    fn normalizes_to(&self) -> Option<&NormalizesTo> {
+        Some(self)
     }
 }
 
 impl PredicateTerms for Predicate {
-    ghost use Rattle.std.specs.Prelude.{[], false};
+    ghost use Rattle.std.specs.Prelude.{[], None, Some};
     ghost use Rattle.goal_tables.specs.Clauses.{lies_in_trait_ref, lies_in_const_ref, lies_in_equation};
-    ghost use Rattle.goal_tables.specs.Predicates.{some_in_args, some_in_equation, lacks_free_term, lies_in_predicate, some_in_predicate, wants_taken_term};
+    ghost use Rattle.goal_tables.specs.Predicates.{some_in_args, some_in_equation, lies_in_predicate, some_in_predicate, normalization_of};
 
     ghost has_fault = { λ p t f. lies_in_predicate t f p };
 
     ghost has_passing = { λ p test. some_in_predicate test p };
 
-    ghost wants_taken = { λ p env. wants_taken_term p env };
+    ghost normalization = { λ p. normalization_of p };
 
     fn lies_in(&self, rows: &IndexedTables, fault: TermFault) -> bool {
         match self {
@@ -169,13 +169,13 @@ impl PredicateTerms for Predicate {
         }
     }
 
-    fn lacks_free_variable(&self, env: &[Clause]) -> bool {
+    fn normalizes_to(&self) -> Option<&NormalizesTo> {
         match self {
-            Predicate::NormalizesTo(predicate) => predicate.lacks_free_variable(env),
+            Predicate::NormalizesTo(predicate) => Some(predicate),
             Predicate::Trait(_)
             | Predicate::Projection(_)
             | Predicate::HostEffect(_)
-            | Predicate::Ambiguous => false,
+            | Predicate::Ambiguous => None,
         }
     }
 }
@@ -217,16 +217,4 @@ pub fn some_in_env(test: NodeTest<'_>, env: &[Clause]) -> bool
 {
     env.iter()
         .any(|clause| some_in_clause_kind(test, &clause.kind))
-}
-
-fn number_is_taken(number: Option<u32>, alias: &AliasTerm, env: &[Clause]) -> bool
-    ensures { result ≡ is_taken number alias.now env.now }
-{
-    match number {
-        None => true,
-        Some(number) => {
-            let test = NodeTest::IsVariable(number);
-            test.passes_in(TermRef::Alias(alias)) || some_in_env(test, env)
-        }
-    }
 }

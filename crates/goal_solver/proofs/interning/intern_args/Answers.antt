@@ -1,5 +1,5 @@
-use Rattle.std.proofs.Common.{◌∙◌, length, refl, arith}
-use Rattle.std.proofs.lemmas.List.{length-map}
+use Rattle.std.proofs.Common.{◌∙◌, length, map, refl, arith}
+use Rattle.std.proofs.lemmas.List.{length-map, take_all}
 use Rattle.std.proofs.lemmas.Option.{slice_get_read}
 use Rattle.goal_terms.specs.TreeOf.{tree_of_arg}
 use Rattle.goal_solver.proofs.InterningLemmas.{interned-next, interned-all}
@@ -14,3 +14,7 @@ pub returns-clause-trees : goal.returns-clause-trees
 returns-clause-trees c =
     interned-all c.args.terms.now c.loop-arg.terms c.loop-arg.ids.items c.args.args.now c.loop-arg.arg-index c.loop-arg.invariant
     (omega (arith, length-map c.args.args.now tree_of_arg))
+
+pub returns-clause-exact : goal.returns-clause-exact
+returns-clause-exact c =
+    c.loop-arg.invariant.2 ∙ take_all c.loop-arg.arg-index (map tree_of_arg c.args.args.now) (omega (arith, length-map c.args.args.now tree_of_arg))

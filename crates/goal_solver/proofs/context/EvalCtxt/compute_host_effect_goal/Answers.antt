@@ -4,6 +4,7 @@ use Rattle.goal_solver.specs.Answers.{erased_args}
 use Rattle.goal_kinds.specs.Answers.{setting_of}
 use Rattle.goal_solver.proofs.AnswerLemmas.{undecided-ground, predicate-sound, predicate-decided, const-says_of}
 use Rattle.goal_solver.proofs.GoingBackLemmas.{goes_back-same}
+use Rattle.goal_solver.proofs.ApplicableLemmas.{nothing-applies, nothing-applies-later}
 use Rattle.goal_solver.proofs.context.EvalCtxt.compute_host_effect_goal.Goals as goal
 
 pub returns-then-remaining_depth-eq0-clause-decided : goal.returns-then-remaining_depth-eq0-clause-decided
@@ -32,3 +33,15 @@ returns-clause-decided c = λ m owed closed undecided.
     c.host_effect_goal_outcome-outcome.result c.conclude.result c.host_effect_goal_outcome-outcome.ensures.unchanged c.conclude.ensures.unchanged
     (const-says_of c.args.self.now c.args.goal.now.param_env.items c.args.goal.now.predicate.constness c.args.goal.now.predicate.trait_ref.def_id (erased_args c.args.goal.now.predicate.trait_ref.args.items) c.host_effect_goal_outcome-outcome.result c.host_effect_goal_outcome-outcome.ensures.says)
     c.host_effect_goal_outcome-outcome.ensures.stops c.conclude.ensures.owed m owed undecided
+
+pub returns-then-remaining_depth-eq0-clause-applies : goal.returns-then-remaining_depth-eq0-clause-applies
+returns-then-remaining_depth-eq0-clause-applies c = nothing-applies c.args.self.now c.respond.result c.is_well_formed.ensures.storage c.respond.ensures.quiet c.respond.ensures.values
+
+pub returns-then-has_variable-clause-applies : goal.returns-then-has_variable-clause-applies
+returns-then-has_variable-clause-applies c =
+    nothing-applies c.args.self.now c.respond-then-has_variable.result c.is_well_formed.ensures.storage c.respond-then-has_variable.ensures.quiet c.respond-then-has_variable.ensures.values
+
+pub returns-clause-applies : goal.returns-clause-applies
+returns-clause-applies c =
+    nothing-applies-later c.args.self.now c.host_effect_goal_outcome-outcome.new.self c.conclude.new.self c.conclude.result c.host_effect_goal_outcome-outcome.ensures.unchanged c.conclude.ensures.unchanged
+    c.is_well_formed.ensures.storage c.conclude.ensures.quiet c.conclude.ensures.lists

@@ -8,6 +8,15 @@ use Rattle.goal_solver.proofs.AnswerLemmas.{alias_open-ground, goes_back-grown, 
 use Rattle.goal_solver.proofs.FoundAnswers.{found-sound, found-open}
 use Rattle.goal_kinds.proofs.ConsistentLemmas.{each_level_is_consistent}
 use Rattle.goal_solver.proofs.GoingBackLemmas.{goes_back-same}
+use Rattle.std.specs.Prelude.{Ok, length}
+use Rattle.std.proofs.Common.{refl}
+use Rattle.goal_terms.specs.declared.modes.TypingMode.{TypingMode}
+use Rattle.goal_kinds.specs.Answers.{IsAnswer}
+use Rattle.goal_kinds.specs.Settings.{is_headline}
+use Rattle.goal_solver.specs.Answers.{AnswersQuietly}
+use Rattle.goal_solver.specs.Outcomes.{StandsFor}
+use Rattle.goal_solver.specs.State.{State, kinds_of}
+use Rattle.goal_solver.proofs.ApplicableLemmas.{nothing-applies, nothing-applies-later, nothing-listed, accepted-open, found-applies, grown-restored, stands-for-some}
 use Rattle.goal_solver.proofs.context.EvalCtxt.compute_normalizes_to_goal.Goals as goal
 
 pub returns-in_default-clause-goes_back : goal.returns-in_default-clause-goes_back
@@ -54,3 +63,58 @@ returns-in-Ok-Is-clause-decided c = λ m n owed closed expected undecided.
     (subst (SaysWhich ((level_over c.args.self.now m c.args.goal.now.param_env.items).gives c.args.goal.now.predicate.alias.kind (erased_args c.args.goal.now.predicate.alias.args.items)) ((level_over c.args.self.now m c.args.goal.now.param_env.items).gives_refuted c.args.goal.now.predicate.alias.kind (erased_args c.args.goal.now.predicate.alias.args.items)) c.alias_outcome.new.self.terms) c.in-Ok-Is.field-0-is
     (c.in-Ok-Is.ensures.says m (owed-grown c.args.self.now c.alias_outcome.new.self m c.alias_outcome.ensures.unchanged owed)))
     c.respond_found.result (c.respond_found.ensures.yes, c.respond_found.ensures.maybe, c.respond_found.ensures.only_memory) undecided
+
+pub returns-in_default-clause-applies : goal.returns-in_default-clause-applies
+returns-in_default-clause-applies c = λ ok. nothing-applies c.args.self.now c.respond.result c.is_well_formed.ensures.storage c.respond.ensures.quiet c.respond.ensures.values
+
+pub returns-then-remaining_depth-eq0-clause-applies : goal.returns-then-remaining_depth-eq0-clause-applies
+returns-then-remaining_depth-eq0-clause-applies c = λ ok.
+    nothing-applies c.args.self.now c.respond-then-remaining_depth-eq0.result c.is_well_formed.ensures.storage c.respond-then-remaining_depth-eq0.ensures.quiet c.respond-then-remaining_depth-eq0.ensures.values
+
+pub returns-then-not-is_closed_alias-clause-applies : goal.returns-then-not-is_closed_alias-clause-applies
+returns-then-not-is_closed_alias-clause-applies c = λ ok.
+    nothing-applies c.args.self.now c.respond-then-not-is_closed_alias.result c.is_well_formed.ensures.storage c.respond-then-not-is_closed_alias.ensures.quiet c.respond-then-not-is_closed_alias.ensures.values
+
+pub returns-in-Ok-Undecided-clause-applies : goal.returns-in-Ok-Undecided-clause-applies
+returns-in-Ok-Undecided-clause-applies c = λ ok.
+    nothing-applies-later c.args.self.now c.alias_outcome.new.self c.alias_outcome.new.self (Ok c.respond-in-Ok-Undecided.result) c.alias_outcome.ensures.unchanged refl
+    c.is_well_formed.ensures.storage c.respond-in-Ok-Undecided.ensures.quiet c.respond-in-Ok-Undecided.ensures.values
+
+pub returns-in-Ok-Refuted-clause-applies : goal.returns-in-Ok-Refuted-clause-applies
+returns-in-Ok-Refuted-clause-applies c = λ ok.
+    nothing-applies-later c.args.self.now c.alias_outcome.new.self c.alias_outcome.new.self c.refuted.result c.alias_outcome.ensures.unchanged refl
+    c.is_well_formed.ensures.storage c.refuted.ensures.quiet (nothing-listed c.refuted.result c.refuted.ensures.nothing)
+
+pub returns-in-Err-clause-applies : goal.returns-in-Err-clause-applies
+returns-in-Err-clause-applies c = λ ok.
+    nothing-applies-later c.args.self.now c.alias_outcome.new.self c.stopped.new.self c.stopped.result c.alias_outcome.ensures.unchanged c.stopped.ensures.unchanged
+    c.is_well_formed.ensures.storage c.stopped.ensures.quiet (nothing-listed c.stopped.result c.stopped.ensures.nothing)
+
+pub returns-then-remaining_depth-eq0-clause-whole : goal.returns-then-remaining_depth-eq0-clause-whole
+returns-then-remaining_depth-eq0-clause-whole c = λ m n owed ok closed expected undecided.
+    accepted-open c.args.self.now m c.args.goal.now.predicate c.args.goal.now.param_env.items c.is_well_formed.ensures.tables ok
+    (returns-then-remaining_depth-eq0-clause-decided c m n owed closed expected undecided)
+
+pub returns-in-Ok-Is-clause-whole : goal.returns-in-Ok-Is-clause-whole
+returns-in-Ok-Is-clause-whole c = λ m n owed ok closed expected undecided.
+    accepted-open c.args.self.now m c.args.goal.now.predicate c.args.goal.now.param_env.items c.is_well_formed.ensures.tables ok
+    (returns-in-Ok-Is-clause-decided c m n owed closed expected undecided)
+
+pub returns-in-Ok-Undecided-clause-whole : goal.returns-in-Ok-Undecided-clause-whole
+unfolding IsAnswer
+returns-in-Ok-Undecided-clause-whole c = λ m n owed ok closed expected undecided.
+    subst (SaysWhich ((level_over c.args.self.now m c.args.goal.now.param_env.items).gives c.args.goal.now.predicate.alias.kind (erased_args c.args.goal.now.predicate.alias.args.items)) ((level_over c.args.self.now m c.args.goal.now.param_env.items).gives_refuted c.args.goal.now.predicate.alias.kind (erased_args c.args.goal.now.predicate.alias.args.items)) c.alias_outcome.new.self.terms) c.in-Ok-Undecided.field-0-is
+    (c.in-Ok-Undecided.ensures.says m (owed-grown c.args.self.now c.alias_outcome.new.self m c.alias_outcome.ensures.unchanged owed))
+
+pub returns-in-Ok-Is-clause-applies : goal.returns-in-Ok-Is-clause-applies
+returns-in-Ok-Is-clause-applies c = λ ok.
+    let some : (m : TypingMode) × StandsFor c.args.self.now.typing_mode m = stands-for-some c.args.self.now.typing_mode (is_headline c.args.self.now.typing_mode) refl in
+    found-applies c.args.self.now c.alias_outcome.new.self some.0 c.args.goal.now.predicate c.args.goal.now.param_env.items c.alias_outcome.new.self.terms c.in-Ok-Is.id c.in-Some.expected c.respond_found.result
+    (grown-restored c.args.self.now c.alias_outcome.new.self c.alias_outcome.ensures.unchanged) c.is_well_formed.ensures.tables c.is_well_formed.ensures.storage
+    (sym c.is_closed_alias.ensures ∙ c.if-not-is_closed_alias.false) ok
+    (subst (λ (s : State). AnswersQuietly (length (kinds_of s)) c.respond_found.result) c.alias_outcome.ensures.unchanged c.respond_found.ensures.quiet)
+    (subst (FoundIn c.alias_outcome.new.self.terms) c.in-Ok-Is.field-0-is c.in-Ok-Is.ensures.within).0
+    (subst (SaysWhich ((level_over c.args.self.now some.0 c.args.goal.now.param_env.items).gives c.args.goal.now.predicate.alias.kind (erased_args c.args.goal.now.predicate.alias.args.items)) ((level_over c.args.self.now some.0 c.args.goal.now.param_env.items).gives_refuted c.args.goal.now.predicate.alias.kind (erased_args c.args.goal.now.predicate.alias.args.items)) c.alias_outcome.new.self.terms) c.in-Ok-Is.field-0-is
+    (c.in-Ok-Is.ensures.says some.0 some.1))
+    (sym (c.in-Some.ensures ∙ ap general_variable_at (c.node.ensures ∙ ap node_of c.view.ensures)))
+    c.respond_found.ensures.yes

@@ -5,6 +5,7 @@ use Rattle.goal_terms.specs.TreeOf.{tree_of_alias, tree_of_term}
 use Rattle.goal_kinds.specs.Answers.{setting_of}
 use Rattle.goal_solver.proofs.AnswerLemmas.{undecided-ground, predicate-sound, predicate-decided, equation-says_of}
 use Rattle.goal_solver.proofs.GoingBackLemmas.{goes_back-same}
+use Rattle.goal_solver.proofs.ApplicableLemmas.{nothing-applies, nothing-applies-later}
 use Rattle.goal_solver.proofs.context.EvalCtxt.compute_projection_goal.Goals as goal
 
 pub returns-then-remaining_depth-eq0-clause-decided : goal.returns-then-remaining_depth-eq0-clause-decided
@@ -33,3 +34,15 @@ returns-clause-decided c = λ m owed closed undecided.
     c.projection_goal_outcome-outcome.result c.conclude.result c.projection_goal_outcome-outcome.ensures.unchanged c.conclude.ensures.unchanged
     (equation-says_of c.args.self.now c.args.goal.now.param_env.items (erased (tree_of_alias c.args.goal.now.predicate.projection_term)) (erased (tree_of_term c.args.goal.now.predicate.term)) c.projection_goal_outcome-outcome.result c.projection_goal_outcome-outcome.ensures.says)
     c.projection_goal_outcome-outcome.ensures.stops c.conclude.ensures.owed m owed undecided
+
+pub returns-then-remaining_depth-eq0-clause-applies : goal.returns-then-remaining_depth-eq0-clause-applies
+returns-then-remaining_depth-eq0-clause-applies c = nothing-applies c.args.self.now c.respond.result c.is_well_formed.ensures.storage c.respond.ensures.quiet c.respond.ensures.values
+
+pub returns-then-has_variable-clause-applies : goal.returns-then-has_variable-clause-applies
+returns-then-has_variable-clause-applies c =
+    nothing-applies c.args.self.now c.respond-then-has_variable.result c.is_well_formed.ensures.storage c.respond-then-has_variable.ensures.quiet c.respond-then-has_variable.ensures.values
+
+pub returns-clause-applies : goal.returns-clause-applies
+returns-clause-applies c =
+    nothing-applies-later c.args.self.now c.projection_goal_outcome-outcome.new.self c.conclude.new.self c.conclude.result c.projection_goal_outcome-outcome.ensures.unchanged c.conclude.ensures.unchanged
+    c.is_well_formed.ensures.storage c.conclude.ensures.quiet c.conclude.ensures.lists

@@ -1,0 +1,69 @@
+-- Candidates for projections, by the alias that is asked.
+use Rattle.std.specs.Prelude.{◌≡◌, ◌==◌, ◌&&◌, ◌||◌, ℕ, Bool, true, false, List, [], ◌∷◌, drop, Option, Some, None, IfSome}
+use Rattle.std.specs.Option.{option_map, option_and_then}
+use Rattle.goal_terms.specs.Tree.{Tree, alias, forest}
+use Rattle.goal_terms.specs.TreeOf.{trees_of, tree_of_term}
+use Rattle.goal_terms.specs.declared.predicates.NormalizesTo.{NormalizesTo}
+use Rattle.goal_terms.specs.declared.terms.AliasTerm.{AliasTerm}
+use Rattle.goal_terms.specs.declared.terms.AliasTermKind.{AliasTermKind}
+use Rattle.goal_tables.specs.Rows.{same_lang_item}
+use Rattle.goal_tables.specs.declared.lang.LangItem.{LangItem}
+use Rattle.goal_tables.specs.declared.lang.LangItem.TheVariants as lang
+use Rattle.goal_tables.specs.declared.rows.ImplRow.{ImplRow}
+use Rattle.goal_tables.specs.declared.rows.Tables.{Tables}
+use Rattle.goal_kinds.specs.Builtins.{lang_of_item}
+use Rattle.goal_kinds.specs.CandidateRules.{NamedRule, trait_alias, sizedness, copy_clone, fn_ptr_trait, fn_trait, tuple, pointee, discriminant_kind, destruct, field}
+use Rattle.goal_kinds.specs.Candidates.{Candidate}
+use Rattle.goal_kinds.specs.ImplTerms.{trait_args}
+use Rattle.goal_kinds.specs.Levels.{level}
+use Rattle.goal_kinds.specs.Premises.{TraitTree}
+use Rattle.goal_kinds.specs.Projections.{projected_item, CandidateGives, TermRefuted}
+use Rattle.goal_kinds.specs.Rules.{given}
+use Rattle.goal_kinds.specs.RuleWords.{projection_in}
+use Rattle.goal_kinds.specs.Settings.{Setting}
+use Rattle.goal_kinds.specs.Words.{OfRow}
+
+-- a candidate gives the term of the projection that an alias asks for
+abbrev pub ProjectionCandidateGives : AliasTerm → Setting → ℕ → Candidate → Tree → Type 0
+ProjectionCandidateGives a S n c t = OfRow (projection_in S.tables a) (λ p. CandidateGives S (level S n) p (alias a.kind (forest (given a.args))) t c)
+
+-- a candidate gives none
+abbrev pub ProjectionCandidateRefuted : AliasTerm → Setting → ℕ → Candidate → Type 0
+ProjectionCandidateRefuted a S n c = IfSome (projection_in S.tables a) (λ p. TermRefuted S (level S n) p c)
+
+-- the trait of the projection that an alias asks for, with its arguments
+abbrev pub projected_trait : Tables → AliasTerm → Option TraitTree
+projected_trait t a = option_map (λ p. record { def_id = p.item.trait_id; args = trait_args p }) (projection_in t a)
+
+-- a goal with a type in place of the self type of its alias
+abbrev pub IsAliasWithSelf : NormalizesTo → Tree → NormalizesTo → Type 0
+IsAliasWithSelf p t q =
+    (q.alias.kind ≡ p.alias.kind)
+    × (trees_of q.alias.args.items ≡ t ∷ drop 1 (trees_of p.alias.args.items))
+    × (tree_of_term q.term ≡ tree_of_term p.term)
+
+-- the lang item that names the item of a projection
+abbrev pub lang_of_alias : Tables → AliasTermKind → Option LangItem
+lang_of_alias t k = option_and_then (lang_of_item t) (projected_item k)
+
+-- whether it is this one
+abbrev pub is_lang : Option LangItem → LangItem → Bool
+is_lang None x = false
+is_lang (Some l) x = same_lang_item l x
+
+-- whether a built-in rule is for a projection of an item that a lang item names, if one does
+unfoldable pub is_for_alias : NamedRule → Option LangItem → Bool
+is_for_alias trait_alias l = false
+is_for_alias sizedness l = false
+is_for_alias copy_clone l = false
+is_for_alias fn_ptr_trait l = false
+is_for_alias fn_trait l = is_lang l lang.Output
+is_for_alias tuple l = false
+is_for_alias pointee l = is_lang l lang.Metadata
+is_for_alias discriminant_kind l = is_lang l lang.Discriminant
+is_for_alias destruct l = false
+is_for_alias field l = is_lang l lang.Base || is_lang l lang.FieldType
+
+-- an impl is of the trait of a projection's item
+abbrev pub IsImplForItem : Tables → AliasTerm → ImplRow → Type 0
+IsImplForItem t a r = IfSome (projection_in t a) (λ p. r.trait_id ≡ p.item.trait_id)

@@ -1,0 +1,59 @@
+//! The item that a projection asks for.
+ghost use Rattle.std.specs.Prelude.{◌≡◌, ◌≢◌, true, false, Some, None, MatchOption, ⊤};
+ghost use Rattle.goal_tables.specs.Rows.{item_of};
+ghost use Rattle.goal_kinds.specs.Projections.{projected_item};
+ghost use Rattle.goal_kinds.specs.RuleWords.{projection_in, asked_by};
+
+use goal_tables::lookup::IndexedTables;
+use goal_tables::rows::ItemRow;
+use goal_terms::ids::ItemId;
+use goal_terms::terms::{AliasTerm, AliasTermKind};
+
+/// The item of a projection, and how many of its arguments are the trait's.
+#[derive(Clone, Copy)]
+pub(crate) struct AskedItem<'t> {
+    pub(crate) id: ItemId,
+    pub(crate) row: &'t ItemRow,
+    pub(crate) trait_params: usize,
+}
+
+/// The item that a kind of alias projects.
+pub(crate) fn projected(kind: AliasTermKind) -> Option<ItemId>
+    ensures { result ≡ projected_item kind }
+{
+    match kind {
+        AliasTermKind::ProjectionTy(id) | AliasTermKind::ProjectionConst(id) => Some(id),
+        AliasTermKind::InherentTy(_)
+        | AliasTermKind::InherentConst(_)
+        | AliasTermKind::OpaqueTy(_)
+        | AliasTermKind::FreeTy(_)
+        | AliasTermKind::FreeConst(_)
+        | AliasTermKind::UnevaluatedConst(_) => None,
+    }
+}
+
+/// Whether a kind of alias projects an item.
+pub(crate) fn projects(kind: AliasTermKind, id: ItemId) -> bool
+    ensures same { result ≡ true → projected_item kind ≡ Some id }
+    ensures other { result ≡ false → projected_item kind ≢ Some id }
+{
+    match projected(kind) {
+        None => false,
+        Some(item) => item == id,
+    }
+}
+
+/// The item that an alias projects, if it and its trait have rows.
+pub(crate) fn asked_item<'t>(rows: &'t IndexedTables, alias: &AliasTerm) -> Option<AskedItem<'t>>
+    ensures asked { MatchOption result (projection_in rows.now alias.now ≡ None) (λ x. projection_in rows.now alias.now ≡ Some (asked_by x alias.now)) }
+    ensures found { MatchOption result ⊤ (λ x. item_of rows.now x.id ≡ Some x.row.now) }
+{
+    let id = projected(alias.kind)?;
+    let row = rows.item_row(id)?;
+    let trait_row = rows.trait_row(row.trait_id)?;
+    Some(AskedItem {
+        id,
+        row,
+        trait_params: trait_row.params.len(),
+    })
+}

@@ -1,0 +1,97 @@
+//! Rules as data: what a candidate or an alias asks for, as a list of entries that a solver runs in order.
+use goal_terms::answers::{CandidateSource, DelayedFault, GoalSource, OpaqueAccess, Response};
+use goal_terms::ids::{DefId, FreeId, ImplId, InherentId, InherentImplId, ItemId, OpaqueId};
+use goal_terms::predicates::ClauseKind;
+use goal_terms::terms::{GenericArg, Term};
+
+/// A candidate that was considered: where it comes from, and what its rule is answered.
+#[derive(Debug, Drop)]
+pub struct Candidate {
+    pub source: CandidateSource,
+    pub result: Response,
+}
+
+/// The rule of a candidate: where it comes from, and what it asks for, in order. It holds where all of
+/// its entries do, and is refuted where one is, all arguments that were named before it being known.
+#[derive(Debug, Drop)]
+pub struct Rule {
+    pub source: CandidateSource,
+    pub entries: Vec<RuleEntry>,
+}
+
+/// One thing that a rule asks for. Entries that name arguments are counted from 0: a later entry says by
+/// this number whose arguments it takes.
+#[derive(Debug, Drop)]
+pub enum RuleEntry {
+    /// Arguments are named.
+    Arguments(RuleArguments),
+    /// Two lists of arguments are equal, in pairs.
+    Equation(Vec<GenericArg>, Vec<GenericArg>),
+    /// A clause holds, as it stands.
+    Clause(GoalSource, ClauseKind),
+    /// The clauses of a row hold, under the arguments of that number.
+    RowClauses(RowClauses, u32),
+    /// The goal's expected term, the first, stands for the second.
+    Term(Term, RuleTerm),
+    /// An access to an opaque type is recorded.
+    Access(OpaqueAccess),
+    /// A delayed fault is recorded.
+    DelayedFault(DelayedFault),
+    /// What was asked for so far is evaluated before the rest is.
+    Evaluation,
+    /// Nothing decides the rule here.
+    Undecided,
+    /// The rule doesn't stand.
+    Refused,
+}
+
+/// Arguments that later entries take.
+#[derive(Debug, Drop)]
+pub enum RuleArguments {
+    /// These, as they stand.
+    Given(Vec<GenericArg>),
+    /// Those of a header that is matched with given ones.
+    Header(RuleHeader, Vec<GenericArg>),
+    /// Those of an impl whose header is matched with that of the second impl, under the arguments of a number.
+    OtherImpl(ImplId, ImplId, u32),
+    /// Those of a number, and these behind them.
+    Followed(u32, Vec<GenericArg>),
+}
+
+/// A row whose header is matched.
+#[derive(Clone, Copy, Debug, PartialEq, Eq, Hash)]
+pub enum RuleHeader {
+    Impl(ImplId),
+    InherentImpl(InherentImplId),
+}
+
+/// A row whose clauses are asked for.
+#[derive(Clone, Copy, Debug, PartialEq, Eq, Hash)]
+pub enum RowClauses {
+    Impl(ImplId),
+    /// The item's own where clauses.
+    Item(ItemId),
+    Free(FreeId),
+    Inherent(InherentId),
+}
+
+/// What the expected variable stands for.
+#[derive(Debug, Drop)]
+pub enum RuleTerm {
+    /// This term, as it stands.
+    AsItStands(Term),
+    /// The head form of this term.
+    Normalized(Term),
+    /// The head form of a row's value, under the arguments of a number.
+    Value(RowValue, u32),
+}
+
+/// A row whose value is taken.
+#[derive(Clone, Copy, Debug, PartialEq, Eq, Hash)]
+pub enum RowValue {
+    Definition(DefId),
+    Free(FreeId),
+    Inherent(InherentId),
+    /// The hidden type of an opaque type.
+    Opaque(OpaqueId),
+}

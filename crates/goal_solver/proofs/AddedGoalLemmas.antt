@@ -1,0 +1,243 @@
+-- What evaluating the goals that were added says, goal by goal.
+use Rattle.std.proofs.Common.{◌≡◌, inl, inr, ℕ, zero, suc, ◌+◌, ◌<◌, ◌≤◌, List, [], ◌∷◌, ◌++◌, length, take, drop, Some, Result, Ok, Err, refl, sym, ap, ◌∙◌, subst, arith}
+use Rattle.std.specs.Prelude.{IfOk, slice_get}
+use Rattle.std.specs.List.{Contains}
+use Rattle.goal_terms.specs.declared.answers.Certainty.{Certainty}
+use Rattle.goal_terms.specs.declared.answers.Certainty.TheVariants as certainty
+use Rattle.goal_terms.specs.declared.answers.GoalSource.{GoalSource}
+use Rattle.goal_terms.specs.declared.answers.OpaqueAccess.{OpaqueAccess}
+use Rattle.goal_terms.specs.declared.modes.TypingMode.{TypingMode}
+use Rattle.goal_terms.specs.declared.predicates.Clause.{Clause}
+use Rattle.goal_terms.specs.declared.predicates.Goal.{Goal}
+use Rattle.goal_terms.specs.declared.predicates.Predicate.{Predicate}
+use Rattle.goal_terms.specs.declared.predicates.Predicate.TheVariants as predicate
+use Rattle.goal_terms.specs.PredicateTrees.{PredicateTree}
+use Rattle.goal_infer.specs.Inference as inference
+use Rattle.goal_infer.proofs.UndoLemmas.{item-within}
+use Rattle.goal_kinds.specs.Answers.{setting_of}
+use Rattle.goal_kinds.specs.Levels.{level}
+use Rattle.goal_kinds.specs.Premises.{ClauseHolds, ClauseRefuted}
+use Rattle.goal_kinds.specs.Settings.{Setting, is_headline}
+use Rattle.goal_kinds.proofs.ConsistentLemmas.{each_level_is_consistent}
+use Rattle.goal_kinds.proofs.PremiseLemmas.{no_clause_refuted}
+use Rattle.goal_solver.specs.AddedGoals.{GoalHolds, GoalRefuted, HoldsIn, IsRefutedIn, IsClosedGoal, IsGoalAnswer, IsVerdict, IsPending, ArePendingClosed, IsPendingAnswer, ArePendingUndecided, ChangesTaken}
+use Rattle.goal_solver.specs.AddedGoals.{same_place, count_of, one_below, AreSplit, AreClosedAt, AllHoldAt, SomeRefutedAt, LeavesUndecided, IsAnswerAt}
+use Rattle.goal_solver.specs.Answers.{IsOwed, level_over}
+use Rattle.goal_solver.specs.GoingBack.{BeginsWith, GoesBack, restored}
+use Rattle.goal_solver.specs.Outcomes.{StandsFor, Says}
+use Rattle.goal_solver.specs.Relating.{ChangesInference, ChangesRecords, LeavesOpen, IsFaultFor}
+use Rattle.goal_solver.specs.State.{State}
+use Rattle.goal_kinds.specs.declared.faults.Fault.{Fault}
+use Rattle.goal_kinds.specs.declared.faults.Fault.TheVariants as fault
+use Rattle.goal_solver.specs.declared.outcomes.Outcome.{Outcome}
+use Rattle.goal_solver.specs.declared.outcomes.Outcome.TheVariants as outcome
+use Rattle.goal_solver.specs.declared.outcomes.Stop.{Stop}
+use Rattle.goal_solver.proofs.GoingBackLemmas.{goes_back-same}
+use Rattle.goal_solver.proofs.PlaceLemmas.{same-is, count-one, count-none, count-pushed, count-at, counted-at, contains-counted, counted-contains, uncounted, is-below, one-below, one_below-once}
+use Rattle.goal_solver.proofs.StoredLemmas.{some-is}
+
+-- changes one after the other
+pub inference-through : (a b c : State) → ChangesInference a b → ChangesInference b c → ChangesInference a c
+inference-through a b c e h = h ∙ ap (λ (s : State). record s { terms = c.terms; inference = c.inference }) e
+
+pub records-through : (a b c : State) → ChangesRecords a b → ChangesRecords b c → ChangesRecords a c
+records-through a b c e h = h ∙ ap (λ (s : State). record s { terms = c.terms; inference = c.inference; accesses = c.accesses }) e
+
+-- a context with another inference state that goes back to the one before
+pub goes_back-bound : (a b : State) → b ≡ record a { inference = b.inference } → inference.GoesBack a.inference b.inference → GoesBack a b
+goes_back-bound a b e g =
+    let same : GoesBack a a = goes_back-same a in
+    subst (GoesBack a) (sym e) (record {
+      tables = refl;
+      typing_mode = refl;
+      remaining_depth = refl;
+      stop_on_rerun = refl;
+      terms = same.terms;
+      inference = g;
+      goals = same.goals;
+      taken = same.taken;
+      storage = same.storage;
+      accesses = same.accesses;
+      delayed_faults = same.delayed_faults;
+      mark = refl;
+    })
+
+-- a context that was restored after a fault
+pub restored-owed : (s b z : State) (m : TypingMode) → z ≡ restored s b → GoesBack s b → IsOwed z m → IsOwed b m
+restored-owed s b z m e g owed =
+    let there : IsOwed (restored s b) m = subst (λ (x : State). IsOwed x m) e owed in
+    (there.0, elim there.1 [ inl h ↦ inl (g.typing_mode ∙ h) | inr h ↦ inr (g.typing_mode ∙ h.0, h.1) ])
+
+pub restored-alone : (s b z : State) → z ≡ restored s b → ChangesTaken s b → ChangesTaken s z
+restored-alone s b z e h =
+    let whole : z ≡ record s { terms = b.terms; accesses = b.accesses } =
+    e ∙ ap (λ fs. record s { terms = b.terms; accesses = b.accesses; delayed_faults = fs }) (ap (λ (x : State). x.delayed_faults) h) in
+    whole ∙ sym (ap (λ (x : State). record s { terms = x.terms; inference = x.inference; taken = x.taken; accesses = x.accesses }) whole)
+
+restored-fault_as : {T : Type 0} (s b : State) (r : Result T Fault) → IsFaultFor s b r → IsFaultFor s (restored s b) r
+restored-fault_as s b (Ok x) h = tt
+restored-fault_as s b (Err fault.NoSolution) h = tt
+restored-fault_as s b (Err fault.RerunNonErased) h = h
+restored-fault_as s b (Err fault.OutOfMemory) h = tt
+restored-fault_as s b (Err fault.NotForThisKind) h = h
+
+pub restored-fault : (s b z : State) (r : Result Certainty Fault) → z ≡ restored s b → IsFaultFor s b r → IsFaultFor s z r
+restored-fault s b z r e h = subst (λ (x : State). IsFaultFor s x r) (sym e) (restored-fault_as s b r h)
+
+pub restored-itself : (s b z : State) → z ≡ restored s b → z ≡ restored s z
+restored-itself s b z e = e ∙ sym (ap (restored s) e)
+
+-- what is owed later is owed before
+none-before : (xs ys : List OpaqueAccess) → BeginsWith ys xs → ys ≡ [] → xs ≡ []
+none-before [] ys g e = refl
+none-before (x ∷ xs) ys g e = sym g ∙ ap (take (suc (length xs))) e
+
+pub owed-before : (a b : State) (m : TypingMode) → GoesBack a b → IsOwed b m → IsOwed a m
+owed-before a b m g owed = (
+  owed.0,
+  elim owed.1 [
+    | inl h ↦ inl (sym g.typing_mode ∙ h)
+    | inr h ↦ inr (sym g.typing_mode ∙ h.0, none-before a.accesses b.accesses g.accesses h.1)
+  ],
+)
+
+-- a mode that is owed an answer is one that the run stands for
+pub owed-stands_for : (s : State) (m : TypingMode) → IsOwed s m → StandsFor s.typing_mode m
+owed-stands_for s m owed = (owed.0, elim owed.1 [ inl h ↦ inl h | inr h ↦ inr (ap is_headline h.0) ])
+
+-- a fault of a later part is one of the whole
+pub fault-before : (T U : Type 0) (a b c : State) (f : Fault) → GoesBack a b → IsFaultFor {T = T} b c (Err f) → IsFaultFor {T = U} a c (Err f)
+fault-before T U a b c fault.NoSolution g h = tt
+fault-before T U a b c fault.RerunNonErased g h = (sym g.typing_mode ∙ h.0, h.1)
+fault-before T U a b c fault.OutOfMemory g h = tt
+fault-before T U a b c fault.NotForThisKind g h = h
+
+pub fault-later : {T : Type 0} (a b c : State) (r : Result T Fault) → GoesBack a b → IsFaultFor b c r → IsFaultFor a c r
+fault-later a b c (Ok x) g h = tt
+fault-later {T} a b c (Err f) g h = fault-before T T a b c f g h
+
+-- a verdict is as sound as the outcome
+pub goal-verdict : (s : State) (m : TypingMode) (g : Goal Predicate) (o : Result Outcome Stop) (r : Result Certainty Fault) →
+    IfOk o (Says (HoldsIn s m g) (IsRefutedIn s m g)) → IsVerdict o r → IsGoalAnswer s m g r
+goal-verdict s m g (Ok outcome.Holds) r h v = subst (IsGoalAnswer s m g) (sym v) h
+goal-verdict s m g (Ok outcome.Refuted) r h v = subst (IsGoalAnswer s m g) (sym v) h
+goal-verdict s m g (Ok outcome.Undecided) r h v = subst (IsGoalAnswer s m g) (sym v) h
+goal-verdict s m g (Err e) r h v = subst (IsGoalAnswer s m g) (sym v) tt
+
+-- what an answer says does not depend on what changes
+pub answer-before : (a b : State) (m : TypingMode) (g : Goal Predicate) (r : Result Certainty Fault) → ChangesRecords a b → IsGoalAnswer b m g r → IsGoalAnswer a m g r
+answer-before a b m g (Ok certainty.Yes) e h = subst (λ (s : State). HoldsIn s m g) e h
+answer-before a b m g (Ok certainty.Maybe) e h =
+    (λ x. h.0 (subst (λ (s : State). HoldsIn s m g) (sym e) x), λ x. h.1 (subst (λ (s : State). IsRefutedIn s m g) (sym e) x))
+answer-before a b m g (Err fault.NoSolution) e h = subst (λ (s : State). IsRefutedIn s m g) e h
+answer-before a b m g (Err fault.RerunNonErased) e h = tt
+answer-before a b m g (Err fault.OutOfMemory) e h = tt
+answer-before a b m g (Err fault.NotForThisKind) e h = tt
+
+-- what is said of a predicate over more terms
+pub said-before : (a b : State) (m : TypingMode) (env : List Clause) (p q : PredicateTree) (o : Result Outcome Stop) → b ≡ record a { terms = b.terms } → p ≡ q →
+    IfOk o (Says (ClauseHolds (level_over b m env) p) (ClauseRefuted (level_over b m env) p)) → IfOk o (Says (ClauseHolds (level_over a m env) q) (ClauseRefuted (level_over a m env) q))
+said-before a b m env p q o e f h =
+    subst (λ (t : PredicateTree). IfOk o (Says (ClauseHolds (level_over a m env) t) (ClauseRefuted (level_over a m env) t))) f
+    (subst (λ (s : State). IfOk o (Says (ClauseHolds (level_over s m env) p) (ClauseRefuted (level_over s m env) p))) e h)
+
+-- a closed goal that holds isn't refuted
+apart-as : (S : Setting) (n : ℕ) (env : List Clause) (p : Predicate) → IsClosedGoal p env → GoalHolds (level S n) p → GoalRefuted (level S n) p → ⊥
+apart-as S n env (predicate.Trait q) c h k = no_clause_refuted (level S n) (each_level_is_consistent S n) _ h k
+apart-as S n env (predicate.Projection q) c h k = no_clause_refuted (level S n) (each_level_is_consistent S n) _ h k
+apart-as S n env (predicate.HostEffect q) c h k = no_clause_refuted (level S n) (each_level_is_consistent S n) _ h k
+apart-as S n env (predicate.NormalizesTo q) c h k = c
+apart-as S n env predicate.Ambiguous c h k = h
+
+pub goal-apart : (s : State) (m : TypingMode) (g : Goal Predicate) → IsClosedGoal g.predicate g.param_env.items → HoldsIn s m g → IsRefutedIn s m g → ⊥
+goal-apart s m g c h k = apart-as (setting_of s.tables m g.param_env.items) s.remaining_depth g.param_env.items g.predicate c h k
+
+-- before a round nothing is settled
+pub round-begins : (s : State) (m : TypingMode) (goals : List (GoalSource × Goal Predicate)) (places : List ℕ) → LeavesUndecided s m goals places places []
+round-begins s m goals places = record {
+  undecided = λ i p at c. absurd (omega (arith, c, count-none i));
+  settled = λ i p at c l r. absurd (omega (arith, c, r));
+  among = λ i c. absurd (omega (arith, c, count-none i));
+}
+
+-- a goal that holds
+pub round-yes : (s : State) (m : TypingMode) (goals : List (GoalSource × Goal Predicate)) (places rest left : List ℕ) (x : ℕ) →
+    ((p : GoalSource × Goal Predicate) → slice_get goals x ≡ Some p → HoldsIn s m p.1) → LeavesUndecided s m goals places (x ∷ rest) left → LeavesUndecided s m goals places rest left
+round-yes s m goals places rest left x holds h = record {
+  undecided = h.undecided;
+  settled = λ i p at c l r. settled-one i p at c l r (same_place i x) refl;
+  among = h.among;
+} where
+  settled-one : (i : ℕ) (p : GoalSource × Goal Predicate) → slice_get goals i ≡ Some p → 0 < count_of i places → count_of i left ≡ 0 → count_of i rest ≡ 0 →
+      (n : ℕ) → same_place i x ≡ n → HoldsIn s m p.1
+  settled-one i p at c l r zero e = h.settled i p at c l (count-one i x rest ∙ omega (arith, e, r))
+  settled-one i p at c l r (suc n) e = holds p (ap (slice_get goals) (sym (same-is i x (omega (arith, e)))) ∙ at)
+
+-- a goal that is undecided
+pub round-maybe : (s : State) (m : TypingMode) (goals : List (GoalSource × Goal Predicate)) (places rest left after : List ℕ) (x : ℕ) → after ≡ left ++ x ∷ [] → 0 < count_of x places →
+    ((p : GoalSource × Goal Predicate) → slice_get goals x ≡ Some p → (HoldsIn s m p.1 → ⊥) × (IsRefutedIn s m p.1 → ⊥)) →
+    LeavesUndecided s m goals places (x ∷ rest) left → LeavesUndecided s m goals places rest after
+round-maybe s m goals places rest left after x e listed neither h = record {
+  undecided = λ i p at c. undecided-one i p at c (same_place i x) refl;
+  settled = λ i p at c l r. h.settled i p at c (omega (arith, l, pushed i)) (omega (arith, l, r, pushed i, count-one i x rest));
+  among = λ i c. among-one i c (same_place i x) refl;
+} where
+  pushed : (i : ℕ) → count_of i after ≡ count_of i left + same_place i x
+  pushed i = ap (count_of i) e ∙ count-pushed i left x
+
+  undecided-one : (i : ℕ) (p : GoalSource × Goal Predicate) → slice_get goals i ≡ Some p → 0 < count_of i after → (n : ℕ) → same_place i x ≡ n →
+      (HoldsIn s m p.1 → ⊥) × (IsRefutedIn s m p.1 → ⊥)
+  undecided-one i p at c zero f = h.undecided i p at (omega (arith, c, f, pushed i))
+  undecided-one i p at c (suc n) f = neither p (ap (slice_get goals) (sym (same-is i x (omega (arith, f)))) ∙ at)
+
+  among-one : (i : ℕ) → 0 < count_of i after → (n : ℕ) → same_place i x ≡ n → 0 < count_of i places
+  among-one i c zero f = h.among i (omega (arith, c, f, pushed i))
+  among-one i c (suc n) f = omega (arith, listed, ap (λ j. count_of j places) (same-is i x (omega (arith, f))))
+
+-- where none is left, all hold
+pub all-hold : (s : State) (m : TypingMode) (goals : List (GoalSource × Goal Predicate)) (places left : List ℕ) → left ≡ [] → LeavesUndecided s m goals places [] left → AllHoldAt s m goals places
+all-hold s m goals places left e h i p at c = h.settled i p at c (ap (count_of i) e ∙ count-none i) (count-none i)
+
+-- where one is left, not all hold, and none is refuted
+goal-at : (goals : List (GoalSource × Goal Predicate)) (i : ℕ) → i < length goals → (p : GoalSource × Goal Predicate) × (slice_get goals i ≡ Some p)
+goal-at [] i l = absurd (omega (arith, l))
+goal-at (g ∷ gs) zero l = (g, refl)
+goal-at (g ∷ gs) (suc i) l = goal-at gs i (omega (arith, l))
+
+pub some-left : (s : State) (m : TypingMode) (goals : List (GoalSource × Goal Predicate)) (taken places left : List ℕ) (x : ℕ) → 0 < count_of x left → AreSplit (length goals) taken left →
+    AreClosedAt goals places → LeavesUndecided s m goals places [] left → (AllHoldAt s m goals places → ⊥) × (SomeRefutedAt s m goals places → ⊥)
+some-left s m goals taken places left x l split closed h = (
+  λ all. let at = goal-at goals x (is-below x (length goals) (omega (arith, l, split x))) in (h.undecided x at.0 at.1 l).0 (all x at.0 at.1 (h.among x l)),
+  λ one. refuted one.0 one.1 one.2 one.3 one.4 (count_of one.0 left) refl,
+) where
+  refuted : (i : ℕ) (p : GoalSource × Goal Predicate) → slice_get goals i ≡ Some p → 0 < count_of i places → IsRefutedIn s m p.1 → (n : ℕ) → count_of i left ≡ n → ⊥
+  refuted i p at c r zero e = goal-apart s m p.1 (closed i p at c) (h.settled i p at c e (count-none i)) r
+  refuted i p at c r (suc n) e = (h.undecided i p at (omega (arith, e))).1 r
+
+-- the goals that are pending are those that are listed
+pub pending-listed : (s : State) (places : List ℕ) (i : ℕ) (p : GoalSource × Goal Predicate) → AreSplit (length s.goals) s.taken places → IsPending s i p → 0 < count_of i places
+pending-listed s places i p split h = omega (arith, split i, uncounted s.taken i h.1, one-below i (length s.goals) (item-within s.goals i p h.0))
+
+pub listed-pending : (s : State) (places : List ℕ) (i : ℕ) (p : GoalSource × Goal Predicate) → AreSplit (length s.goals) s.taken places → slice_get s.goals i ≡ Some p →
+    0 < count_of i places → IsPending s i p
+listed-pending s places i p split at l = (at, λ c. omega (arith, split i, contains-counted s.taken i c, one_below-once i (length s.goals), l))
+
+pub closed-listed : (s : State) (places : List ℕ) → AreSplit (length s.goals) s.taken places → ArePendingClosed s → AreClosedAt s.goals places
+closed-listed s places split closed i p at l = closed i p (listed-pending s places i p split at l)
+
+pub pending-answer : (s : State) (m : TypingMode) (places : List ℕ) (r : Result Certainty Fault) → AreSplit (length s.goals) s.taken places → IsAnswerAt s m s.goals places r → IsPendingAnswer s m r
+pending-answer s m places (Ok certainty.Yes) split h = λ i p q. h i p q.0 (pending-listed s places i p split q)
+pending-answer s m places (Ok certainty.Maybe) split h = tt
+pending-answer s m places (Err fault.NoSolution) split h = (h.0, h.1, listed-pending s places h.0 h.1 split h.2 h.3, h.4)
+pending-answer s m places (Err fault.RerunNonErased) split h = tt
+pending-answer s m places (Err fault.OutOfMemory) split h = tt
+pending-answer s m places (Err fault.NotForThisKind) split h = tt
+
+pub pending-open : (s : State) (m : TypingMode) (places : List ℕ) (r : Result Certainty Fault) → AreSplit (length s.goals) s.taken places → IsAnswerAt s m s.goals places r →
+    LeavesOpen r → ArePendingUndecided s m
+pending-open s m places (Ok certainty.Yes) split h o = absurd o
+pending-open s m places (Ok certainty.Maybe) split h o = (
+  λ all. h.0 (λ i p at l. all i p (listed-pending s places i p split at l)),
+  λ one. h.1 (one.0, one.1, one.2.0, pending-listed s places one.0 one.1 split one.2, one.3),
+)
+pending-open s m places (Err f) split h o = absurd o

@@ -1,0 +1,308 @@
+-- What a computing call answers to an accepted goal can be applied.
+use Rattle.std.proofs.Common.{◌≡◌, ℕ, Bool, true, false, ◌||◌, ◌&&◌, not, List, [], ◌∷◌, ◌++◌, length, map, ◌<◌, Option, Some, None, Result, Ok, Err, inl, inr, refl, sym, ap, ◌∙◌, subst}
+use Rattle.std.proofs.lemmas.Bool.{false≢true}
+use Rattle.std.specs.Prelude.{IsTrue, is_some, IfOk}
+use Rattle.goal_terms.specs.Erased.{erased}
+use Rattle.goal_terms.specs.Kinds.{same_kind, kind_of, kind_of_alias}
+use Rattle.goal_terms.specs.NodeTests.{some_node, some_in_row, is_any_infer, is_unmade, is_made, general_variable_at}
+use Rattle.goal_terms.specs.Sorts.{sort_of, IsTerm, is_term_sort}
+use Rattle.goal_terms.specs.TableMeaning.{tree_at, HasTerm}
+use Rattle.goal_terms.specs.Tree.{Tree, Trees, node, alias, variable, none, more, node_of}
+use Rattle.goal_terms.specs.TreeOf.{tree_of_alias, tree_of_term, tree_of_arg, is_type_kind}
+use Rattle.goal_terms.specs.declared.answers.Certainty.TheVariants as certainty
+use Rattle.goal_terms.specs.declared.answers.Response.{Response}
+use Rattle.goal_terms.specs.declared.answers.VarKind.{VarKind}
+use Rattle.goal_terms.specs.declared.heads.Node.{Node}
+use Rattle.goal_terms.specs.declared.heads.Node.TheVariants as nodes
+use Rattle.goal_terms.specs.declared.heads.Variable.{Variable}
+use Rattle.goal_terms.specs.declared.heads.Variable.TheVariants as variables
+use Rattle.goal_terms.specs.declared.modes.TypingMode.{TypingMode}
+use Rattle.goal_terms.specs.declared.modes.TypingMode.TheVariants as modes
+use Rattle.goal_terms.specs.declared.predicates.Clause.{Clause}
+use Rattle.goal_terms.specs.declared.predicates.NormalizesTo.{NormalizesTo}
+use Rattle.goal_terms.specs.declared.term_nodes.TermId.{TermId}
+use Rattle.goal_terms.specs.declared.terms.AliasTerm.{AliasTerm}
+use Rattle.goal_terms.specs.declared.terms.AliasTermKind.{AliasTermKind}
+use Rattle.goal_terms.specs.declared.terms.InferTy.TheVariants as infer
+use Rattle.goal_terms.specs.declared.terms.Term.{Term}
+use Rattle.goal_tables.specs.Clauses.{kinds_differ, lies_in_equation}
+use Rattle.goal_tables.specs.Faults.{IsChecked}
+use Rattle.goal_tables.specs.Predicates.{lies_in_env, some_in_env, some_in_equation}
+use Rattle.goal_tables.specs.Sites.{lies_in}
+use Rattle.goal_tables.specs.declared.rows.Tables.{Tables}
+use Rattle.goal_tables.specs.declared.sites.TermFault.{TermFault}
+use Rattle.goal_tables.specs.declared.sites.TermFault.TheVariants as lies
+use Rattle.goal_infer.specs.Inference.{Inference}
+use Rattle.goal_infer.specs.Occurrence.{place_of, place_in_row, joined, within_alias}
+use Rattle.goal_infer.specs.Replacement.{number_of, replaced, replaced_row, takes}
+use Rattle.goal_infer.specs.Resolution.{binding_of, resolution}
+use Rattle.goal_infer.specs.Unification.{is_made_in}
+use Rattle.goal_infer.specs.declared.occurs.Occurrence.TheVariants.{Nowhere}
+use Rattle.goal_infer.proofs.DecisionLemmas.{either-false}
+use Rattle.goal_kinds.specs.Answers.{setting_of, IsAnswer, maybe, which_term}
+use Rattle.goal_kinds.specs.Interned.{erased_at}
+use Rattle.goal_kinds.specs.KindedTerms.{NoKindFault, NoKindFaultInEnv}
+use Rattle.goal_kinds.specs.Levels.{level}
+use Rattle.goal_kinds.specs.Settings.{is_headline}
+use Rattle.goal_kinds.specs.declared.faults.Fault.{Fault}
+use Rattle.goal_kinds.proofs.ClosedLevels.{closed-public_given}
+use Rattle.goal_kinds.proofs.PlacedLevels.{placed-given}
+use Rattle.goal_solver.specs.Answers.{IsQuiet, AnswersQuietly, ListsNothing, GivesTo, expected_variable, is_closed_alias, level_over, erased_args, IsAliasOpen}
+use Rattle.goal_solver.specs.Binding.{IsApplicable, IsFreeFor, CanBeListed, bound_term}
+use Rattle.goal_solver.specs.FreeVariables.{general_variable, reaches, is_bound, stands_in_storage, is_taken, lacks_free_variable}
+use Rattle.goal_solver.specs.GoingBack.{restored}
+use Rattle.goal_solver.specs.Goals.{IsAcceptedNormalization}
+use Rattle.goal_solver.specs.Outcomes.{StandsFor}
+use Rattle.goal_solver.specs.State.{State, kinds_in, kinds_of}
+use Rattle.goal_solver.specs.Stored.{HasOneTypeAKey}
+use Rattle.goal_solver.specs.Variables.{with_variables}
+use Rattle.goal_solver.proofs.FoundAnswers.{sort-erased}
+use Rattle.goal_solver.specs.declared.goals.GoalFault.TheVariants.{UnknownItem, WrongArgumentCount, WrongArgumentKind, UnknownVariable, ExpectedTermNotFree}
+
+-- nothing lies in the alias of an accepted goal, nor in its environment
+no_fault-alias : (t : Tables) (f : TermFault) (a : AliasTerm) (e : Term) (env : List Clause) →
+    lies_in_equation t [] f a e || lies_in_env t f env ≡ false → lies_in t [] f (tree_of_alias a) ≡ false
+no_fault-alias t f a e env h =
+    (either-false (lies_in t [] f (tree_of_alias a)) (lies_in t [] f (tree_of_term e))
+    (either-false (lies_in t [] f (tree_of_alias a) || lies_in t [] f (tree_of_term e)) (kinds_differ f a e)
+    (either-false (lies_in_equation t [] f a e) (lies_in_env t f env) h).0).0).0
+
+no_fault-kinds : (t : Tables) (f : TermFault) (a : AliasTerm) (e : Term) (env : List Clause) →
+    lies_in_equation t [] f a e || lies_in_env t f env ≡ false → kinds_differ f a e ≡ false
+no_fault-kinds t f a e env h =
+    (either-false (lies_in t [] f (tree_of_alias a) || lies_in t [] f (tree_of_term e)) (kinds_differ f a e)
+    (either-false (lies_in_equation t [] f a e) (lies_in_env t f env) h).0).1
+
+no_fault-env : (t : Tables) (f : TermFault) (a : AliasTerm) (e : Term) (env : List Clause) →
+    lies_in_equation t [] f a e || lies_in_env t f env ≡ false → lies_in_env t f env ≡ false
+no_fault-env t f a e env h = (either-false (lies_in_equation t [] f a e) (lies_in_env t f env) h).1
+
+accepted-alias : (s : State) (q : NormalizesTo) (env : List Clause) → IsAcceptedNormalization s q env → NoKindFault s.tables [] (tree_of_alias q.alias)
+accepted-alias s q env ok = (
+  no_fault-alias s.tables lies.UnknownItem q.alias q.term env (ok UnknownItem),
+  no_fault-alias s.tables lies.WrongArgumentCount q.alias q.term env (ok WrongArgumentCount),
+  no_fault-alias s.tables lies.WrongArgumentKind q.alias q.term env (ok WrongArgumentKind),
+)
+
+accepted-env : (s : State) (q : NormalizesTo) (env : List Clause) → IsAcceptedNormalization s q env → NoKindFaultInEnv s.tables env
+accepted-env s q env ok = (
+  no_fault-env s.tables lies.UnknownItem q.alias q.term env (ok UnknownItem),
+  no_fault-env s.tables lies.WrongArgumentCount q.alias q.term env (ok WrongArgumentCount),
+  no_fault-env s.tables lies.WrongArgumentKind q.alias q.term env (ok WrongArgumentKind),
+)
+
+-- the term of an accepted goal's alias is of the alias's sort
+pub accepted-sort : (s : State) (m : TypingMode) (q : NormalizesTo) (env : List Clause) (u : Tree) → IsChecked s.tables → IsAcceptedNormalization s q env →
+    (level_over s m env).gives q.alias.kind (erased_args q.alias.args.items) u → sort_of (node_of u) ≡ sort_of (nodes.Alias q.alias.kind)
+accepted-sort s m q env u checked ok given =
+    placed-given s.tables m env s.remaining_depth q.alias u checked (accepted-alias s q env ok) (accepted-env s q env ok) given
+
+alias-is_term : (k : AliasTermKind) (b : Bool) → is_type_kind k ≡ b → (u : Tree) → sort_of (node_of u) ≡ sort_of (nodes.Alias k) → IsTerm u
+alias-is_term k true e u h = cc
+alias-is_term k false e u h = cc
+
+-- so nothing else than a type or a constant is its term, and where no type and no constant is, there is none
+pub accepted-open : (s : State) (m : TypingMode) (q : NormalizesTo) (env : List Clause) → IsChecked s.tables → IsAcceptedNormalization s q env →
+    IsAliasOpen (level_over s m env) q.alias.kind (erased_args q.alias.args.items) → IsAnswer (level_over s m env) (which_term q.alias.kind (erased_args q.alias.args.items)) maybe
+unfolding IsAnswer
+accepted-open s m q env checked ok undecided = (
+  (λ u given. undecided.0 u (alias-is_term q.alias.kind (is_type_kind q.alias.kind) refl u (accepted-sort s m q env u checked ok given)) given),
+  undecided.1,
+)
+
+-- the expected term is a general variable
+record IsGeneral (m : Node) (n : ℕ) : Type 0 where
+  v : Variable
+  at : m ≡ nodes.Variable v
+  general : general_variable m ≡ Some v
+  number : number_of v ≡ n
+
+node-general : (m : Node) (n : ℕ) → general_variable_at m ≡ Some n → IsGeneral m n
+node-general (nodes.Head h) n e = absurd (cc)
+node-general (nodes.Alias k) n e = absurd (cc)
+node-general (nodes.Variable (variables.Ty (infer.TyVar k))) n e = record { v = variables.Ty (infer.TyVar k); at = refl; general = refl; number = cc }
+node-general (nodes.Variable (variables.Ty (infer.IntVar k))) n e = absurd (cc)
+node-general (nodes.Variable (variables.Ty (infer.FloatVar k))) n e = absurd (cc)
+node-general (nodes.Variable (variables.Const k)) n e = record { v = variables.Const k; at = refl; general = refl; number = cc }
+
+-- which isn't taken, so that it is unbound
+not_taken : (s : State) (o : Option Variable) (v : Variable) (a : AliasTerm) (env : List Clause) → o ≡ Some v → lacks_free_variable s o a env ≡ false → is_taken s v a env ≡ false
+not_taken s o v a env e h = subst (λ (x : Option Variable). lacks_free_variable s x a env ≡ false) e h
+
+none-unless : {A : Type 0} (o : Option A) → is_some o ≡ false → o ≡ None
+none-unless None e = refl
+none-unless (Some x) e = absurd (cc)
+
+taken-bound : (s : State) (v : Variable) (a : AliasTerm) (env : List Clause) → is_taken s v a env ≡ false → binding_of s.inference v ≡ None
+taken-bound s v a env h =
+    none-unless (binding_of s.inference v)
+    (either-false (is_bound s v) (some_node (reaches s v) (tree_of_alias a))
+    (either-false (is_bound s v || some_node (reaches s v) (tree_of_alias a)) (some_in_env (reaches s v) env)
+    (either-false (is_bound s v || some_node (reaches s v) (tree_of_alias a) || some_in_env (reaches s v) env) (stands_in_storage s v) h).0).0).0
+
+-- and was made
+top-fails : (p : Node → Bool) (t : Tree) → some_node p t ≡ false → p (node_of t) ≡ false
+unfolding some_node
+top-fails p (node h ts) e = (either-false (p (nodes.Head h)) (some_in_row p ts) e).0
+top-fails p (alias k ts) e = (either-false (p (nodes.Alias k)) (some_in_row p ts) e).0
+top-fails p (variable v) e = e
+
+not-false : (b : Bool) → not b ≡ false → b ≡ true
+not-false true e = refl
+not-false false e = absurd (cc)
+
+made-by : (s : State) (v : Variable) → general_variable (nodes.Variable v) ≡ Some v → is_unmade (kinds_of s) (nodes.Variable v) ≡ false → IsTrue (is_made_in s.inference v)
+unfolding is_made_in
+made-by s (variables.Ty (infer.TyVar n)) g e = not-false _ e
+made-by s (variables.Ty (infer.IntVar n)) g e = absurd (cc)
+made-by s (variables.Ty (infer.FloatVar n)) g e = absurd (cc)
+made-by s (variables.Const n) g e = not-false _ e
+
+-- and may stand for what is of the alias's sort
+takes-by : (v : Variable) (k : AliasTermKind) (b : Bool) (m : Node) → is_type_kind k ≡ b → general_variable (nodes.Variable v) ≡ Some v →
+    not (same_kind (kind_of_alias k) (kind_of (nodes.Variable v))) ≡ false → sort_of m ≡ sort_of (nodes.Alias k) → IsTrue (takes v m)
+unfolding takes kind_of
+takes-by (variables.Ty (infer.TyVar n)) k true m e g h i = cc
+takes-by (variables.Ty (infer.TyVar n)) k false m e g h i = absurd (cc)
+takes-by (variables.Ty (infer.IntVar n)) k b m e g h i = absurd (cc)
+takes-by (variables.Ty (infer.FloatVar n)) k b m e g h i = absurd (cc)
+takes-by (variables.Const n) k true m e g h i = absurd (cc)
+takes-by (variables.Const n) k false m e g h i = cc
+
+-- terms without variables stay as they are, and no variable stands in them
+mutual
+  unfolding some_node replaced
+
+  closed-replaced : (ρ : Variable → Tree) (t : Tree) → some_node is_any_infer t ≡ false → replaced ρ t ≡ t
+  closed-replaced ρ (node h ts) e = ap (node h) (closed_row-replaced ρ ts e)
+  closed-replaced ρ (alias k ts) e = ap (alias k) (closed_row-replaced ρ ts e)
+  closed-replaced ρ (variable v) e = absurd (cc)
+
+  closed_row-replaced : (ρ : Variable → Tree) (ts : Trees) → some_in_row is_any_infer ts ≡ false → replaced_row ρ ts ≡ ts
+  closed_row-replaced ρ none e = refl
+  closed_row-replaced ρ (more t ts) e =
+      let both : (some_node is_any_infer t ≡ false) × (some_in_row is_any_infer ts ≡ false) = either-false (some_node is_any_infer t) (some_in_row is_any_infer ts) e in
+      let first : replaced ρ t ≡ t = closed-replaced ρ t both.0 in
+      let rest : replaced_row ρ ts ≡ ts = closed_row-replaced ρ ts both.1 in
+      cc
+
+mutual
+  unfolding some_node place_of
+
+  closed-nowhere : (v : Variable) (t : Tree) → some_node is_any_infer t ≡ false → place_of v t ≡ Nowhere
+  closed-nowhere v (node h ts) e = closed_row-nowhere v ts e
+  closed-nowhere v (alias k ts) e = ap within_alias (closed_row-nowhere v ts e)
+  closed-nowhere v (variable w) e = absurd (cc)
+
+  closed_row-nowhere : (v : Variable) (ts : Trees) → some_in_row is_any_infer ts ≡ false → place_in_row v ts ≡ Nowhere
+  closed_row-nowhere v none e = refl
+  closed_row-nowhere v (more t ts) e =
+      let both : (some_node is_any_infer t ≡ false) × (some_in_row is_any_infer ts ≡ false) = either-false (some_node is_any_infer t) (some_in_row is_any_infer ts) e in
+      let first : place_of v t ≡ Nowhere = closed-nowhere v t both.0 in
+      let rest : place_in_row v ts ≡ Nowhere = closed_row-nowhere v ts both.1 in
+      ap (λ o. joined o (place_in_row v ts)) first ∙ rest
+
+-- an answer without values can be applied
+append-nothing : {A : Type 0} (xs : List A) → xs ++ [] ≡ xs
+append-nothing [] = refl
+append-nothing (x ∷ xs) = ap (λ ys. x ∷ ys) (append-nothing xs)
+
+pub quiet-applies : (s : State) (r : Response) → HasOneTypeAKey s.storage → IsQuiet (length (kinds_of s)) r → CanBeListed (with_variables [] s) r.var_values.items → IsApplicable s r
+quiet-applies s r keyed quiet values = record {
+  base = quiet.0;
+  values = subst (λ vs. CanBeListed (with_variables vs s) r.var_values.items) (sym quiet.1) values;
+  entries = subst HasOneTypeAKey (sym (ap (λ es. s.storage ++ es) quiet.3 ∙ append-nothing s.storage)) keyed;
+}
+
+pub nothing-applies : (s : State) (r : Response) → HasOneTypeAKey s.storage → IsQuiet (length (kinds_of s)) r → r.var_values.items ≡ [] → IsApplicable s r
+unfolding CanBeListed
+nothing-applies s r keyed quiet empty = quiet-applies s r keyed quiet (subst (CanBeListed (with_variables [] s)) (sym empty) tt)
+
+with_nothing : (s : State) → with_variables [] s ≡ s
+with_nothing s = ap (λ vs. record s { inference = record s.inference { variables = vs } }) (append-nothing s.inference.variables)
+
+general-at : {x : Node} {k : ℕ} → (g : IsGeneral x k) → general_variable (nodes.Variable g.v) ≡ Some g.v
+general-at g = sym (ap general_variable g.at) ∙ g.general
+
+unmade-term : (a : State) (q : NormalizesTo) (env : List Clause) → IsAcceptedNormalization a q env → some_node (is_unmade (kinds_of a)) (tree_of_term q.term) ≡ false
+unmade-term a q env ok =
+    (either-false (some_node (is_unmade (kinds_of a)) (tree_of_alias q.alias)) (some_node (is_unmade (kinds_of a)) (tree_of_term q.term))
+    (either-false (some_in_equation (is_unmade (kinds_of a)) q.alias q.term) (some_in_env (is_unmade (kinds_of a)) env) (ok UnknownVariable)).0).1
+
+differ-at : (q : NormalizesTo) (v : Variable) → node_of (tree_of_term q.term) ≡ nodes.Variable v → kinds_differ lies.WrongArgumentKind q.alias q.term ≡ false →
+    not (same_kind (kind_of_alias q.alias.kind) (kind_of (nodes.Variable v))) ≡ false
+unfolding kinds_differ
+differ-at q v at h = subst (λ (x : Node). not (same_kind (kind_of_alias q.alias.kind) (kind_of x)) ≡ false) at h
+
+-- the variable that an accepted goal expects its term for may be given the term
+expected-free : (a z : State) (m : TypingMode) (q : NormalizesTo) (env : List Clause) (n : ℕ) (u : Term) (t : Tree) → z.inference ≡ a.inference → IsChecked a.tables →
+    is_closed_alias q.alias env ≡ true → IsAcceptedNormalization a q env → (level_over a m env).gives q.alias.kind (erased_args q.alias.args.items) t → expected_variable q.term ≡ Some n →
+    erased (tree_of_term u) ≡ t → (v : Variable) × (number_of v ≡ n) × IsFreeFor z (tree_of_term u) v
+expected-free a z m q env n u t e checked closed ok given expected same =
+    let asked : IsGeneral (node_of (tree_of_term q.term)) n = node-general (node_of (tree_of_term q.term)) n expected in
+    let untaken : is_taken a asked.v q.alias env ≡ false = not_taken a (general_variable (node_of (tree_of_term q.term))) asked.v q.alias env (ap general_variable asked.at ∙ general-at asked) (ok ExpectedTermNotFree) in
+    let stays : bound_term z (tree_of_term u) ≡ t = ap (replaced (resolution z.terms z.inference)) same ∙ closed-replaced (resolution z.terms z.inference) t (closed-public_given a.tables m env a.remaining_depth q.alias t checked closed given) in (
+      asked.v,
+      asked.number,
+      record {
+        made = subst (λ (i : Inference). IsTrue (is_made_in i asked.v)) (sym e) (made-by a asked.v (general-at asked) (subst (λ (x : Node). is_unmade (kinds_of a) x ≡ false) asked.at (top-fails (is_unmade (kinds_of a)) (tree_of_term q.term) (unmade-term a q env ok))));
+        unbound = subst (λ (i : Inference). binding_of i asked.v ≡ None) (sym e) (taken-bound a asked.v q.alias env untaken);
+        takes = subst (λ (x : Tree). IsTrue (takes asked.v (node_of x))) (sym stays)
+            (takes-by asked.v q.alias.kind (is_type_kind q.alias.kind) (node_of t) refl (general-at asked) (differ-at q asked.v asked.at (no_fault-kinds a.tables lies.WrongArgumentKind q.alias q.term env (ok WrongArgumentKind)))
+            (accepted-sort a m q env t checked ok given));
+        absent = subst (λ (x : Tree). place_of asked.v x ≡ Nowhere) (sym stays) (closed-nowhere asked.v t (closed-public_given a.tables m env a.remaining_depth q.alias t checked closed given));
+      },
+    )
+
+-- an answer that gives the term of an accepted goal can be applied
+alias-applies : (a z : State) (m : TypingMode) (q : NormalizesTo) (env : List Clause) (n : ℕ) (r : Response) (t : Tree) → z ≡ restored a z → IsChecked a.tables → HasOneTypeAKey a.storage →
+    is_closed_alias q.alias env ≡ true → IsAcceptedNormalization a q env → IsQuiet (length (kinds_of a)) r → (level_over a m env).gives q.alias.kind (erased_args q.alias.args.items) t →
+    expected_variable q.term ≡ Some n → GivesTo n t r → IsApplicable z r
+unfolding CanBeListed
+alias-applies a z m q env n r t e checked keyed closed ok quiet given expected gives =
+    let inferred : z.inference ≡ a.inference = ap (λ (s : State). s.inference) e in
+    let stored : z.storage ≡ a.storage = ap (λ (s : State). s.storage) e in
+    let free : (v : Variable) × (number_of v ≡ n) × IsFreeFor z (tree_of_term gives.0) v = expected-free a z m q env n gives.0 t inferred checked closed ok given expected gives.2 in
+    quiet-applies z r (subst HasOneTypeAKey (sym stored) keyed)
+    (subst (λ (i : Inference). IsQuiet (length (kinds_in i.variables)) r) (sym inferred) quiet)
+    (subst (CanBeListed (with_variables [] z)) (sym gives.1) (free.0, free.1, subst (λ (s : State). IsFreeFor s (tree_of_term gives.0) free.0) (sym (with_nothing z)) free.2, (λ w b. tt)))
+
+-- the answer that is given to what is found can be applied
+pub found-applies : (a z : State) (m : TypingMode) (q : NormalizesTo) (env : List Clause) (T : List Tree) (id : TermId) (n : ℕ) (r : Result Response Fault) → z ≡ restored a z → IsChecked a.tables →
+    HasOneTypeAKey a.storage → is_closed_alias q.alias env ≡ true → IsAcceptedNormalization a q env → AnswersQuietly (length (kinds_of a)) r → id.0 < length T →
+    (level_over a m env).gives q.alias.kind (erased_args q.alias.args.items) (erased_at T id) → expected_variable q.term ≡ Some n →
+    (HasTerm T id → IfOk r (λ x. (x.certainty ≡ certainty.Yes) × GivesTo n (erased_at T id) x)) → IfOk r (IsApplicable z)
+found-applies a z m q env T id n (Ok x) e checked keyed closed ok quiet l given expected says =
+    alias-applies a z m q env n x (erased_at T id) e checked keyed closed ok quiet given expected
+    (says (l, subst IsTrue (ap is_term_sort (sort-erased (tree_at T id))) (alias-is_term q.alias.kind (is_type_kind q.alias.kind) refl (erased_at T id) (accepted-sort a m q env (erased_at T id) checked ok given)))).1
+found-applies a z m q env T id n (Err f) e checked keyed closed ok quiet l given expected says = tt
+
+-- an answer without values can be applied to what a call left as it was
+pub nothing-applies-after : (a z : State) (r : Response) → z ≡ restored a z → HasOneTypeAKey a.storage → IsQuiet (length (kinds_of a)) r → r.var_values.items ≡ [] → IsApplicable z r
+nothing-applies-after a z r e keyed quiet empty =
+    nothing-applies z r (subst HasOneTypeAKey (sym (ap (λ (s : State). s.storage) e)) keyed)
+    (subst (λ (i : Inference). IsQuiet (length (kinds_in i.variables)) r) (sym (ap (λ (s : State). s.inference) e)) quiet) empty
+
+-- so can what lists nothing, if it is an answer
+pub nothing-applies-of : (a z : State) (r : Result Response Fault) → z ≡ restored a z → HasOneTypeAKey a.storage → AnswersQuietly (length (kinds_of a)) r →
+    IfOk r (λ x. x.var_values.items ≡ []) → IfOk r (IsApplicable z)
+nothing-applies-of a z (Ok x) e keyed quiet empty = nothing-applies-after a z x e keyed quiet empty
+nothing-applies-of a z (Err f) e keyed quiet empty = tt
+
+pub nothing-listed : (r : Result Response Fault) → ListsNothing r → IfOk r (λ x. x.var_values.items ≡ [])
+nothing-listed (Ok x) h = h.1
+nothing-listed (Err f) h = tt
+
+-- a context that only got more terms is the one before, restored
+pub grown-restored : (a b : State) → b ≡ record a { terms = b.terms } → b ≡ restored a b
+grown-restored a b e = subst (λ (s : State). s ≡ restored a s) (sym e) refl
+
+-- an answer without values can be applied to what a call left, where only terms were added before it
+pub nothing-applies-later : (a b z : State) (r : Result Response Fault) → b ≡ record a { terms = b.terms } → z ≡ restored b z → HasOneTypeAKey a.storage →
+    AnswersQuietly (length (kinds_of b)) r → IfOk r (λ x. x.var_values.items ≡ []) → IfOk r (IsApplicable z)
+nothing-applies-later a b z r e f keyed quiet empty = nothing-applies-of b z r f (subst HasOneTypeAKey (sym (ap (λ (s : State). s.storage) e)) keyed) quiet empty
+
+-- each run stands for some mode
+pub stands-for-some : (run : TypingMode) (b : Bool) → is_headline run ≡ b → (m : TypingMode) × StandsFor run m
+stands-for-some run true e = (run, (e, inl refl))
+stands-for-some run false e = (modes.PostAnalysis, (refl, inr e))

@@ -1,0 +1,67 @@
+-- Goals that are set aside while they are evaluated, and then put back.
+use Rattle.std.proofs.Common.{◌≡◌, ℕ, ◌≤◌, false, List, [], length, Result, Ok, Err, refl, sym, ap, ◌∙◌, subst}
+use Rattle.std.specs.Prelude.{OnOk, nat_lt}
+use Rattle.std.proofs.lemmas.Bool.{le-ltb}
+use Rattle.goal_terms.specs.declared.answers.Certainty.{Certainty}
+use Rattle.goal_terms.specs.declared.answers.Certainty.TheVariants as certainty
+use Rattle.goal_terms.specs.declared.answers.GoalSource.{GoalSource}
+use Rattle.goal_terms.specs.declared.modes.TypingMode.{TypingMode}
+use Rattle.goal_terms.specs.declared.predicates.Goal.{Goal}
+use Rattle.goal_terms.specs.declared.predicates.Predicate.{Predicate}
+use Rattle.goal_kinds.specs.declared.faults.Fault.{Fault}
+use Rattle.goal_kinds.specs.declared.faults.Fault.TheVariants as fault
+use Rattle.goal_solver.specs.AddedGoals.{ArePendingClosed, IsPendingAnswer, ArePendingUndecided, AreSplit, AreClosedAt, IsAnswerAt}
+use Rattle.goal_solver.specs.Answers.{IsOwed}
+use Rattle.goal_solver.specs.Relating.{LeavesOpen, SaysYes}
+use Rattle.goal_solver.specs.State.{State}
+use Rattle.goal_solver.proofs.AddedGoalLemmas.{closed-listed, pending-answer, pending-open}
+use Rattle.goal_solver.proofs.PlaceLemmas.{all-taken}
+
+-- what is answered does not depend on which goals a context holds
+answer-aside : (s : State) (gs : List (GoalSource × Goal Predicate)) (ts : List ℕ) (m : TypingMode) (places : List ℕ) (r : Result Certainty Fault) →
+    IsAnswerAt (record s { goals = gs; taken = ts }) m s.goals places r → IsAnswerAt s m s.goals places r
+answer-aside s gs ts m places (Ok certainty.Yes) h = h
+answer-aside s gs ts m places (Ok certainty.Maybe) h = h
+answer-aside s gs ts m places (Err fault.NoSolution) h = h
+answer-aside s gs ts m places (Err fault.RerunNonErased) h = tt
+answer-aside s gs ts m places (Err fault.OutOfMemory) h = tt
+answer-aside s gs ts m places (Err fault.NotForThisKind) h = tt
+
+answered : (o s x b : State) (gs hs : List (GoalSource × Goal Predicate)) (ts places : List ℕ) (m : TypingMode) (r : Result Certainty Fault) → o ≡ s → hs ≡ s.goals → x ≡ b →
+    AreSplit (length s.goals) s.taken places → (IsOwed b m → AreClosedAt hs places → IsAnswerAt (record o { goals = gs; taken = ts }) m hs places r) →
+    IsOwed x m → ArePendingClosed s → IsAnswerAt s m s.goals places r
+answered o s x b gs hs ts places m r e f g split answer owed closed =
+    let listed : AreClosedAt hs places = subst (λ (us : List (GoalSource × Goal Predicate)). AreClosedAt us places) (sym f) (closed-listed s places split closed) in
+    let found : IsAnswerAt (record o { goals = gs; taken = ts }) m hs places r = answer (subst (λ (y : State). IsOwed y m) g owed) listed in
+    answer-aside s gs ts m places r
+    (subst (λ (us : List (GoalSource × Goal Predicate)). IsAnswerAt (record s { goals = gs; taken = ts }) m us places r) f
+    (subst (λ (y : State). IsAnswerAt (record y { goals = gs; taken = ts }) m hs places r) e found))
+
+pub aside-sound : (o s x b : State) (gs hs : List (GoalSource × Goal Predicate)) (ts places : List ℕ) (m : TypingMode) (r : Result Certainty Fault) → o ≡ s → hs ≡ s.goals → x ≡ b →
+    AreSplit (length s.goals) s.taken places → (IsOwed b m → AreClosedAt hs places → IsAnswerAt (record o { goals = gs; taken = ts }) m hs places r) →
+    IsOwed x m → ArePendingClosed s → IsPendingAnswer s m r
+aside-sound o s x b gs hs ts places m r e f g split answer owed closed =
+    pending-answer s m places r split (answered o s x b gs hs ts places m r e f g split answer owed closed)
+
+pub aside-decided : (o s x b : State) (gs hs : List (GoalSource × Goal Predicate)) (ts places : List ℕ) (m : TypingMode) (r : Result Certainty Fault) → o ≡ s → hs ≡ s.goals → x ≡ b →
+    AreSplit (length s.goals) s.taken places → (IsOwed b m → AreClosedAt hs places → IsAnswerAt (record o { goals = gs; taken = ts }) m hs places r) →
+    IsOwed x m → ArePendingClosed s → LeavesOpen r → ArePendingUndecided s m
+aside-decided o s x b gs hs ts places m r e f g split answer owed closed open_ =
+    pending-open s m places r split (answered o s x b gs hs ts places m r e f g split answer owed closed) open_
+
+-- closed goals bind nothing
+kept : (r : Result Certainty Fault) (P Q : Type 0) → (P → Q) → OnOk r P → OnOk r Q
+kept (Ok a) P Q h p = h p
+kept (Err a) P Q h p = tt
+
+pub aside-closed : (o s x b : State) (hs : List (GoalSource × Goal Predicate)) (places : List ℕ) (r : Result Certainty Fault) → o ≡ s → hs ≡ s.goals → x ≡ b →
+    AreSplit (length s.goals) s.taken places → (AreClosedAt hs places → OnOk r (b.inference ≡ o.inference)) → ArePendingClosed s → OnOk r (x.inference ≡ s.inference)
+aside-closed o s x b hs places r e f g split h closed =
+    kept r (b.inference ≡ o.inference) (x.inference ≡ s.inference) (λ i. ap (λ (y : State). y.inference) g ∙ i ∙ ap (λ (y : State). y.inference) e)
+    (h (subst (λ (us : List (GoalSource × Goal Predicate)). AreClosedAt us places) (sym f) (closed-listed s places split closed)))
+
+-- a yes leaves none
+pub aside-taken : (hs gs : List (GoalSource × Goal Predicate)) (taken : List ℕ) (r : Result Certainty Fault) → hs ≡ gs →
+    ((rest : List ℕ) × AreSplit (length hs) taken rest × (SaysYes r → rest ≡ [])) → SaysYes r → nat_lt (length taken) (length gs) ≡ false
+aside-taken hs gs taken r e h says =
+    subst (λ (us : List (GoalSource × Goal Predicate)). nat_lt (length taken) (length us) ≡ false) e (le-ltb (length taken) (length hs) (all-taken (length hs) taken h.0 (h.2 says) h.1))

@@ -1,0 +1,116 @@
+-- The head form of a term in a context: what is found, and what is answered.
+use Rattle.std.proofs.Common.{◌≡◌, ◌<◌, Bool, true, false, List, length, Some, None, Result, Ok, Err, refl, sym, ap, ◌∙◌, subst}
+use Rattle.std.proofs.lemmas.Bool.{false≢true}
+use Rattle.std.specs.Prelude.{◌||◌, Option, IfOk, IfErr}
+use Rattle.goal_terms.specs.Erased.{erased}
+use Rattle.goal_terms.specs.NodeTests.{is_any_infer, some_node}
+use Rattle.goal_terms.specs.Sorts.{IsTerm, is_term_sort}
+use Rattle.goal_terms.specs.TableMeaning.{tree_at, HasTerm}
+use Rattle.goal_terms.specs.Tree.{Tree, node, alias, variable, node_of}
+use Rattle.goal_terms.specs.declared.predicates.Clause.{Clause}
+use Rattle.goal_terms.specs.declared.term_nodes.TermId.{TermId}
+use Rattle.goal_terms.specs.declared.terms.Term.{Term}
+use Rattle.goal_tables.specs.Predicates.{some_in_env}
+use Rattle.goal_infer.specs.Following.{sort_at}
+use Rattle.goal_infer.specs.Unification.{is_alias}
+use Rattle.goal_kinds.specs.Interned.{erased_at}
+use Rattle.goal_kinds.specs.Laws.{IsConsistent}
+use Rattle.goal_kinds.specs.Level.{Level, HasHeadForm, HeadFormRefuted}
+use Rattle.goal_kinds.specs.declared.faults.Fault.{Fault}
+use Rattle.goal_kinds.specs.declared.faults.Fault.TheVariants as fault
+use Rattle.goal_kinds.proofs.EqualLemmas.{one_head_form, no_head_form_refuted}
+use Rattle.goal_solver.specs.HeadForms.{IsClosedForm, IsFormAnswer, IsFormOpen, IsAnswered, IsFormFound, IsFormUnfound, IsFoundItself}
+use Rattle.goal_solver.specs.Outcomes.{SaysWhich}
+use Rattle.goal_solver.specs.declared.outcomes.Found.{Found}
+use Rattle.goal_solver.specs.declared.outcomes.Found.TheVariants as found
+use Rattle.goal_solver.proofs.FoundAnswers.{is_term, sort-erased}
+use Rattle.goal_solver.proofs.SettledLemmas.{closed-erased}
+
+-- a term that is no alias is its own head form
+pub form-itself : (L : Level) (t : Tree) → is_alias (node_of t) ≡ false → HasHeadForm L t t
+unfolding HasHeadForm
+form-itself L (node h ts) e = refl
+form-itself L (alias k ts) e = absurd (cc)
+form-itself L (variable v) e = refl
+
+-- a tree is an alias where it is one without its lifetimes
+pub alias-erased : (t : Tree) → is_alias (node_of (erased t)) ≡ is_alias (node_of t)
+unfolding erased
+alias-erased (node h ts) = refl
+alias-erased (alias k ts) = refl
+alias-erased (variable v) = refl
+
+pub ruleset forms = (alias-erased, closed-erased)
+
+-- a term with its bindings followed is a term
+pub followed-term : (T U : List Tree) (id r : TermId) → r.0 < length U → sort_at U r ≡ sort_at T id → IsTerm (tree_at T id) → HasTerm U r
+followed-term T U id r l e h = (l, ap is_term_sort e ∙ h)
+
+-- where a term is found that is no alias, it is its own head form
+pub found-itself : (L : Level) (t : Tree) (T : List Tree) (id : TermId) → erased_at T id ≡ t → is_alias (node_of (erased_at T id)) ≡ false → HasHeadForm L t (erased_at T id)
+found-itself L t T id e f = subst (HasHeadForm L t) (sym e) (form-itself L t (ap (λ x. is_alias (node_of x)) (sym e) ∙ f))
+
+-- what is closed isn't passed by as open
+pub open-unfound : (L : Level) (t : Tree) (T : List Tree) (id : TermId) (env : List Clause) (b : Bool) → erased_at T id ≡ t → b ≡ (some_node is_any_infer (erased_at T id) || some_in_env is_any_infer env) → b ≡ true →
+    IsClosedForm t env → IsFormUnfound L t found.Undecided
+open-unfound L t T id env b e f g h = absurd (false≢true (sym h ∙ ap (λ x. some_node is_any_infer x || some_in_env is_any_infer env) (sym e) ∙ sym f ∙ g))
+
+-- what the evaluation says of a head form is what is found
+pub says-found : (L : Level) (t : Tree) (T : List Tree) (f : Found) → SaysWhich (HasHeadForm L t) (HeadFormRefuted L t) T f → IsFormFound L t T f
+says-found L t T (found.Is id) h = h
+says-found L t T found.Refuted h = h
+says-found L t T found.Undecided h = tt
+
+pub says-unfound : (L : Level) (t : Tree) (T : List Tree) (f : Found) → SaysWhich (HasHeadForm L t) (HeadFormRefuted L t) T f → IsFormUnfound L t f
+says-unfound L t T (found.Is id) h = tt
+says-unfound L t T found.Refuted h = tt
+says-unfound L t T found.Undecided h = h
+
+-- what is answered of the term of a number
+abbrev pub AnswersAt : List Tree → TermId → Result (Option Term) Fault → Type 0
+AnswersAt T id r =
+    (HasTerm T id → IfOk r (IsAnswered (erased_at T id)))
+    × ((HasTerm T id → ⊥) → IfOk r (λ o. o ≡ None))
+    × IfErr r (λ f. f ≡ fault.OutOfMemory)
+
+-- a term that is answered is the one that was found
+answered-form : (L : Level) (t u : Tree) (o : Option Term) → HasHeadForm L t u → IsAnswered u o → IsFormAnswer L t (Ok o)
+answered-form L t u None h a = tt
+answered-form L t u (Some e) h a = subst (HasHeadForm L t) (sym a) h
+
+answer-by : (L : Level) (t : Tree) (T : List Tree) (id : TermId) → id.0 < length T → HasHeadForm L t (erased_at T id) → (r : Result (Option Term) Fault) → AnswersAt T id r →
+    (b : Bool) → is_term (tree_at T id) ≡ b → IsFormAnswer L t r
+unfolding is_term
+answer-by L t T id l h (Ok o) a true i = answered-form L t (erased_at T id) o h (a.0 (l, i))
+answer-by L t T id l h (Ok o) a false i = subst (λ x. IsFormAnswer L t (Ok x)) (sym (a.1 (λ x. false≢true (sym i ∙ x.1)))) tt
+answer-by L t T id l h (Err f) a b i = subst (λ g. IsFormAnswer L t (Err g)) (sym a.2) tt
+
+pub found-answered : (L : Level) (t : Tree) (T : List Tree) (id : TermId) → id.0 < length T → HasHeadForm L t (erased_at T id) → (r : Result (Option Term) Fault) → AnswersAt T id r → IsFormAnswer L t r
+found-answered L t T id l h r a = answer-by L t T id l h r a (is_term (tree_at T id)) refl
+
+-- it is left open only where no type or constant is the head form
+not-answered : (t : Tree) → IsAnswered t None → ⊥
+not-answered t h = h
+
+open-by : (L : Level) → IsConsistent L → (t : Tree) (T : List Tree) (id : TermId) → id.0 < length T → HasHeadForm L t (erased_at T id) → (r : Result (Option Term) Fault) → AnswersAt T id r →
+    r ≡ Ok None → (b : Bool) → is_term (tree_at T id) ≡ b → IsFormOpen L t
+unfolding is_term
+open-by L consistent t T id l h r a e true i = absurd (subst (λ x. IfOk x (IsAnswered (erased_at T id))) e (a.0 (l, i)))
+open-by L consistent t T id l h r a e false i = (
+  (λ u n g.
+      let same : u ≡ erased_at T id = one_head_form L consistent.one_term t u (erased_at T id) g h in
+      false≢true (sym i ∙ sym (ap is_term_sort (sort-erased (tree_at T id))) ∙ subst IsTerm same n)),
+  (λ g. no_head_form_refuted L consistent.no_term_refuted t (erased_at T id) h g),
+)
+
+pub found-left_open : (L : Level) → IsConsistent L → (t : Tree) (T : List Tree) (id : TermId) → id.0 < length T → HasHeadForm L t (erased_at T id) → (r : Result (Option Term) Fault) → AnswersAt T id r →
+    r ≡ Ok None → IsFormOpen L t
+found-left_open L consistent t T id l h r a e = open-by L consistent t T id l h r a e (is_term (tree_at T id)) refl
+
+-- where nothing is found, no type and no constant is
+pub unfound-open : (L : Level) (t : Tree) → IsFormUnfound L t found.Undecided → IsFormOpen L t
+unfound-open L t h = ((λ u n g. h.0 u g), h.1)
+
+-- a term that is found as it stands is answered as it stands
+pub itself-answered : (t : Tree) (T : List Tree) (id : TermId) → IsFoundItself t T (found.Is id) → (r : Result (Option Term) Fault) → AnswersAt T id r → IfOk r (IsAnswered t)
+itself-answered t T id h r a = subst (λ x. IfOk r (IsAnswered x)) h.1 (a.0 h.0)

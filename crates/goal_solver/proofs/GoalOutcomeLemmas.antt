@@ -1,0 +1,90 @@
+-- Goals that were added, by the numbers of their terms.
+use Rattle.std.proofs.Common.{◌≡◌, ℕ, ◌<◌, true, List, [], ◌∷◌, length, map, Result, refl, sym, ap, ◌∙◌, subst}
+use Rattle.std.specs.Prelude.{IfOk}
+use Rattle.std.proofs.lemmas.List.Elements.{All-nil, All-cons, All-head, All-tail}
+use Rattle.goal_terms.specs.Sorts.{IsArgument, sort_of, is_argument_sort}
+use Rattle.goal_terms.specs.TableMeaning.{tree_at, AreBelow, Keeps}
+use Rattle.goal_terms.specs.Tree.{Tree, node_of}
+use Rattle.goal_terms.specs.TreeOf.{tree_of_term}
+use Rattle.goal_terms.specs.declared.modes.TypingMode.{TypingMode}
+use Rattle.goal_terms.specs.declared.predicates.Clause.{Clause}
+use Rattle.goal_terms.specs.declared.term_nodes.TermId.{TermId}
+use Rattle.goal_terms.specs.declared.terms.Term.{Term}
+use Rattle.goal_terms.proofs.SortLemmas.{term_sort}
+use Rattle.goal_tables.specs.declared.rows.Tables.{Tables}
+use Rattle.goal_infer.specs.Following.{sort_at}
+use Rattle.goal_kinds.specs.Answers.{setting_of}
+use Rattle.goal_kinds.specs.Interned.{IsIn, AreIn, predicate_at}
+use Rattle.goal_kinds.specs.Levels.{level}
+use Rattle.goal_kinds.specs.Premises.{ClauseHolds, ClauseRefuted, PremiseHolds, PremiseRefuted, predicate}
+use Rattle.goal_kinds.specs.Settings.{is_headline}
+use Rattle.goal_kinds.specs.declared.interned.InternedPredicate.{InternedPredicate}
+use Rattle.goal_solver.specs.Answers.{level_over}
+use Rattle.goal_solver.specs.GoingBack.{GoesBack}
+use Rattle.goal_solver.specs.Outcomes.{StandsFor, Says}
+use Rattle.goal_solver.specs.Relating.{ChangesInference}
+use Rattle.goal_solver.specs.State.{State}
+use Rattle.goal_solver.specs.declared.outcomes.Outcome.{Outcome}
+use Rattle.goal_solver.specs.declared.outcomes.Stop.{Stop}
+use Rattle.goal_solver.proofs.AddedGoalLemmas.{inference-through}
+use Rattle.goal_solver.proofs.AnswerLemmas.{goes_back-grown}
+use Rattle.goal_solver.proofs.GoingBackLemmas.{goes_back-through}
+use Rattle.goal_solver.proofs.InterningLemmas.{is_argument-term}
+
+-- the number of a type or a constant is that of an argument
+pub term-in : (U : List Tree) (t : Term) (id : TermId) → id.0 < length U → tree_at U id ≡ tree_of_term t → IsIn U id
+term-in U t id l e = (l, subst IsArgument (sym e) (is_argument-term (sort_of (node_of (tree_of_term t))) (term_sort t)))
+
+-- a term with its bindings followed is an argument where the term is one
+pub followed-in : (T U : List Tree) (id r : TermId) → IsIn T id → r.0 < length U → sort_at U r ≡ sort_at T id → IsIn U r
+followed-in T U id r h l e = (l, ap is_argument_sort e ∙ h.1)
+
+pub followed-all_in : (T U : List Tree) (ids rs : List TermId) → AreIn T ids → AreBelow (length U) rs → map (sort_at U) rs ≡ map (sort_at T) ids → AreIn U rs
+followed-all_in T U ids [] h b e = All-nil (IsIn U)
+followed-all_in T U [] (r ∷ rs) h b e = absurd (cc)
+followed-all_in T U (id ∷ ids) (r ∷ rs) h b e =
+    let first : sort_at U r ≡ sort_at T id = cc in
+    let rest : map (sort_at U) rs ≡ map (sort_at T) ids = cc in
+    All-cons (IsIn U) r rs (followed-in T U id r (All-head (IsIn T) id ids h) (All-head (λ x. x.0 < length U) r rs b) first)
+    (followed-all_in T U ids rs (All-tail (IsIn T) id ids h) (All-tail (λ x. x.0 < length U) r rs b) rest)
+
+-- what is said of a premise over the context's tables is said of its predicate
+pub clause-says : (o s : State) (t : Tables) (env : List Clause) (p : InternedPredicate) (r : Result Outcome Stop) → o ≡ s → t ≡ o.tables →
+    ((m : TypingMode) → StandsFor o.typing_mode m →
+    IfOk r (Says (PremiseHolds (level (setting_of t m env) o.remaining_depth) (predicate (predicate_at o.terms p))) (PremiseRefuted (level (setting_of t m env) o.remaining_depth) (predicate (predicate_at o.terms p))))) →
+    (m : TypingMode) → StandsFor s.typing_mode m → IfOk r (Says (ClauseHolds (level_over s m env) (predicate_at s.terms p)) (ClauseRefuted (level_over s m env) (predicate_at s.terms p)))
+unfolding PremiseHolds PremiseRefuted
+clause-says o s t env p r e f h m stands =
+    subst (λ (a : State). StandsFor a.typing_mode m → IfOk r (Says (ClauseHolds (level_over a m env) (predicate_at a.terms p)) (ClauseRefuted (level_over a m env) (predicate_at a.terms p)))) e
+    (λ x. subst (λ (u : Tables). IfOk r (Says (ClauseHolds (level (setting_of u m env) o.remaining_depth) (predicate_at o.terms p)) (ClauseRefuted (level (setting_of u m env) o.remaining_depth) (predicate_at o.terms p)))) f (h m x))
+    stands
+
+-- more terms, and nothing else
+pub grown-inference : (a b : State) → b ≡ record a { terms = b.terms } → ChangesInference a b
+grown-inference a b e = e ∙ sym (ap (λ (x : State). record a { terms = x.terms; inference = x.inference }) e)
+
+pub bound-inference : (a b : State) → b ≡ record a { inference = b.inference } → ChangesInference a b
+bound-inference a b e = e ∙ sym (ap (λ (x : State). record a { terms = x.terms; inference = x.inference }) e)
+
+pub grown-twice : (a b c : State) → b ≡ record a { terms = b.terms } → c ≡ record b { terms = c.terms } → c ≡ record a { terms = c.terms }
+grown-twice a b c e f = f ∙ ap (λ (x : State). record x { terms = c.terms }) e
+
+pub grown-goes_back : (a b : State) → b ≡ record a { terms = b.terms } → Keeps a.terms b.terms → GoesBack a b
+grown-goes_back = goes_back-grown
+
+pub grown-goes_back_twice : (a b c : State) → b ≡ record a { terms = b.terms } → c ≡ record b { terms = c.terms } → Keeps a.terms b.terms → Keeps b.terms c.terms → GoesBack a c
+grown-goes_back_twice a b c e f k l = goes_back-through a b c (goes_back-grown a b e k) (goes_back-grown b c f l)
+
+pub grown-goes_back_thrice : (a b c d : State) → b ≡ record a { terms = b.terms } → c ≡ record b { terms = c.terms } → d ≡ record c { terms = d.terms } →
+    Keeps a.terms b.terms → Keeps b.terms c.terms → Keeps c.terms d.terms → GoesBack a d
+grown-goes_back_thrice a b c d e f g k l m = goes_back-through a c d (grown-goes_back_twice a b c e f k l) (goes_back-grown c d g m)
+
+-- then another step
+pub grown-then : (a b c : State) → b ≡ record a { terms = b.terms } → ChangesInference b c → ChangesInference a c
+grown-then a b c e h = inference-through a b c (grown-inference a b e) h
+
+pub grown-then_back : (a b c : State) → b ≡ record a { terms = b.terms } → Keeps a.terms b.terms → GoesBack b c → GoesBack a c
+grown-then_back a b c e k g = goes_back-through a b c (goes_back-grown a b e k) g
+
+pub headline-before : (a b : State) → GoesBack a b → is_headline a.typing_mode ≡ true → is_headline b.typing_mode ≡ true
+headline-before a b g h = ap is_headline g.typing_mode ∙ h

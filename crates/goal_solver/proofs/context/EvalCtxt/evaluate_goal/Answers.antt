@@ -1,0 +1,27 @@
+use Rattle.std.proofs.Common.{◌≡◌, true, sym, ap, ◌∙◌}
+use Rattle.goal_kinds.specs.Settings.{is_headline}
+use Rattle.goal_solver.specs.Answers.{IsOwed}
+use Rattle.goal_solver.specs.State.{State}
+use Rattle.goal_solver.proofs.AddedGoalLemmas.{owed-before, owed-stands_for, goal-verdict, fault-later}
+use Rattle.goal_solver.proofs.GoingBackLemmas.{goes_back-through}
+use Rattle.goal_solver.proofs.context.EvalCtxt.evaluate_goal.Goals as goal
+
+pub returns-clause-answer : goal.returns-clause-answer
+returns-clause-answer c = λ m owed closed.
+    let first : IsOwed c.args.self.now m =
+    owed-before c.args.self.now c.goal_outcome-outcome.new.self m c.goal_outcome-outcome.ensures.goes_back
+    (owed-before c.goal_outcome-outcome.new.self c.verdict.new.self m c.verdict.ensures.goes_back owed) in
+    goal-verdict c.args.self.now m c.args.goal.now c.goal_outcome-outcome.result c.verdict.result
+    (c.goal_outcome-outcome.ensures.says m (owed-stands_for c.args.self.now m first) closed)
+    (c.verdict.ensures.owed m owed (λ h. c.goal_outcome-outcome.ensures.stops (ap is_headline (sym c.goal_outcome-outcome.ensures.goes_back.typing_mode) ∙ h)))
+
+pub returns-clause-closed : goal.returns-clause-closed
+returns-clause-closed c = λ h. ap (λ (s : State). s.inference) c.verdict.ensures.alone ∙ c.goal_outcome-outcome.ensures.closed h
+
+pub returns-clause-goes_back : goal.returns-clause-goes_back
+returns-clause-goes_back c =
+    goes_back-through c.args.self.now c.goal_outcome-outcome.new.self c.verdict.new.self c.goal_outcome-outcome.ensures.goes_back c.verdict.ensures.goes_back
+
+pub returns-clause-fault : goal.returns-clause-fault
+returns-clause-fault c =
+    fault-later c.args.self.now c.goal_outcome-outcome.new.self c.verdict.new.self c.verdict.result c.goal_outcome-outcome.ensures.goes_back c.verdict.ensures.fault

@@ -1,0 +1,15 @@
+use Rattle.std.proofs.Common.{sym, ◌∙◌}
+use Rattle.goal_solver.specs.Answers.{level_over}
+use Rattle.goal_solver.specs.HeadForms.{bound_term}
+use Rattle.goal_solver.proofs.FormAnswerLemmas.{found-itself, open-unfound}
+use Rattle.goal_solver.proofs.context.EvalCtxt.form_outcome.Goals as goal
+
+pub returns-then-not-is_alias_at-clause-sound : goal.returns-then-not-is_alias_at-clause-sound
+returns-then-not-is_alias_at-clause-sound c = λ m stands.
+    found-itself (level_over c.args.self.now m c.args.environment.now) (bound_term c.args.self.now c.args.term.now) c.bound_form.new.self.terms c.in_ok-form.form c.in_ok-form.ensures.tree
+    (sym c.is_alias_at.ensures ∙ c.if-not-is_alias_at.true)
+
+pub returns-then-is_open-clause-decided : goal.returns-then-is_open-clause-decided
+returns-then-is_open-clause-decided c = λ m stands closed.
+    open-unfound (level_over c.args.self.now m c.args.environment.now) (bound_term c.args.self.now c.args.term.now) c.bound_form.new.self.terms c.in_ok-form.form c.args.environment.now c.is_open.result
+    c.in_ok-form.ensures.tree c.is_open.ensures c.if-is_open.true closed

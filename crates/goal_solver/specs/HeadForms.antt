@@ -1,0 +1,62 @@
+-- What is answered for the head form of a term in a context.
+use Rattle.std.specs.Prelude.{◌≡◌, false, ◌||◌, Option, Some, None, Result, Ok, Err, List}
+use Rattle.goal_terms.specs.Erased.{erased}
+use Rattle.goal_terms.specs.NodeTests.{is_any_infer, some_node}
+use Rattle.goal_terms.specs.Sorts.{IsTerm}
+use Rattle.goal_terms.specs.TableMeaning.{HasTerm}
+use Rattle.goal_terms.specs.Tree.{Tree}
+use Rattle.goal_terms.specs.TreeOf.{tree_of_term}
+use Rattle.goal_terms.specs.declared.predicates.Clause.{Clause}
+use Rattle.goal_terms.specs.declared.terms.Term.{Term}
+use Rattle.goal_tables.specs.Predicates.{some_in_env}
+use Rattle.goal_infer.specs.Replacement.{replaced}
+use Rattle.goal_infer.specs.Resolution.{resolution}
+use Rattle.goal_kinds.specs.Interned.{erased_at}
+use Rattle.goal_kinds.specs.Level.{Level, HasHeadForm, HeadFormRefuted}
+use Rattle.goal_kinds.specs.declared.faults.Fault.{Fault}
+use Rattle.goal_kinds.specs.declared.faults.Fault.TheVariants as fault
+use Rattle.goal_solver.specs.State.{State}
+use Rattle.goal_solver.specs.declared.outcomes.Found.{Found}
+use Rattle.goal_solver.specs.declared.outcomes.Found.TheVariants as found
+
+-- a term with the bindings of a context followed, lifetimes aside
+abbrev pub bound_term : State → Term → Tree
+bound_term s e = replaced (resolution s.terms s.inference) (erased (tree_of_term e))
+
+-- neither a tree nor an environment holds an inference variable
+abbrev pub IsClosedForm : Tree → List Clause → Type 0
+IsClosedForm t env = (some_node is_any_infer t || some_in_env is_any_infer env) ≡ false
+
+-- the term that is answered is the head form, lifetimes aside, and a refusal is final
+abbrev pub IsFormAnswer : Level → Tree → Result (Option Term) Fault → Type 0
+IsFormAnswer L t (Ok (Some u)) = HasHeadForm L t (erased (tree_of_term u))
+IsFormAnswer L t (Ok None) = Unit {0}
+IsFormAnswer L t (Err fault.NoSolution) = HeadFormRefuted L t
+IsFormAnswer L t (Err f) = Unit {0}
+
+-- no type and no constant is the head form, and it isn't refuted that there is one
+abbrev pub IsFormOpen : Level → Tree → Type 0
+IsFormOpen L t = ((u : Tree) → IsTerm u → HasHeadForm L t u → ⊥) × (HeadFormRefuted L t → ⊥)
+
+-- a term is answered, and it is this one, lifetimes aside
+abbrev pub IsAnswered : Tree → Option Term → Type 0
+IsAnswered t None = ⊥
+IsAnswered t (Some u) = erased (tree_of_term u) ≡ t
+
+-- what is found is justified
+abbrev pub IsFormFound : Level → Tree → List Tree → Found → Type 0
+IsFormFound L t T (found.Is id) = HasHeadForm L t (erased_at T id)
+IsFormFound L t T found.Refuted = HeadFormRefuted L t
+IsFormFound L t T found.Undecided = Unit {0}
+
+-- where nothing is found there is nothing
+abbrev pub IsFormUnfound : Level → Tree → Found → Type 0
+IsFormUnfound L t (found.Is id) = Unit {0}
+IsFormUnfound L t found.Refuted = Unit {0}
+IsFormUnfound L t found.Undecided = ((u : Tree) → HasHeadForm L t u → ⊥) × (HeadFormRefuted L t → ⊥)
+
+-- a term is found, and it is this one, lifetimes aside
+abbrev pub IsFoundItself : Tree → List Tree → Found → Type 0
+IsFoundItself t T (found.Is id) = HasTerm T id × (erased_at T id ≡ t)
+IsFoundItself t T found.Refuted = ⊥
+IsFoundItself t T found.Undecided = ⊥

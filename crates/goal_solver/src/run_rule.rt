@@ -1,0 +1,159 @@
+//! Running rules.
+ghost use Rattle.std.specs.Prelude.{◌≡◌, true, length, IfOk, IfErr, OnOk, OnErr, IsOkUnless};
+ghost use Rattle.goal_terms.specs.TableMeaning.{Keeps};
+ghost use Rattle.goal_terms.specs.declared.modes.TypingMode.{TypingMode};
+ghost use Rattle.goal_kinds.specs.Settings.{is_headline as is_of_headline};
+ghost use Rattle.goal_solver.specs.Answers.{IsOwed, level_over, IsMaybe, AnswersQuietly, IsFaultOf};
+ghost use Rattle.goal_solver.specs.GoingBack.{GoesBack, restored};
+ghost use Rattle.goal_solver.specs.Outcomes.{StandsFor};
+ghost use Rattle.goal_solver.specs.RunRules.{setting_over, asked_of, IsAskedOnce, IsClosedRule, IsRuleAnswer, IsRuleOpen, response_of, RunIn, progress_at, LeadsOn, SaysRule, RuledIn};
+ghost use Rattle.goal_solver.specs.State.{kinds_of};
+
+use crate::context::EvalCtxt;
+use crate::faults::Fault;
+use crate::mode_tests::is_headline;
+use crate::outcomes::{Setting, Stop};
+use crate::rule_entries::run_entry;
+use crate::rule_runs::{Reached, RuleOutcome, RuleRun};
+use crate::rule_variables::has_variable;
+use goal_kinds::rules::{Candidate, Rule, RuleEntry};
+use goal_terms::answers::{Certainty, DelayedFault, OpaqueAccess, Response};
+use goal_terms::predicates::Clause;
+
+impl EvalCtxt<'_> {
+    /// Runs a rule's list of entries at the remaining depth, under an environment, and hands on where it comes
+    /// from. `Yes`: all entries hold by derivations no higher than that depth; where the list has a term for
+    /// an expected variable, the response lists just this term as the variable's value. `NoSolution`: a
+    /// refutation no higher refutes an entry, all arguments that were named before it being known. `Maybe`, for
+    /// a closed list and environment in a headline mode, where one term at most is asked for, for a general
+    /// variable: there is neither. A list or an environment with inference variables, expected terms aside, is
+    /// `Maybe`, and a refuted one in coherence. An access or a delayed fault is recorded when its entry is
+    /// reached: nothing before it is refuted, and all arguments that were named before it are known. Inference
+    /// state, added goals and storage are as before.
+    pub fn run_rule(&mut self, environment: &[Clause], rule: &Rule) -> Result<Candidate, Fault>
+        ensures sound { (m : TypingMode) → IsOwed self.new m → IsRuleAnswer (setting_over self.old m environment.now) (level_over self.old m environment.now) rule.now (response_of result) }
+        ensures decided { (m : TypingMode) → IsOwed self.new m → IsClosedRule rule.now.entries.items environment.now → IsAskedOnce (asked_of rule.now.entries.items) → IsMaybe (response_of result) → IsRuleOpen (setting_over self.old m environment.now) (level_over self.old m environment.now) rule.now }
+        ensures source { IfOk result (λ c. c.source ≡ rule.now.source) }
+        ensures unchanged { self.new ≡ restored self.old self.new }
+        ensures goes_back { GoesBack self.old self.new }
+        ensures fault { IsFaultOf self.old self.new (response_of result) }
+        ensures quiet { AnswersQuietly (length (kinds_of self.old)) (response_of result) }
+    {
+        let result = self.rule_response(environment, rule)?;
+        Ok(Candidate {
+            source: rule.source,
+            result,
+        })
+    }
+
+    /// What a rule's list of entries is answered.
+    fn rule_response(&mut self, environment: &[Clause], rule: &Rule) -> Result<Response, Fault>
+        ensures sound { (m : TypingMode) → IsOwed self.new m → IsRuleAnswer (setting_over self.old m environment.now) (level_over self.old m environment.now) rule.now result }
+        ensures decided { (m : TypingMode) → IsOwed self.new m → IsClosedRule rule.now.entries.items environment.now → IsAskedOnce (asked_of rule.now.entries.items) → IsMaybe result → IsRuleOpen (setting_over self.old m environment.now) (level_over self.old m environment.now) rule.now }
+        ensures unchanged { self.new ≡ restored self.old self.new }
+        ensures goes_back { GoesBack self.old self.new }
+        ensures fault { IsFaultOf self.old self.new result }
+        ensures quiet { AnswersQuietly (length (kinds_of self.old)) result }
+    {
+        if has_variable(&rule.entries, environment) {
+            return Ok(self.respond(Certainty::Maybe, None));
+        }
+        match self.run_entries(environment, &rule.entries) {
+            Ok(RuleOutcome::Holds(None)) => Ok(self.respond(Certainty::Yes, None)),
+            Ok(RuleOutcome::Holds(Some((expected, id)))) => self.respond_found(expected, id),
+            Ok(RuleOutcome::Refuted) => self.refuted(),
+            Ok(RuleOutcome::Undecided) => Ok(self.respond(Certainty::Maybe, None)),
+            Err(stop) => self.stopped(stop),
+        }
+    }
+
+    /// What a list of entries comes to at the remaining depth. There may be more terms, accesses and delayed
+    /// faults; nothing else changes.
+    fn run_entries(
+        &mut self,
+        environment: &[Clause],
+        entries: &[RuleEntry],
+    ) -> Result<RuleOutcome, Stop>
+        ensures within { IfOk result (RuledIn self.new.terms) }
+        ensures unchanged { self.new ≡ restored self.old self.new }
+        ensures goes_back { GoesBack self.old self.new }
+        ensures stops { is_of_headline self.old.typing_mode ≡ true → IfErr result (λ s. s ≡ Stop.OutOfMemory) }
+        ensures says { (m : TypingMode) → StandsFor self.old.typing_mode m → IfOk result (SaysRule (setting_over self.old m environment.now) (level_over self.old m environment.now) entries.now self.new.terms) }
+    {
+        let mut run = RuleRun::new(self.allocator());
+        for entry in entries {
+            self.record_entry(entry)?;
+            match self.reach(environment, &mut run, entry)? {
+                Reached::Next => {}
+                Reached::Refuted => return Ok(RuleOutcome::Refuted),
+                Reached::Undecided => return Ok(RuleOutcome::Undecided),
+            }
+        }
+        Ok(run.outcome())
+    }
+
+    /// Where an entry leads at the remaining depth. Nothing changes but that there may be more terms.
+    fn reach(
+        &mut self,
+        environment: &[Clause],
+        run: &mut RuleRun,
+        entry: &RuleEntry,
+    ) -> Result<Reached, Stop>
+        requires { RunIn self.old.terms run.old }
+        ensures kept { Keeps self.old.terms self.new.terms }
+        ensures unchanged { self.new ≡ record self.old { terms = self.new.terms } }
+        ensures within { IfOk result (λ _. RunIn self.new.terms run.new) }
+        ensures stops { is_of_headline self.old.typing_mode ≡ true → IfErr result (λ s. s ≡ Stop.OutOfMemory) }
+        ensures says { (m : TypingMode) → StandsFor self.old.typing_mode m → IfOk result (LeadsOn (setting_over self.old m environment.now) (level_over self.old m environment.now) (progress_at self.old.terms run.old) entry.now (progress_at self.new.terms run.new)) }
+    {
+        let setting = Setting {
+            rows: self.tables.rows(),
+            typing_mode: &self.typing_mode,
+            environment,
+        };
+        let depth = self.remaining_depth;
+        run_entry(&setting, &mut self.terms, run, entry, depth)
+    }
+
+    /// Records what an entry says to record.
+    fn record_entry(&mut self, entry: &RuleEntry) -> Result<(), Stop>
+        ensures unchanged { self.new ≡ record self.old { accesses = self.new.accesses; delayed_faults = self.new.delayed_faults } }
+        ensures goes_back { GoesBack self.old self.new }
+        ensures stops { is_of_headline self.old.typing_mode ≡ true → IfErr result (λ s. s ≡ Stop.OutOfMemory) }
+    {
+        match entry {
+            RuleEntry::Access(access) => self.read_mode(*access),
+            RuleEntry::DelayedFault(fault) => self.meet_fault(*fault),
+            _ => Ok(()),
+        }
+    }
+
+    /// Records that a rule reads the mode. Where the context stops then, or the rule has no answer without a
+    /// mode, the run is stopped, but not in a headline mode.
+    fn read_mode(&mut self, access: OpaqueAccess) -> Result<(), Stop>
+        ensures unchanged { self.new ≡ record self.old { accesses = self.new.accesses } }
+        ensures goes_back { GoesBack self.old self.new }
+        ensures stops { is_of_headline self.old.typing_mode ≡ true → IfErr result (λ s. s ≡ Stop.OutOfMemory) }
+    {
+        let stops = self.stop_on_rerun || matches!(access, OpaqueAccess::Always);
+        if stops && !is_headline(&self.typing_mode) {
+            return Err(Stop::ReadsMode(access));
+        }
+        let Ok(()) = self.record_access(access) else {
+            return Err(Stop::OutOfMemory);
+        };
+        Ok(())
+    }
+
+    /// Records a delayed fault.
+    fn meet_fault(&mut self, fault: DelayedFault) -> Result<(), Stop>
+        ensures unchanged { self.new ≡ record self.old { delayed_faults = self.new.delayed_faults } }
+        ensures goes_back { GoesBack self.old self.new }
+        ensures only_memory { IsOkUnless result Stop.OutOfMemory }
+    {
+        let Ok(()) = self.record_fault(fault) else {
+            return Err(Stop::OutOfMemory);
+        };
+        Ok(())
+    }
+}
