@@ -74,20 +74,25 @@ pub fn ask(alloc: Global, tables: &CheckedTables, question: Question) -> Result<
         context,
         environment: question.environment,
     };
-    match question.asked {
-        Asked::Term(alias) => asker.ask_term(alias),
-        Asked::DelayedFaults(alias) => asker.ask_delayed_faults(alias),
-        Asked::Equal(alias, ty) => asker.ask_equation(alias, ty),
-        Asked::Holds(ty) => asker.ask_trait(ty),
-        Asked::HoldsConst(ty) => asker.ask_const(ty, BoundConstness::Const),
-        Asked::HoldsMaybeConst(ty) => asker.ask_const(ty, BoundConstness::Maybe),
-        Asked::TwoArguments(ty) => asker.ask_two_arguments(ty),
-        Asked::Limit => Ok(Answer::Yes(None)),
-        Asked::ProjectionImpl => ask_projection_impl(alloc),
-    }
+    asker.answer(question.asked)
 }
 
 impl Asker<'_> {
+    /// The answer to what a row asks.
+    fn answer(&mut self, asked: Asked) -> Result<Answer, RowsFault> {
+        match asked {
+            Asked::Term(alias) => self.ask_term(alias),
+            Asked::DelayedFaults(alias) => self.ask_delayed_faults(alias),
+            Asked::Equal(alias, ty) => self.ask_equation(alias, ty),
+            Asked::Holds(ty) => self.ask_trait(ty),
+            Asked::HoldsConst(ty) => self.ask_const(ty, BoundConstness::Const),
+            Asked::HoldsMaybeConst(ty) => self.ask_const(ty, BoundConstness::Maybe),
+            Asked::TwoArguments(ty) => self.ask_two_arguments(ty),
+            Asked::Limit => Ok(Answer::Yes(None)),
+            Asked::ProjectionImpl => ask_projection_impl(self.alloc),
+        }
+    }
+
     /// What an alias stands for.
     fn ask_term(&mut self, asked: AskedAlias) -> Result<Answer, RowsFault> {
         let alias = asked.alias(self.alloc)?;

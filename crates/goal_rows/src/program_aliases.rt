@@ -8,14 +8,13 @@ use goal_terms::scalars::UintTy;
 use goal_terms::terms::{Term, Ty};
 use std::alloc::{AllocError, Global};
 
-/// The free aliases.
-pub fn free_rows(alloc: Global) -> Result<Vec<FreeRow>, AllocError> {
-    let mut rows = Vec::new(alloc);
+/// Adds the free aliases.
+pub fn push_free_rows(alloc: Global, rows: &mut Vec<FreeRow>) -> Result<(), AllocError> {
     rows.push(list_alias(alloc, FREE_A)?)?;
     rows.push(bounded_alias(alloc)?)?;
     rows.push(free_type(alloc, FREE_F, Ty::Uint(UintTy::U8)))?;
     rows.push(free_const(alloc, FREE_C))?;
-    Ok(rows)
+    Ok(())
 }
 
 /// A free type alias with no parameters.
@@ -56,35 +55,30 @@ fn bounded_alias(alloc: Global) -> Result<FreeRow, AllocError> {
 }
 
 /// The inherent impl `impl<T> Vec<T>`.
-pub fn inherent_impl_rows(alloc: Global) -> Result<Vec<InherentImplRow>, AllocError> {
-    let params = vec![in alloc; ParamKind::Ty]?;
-    let self_ty = struct_of(alloc, VEC, Ty::Param(0))?;
-    Ok(vec![in alloc;
-        InherentImplRow {
-            id: InherentImplId(0),
-            params,
-            self_ty
-        },
-    ]?)
+pub fn inherent_impl_row(alloc: Global) -> Result<InherentImplRow, AllocError> {
+    Ok(InherentImplRow {
+        id: InherentImplId(0),
+        params: vec![in alloc; ParamKind::Ty]?,
+        self_ty: struct_of(alloc, VEC, Ty::Param(0))?,
+    })
 }
 
 /// The inherent item `type I = (T, T)`.
-pub fn inherent_rows(alloc: Global) -> Result<Vec<InherentRow>, AllocError> {
+pub fn inherent_row(alloc: Global) -> Result<InherentRow, AllocError> {
     let pair = Ty::Tuple(vec![in alloc; Ty::Param(0), Ty::Param(0)]?);
-    let row = InherentRow {
+    Ok(InherentRow {
         id: INHERENT_I,
         impl_id: InherentImplId(0),
         is_const: false,
         own_params: Vec::new(alloc),
         predicates: Vec::new(alloc),
         value: Some(Term::Ty(pair)),
-    };
-    Ok(vec![in alloc; row]?)
+    })
 }
 
 /// The opaque type `Hid`, whose hidden type is `u8`.
-pub fn opaque_rows(alloc: Global) -> Result<Vec<OpaqueRow>, AllocError> {
-    let row = OpaqueRow {
+pub fn opaque_row(alloc: Global) -> OpaqueRow {
+    OpaqueRow {
         id: HID,
         params: Vec::new(alloc),
         is_local: false,
@@ -92,6 +86,5 @@ pub fn opaque_rows(alloc: Global) -> Result<Vec<OpaqueRow>, AllocError> {
         typeck_hidden: Ty::Uint(UintTy::U8),
         bounds: Vec::new(alloc),
         const_bounds: None,
-    };
-    Ok(vec![in alloc; row]?)
+    }
 }

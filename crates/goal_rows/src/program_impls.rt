@@ -72,16 +72,21 @@ const SOURCES: [(ImplId, ItemId, DefId); 9] = [
     (ImplId(9), A, DefId(5)),
 ];
 
-/// The impls.
-pub fn impl_rows(alloc: Global) -> Result<Vec<ImplRow>, AllocError> {
-    let mut rows = Vec::new(alloc);
+/// Adds the impls.
+pub fn push_impl_rows(alloc: Global, rows: &mut Vec<ImplRow>) -> Result<(), AllocError> {
+    push_generic_impls(alloc, rows)?;
+    push_plain_impls(alloc, rows)?;
+    rows.push(impl_for_str(alloc)?)?;
+    rows.push(const_impl_for_vec(alloc)?)?;
+    Ok(())
+}
+
+/// Adds the impls of `Trait` and of `Pair`.
+fn push_generic_impls(alloc: Global, rows: &mut Vec<ImplRow>) -> Result<(), AllocError> {
     rows.push(impl_of_trait_at_i32(alloc)?)?;
     rows.push(impl_of_trait(alloc)?)?;
     rows.push(impl_of_pair(alloc)?)?;
-    push_plain_impls(alloc, &mut rows)?;
-    rows.push(impl_for_str(alloc)?)?;
-    rows.push(const_impl_for_vec(alloc)?)?;
-    Ok(rows)
+    Ok(())
 }
 
 /// A positive impl that is not const and has no where clauses.
@@ -129,7 +134,7 @@ fn impl_of_pair(alloc: Global) -> Result<ImplRow, AllocError> {
     Ok(simple_impl(alloc, ImplId(2), PAIR, params, args))
 }
 
-/// The impls of `Tr` for structs with no parameters. That for `Y` is negative, that for `Q` const.
+/// Adds the impls of `Tr` for structs with no parameters. That for `Y` is negative, that for `Q` const.
 fn push_plain_impls(alloc: Global, rows: &mut Vec<ImplRow>) -> Result<(), AllocError> {
     for (id, self_type) in PLAIN_IMPLS {
         let args = self_arguments(alloc, self_type)?;
@@ -180,9 +185,8 @@ fn const_impl_for_vec(alloc: Global) -> Result<ImplRow, AllocError> {
     Ok(row)
 }
 
-/// The definitions.
-pub fn definition_rows(alloc: Global) -> Result<Vec<DefRow>, AllocError> {
-    let mut rows = Vec::new(alloc);
+/// Adds the definitions.
+pub fn push_definition_rows(alloc: Global, rows: &mut Vec<DefRow>) -> Result<(), AllocError> {
     for (id, container, item, value) in DEFINITIONS {
         rows.push(DefRow {
             id,
@@ -192,7 +196,7 @@ pub fn definition_rows(alloc: Global) -> Result<Vec<DefRow>, AllocError> {
             value: definition_value(alloc, value)?,
         })?;
     }
-    Ok(rows)
+    Ok(())
 }
 
 /// The own parameters of an item's definitions: `Assoc<V>` of `Trait<U>` has one.
@@ -218,13 +222,12 @@ fn definition_value(alloc: Global, value: Value) -> Result<DefValue, AllocError>
     Ok(DefValue::Term(Term::Ty(ty)))
 }
 
-/// Which definitions the impls use. None is a default.
-pub fn source_rows(alloc: Global) -> Result<Vec<SourceRow>, AllocError> {
-    let mut rows = Vec::new(alloc);
+/// Adds which definitions the impls use. None is a default.
+pub fn push_source_rows(rows: &mut Vec<SourceRow>) -> Result<(), AllocError> {
     for (impl_id, item_id, def_id) in SOURCES {
         rows.push(source_row(impl_id, item_id, def_id))?;
     }
-    Ok(rows)
+    Ok(())
 }
 
 /// That an impl uses a definition for an item, for good.

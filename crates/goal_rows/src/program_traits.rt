@@ -79,13 +79,12 @@ const LANG_ITEMS: [(LangItem, LangTarget); 18] = [
     (LangItem::DynMetadata, LangTarget::Adt(DYN_METADATA)),
 ];
 
-/// The traits. `Tr` alone allows const, and none is an alias.
-pub fn trait_rows(alloc: Global) -> Result<Vec<TraitRow>, AllocError> {
-    let mut rows = Vec::new(alloc);
+/// Adds the traits. `Tr` alone allows const, and none is an alias.
+pub fn push_trait_rows(alloc: Global, rows: &mut Vec<TraitRow>) -> Result<(), AllocError> {
     for (id, params) in TRAITS {
         rows.push(trait_row(alloc, id, params)?)?;
     }
-    Ok(rows)
+    Ok(())
 }
 
 fn trait_row(alloc: Global, id: TraitId, params: &[ParamKind]) -> Result<TraitRow, AllocError> {
@@ -111,9 +110,8 @@ fn items_of(alloc: Global, id: TraitId) -> Result<Vec<ItemId>, AllocError> {
     Ok(items)
 }
 
-/// The items. All are types, and none has where clauses of its own.
-pub fn item_rows(alloc: Global) -> Result<Vec<ItemRow>, AllocError> {
-    let mut rows = Vec::new(alloc);
+/// Adds the items. All are types, and none has where clauses of its own.
+pub fn push_item_rows(alloc: Global, rows: &mut Vec<ItemRow>) -> Result<(), AllocError> {
     for (id, trait_id, own_params) in ITEMS {
         rows.push(ItemRow {
             id,
@@ -125,7 +123,7 @@ pub fn item_rows(alloc: Global) -> Result<Vec<ItemRow>, AllocError> {
             const_bounds: None,
         })?;
     }
-    Ok(rows)
+    Ok(())
 }
 
 /// The bounds of an item: `B: Tr` of `Own::B`, and none of the others. Parameter 1 is the item.
@@ -137,11 +135,10 @@ fn bounds_of(alloc: Global, id: ItemId) -> Result<Vec<Clause>, AllocError> {
     Ok(bounds)
 }
 
-/// The lang items.
-pub fn lang_rows(alloc: Global) -> Result<Vec<LangRow>, AllocError> {
-    let mut rows = Vec::new(alloc);
+/// Adds the lang items.
+pub fn push_lang_rows(rows: &mut Vec<LangRow>) -> Result<(), AllocError> {
     for (item, target) in LANG_ITEMS {
         rows.push(LangRow { item, target })?;
     }
-    Ok(rows)
+    Ok(())
 }

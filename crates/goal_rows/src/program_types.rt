@@ -122,14 +122,12 @@ pub fn equation_clause(projection_term: AliasTerm, term: Term) -> Clause
     }
 }
 
-/// The structs of the program. None has a tail, a constraint, conditions or information on fields.
-pub fn adt_rows(alloc: Global) -> Result<Vec<AdtRow>, AllocError> {
-    let mut rows = Vec::new(alloc);
+/// Adds the structs of the program. None has a tail, a constraint, conditions or information on fields.
+pub fn push_adt_rows(alloc: Global, rows: &mut Vec<AdtRow>) -> Result<(), AllocError> {
     for id in GENERIC_ADTS {
         rows.push(struct_row(alloc, id, vec![in alloc; ParamKind::Ty]?))?;
     }
-    push_plain_adts(alloc, &mut rows)?;
-    Ok(rows)
+    push_plain_adts(alloc, rows)
 }
 
 fn push_plain_adts(alloc: Global, rows: &mut Vec<AdtRow>) -> Result<(), AllocError> {

@@ -1,17 +1,15 @@
 -- What a computing call answers to an accepted goal can be applied.
-use Rattle.std.proofs.Common.{◌≡◌, ℕ, Bool, true, false, ◌||◌, ◌&&◌, not, List, [], ◌∷◌, ◌++◌, length, map, ◌<◌, Option, Some, None, Result, Ok, Err, inl, inr, refl, sym, ap, ◌∙◌, subst}
-use Rattle.std.proofs.lemmas.Bool.{false≢true}
+use Rattle.std.proofs.Common.{◌≡◌, ℕ, Bool, true, false, ◌||◌, not, List, [], ◌∷◌, ◌++◌, length, ◌<◌, Option, Some, None, Result, Ok, Err, inl, inr, refl, sym, ap, ◌∙◌, subst}
 use Rattle.std.specs.Prelude.{IsTrue, is_some, IfOk}
 use Rattle.goal_terms.specs.Erased.{erased}
 use Rattle.goal_terms.specs.Kinds.{same_kind, kind_of, kind_of_alias}
-use Rattle.goal_terms.specs.NodeTests.{some_node, some_in_row, is_any_infer, is_unmade, is_made, general_variable_at}
+use Rattle.goal_terms.specs.NodeTests.{some_node, some_in_row, is_any_infer, is_unmade, general_variable_at}
 use Rattle.goal_terms.specs.Sorts.{sort_of, IsTerm, is_term_sort}
 use Rattle.goal_terms.specs.TableMeaning.{tree_at, HasTerm}
 use Rattle.goal_terms.specs.Tree.{Tree, Trees, node, alias, variable, none, more, node_of}
-use Rattle.goal_terms.specs.TreeOf.{tree_of_alias, tree_of_term, tree_of_arg, is_type_kind}
+use Rattle.goal_terms.specs.TreeOf.{tree_of_alias, tree_of_term, is_type_kind}
 use Rattle.goal_terms.specs.declared.answers.Certainty.TheVariants as certainty
 use Rattle.goal_terms.specs.declared.answers.Response.{Response}
-use Rattle.goal_terms.specs.declared.answers.VarKind.{VarKind}
 use Rattle.goal_terms.specs.declared.heads.Node.{Node}
 use Rattle.goal_terms.specs.declared.heads.Node.TheVariants as nodes
 use Rattle.goal_terms.specs.declared.heads.Variable.{Variable}
@@ -47,7 +45,7 @@ use Rattle.goal_kinds.specs.Settings.{is_headline}
 use Rattle.goal_kinds.specs.declared.faults.Fault.{Fault}
 use Rattle.goal_kinds.proofs.ClosedLevels.{closed-public_given}
 use Rattle.goal_kinds.proofs.PlacedLevels.{placed-given}
-use Rattle.goal_solver.specs.Answers.{IsQuiet, AnswersQuietly, ListsNothing, GivesTo, expected_variable, is_closed_alias, level_over, erased_args, IsAliasOpen}
+use Rattle.goal_solver.specs.Answers.{IsQuiet, AnswersQuietly, ListsNothing, GivesTo, expected_variable, is_closed_alias, erased_args, IsAliasOpen}
 use Rattle.goal_solver.specs.Binding.{IsApplicable, IsFreeFor, CanBeListed, bound_term}
 use Rattle.goal_solver.specs.FreeVariables.{general_variable, reaches, is_bound, stands_in_storage, is_taken, lacks_free_variable}
 use Rattle.goal_solver.specs.GoingBack.{restored}
@@ -92,21 +90,22 @@ accepted-env s q env ok = (
 )
 
 -- the term of an accepted goal's alias is of the alias's sort
-pub accepted-sort : (s : State) (m : TypingMode) (q : NormalizesTo) (env : List Clause) (u : Tree) → IsChecked s.tables → IsAcceptedNormalization s q env →
-    (level_over s m env).gives q.alias.kind (erased_args q.alias.args.items) u → sort_of (node_of u) ≡ sort_of (nodes.Alias q.alias.kind)
-accepted-sort s m q env u checked ok given =
-    placed-given s.tables m env s.remaining_depth q.alias u checked (accepted-alias s q env ok) (accepted-env s q env ok) given
+pub accepted-sort : (s : State) (m : TypingMode) (d : ℕ) (q : NormalizesTo) (env : List Clause) (u : Tree) → IsChecked s.tables → IsAcceptedNormalization s q env →
+    (level (setting_of s.tables m env) d).gives q.alias.kind (erased_args q.alias.args.items) u → sort_of (node_of u) ≡ sort_of (nodes.Alias q.alias.kind)
+accepted-sort s m d q env u checked ok given =
+    placed-given s.tables m env d q.alias u checked (accepted-alias s q env ok) (accepted-env s q env ok) given
 
 alias-is_term : (k : AliasTermKind) (b : Bool) → is_type_kind k ≡ b → (u : Tree) → sort_of (node_of u) ≡ sort_of (nodes.Alias k) → IsTerm u
 alias-is_term k true e u h = cc
 alias-is_term k false e u h = cc
 
 -- so nothing else than a type or a constant is its term, and where no type and no constant is, there is none
-pub accepted-open : (s : State) (m : TypingMode) (q : NormalizesTo) (env : List Clause) → IsChecked s.tables → IsAcceptedNormalization s q env →
-    IsAliasOpen (level_over s m env) q.alias.kind (erased_args q.alias.args.items) → IsAnswer (level_over s m env) (which_term q.alias.kind (erased_args q.alias.args.items)) maybe
+pub accepted-open : (s : State) (m : TypingMode) (d : ℕ) (q : NormalizesTo) (env : List Clause) → IsChecked s.tables → IsAcceptedNormalization s q env →
+    IsAliasOpen (level (setting_of s.tables m env) d) q.alias.kind (erased_args q.alias.args.items) →
+    IsAnswer (level (setting_of s.tables m env) d) (which_term q.alias.kind (erased_args q.alias.args.items)) maybe
 unfolding IsAnswer
-accepted-open s m q env checked ok undecided = (
-  (λ u given. undecided.0 u (alias-is_term q.alias.kind (is_type_kind q.alias.kind) refl u (accepted-sort s m q env u checked ok given)) given),
+accepted-open s m d q env checked ok undecided = (
+  (λ u given. undecided.0 u (alias-is_term q.alias.kind (is_type_kind q.alias.kind) refl u (accepted-sort s m d q env u checked ok given)) given),
   undecided.1,
 )
 
@@ -235,13 +234,13 @@ unfolding kinds_differ
 differ-at q v at h = subst (λ (x : Node). not (same_kind (kind_of_alias q.alias.kind) (kind_of x)) ≡ false) at h
 
 -- the variable that an accepted goal expects its term for may be given the term
-expected-free : (a z : State) (m : TypingMode) (q : NormalizesTo) (env : List Clause) (n : ℕ) (u : Term) (t : Tree) → z.inference ≡ a.inference → IsChecked a.tables →
-    is_closed_alias q.alias env ≡ true → IsAcceptedNormalization a q env → (level_over a m env).gives q.alias.kind (erased_args q.alias.args.items) t → expected_variable q.term ≡ Some n →
+expected-free : (a z : State) (m : TypingMode) (d : ℕ) (q : NormalizesTo) (env : List Clause) (n : ℕ) (u : Term) (t : Tree) → z.inference ≡ a.inference → IsChecked a.tables →
+    is_closed_alias q.alias env ≡ true → IsAcceptedNormalization a q env → (level (setting_of a.tables m env) d).gives q.alias.kind (erased_args q.alias.args.items) t → expected_variable q.term ≡ Some n →
     erased (tree_of_term u) ≡ t → (v : Variable) × (number_of v ≡ n) × IsFreeFor z (tree_of_term u) v
-expected-free a z m q env n u t e checked closed ok given expected same =
+expected-free a z m d q env n u t e checked closed ok given expected same =
     let asked : IsGeneral (node_of (tree_of_term q.term)) n = node-general (node_of (tree_of_term q.term)) n expected in
     let untaken : is_taken a asked.v q.alias env ≡ false = not_taken a (general_variable (node_of (tree_of_term q.term))) asked.v q.alias env (ap general_variable asked.at ∙ general-at asked) (ok ExpectedTermNotFree) in
-    let stays : bound_term z (tree_of_term u) ≡ t = ap (replaced (resolution z.terms z.inference)) same ∙ closed-replaced (resolution z.terms z.inference) t (closed-public_given a.tables m env a.remaining_depth q.alias t checked closed given) in (
+    let stays : bound_term z (tree_of_term u) ≡ t = ap (replaced (resolution z.terms z.inference)) same ∙ closed-replaced (resolution z.terms z.inference) t (closed-public_given a.tables m env d q.alias t checked closed given) in (
       asked.v,
       asked.number,
       record {
@@ -249,33 +248,33 @@ expected-free a z m q env n u t e checked closed ok given expected same =
         unbound = subst (λ (i : Inference). binding_of i asked.v ≡ None) (sym e) (taken-bound a asked.v q.alias env untaken);
         takes = subst (λ (x : Tree). IsTrue (takes asked.v (node_of x))) (sym stays)
             (takes-by asked.v q.alias.kind (is_type_kind q.alias.kind) (node_of t) refl (general-at asked) (differ-at q asked.v asked.at (no_fault-kinds a.tables lies.WrongArgumentKind q.alias q.term env (ok WrongArgumentKind)))
-            (accepted-sort a m q env t checked ok given));
-        absent = subst (λ (x : Tree). place_of asked.v x ≡ Nowhere) (sym stays) (closed-nowhere asked.v t (closed-public_given a.tables m env a.remaining_depth q.alias t checked closed given));
+            (accepted-sort a m d q env t checked ok given));
+        absent = subst (λ (x : Tree). place_of asked.v x ≡ Nowhere) (sym stays) (closed-nowhere asked.v t (closed-public_given a.tables m env d q.alias t checked closed given));
       },
     )
 
 -- an answer that gives the term of an accepted goal can be applied
-alias-applies : (a z : State) (m : TypingMode) (q : NormalizesTo) (env : List Clause) (n : ℕ) (r : Response) (t : Tree) → z ≡ restored a z → IsChecked a.tables → HasOneTypeAKey a.storage →
-    is_closed_alias q.alias env ≡ true → IsAcceptedNormalization a q env → IsQuiet (length (kinds_of a)) r → (level_over a m env).gives q.alias.kind (erased_args q.alias.args.items) t →
+alias-applies : (a z : State) (m : TypingMode) (d : ℕ) (q : NormalizesTo) (env : List Clause) (n : ℕ) (r : Response) (t : Tree) → z ≡ restored a z → IsChecked a.tables → HasOneTypeAKey a.storage →
+    is_closed_alias q.alias env ≡ true → IsAcceptedNormalization a q env → IsQuiet (length (kinds_of a)) r → (level (setting_of a.tables m env) d).gives q.alias.kind (erased_args q.alias.args.items) t →
     expected_variable q.term ≡ Some n → GivesTo n t r → IsApplicable z r
 unfolding CanBeListed
-alias-applies a z m q env n r t e checked keyed closed ok quiet given expected gives =
+alias-applies a z m d q env n r t e checked keyed closed ok quiet given expected gives =
     let inferred : z.inference ≡ a.inference = ap (λ (s : State). s.inference) e in
     let stored : z.storage ≡ a.storage = ap (λ (s : State). s.storage) e in
-    let free : (v : Variable) × (number_of v ≡ n) × IsFreeFor z (tree_of_term gives.0) v = expected-free a z m q env n gives.0 t inferred checked closed ok given expected gives.2 in
+    let free : (v : Variable) × (number_of v ≡ n) × IsFreeFor z (tree_of_term gives.0) v = expected-free a z m d q env n gives.0 t inferred checked closed ok given expected gives.2 in
     quiet-applies z r (subst HasOneTypeAKey (sym stored) keyed)
     (subst (λ (i : Inference). IsQuiet (length (kinds_in i.variables)) r) (sym inferred) quiet)
     (subst (CanBeListed (with_variables [] z)) (sym gives.1) (free.0, free.1, subst (λ (s : State). IsFreeFor s (tree_of_term gives.0) free.0) (sym (with_nothing z)) free.2, (λ w b. tt)))
 
 -- the answer that is given to what is found can be applied
-pub found-applies : (a z : State) (m : TypingMode) (q : NormalizesTo) (env : List Clause) (T : List Tree) (id : TermId) (n : ℕ) (r : Result Response Fault) → z ≡ restored a z → IsChecked a.tables →
+pub found-applies : (a z : State) (m : TypingMode) (d : ℕ) (q : NormalizesTo) (env : List Clause) (T : List Tree) (id : TermId) (n : ℕ) (r : Result Response Fault) → z ≡ restored a z → IsChecked a.tables →
     HasOneTypeAKey a.storage → is_closed_alias q.alias env ≡ true → IsAcceptedNormalization a q env → AnswersQuietly (length (kinds_of a)) r → id.0 < length T →
-    (level_over a m env).gives q.alias.kind (erased_args q.alias.args.items) (erased_at T id) → expected_variable q.term ≡ Some n →
+    (level (setting_of a.tables m env) d).gives q.alias.kind (erased_args q.alias.args.items) (erased_at T id) → expected_variable q.term ≡ Some n →
     (HasTerm T id → IfOk r (λ x. (x.certainty ≡ certainty.Yes) × GivesTo n (erased_at T id) x)) → IfOk r (IsApplicable z)
-found-applies a z m q env T id n (Ok x) e checked keyed closed ok quiet l given expected says =
-    alias-applies a z m q env n x (erased_at T id) e checked keyed closed ok quiet given expected
-    (says (l, subst IsTrue (ap is_term_sort (sort-erased (tree_at T id))) (alias-is_term q.alias.kind (is_type_kind q.alias.kind) refl (erased_at T id) (accepted-sort a m q env (erased_at T id) checked ok given)))).1
-found-applies a z m q env T id n (Err f) e checked keyed closed ok quiet l given expected says = tt
+found-applies a z m d q env T id n (Ok x) e checked keyed closed ok quiet l given expected says =
+    alias-applies a z m d q env n x (erased_at T id) e checked keyed closed ok quiet given expected
+    (says (l, subst IsTrue (ap is_term_sort (sort-erased (tree_at T id))) (alias-is_term q.alias.kind (is_type_kind q.alias.kind) refl (erased_at T id) (accepted-sort a m d q env (erased_at T id) checked ok given)))).1
+found-applies a z m d q env T id n (Err f) e checked keyed closed ok quiet l given expected says = tt
 
 -- an answer without values can be applied to what a call left as it was
 pub nothing-applies-after : (a z : State) (r : Response) → z ≡ restored a z → HasOneTypeAKey a.storage → IsQuiet (length (kinds_of a)) r → r.var_values.items ≡ [] → IsApplicable z r

@@ -64,18 +64,25 @@ found-sound L k ts e T id n expected l given r a = sound-by L k ts e T id n expe
 not_maybe : certainty.Yes ≡ certainty.Maybe → ⊥
 not_maybe e = absurd (cc)
 
-open-by : (L : Level) → IsConsistent L → (k : AliasTermKind) (ts : List Tree) (T : List Tree) (id : TermId) (n : ℕ) → id.0 < length T →
+open-by : (L : Level) (k : AliasTermKind) (ts : List Tree) → ((t u : Tree) → L.gives k ts t → L.gives k ts u → t ≡ u) → ((t : Tree) → L.gives k ts t → L.gives_refuted k ts → ⊥) →
+    (T : List Tree) (id : TermId) (n : ℕ) → id.0 < length T →
     L.gives k ts (erased_at T id) → (r : Result Response Fault) → AnswersFound T id n r → IsMaybe r → (b : Bool) → is_term (tree_at T id) ≡ b → IsAliasOpen L k ts
 unfolding is_term
-open-by L consistent k ts T id n l given (Ok x) a undecided true i = absurd (not_maybe (sym (a.0 (l, i)).0 ∙ undecided))
-open-by L consistent k ts T id n l given (Ok x) a undecided false i = (
+open-by L k ts one no_refuted T id n l given (Ok x) a undecided true i = absurd (not_maybe (sym (a.0 (l, i)).0 ∙ undecided))
+open-by L k ts one no_refuted T id n l given (Ok x) a undecided false i = (
   (λ t h g.
-      let same : t ≡ erased_at T id = consistent.one_term k ts t (erased_at T id) g given in
+      let same : t ≡ erased_at T id = one t (erased_at T id) g given in
       false≢true (sym i ∙ sym (ap is_term_sort (sort-erased (tree_at T id))) ∙ subst IsTerm same h)),
-  (λ g. consistent.no_term_refuted k ts (erased_at T id) given g),
+  (λ g. no_refuted (erased_at T id) given g),
 )
-open-by L consistent k ts T id n l given (Err f) a undecided b i = absurd undecided
+open-by L k ts one no_refuted T id n l given (Err f) a undecided b i = absurd undecided
+
+-- so it is where an alias has one term, and isn't refuted then
+pub found-open_of_one : (L : Level) (k : AliasTermKind) (ts : List Tree) → ((t u : Tree) → L.gives k ts t → L.gives k ts u → t ≡ u) →
+    ((t : Tree) → L.gives k ts t → L.gives_refuted k ts → ⊥) → (T : List Tree) (id : TermId) (n : ℕ) → id.0 < length T →
+    L.gives k ts (erased_at T id) → (r : Result Response Fault) → AnswersFound T id n r → IsMaybe r → IsAliasOpen L k ts
+found-open_of_one L k ts one no_refuted T id n l given r a undecided = open-by L k ts one no_refuted T id n l given r a undecided (is_term (tree_at T id)) refl
 
 pub found-open : (L : Level) → IsConsistent L → (k : AliasTermKind) (ts : List Tree) (T : List Tree) (id : TermId) (n : ℕ) → id.0 < length T →
     L.gives k ts (erased_at T id) → (r : Result Response Fault) → AnswersFound T id n r → IsMaybe r → IsAliasOpen L k ts
-found-open L consistent k ts T id n l given r a undecided = open-by L consistent k ts T id n l given r a undecided (is_term (tree_at T id)) refl
+found-open L consistent k ts = found-open_of_one L k ts (consistent.one_term k ts) (consistent.no_term_refuted k ts)

@@ -16,6 +16,7 @@ pub mod BeforeLemmas
 pub mod ProjectionArgLemmas
 pub mod MergingLemmas
 pub mod ProjectionTermLemmas
+pub mod RecordedLemmas
 pub mod ProjectionGroupLemmas
 pub mod ConstOutcomeLemmas
 pub mod HeadFormLemmas
@@ -51,3 +52,4 @@ pub mod SinceMarkLemmas
 pub mod RuleRunLemmas
 pub mod RuleEntryLemmas
 pub mod RuleAnswerLemmas
+mod AssembledLemmas

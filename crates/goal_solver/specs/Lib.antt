@@ -23,3 +23,4 @@ pub mod AddedGoals
 pub mod Responses
 pub mod HeadForms
 pub mod RunRules
+pub mod Assembled

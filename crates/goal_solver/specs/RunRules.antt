@@ -1,7 +1,7 @@
 -- Running a rule's list of entries: how far it was run, and what the answer says.
-use Rattle.std.specs.Prelude.{◌≡◌, ℕ, Bool, true, false, ◌||◌, List, [], ◌∷◌, ◌++◌, map, Option, Some, None, Result, Ok, Err, Vec}
+use Rattle.std.specs.Prelude.{◌≡◌, ◌⊎◌, ℕ, Bool, true, false, ◌||◌, List, [], ◌∷◌, ◌++◌, map, Option, Some, None, Result, Ok, Err, Vec}
 use Rattle.std.specs.Global.{Global}
-use Rattle.std.specs.List.{All, list_any}
+use Rattle.std.specs.List.{All, Contains, list_any}
 use Rattle.std.specs.Option.{option_map}
 use Rattle.goal_terms.specs.NodeTests.{is_any_infer, some_node}
 use Rattle.goal_terms.specs.Sorts.{IsTerm}
@@ -9,6 +9,7 @@ use Rattle.goal_terms.specs.Tree.{Tree}
 use Rattle.goal_terms.specs.TreeOf.{tree_of_term}
 use Rattle.goal_terms.specs.declared.answers.Certainty.{Certainty}
 use Rattle.goal_terms.specs.declared.answers.Certainty.TheVariants as certainty
+use Rattle.goal_terms.specs.declared.answers.DelayedFault.{DelayedFault}
 use Rattle.goal_terms.specs.declared.answers.Response.{Response}
 use Rattle.goal_terms.specs.declared.heads.Node.{Node}
 use Rattle.goal_terms.specs.declared.modes.TypingMode.{TypingMode}
@@ -128,6 +129,31 @@ IsRuleAnswer S L r (Err f) = Unit {0}
 abbrev pub IsRuleOpen : Setting → Level → Rule → Type 0
 IsRuleOpen S L r = ((t : Tree) → IsTerm t → RuleGives S L r t → ⊥) × (has_term r.entries.items ≡ false → RuleHolds S L r → ⊥) × (RuleRefuted S L r → ⊥)
 
+-- an access or a delayed fault that an entry says to record is among those of a context
+abbrev pub IsRecorded : State → RuleEntry → Type 0
+IsRecorded s (entry.Access a) = Contains s.accesses a
+IsRecorded s (entry.DelayedFault f) = Contains s.delayed_faults f
+IsRecorded s (entry.Arguments a) = Unit {0}
+IsRecorded s (entry.Equation ts us) = Unit {0}
+IsRecorded s (entry.Clause g k) = Unit {0}
+IsRecorded s (entry.RowClauses c n) = Unit {0}
+IsRecorded s (entry.Term v e) = Unit {0}
+IsRecorded s entry.Evaluation = Unit {0}
+IsRecorded s entry.Undecided = Unit {0}
+IsRecorded s entry.Refused = Unit {0}
+
+-- all that a list of entries says to record is recorded
+abbrev pub AreRecorded : State → List RuleEntry → Type 0
+AreRecorded s es = All (IsRecorded s) es
+
+-- a yes says so
+abbrev pub IsRecordedAnswer : State → List RuleEntry → Response → Type 0
+IsRecordedAnswer s es x = x.certainty ≡ certainty.Yes → AreRecorded s es
+
+-- each delayed fault that has come since is one of the list's
+abbrev pub AreListed : List RuleEntry → State → State → Type 0
+AreListed es before after = (f : DelayedFault) → Contains after.delayed_faults f → Contains before.delayed_faults f ⊎ Contains es (entry.DelayedFault f)
+
 -- the response of a candidate
 abbrev pub response_of : Result Candidate Fault → Result Response Fault
 response_of (Ok c) = Ok c.result
@@ -197,6 +223,12 @@ Leads S L p e rest all q reached.Undecided = IsRunning S L p (e ∷ rest) all �
 -- whatever comes before and behind it
 abbrev pub LeadsOn : Setting → Level → Progress → RuleEntry → Progress → Reached → Type 0
 LeadsOn S L p e q r = (rest all : List RuleEntry) → Leads S L p e rest all q r
+
+-- all entries hold
+abbrev pub IsHolding : RuleOutcome → Type 0
+IsHolding (ruled.Holds o) = Unit {0}
+IsHolding ruled.Refuted = ⊥
+IsHolding ruled.Undecided = ⊥
 
 -- what a list of entries comes to
 abbrev pub SaysRule : Setting → Level → List RuleEntry → List Tree → RuleOutcome → Type 0

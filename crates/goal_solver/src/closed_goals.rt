@@ -6,7 +6,8 @@ ghost use Rattle.goal_solver.specs.Answers.{is_closed_alias};
 
 use goal_tables::predicate_terms::{PredicateTerms, some_in_env};
 use goal_terms::node_tests::NodeTest;
-use goal_terms::predicates::{Goal, NormalizesTo};
+use goal_terms::predicates::{Clause, Goal};
+use goal_terms::terms::AliasTerm;
 use goal_terms::view::TermRef;
 
 /// Whether an inference variable stands in a goal or in its environment. Region variables do not count.
@@ -17,10 +18,9 @@ pub(crate) fn has_variable<P: PredicateTerms>(goal: &Goal<P>) -> bool
         || some_in_env(NodeTest::IsAnyInfer, &goal.param_env)
 }
 
-/// Whether neither the alias nor the environment of a goal holds an inference variable.
-pub(crate) fn is_closed_alias(goal: &Goal<NormalizesTo>) -> bool
-    ensures { result ≡ is_closed_alias goal.now.predicate.alias goal.now.param_env.items }
+/// Whether neither an alias nor an environment holds an inference variable.
+pub(crate) fn is_closed_alias(alias: &AliasTerm, environment: &[Clause]) -> bool
+    ensures { result ≡ is_closed_alias alias.now environment.now }
 {
-    TermRef::Alias(&goal.predicate.alias).is_closed()
-        && !some_in_env(NodeTest::IsAnyInfer, &goal.param_env)
+    TermRef::Alias(alias).is_closed() && !some_in_env(NodeTest::IsAnyInfer, environment)
 }

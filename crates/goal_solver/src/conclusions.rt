@@ -1,5 +1,6 @@
 //! What the calls answer where an evaluation is stopped or a goal refuted.
 ghost use Rattle.std.specs.Prelude.{◌≡◌, ◌≢◌, ◌⊎◌, true, false, [], Err, IfOk, IfErr};
+ghost use Rattle.goal_terms.specs.declared.answers.Certainty.TheVariants as certainty;
 ghost use Rattle.goal_terms.specs.declared.modes.TypingMode.{TypingMode as modes};
 ghost use Rattle.goal_kinds.specs.Settings.{is_headline};
 ghost use Rattle.goal_solver.specs.Answers.{IsOwed, IsFaultOf, AnswersQuietly, ListsNothing, IsConclusion};
@@ -21,11 +22,13 @@ impl EvalCtxt<'_> {
     /// are as before.
     pub(crate) fn stopped(&mut self, stop: Stop) -> Result<Response, Fault>
         ensures owed { (m : modes) → IsOwed self.new m → (is_headline self.old.typing_mode ≡ true → stop ≡ Stop.OutOfMemory) → result ≡ Err Fault.OutOfMemory }
+        ensures faults { self.new.delayed_faults ≡ self.old.delayed_faults }
         ensures unchanged { self.new ≡ restored self.old self.new }
         ensures goes_back { GoesBack self.old self.new }
         ensures fault { IsFaultOf self.old self.new result }
         ensures quiet { AnswersQuietly (length (kinds_of self.old)) result }
         ensures nothing { ListsNothing result }
+        ensures unsure { IfOk result (λ r. r.certainty ≢ certainty.Yes) }
     {
         let certainty = self.undecided_by(stop)?;
         Ok(self.respond(certainty, None))
@@ -61,6 +64,7 @@ impl EvalCtxt<'_> {
         ensures fault { IsFaultOf self.now self.now result }
         ensures quiet { AnswersQuietly (length (kinds_of self.now)) result }
         ensures nothing { ListsNothing result }
+        ensures unsure { IfOk result (λ r. r.certainty ≢ certainty.Yes) }
     {
         match self.typing_mode {
             TypingMode::Coherence => Ok(self.respond(Certainty::Maybe, None)),

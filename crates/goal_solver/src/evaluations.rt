@@ -4,6 +4,8 @@ ghost use Rattle.goal_terms.specs.Erased.{erased};
 ghost use Rattle.goal_terms.specs.TableMeaning.{Keeps};
 ghost use Rattle.goal_terms.specs.TreeOf.{tree_of_alias, tree_of_term};
 ghost use Rattle.goal_terms.specs.declared.modes.TypingMode.{TypingMode};
+ghost use Rattle.goal_kinds.specs.Answers.{setting_of};
+ghost use Rattle.goal_kinds.specs.Levels.{level};
 ghost use Rattle.goal_kinds.specs.Settings.{is_headline};
 ghost use Rattle.goal_solver.specs.Answers.{level_over, erased_args};
 ghost use Rattle.goal_kinds.specs.Interned.{IsIn, erased_at};
@@ -17,11 +19,13 @@ use crate::outcomes::{Found, Outcome, Setting, Stop, TraitOutcome};
 use crate::premises::premise_outcome;
 use crate::trait_candidates::trait_outcome;
 use goal_kinds::interned::{InternedPredicate, InternedPremise};
+use goal_terms::ids::TraitId;
 use goal_terms::predicates::{
-    Goal, HostEffectPredicate, NormalizesTo, ProjectionPredicate, TraitPredicate,
+    Clause, Goal, HostEffectPredicate, NormalizesTo, ProjectionPredicate, TraitPredicate,
 };
 use goal_terms::term_nodes::TermId;
 use goal_terms::term_table::TermTable;
+use goal_terms::terms::GenericArg;
 
 impl EvalCtxt<'_> {
     /// What a trait goal comes to at the remaining depth. Nothing changes but that there may be more terms.
@@ -35,15 +39,31 @@ impl EvalCtxt<'_> {
         ensures stops { is_headline self.old.typing_mode ≡ true → IfErr result (λ s. s ≡ Stop.OutOfMemory) }
     {
         let trait_ref = &goal.predicate.trait_ref;
+        let depth = self.remaining_depth;
+        self.trait_outcome_at(trait_ref.def_id, &trait_ref.args, &goal.param_env, depth)
+    }
+
+    /// What a trait goal comes to at a depth. Nothing changes but that there may be more terms.
+    pub(crate) fn trait_outcome_at(
+        &mut self,
+        trait_id: TraitId,
+        args: &[GenericArg],
+        environment: &[Clause],
+        depth: u32,
+    ) -> Result<TraitOutcome, Stop>
+        ensures kept { Keeps self.old.terms self.new.terms }
+        ensures unchanged { self.new ≡ record self.old { terms = self.new.terms } }
+        ensures says { (m : TypingMode) → StandsFor self.old.typing_mode m → IfOk result (SaysThrough (λ c. (level (setting_of self.old.tables m environment.now) depth).through c trait_id (erased_args args.now)) ((level (setting_of self.old.tables m environment.now) depth).trait_refuted trait_id (erased_args args.now))) }
+        ensures stops { is_headline self.old.typing_mode ≡ true → IfErr result (λ s. s ≡ Stop.OutOfMemory) }
+    {
         let alloc = self.allocator();
-        let ids = intern_args(alloc, &mut self.terms, &trait_ref.args)?;
+        let ids = intern_args(alloc, &mut self.terms, args)?;
         let setting = Setting {
             rows: self.tables.rows(),
             typing_mode: &self.typing_mode,
-            environment: &goal.param_env,
+            environment,
         };
-        let depth = self.remaining_depth;
-        trait_outcome(&setting, &mut self.terms, trait_ref.def_id, &ids, depth)
+        trait_outcome(&setting, &mut self.terms, trait_id, &ids, depth)
     }
 
     /// What a const trait goal comes to at the remaining depth. Nothing changes but that there may be more

@@ -6,6 +6,8 @@ pub mod added_goals;
 pub mod aliases;
 mod apply;
 mod asked_args;
+mod assemble;
+mod class_terms;
 mod closed_goals;
 mod combined;
 mod conclusions;

@@ -51,7 +51,7 @@ impl EvalCtxt<'_> {
         if self.remaining_depth() == 0 {
             return Ok(self.respond(Certainty::Maybe, None));
         }
-        if !is_closed_alias(goal) {
+        if !is_closed_alias(&goal.predicate.alias, &goal.param_env) {
             return Ok(self.respond(Certainty::Maybe, None));
         }
         match self.alias_outcome(goal) {

@@ -37,12 +37,12 @@ use std::alloc::Global;
 /// A projection as it was given, whose trait goal holds through a class: the alias and its arguments, its
 /// item, and how many of its arguments are the trait's.
 #[derive(Clone, Copy)]
-struct Given<'e> {
-    kind: AliasTermKind,
-    item: &'e ItemRow,
-    trait_params: usize,
-    class: TraitGoalProvenVia,
-    args: &'e [TermId],
+pub(crate) struct Given<'e> {
+    pub(crate) kind: AliasTermKind,
+    pub(crate) item: &'e ItemRow,
+    pub(crate) trait_params: usize,
+    pub(crate) class: TraitGoalProvenVia,
+    pub(crate) args: &'e [TermId],
 }
 
 /// What lists are made with.
@@ -115,7 +115,7 @@ fn item_term(
 
 /// The term of a projection whose trait goal holds.
 #[cycle(closed)]
-fn through_term(
+pub(crate) fn through_term(
     setting: &Setting<'_>,
     terms: &mut TermTable,
     given: &Given<'_>,

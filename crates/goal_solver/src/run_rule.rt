@@ -1,12 +1,14 @@
 //! Running rules.
-ghost use Rattle.std.specs.Prelude.{◌≡◌, true, length, IfOk, IfErr, OnOk, OnErr, IsOkUnless};
+ghost use Rattle.std.specs.Prelude.{◌≡◌, ◌⊎◌, ◌∷◌, [], true, length, IfOk, IfErr, OnOk, IsOkUnless};
+ghost use Rattle.std.specs.List.{Contains};
 ghost use Rattle.goal_terms.specs.TableMeaning.{Keeps};
+ghost use Rattle.goal_terms.specs.declared.answers.DelayedFault.{DelayedFault as Delayed};
 ghost use Rattle.goal_terms.specs.declared.modes.TypingMode.{TypingMode};
 ghost use Rattle.goal_kinds.specs.Settings.{is_headline as is_of_headline};
 ghost use Rattle.goal_solver.specs.Answers.{IsOwed, level_over, IsMaybe, AnswersQuietly, IsFaultOf};
 ghost use Rattle.goal_solver.specs.GoingBack.{GoesBack, restored};
 ghost use Rattle.goal_solver.specs.Outcomes.{StandsFor};
-ghost use Rattle.goal_solver.specs.RunRules.{setting_over, asked_of, IsAskedOnce, IsClosedRule, IsRuleAnswer, IsRuleOpen, response_of, RunIn, progress_at, LeadsOn, SaysRule, RuledIn};
+ghost use Rattle.goal_solver.specs.RunRules.{setting_over, asked_of, IsAskedOnce, IsClosedRule, IsRuleAnswer, IsRuleOpen, IsRecorded, AreRecorded, IsRecordedAnswer, AreListed, IsHolding, response_of, RunIn, progress_at, LeadsOn, SaysRule, RuledIn};
 ghost use Rattle.goal_solver.specs.State.{kinds_of};
 
 use crate::context::EvalCtxt;
@@ -28,11 +30,14 @@ impl EvalCtxt<'_> {
     /// a closed list and environment in a headline mode, where one term at most is asked for, for a general
     /// variable: there is neither. A list or an environment with inference variables, expected terms aside, is
     /// `Maybe`, and a refuted one in coherence. An access or a delayed fault is recorded when its entry is
-    /// reached: nothing before it is refuted, and all arguments that were named before it are known. Inference
-    /// state, added goals and storage are as before.
+    /// reached: nothing before it is refuted, and all arguments that were named before it are known. So after
+    /// `Yes` all that the list says to record is recorded, and no delayed fault comes that it doesn't name.
+    /// Inference state, added goals and storage are as before.
     pub fn run_rule(&mut self, environment: &[Clause], rule: &Rule) -> Result<Candidate, Fault>
         ensures sound { (m : TypingMode) → IsOwed self.new m → IsRuleAnswer (setting_over self.old m environment.now) (level_over self.old m environment.now) rule.now (response_of result) }
         ensures decided { (m : TypingMode) → IsOwed self.new m → IsClosedRule rule.now.entries.items environment.now → IsAskedOnce (asked_of rule.now.entries.items) → IsMaybe (response_of result) → IsRuleOpen (setting_over self.old m environment.now) (level_over self.old m environment.now) rule.now }
+        ensures recorded { IfOk (response_of result) (IsRecordedAnswer self.new rule.now.entries.items) }
+        ensures listed { AreListed rule.now.entries.items self.old self.new }
         ensures source { IfOk result (λ c. c.source ≡ rule.now.source) }
         ensures unchanged { self.new ≡ restored self.old self.new }
         ensures goes_back { GoesBack self.old self.new }
@@ -50,6 +55,8 @@ impl EvalCtxt<'_> {
     fn rule_response(&mut self, environment: &[Clause], rule: &Rule) -> Result<Response, Fault>
         ensures sound { (m : TypingMode) → IsOwed self.new m → IsRuleAnswer (setting_over self.old m environment.now) (level_over self.old m environment.now) rule.now result }
         ensures decided { (m : TypingMode) → IsOwed self.new m → IsClosedRule rule.now.entries.items environment.now → IsAskedOnce (asked_of rule.now.entries.items) → IsMaybe result → IsRuleOpen (setting_over self.old m environment.now) (level_over self.old m environment.now) rule.now }
+        ensures recorded { IfOk result (IsRecordedAnswer self.new rule.now.entries.items) }
+        ensures listed { AreListed rule.now.entries.items self.old self.new }
         ensures unchanged { self.new ≡ restored self.old self.new }
         ensures goes_back { GoesBack self.old self.new }
         ensures fault { IsFaultOf self.old self.new result }
@@ -75,6 +82,8 @@ impl EvalCtxt<'_> {
         entries: &[RuleEntry],
     ) -> Result<RuleOutcome, Stop>
         ensures within { IfOk result (RuledIn self.new.terms) }
+        ensures recorded { IfOk result (λ o. IsHolding o → AreRecorded self.new entries.now) }
+        ensures listed { AreListed entries.now self.old self.new }
         ensures unchanged { self.new ≡ restored self.old self.new }
         ensures goes_back { GoesBack self.old self.new }
         ensures stops { is_of_headline self.old.typing_mode ≡ true → IfErr result (λ s. s ≡ Stop.OutOfMemory) }
@@ -117,6 +126,8 @@ impl EvalCtxt<'_> {
 
     /// Records what an entry says to record.
     fn record_entry(&mut self, entry: &RuleEntry) -> Result<(), Stop>
+        ensures recorded { OnOk result (IsRecorded self.new entry.now) }
+        ensures listed { AreListed (entry.now ∷ []) self.old self.new }
         ensures unchanged { self.new ≡ record self.old { accesses = self.new.accesses; delayed_faults = self.new.delayed_faults } }
         ensures goes_back { GoesBack self.old self.new }
         ensures stops { is_of_headline self.old.typing_mode ≡ true → IfErr result (λ s. s ≡ Stop.OutOfMemory) }
@@ -131,6 +142,7 @@ impl EvalCtxt<'_> {
     /// Records that a rule reads the mode. Where the context stops then, or the rule has no answer without a
     /// mode, the run is stopped, but not in a headline mode.
     fn read_mode(&mut self, access: OpaqueAccess) -> Result<(), Stop>
+        ensures recorded { OnOk result (Contains self.new.accesses access) }
         ensures unchanged { self.new ≡ record self.old { accesses = self.new.accesses } }
         ensures goes_back { GoesBack self.old self.new }
         ensures stops { is_of_headline self.old.typing_mode ≡ true → IfErr result (λ s. s ≡ Stop.OutOfMemory) }
@@ -147,6 +159,8 @@ impl EvalCtxt<'_> {
 
     /// Records a delayed fault.
     fn meet_fault(&mut self, fault: DelayedFault) -> Result<(), Stop>
+        ensures recorded { OnOk result (Contains self.new.delayed_faults fault) }
+        ensures listed { (f : Delayed) → Contains self.new.delayed_faults f → Contains self.old.delayed_faults f ⊎ (fault ≡ f) }
         ensures unchanged { self.new ≡ record self.old { delayed_faults = self.new.delayed_faults } }
         ensures goes_back { GoesBack self.old self.new }
         ensures only_memory { IsOkUnless result Stop.OutOfMemory }

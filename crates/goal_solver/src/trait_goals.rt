@@ -14,7 +14,9 @@ use crate::context::EvalCtxt;
 use crate::faults::Fault;
 use crate::outcomes::TraitOutcome;
 use goal_terms::answers::{Certainty, Response};
-use goal_terms::predicates::{Goal, TraitPredicate};
+use goal_terms::ids::TraitId;
+use goal_terms::predicates::{Clause, Goal, TraitPredicate};
+use goal_terms::terms::GenericArg;
 
 #[tactic(auto, using(crate::proofs::AnswerLemmas::answering))]
 impl EvalCtxt<'_> {
@@ -40,7 +42,30 @@ impl EvalCtxt<'_> {
         if has_variable(goal) {
             return Ok(self.respond(Certainty::Maybe, None));
         }
-        match self.trait_goal_outcome(goal) {
+        let trait_ref = &goal.predicate.trait_ref;
+        let depth = self.remaining_depth;
+        self.answer_trait(trait_ref.def_id, &trait_ref.args, &goal.param_env, depth)
+    }
+
+    /// What is answered to a trait goal at a depth, as `compute_trait_goal` does at the remaining one. Inference
+    /// state, added goals and storage are as before; the answer can be applied.
+    pub(crate) fn answer_trait(
+        &mut self,
+        trait_id: TraitId,
+        args: &[GenericArg],
+        environment: &[Clause],
+        depth: u32,
+    ) -> Result<Response, Fault>
+        ensures sound { (m : TypingMode) → IsOwed self.new m → IsTraitAnswer (level (setting_of self.old.tables m environment.now) depth) trait_id (erased_args args.now) result }
+        ensures decided { (m : TypingMode) → IsOwed self.new m → IsMaybe result → IsOpen (level (setting_of self.old.tables m environment.now) depth) trait_id (erased_args args.now) }
+        ensures unchanged { self.new ≡ restored self.old self.new }
+        ensures goes_back { GoesBack self.old self.new }
+        ensures fault { IsFaultOf self.old self.new result }
+        ensures quiet { AnswersQuietly (length (kinds_of self.old)) result }
+        ensures applies { IfOk result (IsApplicable self.new) }
+    {
+        self.is_well_formed();
+        match self.trait_outcome_at(trait_id, args, environment, depth) {
             Ok(TraitOutcome::Holds(class)) => Ok(self.respond(Certainty::Yes, Some(class))),
             Ok(TraitOutcome::Refuted) => self.refuted(),
             Ok(TraitOutcome::Undecided) => Ok(self.respond(Certainty::Maybe, None)),

@@ -6,7 +6,7 @@ use crate::program_tables::whole_tables;
 use crate::program_types::{one_type, plain_type, struct_of, struct_row, trait_clause, trait_ref};
 use crate::tests::changes::{impl_for_p, push_impl_of_tr, tr_ref};
 use crate::tests::verdicts::assert_accepted;
-use goal_tables::rows::{ConstBounds, FreeRow, ImplRow, OpaqueRow};
+use goal_tables::rows::{AdtRow, ConstBounds, FreeRow, ImplRow, OpaqueRow};
 use goal_terms::answers::ParamKind;
 use goal_terms::ids::{AdtId, FreeId, ImplId, OpaqueId};
 use goal_terms::terms::{AliasTerm, AliasTermKind, GenericArg, Ty};
@@ -22,12 +22,12 @@ fn free(id: FreeId, args: Vec<GenericArg>) -> Ty {
 }
 
 /// `type R = R`.
-fn own_alias(alloc: Global) -> FreeRow {
+pub fn own_alias(alloc: Global) -> FreeRow {
     free_type(alloc, FreeId(4), free(FreeId(4), Vec::new(alloc)))
 }
 
 /// `type Gr<T> = Gr<Vec<T>>`.
-fn growing_alias(alloc: Global) -> Result<FreeRow, AllocError> {
+pub fn growing_alias(alloc: Global) -> Result<FreeRow, AllocError> {
     let args = one_type(alloc, struct_of(alloc, VEC, Ty::Param(0))?)?;
     let mut row = free_type(alloc, FreeId(5), free(FreeId(5), args));
     row.params.push(ParamKind::Ty)?;
@@ -44,14 +44,19 @@ fn aliases_of_themselves(rt: HostRuntime) -> Result<(), Fail> {
     Ok(())
 }
 
+/// A struct whose tail and constraint are itself.
+pub fn endless_struct(alloc: Global) -> AdtRow {
+    let mut row = struct_row(alloc, AdtId(9), Vec::new(alloc));
+    row.tail = Some(plain_type(alloc, AdtId(9)));
+    row.sized_constraint = Some(plain_type(alloc, AdtId(9)));
+    row
+}
+
 #[test]
 fn a_struct_that_ends_in_itself(rt: HostRuntime) -> Result<(), Fail> {
     let alloc = rt.alloc();
     let mut tables = whole_tables(alloc)?;
-    let mut row = struct_row(alloc, AdtId(9), Vec::new(alloc));
-    row.tail = Some(plain_type(alloc, AdtId(9)));
-    row.sized_constraint = Some(plain_type(alloc, AdtId(9)));
-    tables.adts.push(row)?;
+    tables.adts.push(endless_struct(alloc))?;
     assert_accepted(&rt, "its own tail", tables);
     Ok(())
 }

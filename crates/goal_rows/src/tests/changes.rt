@@ -2,7 +2,9 @@
 use crate::names::{A, OWN, P, TR};
 use crate::program_impls::{simple_impl, source_row};
 use crate::program_types::{plain_type, self_arguments, trait_ref};
-use goal_tables::rows::{Container, DefRow, DefValue, ImplRow, InherentRow, Tables, TraitRow};
+use goal_tables::rows::{
+    Container, DefRow, DefValue, ImplRow, InherentRow, Source, Tables, TraitRow,
+};
 use goal_terms::answers::ParamKind;
 use goal_terms::ids::{DefId, ImplId, InherentId, InherentImplId, ItemId, TraitId};
 use goal_terms::predicates::TraitRef;
@@ -35,6 +37,15 @@ pub fn push_impl_of_tr(tables: &mut Tables, row: ImplRow) -> Result<(), AllocErr
     tables.impls.push(row)?;
     tables.sources.push(source_row(id, A, DefId(6)))?;
     Ok(())
+}
+
+/// Changes the source of an impl.
+pub fn set_source(tables: &mut Tables, impl_id: ImplId, source: Source) {
+    for row in tables.sources.as_mut_slice() {
+        if row.impl_id == impl_id {
+            row.source = source;
+        }
+    }
 }
 
 /// Definition 7, of an item, in a container. It is missing.

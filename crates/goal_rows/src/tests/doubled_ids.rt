@@ -1,6 +1,6 @@
 //! Two rows of one id, in each list of rows that have ids.
 use crate::names::{A, FOO, FOO_ASSOC, TR, X};
-use crate::program_aliases::{free_type, inherent_impl_rows, inherent_rows, opaque_rows};
+use crate::program_aliases::{free_type, inherent_impl_row, inherent_row, opaque_row};
 use crate::program_impls::simple_impl;
 use crate::program_tables::whole_tables;
 use crate::program_types::{one_type, struct_row};
@@ -65,11 +65,9 @@ fn double_an_id(alloc: Global, tables: &mut Tables, list: List) -> Result<(), Al
 
 fn double_an_alias(alloc: Global, tables: &mut Tables, list: List) -> Result<(), AllocError> {
     match list {
-        List::InherentImpls => tables
-            .inherent_impls
-            .append(&mut inherent_impl_rows(alloc)?)?,
-        List::InherentItems => tables.inherent_items.append(&mut inherent_rows(alloc)?)?,
-        _ => tables.opaque_types.append(&mut opaque_rows(alloc)?)?,
+        List::InherentImpls => tables.inherent_impls.push(inherent_impl_row(alloc)?)?,
+        List::InherentItems => tables.inherent_items.push(inherent_row(alloc)?)?,
+        _ => tables.opaque_types.push(opaque_row(alloc))?,
     }
     Ok(())
 }

@@ -2,7 +2,7 @@
 use crate::names::{A, FOO, FOO_ASSOC, PAIR, PAIR_A, TR, TRAIT, TRAIT_ASSOC};
 use crate::program_impls::source_row;
 use crate::program_tables::whole_tables;
-use crate::tests::changes::missing_definition;
+use crate::tests::changes::{missing_definition, set_source};
 use crate::tests::verdicts::{assert_accepted, assert_refused};
 use goal_tables::faults::TableFault;
 use goal_tables::rows::{Container, DefRow, DefValue, ItemRow, Source, Tables};
@@ -15,11 +15,7 @@ use std::test::Fail;
 /// The whole tables in which the source of an impl is another.
 fn with_source(alloc: Global, impl_id: ImplId, source: Source) -> Result<Tables, AllocError> {
     let mut tables = whole_tables(alloc)?;
-    for row in tables.sources.as_mut_slice() {
-        if row.impl_id == impl_id {
-            row.source = source;
-        }
-    }
+    set_source(&mut tables, impl_id, source);
     Ok(tables)
 }
 

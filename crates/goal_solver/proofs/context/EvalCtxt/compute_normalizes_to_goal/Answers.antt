@@ -13,7 +13,7 @@ use Rattle.std.proofs.Common.{refl}
 use Rattle.goal_terms.specs.declared.modes.TypingMode.{TypingMode}
 use Rattle.goal_kinds.specs.Answers.{IsAnswer}
 use Rattle.goal_kinds.specs.Settings.{is_headline}
-use Rattle.goal_solver.specs.Answers.{AnswersQuietly}
+use Rattle.goal_solver.specs.Answers.{AnswersQuietly, is_closed_alias}
 use Rattle.goal_solver.specs.Outcomes.{StandsFor}
 use Rattle.goal_solver.specs.State.{State, kinds_of}
 use Rattle.goal_solver.proofs.ApplicableLemmas.{nothing-applies, nothing-applies-later, nothing-listed, accepted-open, found-applies, grown-restored, stands-for-some}
@@ -92,12 +92,12 @@ returns-in-Err-clause-applies c = λ ok.
 
 pub returns-then-remaining_depth-eq0-clause-whole : goal.returns-then-remaining_depth-eq0-clause-whole
 returns-then-remaining_depth-eq0-clause-whole c = λ m n owed ok closed expected undecided.
-    accepted-open c.args.self.now m c.args.goal.now.predicate c.args.goal.now.param_env.items c.is_well_formed.ensures.tables ok
+    accepted-open c.args.self.now m c.args.self.now.remaining_depth c.args.goal.now.predicate c.args.goal.now.param_env.items c.is_well_formed.ensures.tables ok
     (returns-then-remaining_depth-eq0-clause-decided c m n owed closed expected undecided)
 
 pub returns-in-Ok-Is-clause-whole : goal.returns-in-Ok-Is-clause-whole
 returns-in-Ok-Is-clause-whole c = λ m n owed ok closed expected undecided.
-    accepted-open c.args.self.now m c.args.goal.now.predicate c.args.goal.now.param_env.items c.is_well_formed.ensures.tables ok
+    accepted-open c.args.self.now m c.args.self.now.remaining_depth c.args.goal.now.predicate c.args.goal.now.param_env.items c.is_well_formed.ensures.tables ok
     (returns-in-Ok-Is-clause-decided c m n owed closed expected undecided)
 
 pub returns-in-Ok-Undecided-clause-whole : goal.returns-in-Ok-Undecided-clause-whole
@@ -109,9 +109,9 @@ returns-in-Ok-Undecided-clause-whole c = λ m n owed ok closed expected undecide
 pub returns-in-Ok-Is-clause-applies : goal.returns-in-Ok-Is-clause-applies
 returns-in-Ok-Is-clause-applies c = λ ok.
     let some : (m : TypingMode) × StandsFor c.args.self.now.typing_mode m = stands-for-some c.args.self.now.typing_mode (is_headline c.args.self.now.typing_mode) refl in
-    found-applies c.args.self.now c.alias_outcome.new.self some.0 c.args.goal.now.predicate c.args.goal.now.param_env.items c.alias_outcome.new.self.terms c.in-Ok-Is.id c.in-Some.expected c.respond_found.result
+    found-applies c.args.self.now c.alias_outcome.new.self some.0 c.args.self.now.remaining_depth c.args.goal.now.predicate c.args.goal.now.param_env.items c.alias_outcome.new.self.terms c.in-Ok-Is.id c.in-Some.expected c.respond_found.result
     (grown-restored c.args.self.now c.alias_outcome.new.self c.alias_outcome.ensures.unchanged) c.is_well_formed.ensures.tables c.is_well_formed.ensures.storage
-    (sym c.is_closed_alias.ensures ∙ c.if-not-is_closed_alias.false) ok
+    (sym (c.is_closed_alias.ensures ∙ ap (is_closed_alias c.args.goal.now.predicate.alias) c.deref.ensures.value) ∙ c.if-not-is_closed_alias.false) ok
     (subst (λ (s : State). AnswersQuietly (length (kinds_of s)) c.respond_found.result) c.alias_outcome.ensures.unchanged c.respond_found.ensures.quiet)
     (subst (FoundIn c.alias_outcome.new.self.terms) c.in-Ok-Is.field-0-is c.in-Ok-Is.ensures.within).0
     (subst (SaysWhich ((level_over c.args.self.now some.0 c.args.goal.now.param_env.items).gives c.args.goal.now.predicate.alias.kind (erased_args c.args.goal.now.predicate.alias.args.items)) ((level_over c.args.self.now some.0 c.args.goal.now.param_env.items).gives_refuted c.args.goal.now.predicate.alias.kind (erased_args c.args.goal.now.predicate.alias.args.items)) c.alias_outcome.new.self.terms) c.in-Ok-Is.field-0-is

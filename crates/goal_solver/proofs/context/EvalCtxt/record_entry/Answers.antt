@@ -1,4 +1,5 @@
 use Rattle.goal_solver.proofs.GoingBackLemmas.{goes_back-same}
+use Rattle.goal_solver.proofs.RecordedLemmas.{one-listed}
 use Rattle.goal_solver.proofs.RuleAnswerLemmas.{recorded-accesses, recorded-faults}
 use Rattle.goal_solver.proofs.context.EvalCtxt.record_entry.Goals as goal
 
@@ -10,3 +11,6 @@ returns-in-DelayedFault-clause-unchanged c = recorded-faults c.args.self.now c.m
 
 pub returns-in_default-clause-goes_back : goal.returns-in_default-clause-goes_back
 returns-in_default-clause-goes_back c = goes_back-same c.args.self.now
+
+pub returns-in-DelayedFault-clause-listed : goal.returns-in-DelayedFault-clause-listed
+returns-in-DelayedFault-clause-listed c = one-listed c.args.self.now c.meet_fault.new.self c.args.entry.now c.in-DelayedFault.fault c.in-DelayedFault.is c.meet_fault.ensures.listed

@@ -1,8 +1,9 @@
 use Rattle.std.proofs.Common.{None, Some, ap, sym, subst, ◌∙◌}
 use Rattle.goal_solver.specs.Answers.{level_over}
-use Rattle.goal_solver.specs.RunRules.{setting_over, RuledIn}
+use Rattle.goal_solver.specs.RunRules.{setting_over, RuledIn, AreListed}
 use Rattle.goal_solver.specs.declared.rule_runs.RuleOutcome.TheVariants as ruled
 use Rattle.goal_solver.proofs.GoingBackLemmas.{goes_back-same, goes_back-through}
+use Rattle.goal_solver.proofs.RecordedLemmas.{listed-kept, unsure-recorded}
 use Rattle.goal_solver.proofs.RuleAnswerLemmas.{held-sound, rule-found-sound, rule-found-open, unsettled-open, refuted-sound, owed-run, says_rule-as}
 use Rattle.goal_solver.proofs.context.EvalCtxt.rule_response.Goals as goal
 
@@ -56,3 +57,24 @@ returns-in-Ok-Refuted-clause-sound c = λ m owed.
     refuted-sound (setting_over c.args.self.now m c.args.environment.now) (level_over c.args.self.now m c.args.environment.now) c.args.rule.now c.refuted.result (c.refuted.ensures.owed m owed)
     (says_rule-as (setting_over c.args.self.now m c.args.environment.now) (level_over c.args.self.now m c.args.environment.now) c.deref-2.result.now c.args.rule.now.entries.items c.run_entries.new.self.terms c.in-Ok-Refuted.field-0 ruled.Refuted c.deref-2.ensures.value c.in-Ok-Refuted.field-0-is
     (c.in-Ok-Refuted.ensures.says m (owed-run c.args.self.now c.run_entries.new.self m c.run_entries.ensures.goes_back owed)))
+
+pub returns-in-Ok-Holds-None-clause-listed : goal.returns-in-Ok-Holds-None-clause-listed
+returns-in-Ok-Holds-None-clause-listed c = subst (λ es. AreListed es c.args.self.now c.run_entries.new.self) c.deref-2.ensures.value c.run_entries.ensures.listed
+
+pub returns-in-Ok-Holds-Some-clause-listed : goal.returns-in-Ok-Holds-Some-clause-listed
+returns-in-Ok-Holds-Some-clause-listed c = subst (λ es. AreListed es c.args.self.now c.run_entries.new.self) c.deref-2.ensures.value c.run_entries.ensures.listed
+
+pub returns-in-Ok-Refuted-clause-listed : goal.returns-in-Ok-Refuted-clause-listed
+returns-in-Ok-Refuted-clause-listed c = subst (λ es. AreListed es c.args.self.now c.run_entries.new.self) c.deref-2.ensures.value c.run_entries.ensures.listed
+
+pub returns-in-Ok-Undecided-clause-listed : goal.returns-in-Ok-Undecided-clause-listed
+returns-in-Ok-Undecided-clause-listed c = subst (λ es. AreListed es c.args.self.now c.run_entries.new.self) c.deref-2.ensures.value c.run_entries.ensures.listed
+
+pub returns-in-Err-clause-listed : goal.returns-in-Err-clause-listed
+returns-in-Err-clause-listed c = listed-kept c.args.self.now c.run_entries.new.self c.stopped.new.self c.args.rule.now.entries.items c.stopped.ensures.faults (subst (λ es. AreListed es c.args.self.now c.run_entries.new.self) c.deref-2.ensures.value c.run_entries.ensures.listed)
+
+pub returns-in-Ok-Refuted-clause-recorded : goal.returns-in-Ok-Refuted-clause-recorded
+returns-in-Ok-Refuted-clause-recorded c = unsure-recorded c.run_entries.new.self c.args.rule.now.entries.items c.refuted.result c.refuted.ensures.unsure
+
+pub returns-in-Err-clause-recorded : goal.returns-in-Err-clause-recorded
+returns-in-Err-clause-recorded c = unsure-recorded c.stopped.new.self c.args.rule.now.entries.items c.stopped.result c.stopped.ensures.unsure

@@ -1,5 +1,5 @@
 use Rattle.goal_solver.proofs.GoingBackLemmas.{solved-grown, solved-grown_twice}
-use Rattle.goal_solver.proofs.context.EvalCtxt.trait_goal_outcome.Goals as goal
+use Rattle.goal_solver.proofs.context.EvalCtxt.trait_outcome_at.Goals as goal
 
 pub invariant_of-self : goal.invariant_of-self
 invariant_of-self c = (

@@ -1,0 +1,91 @@
+-- What the entries of a rule record.
+use Rattle.std.proofs.Common.{◌≡◌, ◌<◌, ◌≤◌, ◌+◌, ◌⊎◌, ℕ, List, [], ◌∷◌, ◌++◌, length, get_or, take, drop, inl, inr, refl, sym, ap, ◌∙◌, subst, arith, ⊎_elim}
+use Rattle.std.specs.List.{All, Contains}
+use Rattle.std.specs.Prelude.{IfOk, Result, Ok, Err, ◌≢◌}
+use Rattle.std.proofs.lemmas.List.{take_all, take-append-drop}
+use Rattle.std.proofs.lemmas.List.Elements.{All-more, All-weaker, Contains-push, Contains-push_cases, Contains-append_left, Contains-get_or}
+use Rattle.goal_terms.specs.declared.answers.DelayedFault.{DelayedFault}
+use Rattle.goal_terms.specs.declared.answers.Response.{Response}
+use Rattle.goal_terms.specs.declared.answers.Certainty.TheVariants as certainty
+use Rattle.goal_kinds.specs.declared.faults.Fault.{Fault}
+use Rattle.goal_kinds.specs.declared.rules.RuleEntry.{RuleEntry}
+use Rattle.goal_kinds.specs.declared.rules.RuleEntry.TheVariants as entry
+use Rattle.goal_solver.specs.Added.{Enters}
+use Rattle.goal_solver.specs.GoingBack.{BeginsWith, GoesBack}
+use Rattle.goal_solver.specs.RunRules.{IsRecorded, AreRecorded, IsRecordedAnswer, AreListed}
+use Rattle.goal_solver.specs.State.{State}
+
+-- what has entered a set stands there
+pub entered-contains : {A : Type 0} (x : A) (old new : List A) → Enters x old new → Contains new x
+entered-contains x old new h =
+    ⊎_elim (λ p. subst (λ ys. Contains ys x) (sym p.1) p.0) (λ p. subst (λ ys. Contains ys x) (sym p.1) (Contains-push old x)) h
+
+-- what a list contains, a longer one does
+begins-contains : {A : Type 0} (whole start : List A) (x : A) → BeginsWith whole start → Contains start x → Contains whole x
+begins-contains whole start x b h =
+    subst (λ ys. Contains ys x) (take-append-drop (length start) whole) (Contains-append_left (take (length start) whole) (drop (length start) whole) x (subst (λ ys. Contains ys x) (sym b) h))
+
+same-begins : {A : Type 0} (start whole : List A) → whole ≡ start → BeginsWith whole start
+same-begins start whole e = subst (λ xs. BeginsWith xs start) (sym e) (take_all (length start) start (omega arith))
+
+-- nothing else stands in a list of one
+none-contained : {A : Type 0} (x : A) (k : ℕ) → k < length {A = A} [] → ⊥
+none-contained x k l = absurd (omega arith)
+
+one-contained : {A : Type 0} (y x : A) → Contains (y ∷ []) x → y ≡ x
+one-contained y x h = ⊎_elim (λ q. absurd (none-contained x q.0 q.1)) (λ q. q) (Contains-push_cases [] y x h)
+
+-- what is recorded stays so
+pub stays-recorded : (a b : State) → BeginsWith b.accesses a.accesses → BeginsWith b.delayed_faults a.delayed_faults → (e : RuleEntry) → IsRecorded a e → IsRecorded b e
+stays-recorded a b x f (entry.Access y) h = begins-contains b.accesses a.accesses y x h
+stays-recorded a b x f (entry.DelayedFault y) h = begins-contains b.delayed_faults a.delayed_faults y f h
+stays-recorded a b x f (entry.Arguments y) h = tt
+stays-recorded a b x f (entry.Equation y z) h = tt
+stays-recorded a b x f (entry.Clause y z) h = tt
+stays-recorded a b x f (entry.RowClauses y z) h = tt
+stays-recorded a b x f (entry.Term y z) h = tt
+stays-recorded a b x f entry.Evaluation h = tt
+stays-recorded a b x f entry.Undecided h = tt
+stays-recorded a b x f entry.Refused h = tt
+
+-- more terms change nothing of it
+pub grown-recorded : (a b : State) → b ≡ record a { terms = b.terms } → (e : RuleEntry) → IsRecorded a e → IsRecorded b e
+grown-recorded a b e = stays-recorded a b (same-begins a.accesses b.accesses (ap (λ (s : State). s.accesses) e)) (same-begins a.delayed_faults b.delayed_faults (ap (λ (s : State). s.delayed_faults) e))
+
+-- the next entry
+pub recorded-next : (a b c : State) (es : List RuleEntry) (i : ℕ) (e : RuleEntry) → GoesBack a b → c ≡ record b { terms = c.terms } → i < length es → e ≡ get_or es i e →
+    AreRecorded a (take i es) → IsRecorded b e → AreRecorded c (take (i + 1) es)
+recorded-next a b c es i e g f l at before here =
+    All-more (IsRecorded c) es i e l
+    (All-weaker (IsRecorded a) (IsRecorded c) (λ x h. grown-recorded b c f x (stays-recorded a b g.accesses g.delayed_faults x h)) (take i es) before)
+    (subst (IsRecorded c) at (grown-recorded b c f e here))
+
+-- after the last entry
+pub recorded-end : (a : State) (es : List RuleEntry) (i : ℕ) → length es ≤ i → AreRecorded a (take i es) → AreRecorded a es
+recorded-end a es i l h = subst (AreRecorded a) (take_all i es l) h
+
+-- a fault that one entry names
+pub one-listed : (a b : State) (e : RuleEntry) (g : DelayedFault) → e ≡ entry.DelayedFault g → ((f : DelayedFault) → Contains b.delayed_faults f → Contains a.delayed_faults f ⊎ (g ≡ f)) → AreListed (e ∷ []) a b
+one-listed a b e g is h f p = ⊎_elim inl (λ q. inr (subst (Contains (e ∷ [])) (is ∙ ap entry.DelayedFault q) (Contains-push [] e))) (h f p)
+
+-- no fault has come
+pub none-listed : (a b : State) (es : List RuleEntry) → b.delayed_faults ≡ a.delayed_faults → AreListed es a b
+none-listed a b es e f p = inl (subst (λ xs. Contains xs f) e p)
+
+-- one entry more
+pub listed-next : (s a b : State) (es : List RuleEntry) (i : ℕ) (e : RuleEntry) → i < length es → e ≡ get_or es i e → AreListed es s a → AreListed (e ∷ []) a b → AreListed es s b
+listed-next s a b es i e l at before here f p =
+    ⊎_elim (before f) (λ q. inr (subst (Contains es) (sym at ∙ one-contained e (entry.DelayedFault f) q) (Contains-get_or es i e l))) (here f p)
+
+-- no other fault names none
+pub listed-kept : (s a b : State) (es : List RuleEntry) → b.delayed_faults ≡ a.delayed_faults → AreListed es s a → AreListed es s b
+listed-kept s a b es e h f p = h f (subst (λ xs. Contains xs f) e p)
+
+-- more terms name no fault
+pub listed-grown : (s a b : State) (es : List RuleEntry) → b ≡ record a { terms = b.terms } → AreListed es s a → AreListed es s b
+listed-grown s a b es e = listed-kept s a b es (ap (λ (x : State). x.delayed_faults) e)
+
+-- an answer that isn't sure says nothing of what is recorded
+pub unsure-recorded : (a : State) (es : List RuleEntry) (x : Result Response Fault) → IfOk x (λ r. r.certainty ≢ certainty.Yes) → IfOk x (IsRecordedAnswer a es)
+unsure-recorded a es (Ok r) h = λ yes. absurd (h yes)
+unsure-recorded a es (Err f) h = tt

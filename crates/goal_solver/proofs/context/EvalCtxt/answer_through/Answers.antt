@@ -1,0 +1,89 @@
+use Rattle.std.proofs.Common.{refl, sym, ◌∙◌, ap, subst, suc}
+use Rattle.goal_terms.specs.NodeTests.{general_variable_at}
+use Rattle.goal_terms.specs.Tree.{node_of}
+use Rattle.goal_kinds.specs.Answers.{setting_of}
+use Rattle.goal_kinds.specs.Interned.{erased_at}
+use Rattle.goal_kinds.proofs.ConsistentLemmas.{each_level_is_consistent}
+use Rattle.std.specs.Prelude.{Ok, length}
+use Rattle.goal_solver.specs.Answers.{AnswersQuietly, erased_args, level_over}
+use Rattle.goal_solver.specs.State.{State, kinds_of}
+use Rattle.goal_solver.proofs.ApplicableLemmas.{nothing-applies, nothing-applies-later, nothing-listed, found-applies, grown-restored}
+use Rattle.goal_solver.specs.Assembled.{level_through}
+use Rattle.goal_solver.specs.Outcomes.{FoundIn, SaysWhich}
+use Rattle.goal_solver.proofs.AnswerLemmas.{goes_back-grown, owed-grown}
+use Rattle.goal_solver.proofs.AssembledLemmas.{class-one, class-given, above-same}
+use Rattle.goal_solver.proofs.FoundAnswers.{found-sound, found-open_of_one}
+use Rattle.goal_solver.proofs.GoingBackLemmas.{goes_back-same}
+use Rattle.goal_solver.proofs.context.EvalCtxt.answer_through.Goals as goal
+
+pub returns-in_default-clause-goes_back : goal.returns-in_default-clause-goes_back
+returns-in_default-clause-goes_back c = goes_back-same c.args.self.now
+
+pub returns-then-not-is_closed_alias-clause-goes_back : goal.returns-then-not-is_closed_alias-clause-goes_back
+returns-then-not-is_closed_alias-clause-goes_back c = goes_back-same c.args.self.now
+
+pub returns-in-Ok-Is-clause-goes_back : goal.returns-in-Ok-Is-clause-goes_back
+returns-in-Ok-Is-clause-goes_back c = goes_back-grown c.args.self.now c.class_outcome.new.self c.class_outcome.ensures.unchanged c.class_outcome.ensures.kept
+
+pub returns-in-Ok-Refuted-clause-goes_back : goal.returns-in-Ok-Refuted-clause-goes_back
+returns-in-Ok-Refuted-clause-goes_back c = goes_back-grown c.args.self.now c.class_outcome.new.self c.class_outcome.ensures.unchanged c.class_outcome.ensures.kept
+
+pub returns-in-Ok-Undecided-clause-goes_back : goal.returns-in-Ok-Undecided-clause-goes_back
+returns-in-Ok-Undecided-clause-goes_back c = goes_back-grown c.args.self.now c.class_outcome.new.self c.class_outcome.ensures.unchanged c.class_outcome.ensures.kept
+
+pub returns-in-Ok-Is-clause-sound : goal.returns-in-Ok-Is-clause-sound
+returns-in-Ok-Is-clause-sound c = λ m owed.
+    found-sound (level_through (setting_of c.args.self.now.tables m c.args.environment.now) (level_over c.args.self.now m c.args.environment.now) c.args.class)
+    c.args.asked.now.alias.kind (erased_args c.args.asked.now.alias.args.items) c.args.asked.now.term
+    c.class_outcome.new.self.terms c.in-Ok-Is.id c.in-Some.expected
+    (sym (c.in-Some.ensures ∙ ap general_variable_at (c.node.ensures ∙ ap node_of c.view.ensures)))
+    (subst (FoundIn c.class_outcome.new.self.terms) c.in-Ok-Is.field-0-is c.in-Ok-Is.ensures.within).0
+    (subst (SaysWhich ((level_through (setting_of c.args.self.now.tables m c.args.environment.now) (level_over c.args.self.now m c.args.environment.now) c.args.class).gives c.args.asked.now.alias.kind (erased_args c.args.asked.now.alias.args.items)) ((level_through (setting_of c.args.self.now.tables m c.args.environment.now) (level_over c.args.self.now m c.args.environment.now) c.args.class).gives_refuted c.args.asked.now.alias.kind (erased_args c.args.asked.now.alias.args.items)) c.class_outcome.new.self.terms) c.in-Ok-Is.field-0-is
+    (c.in-Ok-Is.ensures.says m (owed-grown c.args.self.now c.class_outcome.new.self m c.class_outcome.ensures.unchanged owed)))
+    c.respond_found.result (c.respond_found.ensures.yes, c.respond_found.ensures.maybe, c.respond_found.ensures.only_memory)
+
+pub returns-in-Ok-Is-clause-decided : goal.returns-in-Ok-Is-clause-decided
+returns-in-Ok-Is-clause-decided c = λ m n owed closed expected undecided.
+    found-open_of_one (level_through (setting_of c.args.self.now.tables m c.args.environment.now) (level_over c.args.self.now m c.args.environment.now) c.args.class)
+    c.args.asked.now.alias.kind (erased_args c.args.asked.now.alias.args.items)
+    (class-one (setting_of c.args.self.now.tables m c.args.environment.now) (level_over c.args.self.now m c.args.environment.now) (each_level_is_consistent (setting_of c.args.self.now.tables m c.args.environment.now) c.args.self.now.remaining_depth) c.args.class c.args.asked.now.alias.kind (erased_args c.args.asked.now.alias.args.items))
+    (class-given (setting_of c.args.self.now.tables m c.args.environment.now) (level_over c.args.self.now m c.args.environment.now) (each_level_is_consistent (setting_of c.args.self.now.tables m c.args.environment.now) c.args.self.now.remaining_depth) c.args.class c.args.asked.now.alias.kind (erased_args c.args.asked.now.alias.args.items))
+    c.class_outcome.new.self.terms c.in-Ok-Is.id c.in-Some.expected
+    (subst (FoundIn c.class_outcome.new.self.terms) c.in-Ok-Is.field-0-is c.in-Ok-Is.ensures.within).0
+    (subst (SaysWhich ((level_through (setting_of c.args.self.now.tables m c.args.environment.now) (level_over c.args.self.now m c.args.environment.now) c.args.class).gives c.args.asked.now.alias.kind (erased_args c.args.asked.now.alias.args.items)) ((level_through (setting_of c.args.self.now.tables m c.args.environment.now) (level_over c.args.self.now m c.args.environment.now) c.args.class).gives_refuted c.args.asked.now.alias.kind (erased_args c.args.asked.now.alias.args.items)) c.class_outcome.new.self.terms) c.in-Ok-Is.field-0-is
+    (c.in-Ok-Is.ensures.says m (owed-grown c.args.self.now c.class_outcome.new.self m c.class_outcome.ensures.unchanged owed)))
+    c.respond_found.result (c.respond_found.ensures.yes, c.respond_found.ensures.maybe, c.respond_found.ensures.only_memory) undecided
+
+pub returns-in_default-clause-applies : goal.returns-in_default-clause-applies
+returns-in_default-clause-applies c = λ m s ok holds. nothing-applies c.args.self.now c.respond.result c.is_well_formed.ensures.storage c.respond.ensures.quiet c.respond.ensures.values
+
+pub returns-then-not-is_closed_alias-clause-applies : goal.returns-then-not-is_closed_alias-clause-applies
+returns-then-not-is_closed_alias-clause-applies c = λ m s ok holds.
+    nothing-applies c.args.self.now c.respond-then-not-is_closed_alias.result c.is_well_formed.ensures.storage c.respond-then-not-is_closed_alias.ensures.quiet c.respond-then-not-is_closed_alias.ensures.values
+
+pub returns-in-Ok-Undecided-clause-applies : goal.returns-in-Ok-Undecided-clause-applies
+returns-in-Ok-Undecided-clause-applies c = λ m s ok holds.
+    nothing-applies-later c.args.self.now c.class_outcome.new.self c.class_outcome.new.self (Ok c.respond-in-Ok-Undecided.result) c.class_outcome.ensures.unchanged refl
+    c.is_well_formed.ensures.storage c.respond-in-Ok-Undecided.ensures.quiet c.respond-in-Ok-Undecided.ensures.values
+
+pub returns-in-Ok-Refuted-clause-applies : goal.returns-in-Ok-Refuted-clause-applies
+returns-in-Ok-Refuted-clause-applies c = λ m s ok holds.
+    nothing-applies-later c.args.self.now c.class_outcome.new.self c.class_outcome.new.self c.refuted.result c.class_outcome.ensures.unchanged refl
+    c.is_well_formed.ensures.storage c.refuted.ensures.quiet (nothing-listed c.refuted.result c.refuted.ensures.nothing)
+
+pub returns-in-Err-clause-applies : goal.returns-in-Err-clause-applies
+returns-in-Err-clause-applies c = λ m s ok holds.
+    nothing-applies-later c.args.self.now c.class_outcome.new.self c.stopped.new.self c.stopped.result c.class_outcome.ensures.unchanged c.stopped.ensures.unchanged
+    c.is_well_formed.ensures.storage c.stopped.ensures.quiet (nothing-listed c.stopped.result c.stopped.ensures.nothing)
+
+pub returns-in-Ok-Is-clause-applies : goal.returns-in-Ok-Is-clause-applies
+returns-in-Ok-Is-clause-applies c = λ m s ok holds.
+    found-applies c.args.self.now c.class_outcome.new.self m (suc c.args.self.now.remaining_depth) c.args.asked.now c.args.environment.now c.class_outcome.new.self.terms c.in-Ok-Is.id c.in-Some.expected c.respond_found.result
+    (grown-restored c.args.self.now c.class_outcome.new.self c.class_outcome.ensures.unchanged) c.is_well_formed.ensures.tables c.is_well_formed.ensures.storage
+    (sym c.is_closed_alias.ensures ∙ c.if-not-is_closed_alias.false) ok
+    (subst (λ (s : State). AnswersQuietly (length (kinds_of s)) c.respond_found.result) c.class_outcome.ensures.unchanged c.respond_found.ensures.quiet)
+    (subst (FoundIn c.class_outcome.new.self.terms) c.in-Ok-Is.field-0-is c.in-Ok-Is.ensures.within).0
+    ((above-same (setting_of c.args.self.now.tables m c.args.environment.now) c.args.self.now.remaining_depth c.args.asked.now.alias.kind (erased_args c.args.asked.now.alias.args.items) c.args.class holds).0 (erased_at c.class_outcome.new.self.terms c.in-Ok-Is.id)
+    (subst (SaysWhich ((level_through (setting_of c.args.self.now.tables m c.args.environment.now) (level_over c.args.self.now m c.args.environment.now) c.args.class).gives c.args.asked.now.alias.kind (erased_args c.args.asked.now.alias.args.items)) ((level_through (setting_of c.args.self.now.tables m c.args.environment.now) (level_over c.args.self.now m c.args.environment.now) c.args.class).gives_refuted c.args.asked.now.alias.kind (erased_args c.args.asked.now.alias.args.items)) c.class_outcome.new.self.terms) c.in-Ok-Is.field-0-is (c.in-Ok-Is.ensures.says m s)))
+    (sym (c.in-Some.ensures ∙ ap general_variable_at (c.node.ensures ∙ ap node_of c.view.ensures)))
+    c.respond_found.ensures.yes
