@@ -1,5 +1,5 @@
 -- A binding keeps what is promised of the bindings of a state.
-use Rattle.std.proofs.Common.{◌≡◌, ◌≢◌, ℕ, zero, suc, ◌+◌, ◌<◌, ◌≤◌, Bool, true, false, List, [], ◌∷◌, ◌++◌, length, Some, None, refl, sym, ap, ◌∙◌, subst, arith, eq-eqb, length-append}
+use Rattle.std.proofs.Common.{◌≡◌, ◌≢◌, ◌⊎◌, inl, inr, ℕ, zero, suc, ◌+◌, ◌<◌, ◌≤◌, Bool, true, false, List, [], ◌∷◌, ◌++◌, length, Some, None, refl, sym, ap, ◌∙◌, subst, arith, eq-eqb, length-append}
 use Rattle.std.specs.Prelude.{slice_get, slice_set, if◌then◌else◌, ◌==◌, IsTrue}
 use Rattle.std.specs.List.{All}
 use Rattle.std.proofs.lemmas.Bool.{false≢true, eqb-true}
@@ -12,7 +12,7 @@ use Rattle.goal_terms.specs.declared.term_nodes.TermId.{TermId}
 use Rattle.goal_infer.specs.Inference.{Inference}
 use Rattle.goal_infer.specs.Occurrence.{place_of, place_at}
 use Rattle.goal_infer.specs.Replacement.{number_of, kind_of_variable, same_variable, replaced, takes, OfKinds}
-use Rattle.goal_infer.specs.Resolution.{term_at, binding_in, binding_of, unbound_count, bound_tree, bound_at, resolution_after, resolution, resolved, Agrees, IsSolved}
+use Rattle.goal_infer.specs.Resolution.{term_at, binding_in, binding_of, unbound_count, bound_tree, bound_at, resolution_after, resolution, resolved, Agrees, StandOnce, IsSolved}
 use Rattle.goal_infer.specs.declared.occurs.Occurrence.TheVariants.{Nowhere}
 use Rattle.goal_infer.specs.declared.undo.InferVariable.{InferVariable}
 use Rattle.goal_infer.proofs.UndoLemmas.{item-within}
@@ -36,6 +36,31 @@ module _ {A : Type 0} where
   set-length [] n y = refl
   set-length (z ∷ xs) zero y = refl
   set-length (z ∷ xs) (suc n) y = ap suc (set-length xs n y)
+
+-- a number that doesn't stand in a list stands once when it is added
+get-push : (ns : List ℕ) (n m i : ℕ) → slice_get (ns ++ n ∷ []) i ≡ Some m → (slice_get ns i ≡ Some m) ⊎ ((i ≡ length ns) × (n ≡ m))
+get-push [] n m zero e = inr (refl, cc)
+get-push [] n m (suc i) e = absurd (cc)
+get-push (k ∷ ns) n m zero e = inl e
+get-push (k ∷ ns) n m (suc i) e = elim (get-push ns n m i e) [ inl p ↦ inl p | inr p ↦ inr (ap suc p.0, p.1) ]
+
+off-list : (ns : List ℕ) (n i : ℕ) → All (λ m. m ≢ n) ns → slice_get ns i ≡ Some n → ⊥
+off-list [] n i off e = absurd (cc)
+off-list (k ∷ ns) n zero off e = let same : k ≡ n = cc in All-head (λ m. m ≢ n) k ns off same
+off-list (k ∷ ns) n (suc i) off e = off-list ns n i (All-tail (λ m. m ≢ n) k ns off) e
+
+once-pushed : (ns : List ℕ) (n : ℕ) → All (λ m. m ≢ n) ns → StandOnce ns → StandOnce (ns ++ n ∷ [])
+once-pushed ns n off once i j m e f =
+    elim (get-push ns n m i e) [
+      | inl p ↦ elim (get-push ns n m j f) [
+        | inl q ↦ once i j m p q
+        | inr q ↦ absurd (off-list ns n i off (p ∙ ap Some (sym q.1)))
+      ]
+      | inr p ↦ elim (get-push ns n m j f) [
+        | inl q ↦ absurd (off-list ns n j off (q ∙ ap Some (sym p.1)))
+        | inr q ↦ p.0 ∙ sym q.0
+      ]
+    ]
 
 -- a state with one more binding
 abbrev pub with_binding : Inference → ℕ → InferVariable → TermId → Inference
@@ -264,6 +289,9 @@ module _ (T : List Tree) (s : Inference) (v : Variable) (x : InferVariable) (id 
       (subst (λ k. All (λ n. n < k) s.trail) (sym (set-length s.variables (number_of v) (record { kind = x.kind; binding = Some id }))) b.solved.on_trail)
       (omega (arith, set-length s.variables (number_of v) (record { kind = x.kind; binding = Some id }), item-within s.variables (number_of v) x b.made))
 
+  next-once : StandOnce after.trail
+  next-once = once-pushed s.trail (number_of v) (b.solved.off_trail (number_of v) x b.made b.unbound) b.solved.once
+
   next-counted : length after.trail + unbound_count after.variables ≡ length after.variables
   next-counted =
       omega (
@@ -327,6 +355,7 @@ module _ (T : List Tree) (s : Inference) (v : Variable) (x : InferVariable) (id 
     general = λ ρ a u. next-general ρ a u ∙ ap (λ f. replaced ρ (f u)) (sym resolution-bound);
     off_trail = next-off_trail;
     on_trail = next-on_trail;
+    once = next-once;
     counted = next-counted;
     chain = links;
     short = links-short;

@@ -14,7 +14,7 @@ use Rattle.goal_terms.specs.declared.term_nodes.TermId.{TermId}
 use Rattle.goal_terms.specs.declared.terms.Region.{Region}
 use Rattle.goal_infer.specs.Inference.{Inference}
 use Rattle.goal_infer.specs.Replacement.{number_of, kind_of_variable, replaced, OfKinds}
-use Rattle.goal_infer.specs.Resolution.{term_at, binding_in, binding_of, unbound_count, bound_tree, bound_at, resolution_after, resolution, resolved, Agrees, IsSolved}
+use Rattle.goal_infer.specs.Resolution.{term_at, binding_in, binding_of, unbound_count, bound_tree, bound_at, resolution_after, resolution, resolved, Agrees, StandOnce, IsSolved}
 use Rattle.goal_infer.specs.declared.undo.InferVariable.{InferVariable}
 use Rattle.goal_infer.proofs.KindLemmas.{takes-itself}
 
@@ -32,6 +32,7 @@ solved-first T = record {
   general = λ ρ a v. refl;
   off_trail = λ n x e f. absurd (cc);
   on_trail = λ k d l. absurd (omega arith);
+  once = λ i j n e f. absurd (cc);
   counted = refl;
   chain = λ v. 0;
   short = λ v. omega arith;
@@ -83,6 +84,7 @@ module _ (T U : List Tree) (s z : Inference) (bindings : (v : Variable) → bind
     general = λ ρ a v. solved.general ρ (agrees-back ρ a) v ∙ ap (λ r. replaced ρ (r v)) (sym (resolution-as e));
     off_trail = off_trail;
     on_trail = on_trail;
+    once = subst StandOnce (sym e) solved.once;
     counted = counted;
     chain = solved.chain;
     short = λ v. omega (arith, solved.short v, ap length e);

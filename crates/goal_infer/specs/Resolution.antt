@@ -67,7 +67,11 @@ resolved T s id = replaced (resolution T s) (term_at T id)
 unfoldable pub Agrees : List Tree → Inference → (Variable → Tree) → Type 0
 Agrees T s ρ = (v : Variable) (id : TermId) → binding_of s v ≡ Some id → ρ v ≡ replaced ρ (term_at T id)
 
--- the bindings have a resolution, which is most general, and each chain of bound variables ends
+-- no number stands twice
+abbrev pub StandOnce : List ℕ → Type 0
+StandOnce ns = (i j n : ℕ) → slice_get ns i ≡ Some n → slice_get ns j ≡ Some n → i ≡ j
+
+-- the bindings have a resolution, which is most general, each variable was bound once, and each chain of bound variables ends
 pub record IsSolved (T : List Tree) (s : Inference) : Type 0 where
   pub within : (v : Variable) (id : TermId) → binding_of s v ≡ Some id → id.0 < length T
   pub free : (v : Variable) → binding_of s v ≡ None → resolution T s v ≡ variable v
@@ -76,6 +80,7 @@ pub record IsSolved (T : List Tree) (s : Inference) : Type 0 where
   pub general : (ρ : Variable → Tree) → Agrees T s ρ → (v : Variable) → ρ v ≡ replaced ρ (resolution T s v)
   pub off_trail : (n : ℕ) (x : InferVariable) → slice_get s.variables n ≡ Some x → x.binding ≡ None → All (λ m. m ≢ n) s.trail
   pub on_trail : All (λ n. n < length s.variables) s.trail
+  pub once : StandOnce s.trail
   pub counted : length s.trail + unbound_count s.variables ≡ length s.variables
   pub chain : Variable → ℕ
   pub short : (v : Variable) → chain v ≤ length s.trail

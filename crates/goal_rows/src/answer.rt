@@ -8,7 +8,7 @@ use std::fmt;
 
 /// The answer of a row. A `Yes` has the type or constant that an alias stands for, and `Faults` the
 /// number of delayed faults.
-#[derive(Debug, Drop)]
+#[derive(Drop)]
 pub enum Answer {
     Yes(Option<Term>),
     No,
@@ -19,7 +19,7 @@ pub enum Answer {
 
 /// Why a question was refused: its tables, its goal or its limit on the depth was not taken, or the
 /// run was given up.
-#[derive(Clone, Copy, Debug, PartialEq, Eq)]
+#[derive(Clone, Copy)]
 pub enum Refusal {
     Tables(TableFault),
     Goal(GoalFault),

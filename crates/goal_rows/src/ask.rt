@@ -21,7 +21,7 @@ use goal_terms::terms::{AliasTermKind, Term, Ty};
 use std::alloc::Global;
 
 /// What a row asks.
-#[derive(Clone, Copy, Debug, PartialEq, Eq)]
+#[derive(Clone, Copy)]
 pub enum Asked {
     /// What an alias stands for.
     Term(AskedAlias),
@@ -44,7 +44,7 @@ pub enum Asked {
 }
 
 /// What is asked, under which clauses, in which phase of checking, and with which limit on the depth.
-#[derive(Clone, Copy, Debug, PartialEq, Eq)]
+#[derive(Clone, Copy)]
 pub struct Question {
     pub asked: Asked,
     pub environment: Environment,

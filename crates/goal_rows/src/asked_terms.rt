@@ -14,7 +14,7 @@ use goal_terms::terms::{AliasTerm, AliasTermKind, FnSig, GenericArg, Ty};
 use std::alloc::{AllocError, Global};
 
 /// A type that a row asks about.
-#[derive(Clone, Copy, Debug, PartialEq, Eq)]
+#[derive(Clone, Copy)]
 pub enum AskedType {
     Bool,
     Str,
@@ -33,7 +33,7 @@ pub enum AskedType {
 }
 
 /// An alias that a row asks about.
-#[derive(Clone, Copy, Debug, PartialEq, Eq)]
+#[derive(Clone, Copy)]
 pub enum AskedAlias {
     /// `<TYPE as Pointee>::Metadata`.
     Metadata(AskedType),

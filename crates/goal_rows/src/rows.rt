@@ -25,7 +25,7 @@ use std::io;
 
 /// The rows, in the order in which they are printed: a label, what is asked, what is assumed, the phase
 /// of checking, and the limit on the depth.
-const ROWS: [(&str, Asked, Environment, Mode, u32); 51] = [
+const ROWS: [(&str, Asked, Environment, Mode, u32); 52] = [
     ("01a", Term(Metadata(Bool)), Empty, Analysis, 2),
     ("01b", Term(Metadata(Bool)), Empty, Analysis, 1),
     ("01c", Term(Metadata(Bool)), Empty, Analysis, 0),
@@ -58,6 +58,7 @@ const ROWS: [(&str, Asked, Environment, Mode, u32); 51] = [
     ("14a", Term(Opaque(HID)), Empty, Analysis, 1),
     ("14b", Term(Opaque(HID)), Empty, PostAnalysis, 1),
     ("15a", Term(TrA(Struct(W))), Empty, Analysis, 2),
+    ("15b", DelayedFaults(TrA(Struct(W))), Empty, Analysis, 2),
     ("15c", Term(TrA(Str)), Empty, Analysis, 2),
     ("15d", DelayedFaults(TrA(Str)), Empty, Analysis, 2),
     ("16a", ProjectionImpl, Empty, Analysis, 0),

@@ -14,7 +14,7 @@ use goal_terms::terms::{Term, Ty};
 use std::alloc::{AllocError, Global};
 
 /// What a row assumes of the parameter `T`.
-#[derive(Clone, Copy, Debug, PartialEq, Eq)]
+#[derive(Clone, Copy)]
 pub enum Environment {
     /// Nothing.
     Empty,
@@ -29,7 +29,7 @@ pub enum Environment {
 }
 
 /// The phase of checking in which a row asks. No opaque type is being defined in it.
-#[derive(Clone, Copy, Debug, PartialEq, Eq)]
+#[derive(Clone, Copy)]
 pub enum Mode {
     Analysis,
     PostAnalysis,

@@ -18,7 +18,7 @@ use Rattle.goal_kinds.specs.Settings.{Setting, is_headline}
 use Rattle.goal_kinds.specs.Level.{Level}
 use Rattle.goal_kinds.proofs.AnswerLaws.{answers-agree}
 use Rattle.goal_solver.specs.Answers.{IsOwed, level_over, IsMaybe, IsOpen, IsUndecided, IsAliasOpen, IsHoldingResponse, IsPredicateAnswer, IsConclusion}
-use Rattle.goal_solver.specs.GoingBack.{GoesBack, restored}
+use Rattle.goal_solver.specs.GoingBack.{GoesBack, evaluated, restored}
 use Rattle.goal_solver.specs.Outcomes.{StandsFor, Says}
 use Rattle.goal_kinds.specs.declared.faults.Fault.{Fault}
 use Rattle.goal_solver.specs.declared.outcomes.Outcome.{Outcome}
@@ -66,7 +66,7 @@ unfolding level
 alias_open-ground S n e k ts = subst (λ (j : ℕ). IsAliasOpen (level S j) k ts) (sym e) ((λ t u h. h), (λ h. h))
 
 -- a mode that is owed an answer is one that the run stands for
-pub owed-stands : (a b z : State) (m : TypingMode) → b ≡ record a { terms = b.terms } → z ≡ restored b z → IsOwed z m → StandsFor a.typing_mode m
+pub owed-stands : (a b z : State) (m : TypingMode) → b ≡ evaluated a b → z ≡ restored b z → IsOwed z m → StandsFor a.typing_mode m
 owed-stands a b z m e f owed =
     let same : z.typing_mode ≡ a.typing_mode = ap (λ (s : State). s.typing_mode) f ∙ ap (λ (s : State). s.typing_mode) e in (
       owed.0,
@@ -79,9 +79,16 @@ owed-stands a b z m e f owed =
 yes_is_not_maybe : certainty.Yes ≡ certainty.Maybe → ⊥
 yes_is_not_maybe e = absurd (cc)
 
--- so it is where only terms were added
+-- so it is where an evaluation came between
+pub owed-evaluated : (a b : State) (m : TypingMode) → b ≡ evaluated a b → IsOwed b m → StandsFor a.typing_mode m
+owed-evaluated a b m e owed = owed-stands a b b m e refl owed
+
+-- and where only terms were added
+evaluated-grown : (a b : State) → b ≡ record a { terms = b.terms } → b ≡ evaluated a b
+evaluated-grown a b e = subst (λ (s : State). s ≡ evaluated a s) (sym e) refl
+
 pub owed-grown : (a b : State) (m : TypingMode) → b ≡ record a { terms = b.terms } → IsOwed b m → StandsFor a.typing_mode m
-owed-grown a b m e owed = owed-stands a b b m e refl owed
+owed-grown a b m e owed = owed-evaluated a b m (evaluated-grown a b e) owed
 
 -- a conclusion is as sound as the outcome, and undecided only where that is
 concluded-sound : (L : Level) (p : PredicateTree) (o : Result Outcome Stop) (r : Result Response Fault) → IfOk o (Says (ClauseHolds L p) (ClauseRefuted L p)) →
@@ -110,18 +117,18 @@ abbrev pub IsConcluded : State → State → Result Outcome Stop → Result Resp
 IsConcluded b z o r = (m : TypingMode) → IsOwed z m → (is_headline b.typing_mode ≡ true → IfErr o (λ s. s ≡ stop.OutOfMemory)) → IsConclusion o r
 
 -- the run is only stopped for want of memory, where its mode is one of the headline
-stops-later : (a b : State) (o : Result Outcome Stop) → b ≡ record a { terms = b.terms } → (is_headline a.typing_mode ≡ true → IfErr o (λ s. s ≡ stop.OutOfMemory)) →
+stops-later : (a b : State) (o : Result Outcome Stop) → b ≡ evaluated a b → (is_headline a.typing_mode ≡ true → IfErr o (λ s. s ≡ stop.OutOfMemory)) →
     is_headline b.typing_mode ≡ true → IfErr o (λ s. s ≡ stop.OutOfMemory)
 stops-later a b o e h k = h (ap (λ (s : State). is_headline s.typing_mode) (sym e) ∙ k)
 
 -- the call answers soundly, and leaves undecided only what is so
-pub predicate-sound : (a b z : State) (env : List Clause) (p : PredicateTree) (o : Result Outcome Stop) (r : Result Response Fault) → b ≡ record a { terms = b.terms } → z ≡ restored b z →
+pub predicate-sound : (a b z : State) (env : List Clause) (p : PredicateTree) (o : Result Outcome Stop) (r : Result Response Fault) → b ≡ evaluated a b → z ≡ restored b z →
     SaysOf a env p o → (is_headline a.typing_mode ≡ true → IfErr o (λ s. s ≡ stop.OutOfMemory)) → IsConcluded b z o r →
     (m : TypingMode) → IsOwed z m → IsPredicateAnswer (level_over a m env) p r
 predicate-sound a b z env p o r e f says stops concluded m owed =
     concluded-sound (level_over a m env) p o r (says m (owed-stands a b z m e f owed)) (concluded m owed (stops-later a b o e stops))
 
-pub predicate-decided : (a b z : State) (env : List Clause) (p : PredicateTree) (o : Result Outcome Stop) (r : Result Response Fault) → b ≡ record a { terms = b.terms } → z ≡ restored b z →
+pub predicate-decided : (a b z : State) (env : List Clause) (p : PredicateTree) (o : Result Outcome Stop) (r : Result Response Fault) → b ≡ evaluated a b → z ≡ restored b z →
     SaysOf a env p o → (is_headline a.typing_mode ≡ true → IfErr o (λ s. s ≡ stop.OutOfMemory)) → IsConcluded b z o r →
     (m : TypingMode) → IsOwed z m → IsMaybe r → IsUndecided (level_over a m env) p
 predicate-decided a b z env p o r e f says stops concluded m owed =

@@ -48,7 +48,7 @@ use Rattle.goal_kinds.proofs.PlacedLevels.{placed-given}
 use Rattle.goal_solver.specs.Answers.{IsQuiet, AnswersQuietly, ListsNothing, GivesTo, expected_variable, is_closed_alias, erased_args, IsAliasOpen}
 use Rattle.goal_solver.specs.Binding.{IsApplicable, IsFreeFor, CanBeListed, bound_term}
 use Rattle.goal_solver.specs.FreeVariables.{general_variable, reaches, is_bound, stands_in_storage, is_taken, lacks_free_variable}
-use Rattle.goal_solver.specs.GoingBack.{restored}
+use Rattle.goal_solver.specs.GoingBack.{evaluated, restored}
 use Rattle.goal_solver.specs.Goals.{IsAcceptedNormalization}
 use Rattle.goal_solver.specs.Outcomes.{StandsFor}
 use Rattle.goal_solver.specs.State.{State, kinds_in, kinds_of}
@@ -217,7 +217,7 @@ pub nothing-applies : (s : State) (r : Response) → HasOneTypeAKey s.storage �
 unfolding CanBeListed
 nothing-applies s r keyed quiet empty = quiet-applies s r keyed quiet (subst (CanBeListed (with_variables [] s)) (sym empty) tt)
 
-with_nothing : (s : State) → with_variables [] s ≡ s
+pub with_nothing : (s : State) → with_variables [] s ≡ s
 with_nothing s = ap (λ vs. record s { inference = record s.inference { variables = vs } }) (append-nothing s.inference.variables)
 
 general-at : {x : Node} {k : ℕ} → (g : IsGeneral x k) → general_variable (nodes.Variable g.v) ≡ Some g.v
@@ -292,12 +292,12 @@ pub nothing-listed : (r : Result Response Fault) → ListsNothing r → IfOk r (
 nothing-listed (Ok x) h = h.1
 nothing-listed (Err f) h = tt
 
--- a context that only got more terms is the one before, restored
-pub grown-restored : (a b : State) → b ≡ record a { terms = b.terms } → b ≡ restored a b
-grown-restored a b e = subst (λ (s : State). s ≡ restored a s) (sym e) refl
+-- what an evaluation leaves is the context before, restored
+pub evaluated-restored : (a b : State) → b ≡ evaluated a b → b ≡ restored a b
+evaluated-restored a b e = subst (λ (s : State). s ≡ restored a s) (sym e) refl
 
--- an answer without values can be applied to what a call left, where only terms were added before it
-pub nothing-applies-later : (a b z : State) (r : Result Response Fault) → b ≡ record a { terms = b.terms } → z ≡ restored b z → HasOneTypeAKey a.storage →
+-- an answer without values can be applied to what a call left, where only an evaluation came before it
+pub nothing-applies-later : (a b z : State) (r : Result Response Fault) → b ≡ evaluated a b → z ≡ restored b z → HasOneTypeAKey a.storage →
     AnswersQuietly (length (kinds_of b)) r → IfOk r (λ x. x.var_values.items ≡ []) → IfOk r (IsApplicable z)
 nothing-applies-later a b z r e f keyed quiet empty = nothing-applies-of b z r f (subst HasOneTypeAKey (sym (ap (λ (s : State). s.storage) e)) keyed) quiet empty
 

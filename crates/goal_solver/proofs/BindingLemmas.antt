@@ -59,6 +59,7 @@ binds-kept s y z U t v e keeps solved binds =
       trail = grown.trail;
       kinds = grown.kinds;
       equations = grown.equations;
+      solved = grown.solved;
       alone = grown.alone;
     }
 
@@ -81,6 +82,7 @@ binds-bound o s z i id v e f advances answer bound =
       trail = ap (λ (n : Inference). n.trail) bound.state;
       kinds = advances.kinds;
       equations = ap (λ (n : Inference). n.equations) bound.state;
+      solved = advances.solved;
       alone = refl;
     } in
     subst (λ (a : State). BindsTo a z (tree_at a.terms id) v) e (subst (λ b. BindsTo o b (tree_at o.terms id) v) (sym f) made)

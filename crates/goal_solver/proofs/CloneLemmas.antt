@@ -26,7 +26,7 @@ trait-clone x y r =
     ap (λ i. holds i (trees_of y.args.items)) r.0 ∙ ap (holds x.def_id) (args-clone x.args.items y.args.items r.1.0)
 
 -- what a clause says
-kind-clone : (x y : ClauseKind) → is_kind_clone.it x y → tree_of_kind y ≡ tree_of_kind x
+pub kind-clone : (x y : ClauseKind) → is_kind_clone.it x y → tree_of_kind y ≡ tree_of_kind x
 kind-clone (clause.Trait q) (clause.Trait p) r = trait-clone q.trait_ref p.trait_ref r
 kind-clone (clause.Projection q) (clause.Projection p) r = ap (λ t. equals t (tree_of_term p.term)) r.0 ∙ ap (equals (tree_of_alias q.projection_term)) r.1
 kind-clone (clause.HostEffect q) (clause.HostEffect p) r =

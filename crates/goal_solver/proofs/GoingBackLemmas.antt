@@ -155,11 +155,12 @@ goes_back-when_access s z x h =
     (goes_back-lists s s.goals s.storage (s.accesses ++ x ∷ []) s.delayed_faults
     (take-length s.goals) (take-length s.storage) (take-append_seam s.accesses (x ∷ [])) (take-length s.delayed_faults))
 
-pub goes_back-when_fault : (s z : State) (x : DelayedFault) → z ≡ record s { delayed_faults = s.delayed_faults ++ x ∷ [] } → GoesBack s z
-goes_back-when_fault s z x h =
-    subst (GoesBack s) (sym h)
-    (goes_back-lists s s.goals s.storage s.accesses (s.delayed_faults ++ x ∷ [])
-    (take-length s.goals) (take-length s.storage) (take-length s.accesses) (take-append_seam s.delayed_faults (x ∷ [])))
+-- so does one with more delayed faults alone
+pub goes_back-faults : (s z : State) → z ≡ record s { delayed_faults = z.delayed_faults } → BeginsWith z.delayed_faults s.delayed_faults → GoesBack s z
+goes_back-faults s z e b =
+    subst (GoesBack s) (sym e)
+    (goes_back-lists s s.goals s.storage s.accesses z.delayed_faults
+    (take-length s.goals) (take-length s.storage) (take-length s.accesses) b)
 
 -- taking bindings away changes no kind
 kinds-unbound_at : (n : ℕ) (vs : List InferVariable) → kinds_in (unbound_at n vs) ≡ kinds_in vs

@@ -52,4 +52,14 @@ pub mod SinceMarkLemmas
 pub mod RuleRunLemmas
 pub mod RuleEntryLemmas
 pub mod RuleAnswerLemmas
+pub mod OpenStepLemmas
+pub mod OpenRecordLemmas
+pub mod OpenRunLemmas
+pub mod ClosingLemmas
+pub mod TrailLemmas
+pub mod ListedLemmas
+pub mod RefusalLemmas
 mod AssembledLemmas
+pub mod WhereGoalLemmas
+pub mod TranslatedLemmas
+pub mod TranslatedAnswers

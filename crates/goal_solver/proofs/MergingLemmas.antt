@@ -8,7 +8,9 @@ use Rattle.goal_kinds.specs.Words.{Each, Exists}
 use Rattle.goal_kinds.proofs.ContraryWords.{Exists-Each}
 use Rattle.goal_kinds.proofs.InternedLemmas.{in-grown, same-grown}
 use Rattle.goal_solver.specs.Outcomes.{Says, SaysWhich, FoundIn}
-use Rattle.goal_solver.specs.ProjectionParts.{both, behind, MergesTo}
+use Rattle.goal_solver.specs.Combined.{found_behind as behind}
+use Rattle.goal_solver.specs.Joined.{both}
+use Rattle.goal_solver.specs.ProjectionParts.{MergesTo}
 use Rattle.goal_solver.specs.declared.outcomes.Found as founds
 use Rattle.goal_solver.specs.declared.outcomes.Found.TheVariants as found
 use Rattle.goal_solver.specs.declared.outcomes.Outcome as outcomes

@@ -39,7 +39,9 @@ use Rattle.goal_kinds.proofs.InternedLemmas.{same-grown, all_same-grown, candida
 use Rattle.goal_kinds.proofs.PremiseLemmas.{no_premises_refuted}
 use Rattle.goal_kinds.proofs.TermCandidateLemmas.{one_candidate_term, no_candidate_term_refuted}
 use Rattle.goal_solver.specs.Outcomes.{Says, SaysThrough, SaysWhich, FoundIn, ProjectionIn, projection_at, setting_in, level_in}
-use Rattle.goal_solver.specs.ProjectionParts.{both, behind, MergesTo, ProjectsItem, EqualArgsGive, EqualArgsRefuted, IsFormed, HaveHeadForms, SomeUnformed, FormedGives}
+use Rattle.goal_solver.specs.Combined.{found_behind as behind}
+use Rattle.goal_solver.specs.Joined.{both}
+use Rattle.goal_solver.specs.ProjectionParts.{MergesTo, ProjectsItem, EqualArgsGive, EqualArgsRefuted, IsFormed, HaveHeadForms, SomeUnformed, FormedGives}
 use Rattle.goal_solver.specs.declared.outcomes.Setting as over
 use Rattle.goal_solver.specs.declared.outcomes.Found as founds
 use Rattle.goal_solver.specs.declared.outcomes.Found.TheVariants as found

@@ -14,19 +14,31 @@ use Rattle.goal_solver.specs.Added.{Enters}
 use Rattle.goal_solver.specs.GoingBack.{BeginsWith, GoesBack}
 use Rattle.goal_solver.specs.RunRules.{IsRecorded, AreRecorded, IsRecordedAnswer, AreListed}
 use Rattle.goal_solver.specs.State.{State}
+use Rattle.goal_solver.specs.Stored.{IsSet}
+use Rattle.goal_solver.proofs.StoredLemmas.{set-pushed}
+use Rattle.std.proofs.Math.Seq.{take-append_seam}
+
+-- a list begins with itself
+same-begins : {A : Type 0} (start whole : List A) → whole ≡ start → BeginsWith whole start
+same-begins start whole e = subst (λ xs. BeginsWith xs start) (sym e) (take_all (length start) start (omega arith))
 
 -- what has entered a set stands there
 pub entered-contains : {A : Type 0} (x : A) (old new : List A) → Enters x old new → Contains new x
 entered-contains x old new h =
     ⊎_elim (λ p. subst (λ ys. Contains ys x) (sym p.1) p.0) (λ p. subst (λ ys. Contains ys x) (sym p.1) (Contains-push old x)) h
 
+-- a set that something has entered is one, and begins with the one before
+pub set-entered : {A : Type 0} (x : A) (old new : List A) → Enters x old new → IsSet old → IsSet new
+set-entered x old new h s = ⊎_elim (λ p. subst IsSet (sym p.1) s) (λ p. set-pushed old new x p.1 p.0 s) h
+
+pub begins-entered : {A : Type 0} (x : A) (old new : List A) → Enters x old new → BeginsWith new old
+begins-entered x old new h =
+    ⊎_elim (λ p. same-begins old new p.1) (λ p. subst (λ ys. BeginsWith ys old) (sym p.1) (take-append_seam old (x ∷ []))) h
+
 -- what a list contains, a longer one does
 begins-contains : {A : Type 0} (whole start : List A) (x : A) → BeginsWith whole start → Contains start x → Contains whole x
 begins-contains whole start x b h =
     subst (λ ys. Contains ys x) (take-append-drop (length start) whole) (Contains-append_left (take (length start) whole) (drop (length start) whole) x (subst (λ ys. Contains ys x) (sym b) h))
-
-same-begins : {A : Type 0} (start whole : List A) → whole ≡ start → BeginsWith whole start
-same-begins start whole e = subst (λ xs. BeginsWith xs start) (sym e) (take_all (length start) start (omega arith))
 
 -- nothing else stands in a list of one
 none-contained : {A : Type 0} (x : A) (k : ℕ) → k < length {A = A} [] → ⊥
@@ -89,3 +101,18 @@ listed-grown s a b es e = listed-kept s a b es (ap (λ (x : State). x.delayed_fa
 pub unsure-recorded : (a : State) (es : List RuleEntry) (x : Result Response Fault) → IfOk x (λ r. r.certainty ≢ certainty.Yes) → IfOk x (IsRecordedAnswer a es)
 unsure-recorded a es (Ok r) h = λ yes. absurd (h yes)
 unsure-recorded a es (Err f) h = tt
+
+-- a context that has more delayed faults, and then more still
+pub faults-alone : (a b c : State) → b ≡ record a { delayed_faults = b.delayed_faults } → c ≡ record b { delayed_faults = c.delayed_faults } → c ≡ record a { delayed_faults = c.delayed_faults }
+faults-alone a b c e f = f ∙ ap (λ (s : State). record s { delayed_faults = c.delayed_faults }) e
+
+-- the next of the faults that are recorded
+pub contained-next : (a b : State) (fs : List DelayedFault) (i : ℕ) (d : DelayedFault) → GoesBack a b → i < length fs →
+    All (Contains a.delayed_faults) (take i fs) → Contains b.delayed_faults (get_or fs i d) → All (Contains b.delayed_faults) (take (i + 1) fs)
+contained-next a b fs i d g l before here =
+    All-more (Contains b.delayed_faults) fs i d l
+    (All-weaker (Contains a.delayed_faults) (Contains b.delayed_faults) (λ x h. begins-contains b.delayed_faults a.delayed_faults x g.delayed_faults h) (take i fs) before) here
+
+-- after the last one
+pub contained-end : (a : State) (fs : List DelayedFault) (i : ℕ) → length fs ≤ i → All (Contains a.delayed_faults) (take i fs) → All (Contains a.delayed_faults) fs
+contained-end a fs i l h = subst (All (Contains a.delayed_faults)) (take_all i fs l) h

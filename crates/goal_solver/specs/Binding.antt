@@ -19,7 +19,7 @@ use Rattle.goal_terms.specs.declared.terms.Term.{Term}
 use Rattle.goal_terms.specs.declared.terms.Ty.{Ty}
 use Rattle.goal_infer.specs.Occurrence.{place_of}
 use Rattle.goal_infer.specs.Replacement.{number_of, replaced, takes}
-use Rattle.goal_infer.specs.Resolution.{resolution, binding_of}
+use Rattle.goal_infer.specs.Resolution.{resolution, binding_of, IsSolved}
 use Rattle.goal_infer.specs.Unification.{is_made_in}
 use Rattle.goal_infer.specs.declared.occurs.Occurrence.TheVariants.{Nowhere}
 use Rattle.goal_solver.specs.Added.{with_goals}
@@ -39,12 +39,13 @@ pub record IsFreeFor (s : State) (t : Tree) (v : Variable) : Type 0 where
   pub takes : IsTrue (takes v (node_of (bound_term s t)))
   pub absent : place_of v (bound_term s t) ≡ Nowhere
 
--- one variable is bound to a term, last of all: what agrees afterwards is what agreed before and puts the term for the variable
+-- one variable is bound to a term, last of all: what agrees afterwards is what agreed before and puts the term for the variable, and the bindings have a resolution
 pub record BindsTo (old new : State) (t : Tree) (v : Variable) : Type 0 where
   pub says : (ρ : Variable → Tree) → AgreesWith new ρ ↔ (AgreesWith old ρ × (ρ v ≡ replaced ρ (erased t)))
   pub trail : new.inference.trail ≡ old.inference.trail ++ number_of v ∷ []
   pub kinds : kinds_of new ≡ kinds_of old
   pub equations : new.inference.equations ≡ old.inference.equations
+  pub solved : IsSolved new.terms new.inference
   pub alone : ChangesInference old new
 
 -- a term is an inference variable for which a claim holds

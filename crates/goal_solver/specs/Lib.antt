@@ -23,4 +23,7 @@ pub mod AddedGoals
 pub mod Responses
 pub mod HeadForms
 pub mod RunRules
+pub mod OpenRuns
+pub mod Refusals
 pub mod Assembled
+pub mod TranslatedArgs

@@ -16,29 +16,11 @@ use Rattle.goal_kinds.specs.Settings.{Setting}
 use Rattle.goal_kinds.specs.Words.{Each, Exists, Pairs, SomePair}
 use Rattle.goal_solver.specs.declared.outcomes.Found as founds
 use Rattle.goal_solver.specs.declared.outcomes.Found.TheVariants as found
-use Rattle.goal_solver.specs.declared.outcomes.Outcome as outcomes
-use Rattle.goal_solver.specs.declared.outcomes.Outcome.TheVariants as outcome
 
 -- a list without its first element
 abbrev pub rest_of : {A : Type 0} → List A → List A
 rest_of [] = []
 rest_of (x ∷ xs) = xs
-
--- two questions that must both hold
-abbrev pub both : outcomes.Outcome → outcomes.Outcome → outcomes.Outcome
-both outcome.Refuted b = outcome.Refuted
-both outcome.Holds b = b
-both outcome.Undecided outcome.Refuted = outcome.Refuted
-both outcome.Undecided outcome.Holds = outcome.Undecided
-both outcome.Undecided outcome.Undecided = outcome.Undecided
-
--- a term that is found behind a question that must hold
-abbrev pub behind : outcomes.Outcome → founds.Found → founds.Found
-behind outcome.Refuted f = found.Refuted
-behind outcome.Holds f = f
-behind outcome.Undecided found.Refuted = found.Refuted
-behind outcome.Undecided found.Undecided = found.Undecided
-behind outcome.Undecided (found.Is id) = found.Undecided
 
 -- what two candidates make together: those that give a term have to give one
 abbrev pub MergesTo : List Tree → founds.Found → founds.Found → founds.Found → Type 0

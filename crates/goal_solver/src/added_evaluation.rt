@@ -1,5 +1,5 @@
 //! Evaluating the goals that were added to a context.
-ghost use Rattle.std.specs.Prelude.{◌≡◌, ◌↔◌, ◌<◌, ℕ, List, [], ◌∷◌, ◌++◌, length, true, false, Some, slice_get, Err, IfOk, IfErr, OnOk, OnErr, IsTrue, IsOkUnless};
+ghost use Rattle.std.specs.Prelude.{◌≡◌, ◌≢◌, ◌↔◌, ◌<◌, ℕ, List, [], ◌∷◌, ◌++◌, length, true, false, Some, slice_get, Err, IfOk, IfErr, OnOk, OnErr, IsTrue, IsOkUnless};
 ghost use Rattle.std.specs.List.{Contains};
 ghost use Rattle.goal_terms.specs.declared.modes.TypingMode.{TypingMode as modes};
 ghost use Rattle.goal_kinds.specs.Settings.{is_headline};
@@ -8,6 +8,7 @@ ghost use Rattle.goal_solver.specs.AddedGoals.{IsClosedGoal, IsGoalAnswer, IsVer
 ghost use Rattle.goal_solver.specs.AddedGoals.{AreSplit, AreClosedAt, LeavesUndecided, IsListed, JoinsUnless, IsRefusalAt, IsAnswerAt};
 ghost use Rattle.goal_solver.specs.Answers.{IsOwed};
 ghost use Rattle.goal_solver.specs.GoingBack.{BeginsWith, GoesBack, lengths_of, restored};
+ghost use Rattle.goal_solver.specs.Refusals.{WhenRefused, RefusesGoal, RefusesListed, RefusesOne};
 ghost use Rattle.goal_solver.specs.Relating.{ChangesRecords, IsFaultFor, SaysYes, LeavesOpen};
 
 use crate::context::{EvalCtxt, Snapshot};
@@ -33,6 +34,7 @@ impl EvalCtxt<'_> {
     pub fn try_evaluate_added_goals(&mut self) -> Result<Certainty, Fault>
         ensures sound { (m : modes) → IsOwed self.new m → ArePendingClosed self.old → IsPendingAnswer self.old m result }
         ensures decided { (m : modes) → IsOwed self.new m → ArePendingClosed self.old → LeavesOpen result → ArePendingUndecided self.old m }
+        ensures refused { WhenRefused result (RefusesOne self.old self.new) }
         ensures closed { ArePendingClosed self.old → self.new.inference ≡ self.old.inference }
         ensures taken { SaysYes result → has_goals self.new ≡ false }
         ensures alone { ChangesTaken self.old self.new }
@@ -54,6 +56,7 @@ impl EvalCtxt<'_> {
     fn evaluate_added_goals(&mut self) -> Result<Certainty, Fault>
         ensures sound { (m : modes) → IsOwed self.new m → ArePendingClosed self.old → IsPendingAnswer self.old m result }
         ensures decided { (m : modes) → IsOwed self.new m → ArePendingClosed self.old → LeavesOpen result → ArePendingUndecided self.old m }
+        ensures refused { WhenRefused result (RefusesOne self.old self.new) }
         ensures closed { ArePendingClosed self.old → OnOk result (self.new.inference ≡ self.old.inference) }
         ensures taken { SaysYes result → has_goals self.new ≡ false }
         ensures alone { ChangesTaken self.old self.new }
@@ -92,6 +95,7 @@ impl EvalCtxt<'_> {
     ) -> Result<Certainty, Fault>
         requires split { AreSplit (length goals.now) taken.old.items places.items }
         ensures answer { (m : modes) → IsOwed self.new m → AreClosedAt goals.now places.items → IsAnswerAt self.old m goals.now places.items result }
+        ensures refused { WhenRefused result (RefusesListed self.old self.new goals.now places.items) }
         ensures closed { AreClosedAt goals.now places.items → OnOk result (self.new.inference ≡ self.old.inference) }
         ensures split { (rest : List ℕ) × AreSplit (length goals.now) taken.new.items rest × (SaysYes result → rest ≡ []) }
         ensures taken { BeginsWith taken.new.items taken.old.items }
@@ -133,6 +137,7 @@ impl EvalCtxt<'_> {
         requires split { AreSplit (length goals.now) taken.old.items places.now }
         ensures says { (m : modes) → IsOwed self.new m → AreClosedAt goals.now places.now → IfOk result (λ left. LeavesUndecided self.old m goals.now places.now [] left.items) }
         ensures refuses { (m : modes) → IsOwed self.new m → AreClosedAt goals.now places.now → IfErr result (IsRefusalAt self.old m goals.now places.now) }
+        ensures refused { WhenRefused result (RefusesListed self.old self.new goals.now places.now) }
         ensures closed { AreClosedAt goals.now places.now → OnOk result (self.new.inference ≡ self.old.inference) }
         ensures split { (rest : List ℕ) × AreSplit (length goals.now) taken.new.items rest × IfOk result (λ left. rest ≡ left.items) }
         ensures taken { BeginsWith taken.new.items taken.old.items }
@@ -153,6 +158,7 @@ impl EvalCtxt<'_> {
     /// What a goal comes to at the remaining depth.
     fn evaluate_goal(&mut self, goal: &Goal<Predicate>) -> Result<Certainty, Fault>
         ensures answer { (m : modes) → IsOwed self.new m → IsClosedGoal goal.now.predicate goal.now.param_env.items → IsGoalAnswer self.old m goal.now result }
+        ensures refused { WhenRefused result (RefusesGoal self.old self.new goal.now) }
         ensures closed { IsClosedGoal goal.now.predicate goal.now.param_env.items → self.new.inference ≡ self.old.inference }
         ensures alone { ChangesRecords self.old self.new }
         ensures goes_back { GoesBack self.old self.new }
@@ -166,6 +172,7 @@ impl EvalCtxt<'_> {
     /// undecided there. Nothing changes but that an access may be recorded.
     fn verdict(&mut self, outcome: Result<Outcome, Stop>) -> Result<Certainty, Fault>
         ensures owed { (m : modes) → IsOwed self.new m → (is_headline self.old.typing_mode ≡ true → IfErr outcome (λ s. s ≡ Stop.OutOfMemory)) → IsVerdict outcome result }
+        ensures refused { WhenRefused result (self.old.typing_mode ≢ TypingMode.Coherence) }
         ensures unchanged { self.new ≡ restored self.old self.new }
         ensures alone { self.new ≡ record self.old { accesses = self.new.accesses } }
         ensures goes_back { GoesBack self.old self.new }

@@ -20,6 +20,7 @@ use crate::outcomes::{Found, HeaderMatch, Outcome, Setting, Stop};
 use crate::premises::clauses_outcome;
 use crate::projections::projection_term;
 use goal_tables::rows::{FreeRow, InherentImplRow, InherentRow, OpaqueRow};
+use goal_terms::answers::DelayedFault;
 use goal_terms::ids::{FreeId, InherentId, OpaqueId};
 use goal_terms::predicates::Clause;
 use goal_terms::term_nodes::TermId;
@@ -32,6 +33,7 @@ use goal_terms::view::TermRef;
 pub fn alias_term(
     setting: &Setting<'_>,
     terms: &mut TermTable,
+    met: &mut Vec<DelayedFault>,
     kind: AliasTermKind,
     args: &[TermId],
     depth: u32,
@@ -47,14 +49,14 @@ pub fn alias_term(
     }
     match kind {
         AliasTermKind::ProjectionTy(item) | AliasTermKind::ProjectionConst(item) => {
-            projection_term(setting, terms, kind, item, args, depth - 1)
+            projection_term(setting, terms, met, kind, item, args, depth - 1)
         }
         AliasTermKind::InherentTy(id) | AliasTermKind::InherentConst(id) => {
-            inherent_term(setting, terms, id, args, depth - 1)
+            inherent_term(setting, terms, met, id, args, depth - 1)
         }
-        AliasTermKind::OpaqueTy(id) => opaque_term(setting, terms, id, args, depth - 1),
+        AliasTermKind::OpaqueTy(id) => opaque_term(setting, terms, met, id, args, depth - 1),
         AliasTermKind::FreeTy(id) | AliasTermKind::FreeConst(id) => {
-            free_term(setting, terms, id, args, depth - 1)
+            free_term(setting, terms, met, id, args, depth - 1)
         }
         AliasTermKind::UnevaluatedConst(_) => Ok(Found::Undecided),
     }
@@ -65,6 +67,7 @@ pub fn alias_term(
 fn free_term(
     setting: &Setting<'_>,
     terms: &mut TermTable,
+    met: &mut Vec<DelayedFault>,
     id: FreeId,
     args: &[TermId],
     depth: u32,
@@ -78,7 +81,15 @@ fn free_term(
     let Some(row) = setting.rows.free_row(id) else {
         return Ok(Found::Undecided);
     };
-    value_behind(setting, terms, &row.predicates, &row.value, args, depth)
+    value_behind(
+        setting,
+        terms,
+        met,
+        &row.predicates,
+        &row.value,
+        args,
+        depth,
+    )
 }
 
 /// The term of an inherent alias, one above a depth. Its arguments are the self type and then its own.
@@ -86,6 +97,7 @@ fn free_term(
 fn inherent_term(
     setting: &Setting<'_>,
     terms: &mut TermTable,
+    met: &mut Vec<DelayedFault>,
     id: InherentId,
     args: &[TermId],
     depth: u32,
@@ -105,7 +117,7 @@ fn inherent_term(
     let Some((self_ty, own)) = split_first(args) else {
         return Ok(Found::Undecided);
     };
-    inherent_by_impl(setting, terms, row, holder, self_ty, own, depth)
+    inherent_by_impl(setting, terms, met, row, holder, self_ty, own, depth)
 }
 
 /// The same by the row of its impl.
@@ -113,6 +125,7 @@ fn inherent_term(
 fn inherent_by_impl(
     setting: &Setting<'_>,
     terms: &mut TermTable,
+    met: &mut Vec<DelayedFault>,
     row: &InherentRow,
     holder: &InherentImplRow,
     self_ty: TermId,
@@ -126,12 +139,12 @@ fn inherent_by_impl(
     ensures stops { is_headline setting.now.typing_mode.now ≡ true → IfErr result (λ s. s ≡ Stop.OutOfMemory) }
     ensures says { (m : TypingMode) → StandsFor setting.now.typing_mode.now m → IfOk result (SaysWhich (λ u. InherentGives (level_in setting.now m depth) (erased_at terms.old self_ty) (erased_all terms.old own.now) u row.now holder.now) (InherentRefuted (level_in setting.now m depth) (erased_at terms.old self_ty) (erased_all terms.old own.now) row.now holder.now) terms.new) }
 {
-    match self_match(setting, terms, holder, self_ty, depth)? {
+    match self_match(setting, terms, met, holder, self_ty, depth)? {
         HeaderMatch::Clashes => Ok(Found::Refuted),
         HeaderMatch::Unknown => Ok(Found::Undecided),
-        HeaderMatch::Fits(found) => inherent_value(setting, terms, row, &found, own, depth),
+        HeaderMatch::Fits(found) => inherent_value(setting, terms, met, row, &found, own, depth),
         HeaderMatch::Known(found) => {
-            let value = inherent_value(setting, terms, row, &found, own, depth)?;
+            let value = inherent_value(setting, terms, met, row, &found, own, depth)?;
             Ok(refuted_only(value))
         }
     }
@@ -142,6 +155,7 @@ fn inherent_by_impl(
 fn self_match(
     setting: &Setting<'_>,
     terms: &mut TermTable,
+    met: &mut Vec<DelayedFault>,
     holder: &InherentImplRow,
     self_ty: TermId,
     depth: u32,
@@ -153,7 +167,15 @@ fn self_match(
     ensures says { (m : TypingMode) → StandsFor setting.now.typing_mode.now m → IfOk result (SaysMatch (level_in setting.now m depth) holder.now.params.items (self_header holder.now) (erased_at terms.old self_ty ∷ []) terms.new) }
 {
     let header = header_of_type(setting, &holder.self_ty)?;
-    match_header(setting, terms, &holder.params, &header, &[self_ty], depth)
+    match_header(
+        setting,
+        terms,
+        met,
+        &holder.params,
+        &header,
+        &[self_ty],
+        depth,
+    )
 }
 
 /// The value of an inherent item under its impl's arguments and its own, behind its where clauses.
@@ -161,6 +183,7 @@ fn self_match(
 fn inherent_value(
     setting: &Setting<'_>,
     terms: &mut TermTable,
+    met: &mut Vec<DelayedFault>,
     row: &InherentRow,
     found: &[TermId],
     own: &[TermId],
@@ -174,7 +197,15 @@ fn inherent_value(
     ensures says { (m : TypingMode) → StandsFor setting.now.typing_mode.now m → IfOk result (SaysWhich (BehindGives (level_in setting.now m depth) row.now.predicates.items row.now.value (erased_all terms.old found.now ++ erased_all terms.old own.now)) (BehindRefuted (level_in setting.now m depth) row.now.predicates.items row.now.value (erased_all terms.old found.now ++ erased_all terms.old own.now)) terms.new) }
 {
     let args = joined(setting, found, own)?;
-    value_behind(setting, terms, &row.predicates, &row.value, &args, depth)
+    value_behind(
+        setting,
+        terms,
+        met,
+        &row.predicates,
+        &row.value,
+        &args,
+        depth,
+    )
 }
 
 /// The term of an opaque type, one above a depth: its hidden type's where the mode shows that, and else
@@ -183,6 +214,7 @@ fn inherent_value(
 fn opaque_term(
     setting: &Setting<'_>,
     terms: &mut TermTable,
+    met: &mut Vec<DelayedFault>,
     id: OpaqueId,
     args: &[TermId],
     depth: u32,
@@ -200,7 +232,7 @@ fn opaque_term(
         return Err(Stop::ReadsMode(access_of(row)));
     }
     if reveals(setting.typing_mode, row) {
-        return head_form_under(setting, terms, TermRef::Ty(&row.hidden), args, depth);
+        return head_form_under(setting, terms, met, TermRef::Ty(&row.hidden), args, depth);
     }
     let itself = alias_number(setting, terms, AliasTermKind::OpaqueTy(id), args)?;
     Ok(Found::Is(itself))
@@ -211,6 +243,7 @@ fn opaque_term(
 fn value_behind(
     setting: &Setting<'_>,
     terms: &mut TermTable,
+    met: &mut Vec<DelayedFault>,
     clauses: &[Clause],
     value: &Option<Term>,
     args: &[TermId],
@@ -222,11 +255,11 @@ fn value_behind(
     ensures stops { is_headline setting.now.typing_mode.now ≡ true → IfErr result (λ s. s ≡ Stop.OutOfMemory) }
     ensures says { (m : TypingMode) → StandsFor setting.now.typing_mode.now m → IfOk result (SaysWhich (BehindGives (level_in setting.now m depth) clauses.now value.now (erased_all terms.old args.now)) (BehindRefuted (level_in setting.now m depth) clauses.now value.now (erased_all terms.old args.now)) terms.new) }
 {
-    let outcome = clauses_outcome(setting, terms, clauses, args, depth)?;
+    let outcome = clauses_outcome(setting, terms, met, clauses, args, depth)?;
     if let Outcome::Refuted = outcome {
         return Ok(Found::Refuted);
     }
-    let found = value_form(setting, terms, value, args, depth)?;
+    let found = value_form(setting, terms, met, value, args, depth)?;
     Ok(found_behind(outcome, found))
 }
 
@@ -235,6 +268,7 @@ fn value_behind(
 fn value_form(
     setting: &Setting<'_>,
     terms: &mut TermTable,
+    met: &mut Vec<DelayedFault>,
     value: &Option<Term>,
     args: &[TermId],
     depth: u32,
@@ -247,6 +281,6 @@ fn value_form(
 {
     match value {
         None => Ok(Found::Undecided),
-        Some(term) => term_form(setting, terms, term, args, depth),
+        Some(term) => term_form(setting, terms, met, term, args, depth),
     }
 }

@@ -9,7 +9,7 @@ ghost use Rattle.goal_solver.specs.Answers.{IsOwed, level_over, erased_args, is_
 ghost use Rattle.goal_solver.specs.Assembled.{HoldsThrough, level_through};
 ghost use Rattle.goal_solver.specs.Binding.{IsApplicable};
 ghost use Rattle.goal_solver.specs.Goals.{IsAcceptedNormalization};
-ghost use Rattle.goal_solver.specs.GoingBack.{GoesBack, restored};
+ghost use Rattle.goal_solver.specs.GoingBack.{GoesBack, evaluated, restored};
 ghost use Rattle.goal_solver.specs.Outcomes.{StandsFor, setting_in, level_in, SaysWhich, FoundIn};
 ghost use Rattle.goal_solver.specs.State.{kinds_of};
 
@@ -19,7 +19,7 @@ use crate::faults::Fault;
 use crate::interning::intern_args;
 use crate::outcomes::{Found, Setting, Stop};
 use crate::projections::{Given, through_term};
-use goal_terms::answers::{Certainty, Response, TraitGoalProvenVia};
+use goal_terms::answers::{Certainty, DelayedFault, Response, TraitGoalProvenVia};
 use goal_terms::ids::ItemId;
 use goal_terms::node_tests::general_variable;
 use goal_terms::predicates::{Clause, NormalizesTo};
@@ -41,6 +41,7 @@ fn projected_item(kind: AliasTermKind) -> Option<ItemId>
 fn class_term(
     setting: &Setting<'_>,
     terms: &mut TermTable,
+    met: &mut Vec<DelayedFault>,
     class: TraitGoalProvenVia,
     alias: &AliasTerm,
     depth: u32,
@@ -67,13 +68,13 @@ fn class_term(
         class,
         args: args.as_slice(),
     };
-    through_term(setting, terms, &given, depth)
+    through_term(setting, terms, met, &given, depth)
 }
 
 #[tactic(auto, using(crate::proofs::AnswerLemmas::answering))]
 impl EvalCtxt<'_> {
     /// The term that an alias has by the candidates at the remaining depth, if it is a projection whose trait
-    /// goal holds through a class. Nothing changes but that there may be more terms.
+    /// goal holds through a class. Nothing changes but that there may be more terms and delayed faults.
     fn class_outcome(
         &mut self,
         class: TraitGoalProvenVia,
@@ -81,18 +82,22 @@ impl EvalCtxt<'_> {
         environment: &[Clause],
     ) -> Result<Found, Stop>
         ensures kept { Keeps self.old.terms self.new.terms }
-        ensures unchanged { self.new ≡ record self.old { terms = self.new.terms } }
+        ensures unchanged { self.new ≡ evaluated self.old self.new }
+        ensures goes_back { GoesBack self.old self.new }
         ensures within { IfOk result (FoundIn self.new.terms) }
         ensures stops { is_headline self.old.typing_mode ≡ true → IfErr result (λ s. s ≡ Stop.OutOfMemory) }
         ensures says { (m : TypingMode) → StandsFor self.old.typing_mode m → IfOk result (SaysWhich ((level_through (setting_of self.old.tables m environment.now) (level_over self.old m environment.now) class).gives alias.now.kind (erased_args alias.now.args.items)) ((level_through (setting_of self.old.tables m environment.now) (level_over self.old m environment.now) class).gives_refuted alias.now.kind (erased_args alias.now.args.items)) self.new.terms) }
     {
+        let mut met = Vec::new(self.allocator());
         let setting = Setting {
             rows: self.tables.rows(),
             typing_mode: &self.typing_mode,
             environment,
         };
         let depth = self.remaining_depth;
-        class_term(&setting, &mut self.terms, class, alias, depth)
+        let found = class_term(&setting, &mut self.terms, &mut met, class, alias, depth)?;
+        self.record_faults(&met)?;
+        Ok(found)
     }
 
     /// What is answered to the goal of an alias's term by the candidates at the remaining depth, if the alias is

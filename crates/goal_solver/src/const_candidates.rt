@@ -28,7 +28,7 @@ use goal_kinds::interned::{
 };
 use goal_kinds::premise_lists::traits_under;
 use goal_tables::rows::ImplRow;
-use goal_terms::answers::TraitGoalProvenVia;
+use goal_terms::answers::{DelayedFault, TraitGoalProvenVia};
 use goal_terms::ids::TraitId;
 use goal_terms::predicates::BoundConstness;
 use goal_terms::term_nodes::TermId;
@@ -39,6 +39,7 @@ use goal_terms::term_table::TermTable;
 pub fn const_outcome(
     setting: &Setting<'_>,
     terms: &mut TermTable,
+    met: &mut Vec<DelayedFault>,
     constness: BoundConstness,
     trait_id: TraitId,
     args: &[TermId],
@@ -55,13 +56,14 @@ pub fn const_outcome(
     let Some((self_ty, rest)) = split_self_type(args) else {
         return Ok(Outcome::Undecided);
     };
-    let plain = trait_outcome(setting, terms, trait_id, args, depth - 1)?;
+    let plain = trait_outcome(setting, terms, met, trait_id, args, depth - 1)?;
     match plain {
         TraitOutcome::Refuted => Ok(Outcome::Refuted),
         TraitOutcome::Undecided => Ok(Outcome::Undecided),
         TraitOutcome::Holds(class) => class_outcome(
             setting,
             terms,
+            met,
             constness,
             trait_id,
             class,
@@ -77,6 +79,7 @@ pub fn const_outcome(
 fn class_outcome(
     setting: &Setting<'_>,
     terms: &mut TermTable,
+    met: &mut Vec<DelayedFault>,
     constness: BoundConstness,
     trait_id: TraitId,
     class: TraitGoalProvenVia,
@@ -90,7 +93,7 @@ fn class_outcome(
     ensures stops { is_headline setting.now.typing_mode.now ≡ true → IfErr result (λ s. s ≡ Stop.OutOfMemory) }
     ensures says { (m : TypingMode) → StandsFor setting.now.typing_mode.now m → IfOk result (Says (ClassShows (setting_in setting.now m) (level_in setting.now m depth) constness trait_id class (erased_at terms.old self_ty) (erased_all terms.old rest.now)) (ClassRefuted (setting_in setting.now m) (level_in setting.now m depth) constness trait_id class (erased_at terms.old self_ty) (erased_all terms.old rest.now))) }
 {
-    let found = head_form(setting, terms, self_ty, depth)?;
+    let found = head_form(setting, terms, met, self_ty, depth)?;
     match found {
         Found::Refuted => Ok(Outcome::Undecided),
         Found::Undecided => Ok(Outcome::Undecided),
@@ -99,6 +102,7 @@ fn class_outcome(
             groups_outcome(
                 setting,
                 terms,
+                met,
                 constness,
                 trait_id,
                 class,
@@ -116,6 +120,7 @@ fn class_outcome(
 fn groups_outcome(
     setting: &Setting<'_>,
     terms: &mut TermTable,
+    met: &mut Vec<DelayedFault>,
     constness: BoundConstness,
     trait_id: TraitId,
     class: TraitGoalProvenVia,
@@ -129,12 +134,14 @@ fn groups_outcome(
     ensures stops { is_headline setting.now.typing_mode.now ≡ true → IfErr result (λ s. s ≡ Stop.OutOfMemory) }
     ensures says { (m : TypingMode) → StandsFor setting.now.typing_mode.now m → IfOk result (Says (GroupsShow (setting_in setting.now m) (level_in setting.now m depth) constness trait_id class (erased_at terms.old self_ty) (erased_all terms.old args.now)) (GroupsRefuted (setting_in setting.now m) (level_in setting.now m depth) constness trait_id class (erased_at terms.old self_ty) (erased_all terms.old args.now))) }
 {
-    let first = environment_outcome(setting, terms, constness, trait_id, self_ty, args, depth)?;
+    let first = environment_outcome(
+        setting, terms, met, constness, trait_id, self_ty, args, depth,
+    )?;
     match first {
         Outcome::Holds => Ok(Outcome::Holds),
         Outcome::Undecided => Ok(Outcome::Undecided),
         Outcome::Refuted => second_outcome(
-            setting, terms, constness, trait_id, class, self_ty, args, depth,
+            setting, terms, met, constness, trait_id, class, self_ty, args, depth,
         ),
     }
 }
@@ -144,6 +151,7 @@ fn groups_outcome(
 fn environment_outcome(
     setting: &Setting<'_>,
     terms: &mut TermTable,
+    met: &mut Vec<DelayedFault>,
     constness: BoundConstness,
     trait_id: TraitId,
     self_ty: TermId,
@@ -169,6 +177,7 @@ fn environment_outcome(
     candidates_outcome(
         setting,
         terms,
+        met,
         constness,
         trait_id,
         args,
@@ -182,6 +191,7 @@ fn environment_outcome(
 fn second_outcome(
     setting: &Setting<'_>,
     terms: &mut TermTable,
+    met: &mut Vec<DelayedFault>,
     constness: BoundConstness,
     trait_id: TraitId,
     class: TraitGoalProvenVia,
@@ -200,6 +210,7 @@ fn second_outcome(
     candidates_outcome(
         setting,
         terms,
+        met,
         constness,
         trait_id,
         args,
@@ -214,6 +225,7 @@ fn second_outcome(
 fn candidates_outcome(
     setting: &Setting<'_>,
     terms: &mut TermTable,
+    met: &mut Vec<DelayedFault>,
     constness: BoundConstness,
     trait_id: TraitId,
     args: &[TermId],
@@ -228,7 +240,9 @@ fn candidates_outcome(
 {
     let mut found = Outcome::Refuted;
     for candidate in candidates {
-        let next = candidate_outcome(setting, terms, constness, trait_id, args, candidate, depth)?;
+        let next = candidate_outcome(
+            setting, terms, met, constness, trait_id, args, candidate, depth,
+        )?;
         found = found.or(next);
         if let Outcome::Holds = found {
             return Ok(Outcome::Holds);
@@ -242,6 +256,7 @@ fn candidates_outcome(
 fn candidate_outcome(
     setting: &Setting<'_>,
     terms: &mut TermTable,
+    met: &mut Vec<DelayedFault>,
     constness: BoundConstness,
     trait_id: TraitId,
     args: &[TermId],
@@ -256,14 +271,18 @@ fn candidate_outcome(
 {
     match candidate {
         InternedCandidate::Assumption(predicate) => {
-            assumption_outcome(setting, terms, constness, trait_id, args, predicate, depth)
+            assumption_outcome(
+                setting, terms, met, constness, trait_id, args, predicate, depth,
+            )
         }
         InternedCandidate::ImpliedBound(bound, conditions) => implied_outcome(
-            setting, terms, constness, trait_id, args, bound, conditions, depth,
+            setting, terms, met, constness, trait_id, args, bound, conditions, depth,
         ),
-        InternedCandidate::Impl(row) => impl_outcome(setting, terms, constness, row, args, depth),
+        InternedCandidate::Impl(row) => impl_outcome(
+            setting, terms, met, constness, row, args, depth,
+        ),
         InternedCandidate::BuiltIn => {
-            rule_outcome(setting, terms, constness, trait_id, args, depth)
+            rule_outcome(setting, terms, met, constness, trait_id, args, depth)
         }
         InternedCandidate::Error => Ok(error_outcome(terms, args)),
     }
@@ -286,6 +305,7 @@ fn error_outcome(terms: &TermTable, args: &[TermId]) -> Outcome
 fn assumption_outcome(
     setting: &Setting<'_>,
     terms: &mut TermTable,
+    met: &mut Vec<DelayedFault>,
     constness: BoundConstness,
     trait_id: TraitId,
     args: &[TermId],
@@ -304,7 +324,7 @@ fn assumption_outcome(
     if !is_trait(held.def_id, trait_id) || !satisfies(*held_as, constness) {
         return Ok(Outcome::Refuted);
     }
-    compare_lists(setting, terms, &held.args, args, depth)
+    compare_lists(setting, terms, met, &held.args, args, depth)
 }
 
 /// Whether an implied const bound shows a const trait.
@@ -312,6 +332,7 @@ fn assumption_outcome(
 fn implied_outcome(
     setting: &Setting<'_>,
     terms: &mut TermTable,
+    met: &mut Vec<DelayedFault>,
     constness: BoundConstness,
     trait_id: TraitId,
     args: &[TermId],
@@ -329,8 +350,8 @@ fn implied_outcome(
     if !is_trait(bound.def_id, trait_id) {
         return Ok(Outcome::Refuted);
     }
-    let matched = compare_lists(setting, terms, &bound.args, args, depth)?;
-    let met = conditions_outcome(setting, terms, constness, conditions, depth)?;
+    let matched = compare_lists(setting, terms, met, &bound.args, args, depth)?;
+    let met = conditions_outcome(setting, terms, met, constness, conditions, depth)?;
     Ok(matched.and(met))
 }
 
@@ -339,6 +360,7 @@ fn implied_outcome(
 fn impl_outcome(
     setting: &Setting<'_>,
     terms: &mut TermTable,
+    met: &mut Vec<DelayedFault>,
     constness: BoundConstness,
     row: &ImplRow,
     args: &[TermId],
@@ -352,15 +374,15 @@ fn impl_outcome(
     if !row.is_const {
         return Ok(Outcome::Refuted);
     }
-    let matched = match_impl(setting, terms, row, args, depth)?;
+    let matched = match_impl(setting, terms, met, row, args, depth)?;
     match matched {
         HeaderMatch::Clashes => Ok(Outcome::Refuted),
         HeaderMatch::Unknown => Ok(Outcome::Undecided),
         HeaderMatch::Fits(known) => {
-            impl_conditions_outcome(setting, terms, constness, row, &known, depth)
+            impl_conditions_outcome(setting, terms, met, constness, row, &known, depth)
         }
         HeaderMatch::Known(known) => {
-            let met = impl_conditions_outcome(setting, terms, constness, row, &known, depth)?;
+            let met = impl_conditions_outcome(setting, terms, met, constness, row, &known, depth)?;
             Ok(met.and(Outcome::Undecided))
         }
     }
@@ -371,6 +393,7 @@ fn impl_outcome(
 fn impl_conditions_outcome(
     setting: &Setting<'_>,
     terms: &mut TermTable,
+    met: &mut Vec<DelayedFault>,
     constness: BoundConstness,
     row: &ImplRow,
     known: &[TermId],
@@ -382,7 +405,7 @@ fn impl_conditions_outcome(
     ensures says { (m : TypingMode) → StandsFor setting.now.typing_mode.now m → IfOk result (Says (PremisesHold (level_in setting.now m depth) (impl_conditions constness (erased_all terms.old known.now) row.now)) (PremisesRefuted (level_in setting.now m depth) (impl_conditions constness (erased_all terms.old known.now) row.now))) }
 {
     let conditions = traits_under(terms, row.const_conditions.as_slice(), known)?;
-    conditions_outcome(setting, terms, constness, &conditions, depth)
+    conditions_outcome(setting, terms, met, constness, &conditions, depth)
 }
 
 /// Whether the rule of a trait alias or a lang item shows a const trait.
@@ -390,6 +413,7 @@ fn impl_conditions_outcome(
 fn rule_outcome(
     setting: &Setting<'_>,
     terms: &mut TermTable,
+    met: &mut Vec<DelayedFault>,
     constness: BoundConstness,
     trait_id: TraitId,
     args: &[TermId],
@@ -403,7 +427,7 @@ fn rule_outcome(
     let found = const_rule(setting.rows, terms, trait_id, args)?;
     match found {
         None => Ok(Outcome::Refuted),
-        Some(rule) => asked_outcome(setting, terms, constness, &rule, depth),
+        Some(rule) => asked_outcome(setting, terms, met, constness, &rule, depth),
     }
 }
 
@@ -412,6 +436,7 @@ fn rule_outcome(
 fn asked_outcome(
     setting: &Setting<'_>,
     terms: &mut TermTable,
+    met: &mut Vec<DelayedFault>,
     constness: BoundConstness,
     rule: &InternedConstRule,
     depth: u32,
@@ -421,7 +446,7 @@ fn asked_outcome(
     ensures stops { is_headline setting.now.typing_mode.now ≡ true → IfErr result (λ s. s ≡ Stop.OutOfMemory) }
     ensures says { (m : TypingMode) → StandsFor setting.now.typing_mode.now m → IfOk result (Says (ConstRuleHolds (level_in setting.now m depth) constness (Some (const_rule_at terms.old rule.now))) (ConstRuleRefuted (level_in setting.now m depth) constness (Some (const_rule_at terms.old rule.now)))) }
 {
-    let premises = premises_outcome(setting, terms, &rule.premises, depth)?;
-    let conditions = conditions_outcome(setting, terms, constness, &rule.conditions, depth)?;
+    let premises = premises_outcome(setting, terms, met, &rule.premises, depth)?;
+    let conditions = conditions_outcome(setting, terms, met, constness, &rule.conditions, depth)?;
     Ok(premises.and(conditions))
 }

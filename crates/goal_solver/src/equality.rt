@@ -13,6 +13,7 @@ ghost use Rattle.goal_solver.specs.Pending.{IsOpen, Relates, AllEqual, SomeUnequ
 use crate::head_forms::head_form;
 use crate::outcomes::{Outcome, Setting, Stop};
 use crate::pairs::{Forms, Pending, TermPair, collect, collect_lists, pair_forms};
+use goal_terms::answers::DelayedFault;
 use goal_terms::compare::Regions;
 use goal_terms::term_nodes::TermId;
 use goal_terms::term_table::TermTable;
@@ -22,6 +23,7 @@ use goal_terms::term_table::TermTable;
 pub fn compare_terms(
     setting: &Setting<'_>,
     terms: &mut TermTable,
+    met: &mut Vec<DelayedFault>,
     left: TermId,
     right: TermId,
     depth: u32,
@@ -34,7 +36,7 @@ pub fn compare_terms(
 {
     let mut pending = Pending::new(setting.rows);
     collect(terms, &mut pending, left, right)?;
-    compare_pending(setting, terms, &pending, depth)
+    compare_pending(setting, terms, met, &pending, depth)
 }
 
 /// Whether two lists of terms are equal in pairs at a depth, lifetimes aside.
@@ -42,6 +44,7 @@ pub fn compare_terms(
 pub fn compare_lists(
     setting: &Setting<'_>,
     terms: &mut TermTable,
+    met: &mut Vec<DelayedFault>,
     left: &[TermId],
     right: &[TermId],
     depth: u32,
@@ -54,7 +57,7 @@ pub fn compare_lists(
 {
     let mut pending = Pending::new(setting.rows);
     collect_lists(terms, &mut pending, left, right)?;
-    compare_pending(setting, terms, &pending, depth)
+    compare_pending(setting, terms, met, &pending, depth)
 }
 
 /// Whether all that is left of a comparison holds at a depth.
@@ -62,6 +65,7 @@ pub fn compare_lists(
 fn compare_pending(
     setting: &Setting<'_>,
     terms: &mut TermTable,
+    met: &mut Vec<DelayedFault>,
     pending: &Pending,
     depth: u32,
 ) -> Result<Outcome, Stop>
@@ -75,7 +79,7 @@ fn compare_pending(
         if outcome.is_refuted() {
             return Ok(Outcome::Refuted);
         }
-        let next = compare_pair(setting, terms, *pair, depth)?;
+        let next = compare_pair(setting, terms, met, *pair, depth)?;
         outcome = outcome.and(next);
     }
     Ok(outcome)
@@ -86,6 +90,7 @@ fn compare_pending(
 fn compare_pair(
     setting: &Setting<'_>,
     terms: &mut TermTable,
+    met: &mut Vec<DelayedFault>,
     pair: TermPair,
     depth: u32,
 ) -> Result<Outcome, Stop>
@@ -97,10 +102,10 @@ fn compare_pair(
     if depth == 0 {
         return Ok(Outcome::Undecided);
     }
-    let left = head_form(setting, terms, pair.left, depth - 1)?;
-    let right = head_form(setting, terms, pair.right, depth - 1)?;
+    let left = head_form(setting, terms, met, pair.left, depth - 1)?;
+    let right = head_form(setting, terms, met, pair.right, depth - 1)?;
     match pair_forms(left, right) {
-        Forms::Found(form, other) => compare_forms(setting, terms, form, other, depth - 1),
+        Forms::Found(form, other) => compare_forms(setting, terms, met, form, other, depth - 1),
         Forms::Lacking(outcome) => Ok(outcome),
     }
 }
@@ -111,6 +116,7 @@ fn compare_pair(
 fn compare_forms(
     setting: &Setting<'_>,
     terms: &mut TermTable,
+    met: &mut Vec<DelayedFault>,
     form: TermId,
     other: TermId,
     depth: u32,
@@ -130,5 +136,5 @@ fn compare_forms(
     }
     let mut pending = Pending::new(setting.rows);
     collect_lists(terms, &mut pending, terms.parts(form), terms.parts(other))?;
-    compare_pending(setting, terms, &pending, depth)
+    compare_pending(setting, terms, met, &pending, depth)
 }

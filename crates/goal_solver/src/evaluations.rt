@@ -9,6 +9,7 @@ ghost use Rattle.goal_kinds.specs.Levels.{level};
 ghost use Rattle.goal_kinds.specs.Settings.{is_headline};
 ghost use Rattle.goal_solver.specs.Answers.{level_over, erased_args};
 ghost use Rattle.goal_kinds.specs.Interned.{IsIn, erased_at};
+ghost use Rattle.goal_solver.specs.GoingBack.{GoesBack, evaluated};
 ghost use Rattle.goal_solver.specs.Outcomes.{StandsFor, level_in, Says, SaysThrough, SaysWhich, FoundIn};
 
 use crate::aliases::alias_term;
@@ -19,31 +20,18 @@ use crate::outcomes::{Found, Outcome, Setting, Stop, TraitOutcome};
 use crate::premises::premise_outcome;
 use crate::trait_candidates::trait_outcome;
 use goal_kinds::interned::{InternedPredicate, InternedPremise};
+use goal_terms::answers::DelayedFault;
 use goal_terms::ids::TraitId;
 use goal_terms::predicates::{
-    Clause, Goal, HostEffectPredicate, NormalizesTo, ProjectionPredicate, TraitPredicate,
+    Clause, Goal, HostEffectPredicate, NormalizesTo, ProjectionPredicate,
 };
 use goal_terms::term_nodes::TermId;
 use goal_terms::term_table::TermTable;
 use goal_terms::terms::GenericArg;
 
 impl EvalCtxt<'_> {
-    /// What a trait goal comes to at the remaining depth. Nothing changes but that there may be more terms.
-    pub(crate) fn trait_goal_outcome(
-        &mut self,
-        goal: &Goal<TraitPredicate>,
-    ) -> Result<TraitOutcome, Stop>
-        ensures kept { Keeps self.old.terms self.new.terms }
-        ensures unchanged { self.new ≡ record self.old { terms = self.new.terms } }
-        ensures says { (m : TypingMode) → StandsFor self.old.typing_mode m → IfOk result (SaysThrough (λ c. (level_over self.old m goal.now.param_env.items).through c goal.now.predicate.trait_ref.def_id (erased_args goal.now.predicate.trait_ref.args.items)) ((level_over self.old m goal.now.param_env.items).trait_refuted goal.now.predicate.trait_ref.def_id (erased_args goal.now.predicate.trait_ref.args.items))) }
-        ensures stops { is_headline self.old.typing_mode ≡ true → IfErr result (λ s. s ≡ Stop.OutOfMemory) }
-    {
-        let trait_ref = &goal.predicate.trait_ref;
-        let depth = self.remaining_depth;
-        self.trait_outcome_at(trait_ref.def_id, &trait_ref.args, &goal.param_env, depth)
-    }
-
-    /// What a trait goal comes to at a depth. Nothing changes but that there may be more terms.
+    /// What a trait goal comes to at a depth. Nothing changes but that there may be more terms
+    /// and delayed faults.
     pub(crate) fn trait_outcome_at(
         &mut self,
         trait_id: TraitId,
@@ -52,10 +40,12 @@ impl EvalCtxt<'_> {
         depth: u32,
     ) -> Result<TraitOutcome, Stop>
         ensures kept { Keeps self.old.terms self.new.terms }
-        ensures unchanged { self.new ≡ record self.old { terms = self.new.terms } }
+        ensures unchanged { self.new ≡ evaluated self.old self.new }
+        ensures goes_back { GoesBack self.old self.new }
         ensures says { (m : TypingMode) → StandsFor self.old.typing_mode m → IfOk result (SaysThrough (λ c. (level (setting_of self.old.tables m environment.now) depth).through c trait_id (erased_args args.now)) ((level (setting_of self.old.tables m environment.now) depth).trait_refuted trait_id (erased_args args.now))) }
         ensures stops { is_headline self.old.typing_mode ≡ true → IfErr result (λ s. s ≡ Stop.OutOfMemory) }
     {
+        let mut met = Vec::new(self.allocator());
         let alloc = self.allocator();
         let ids = intern_args(alloc, &mut self.terms, args)?;
         let setting = Setting {
@@ -63,21 +53,25 @@ impl EvalCtxt<'_> {
             typing_mode: &self.typing_mode,
             environment,
         };
-        trait_outcome(&setting, &mut self.terms, trait_id, &ids, depth)
+        let outcome = trait_outcome(&setting, &mut self.terms, &mut met, trait_id, &ids, depth)?;
+        self.record_faults(&met)?;
+        Ok(outcome)
     }
 
     /// What a const trait goal comes to at the remaining depth. Nothing changes but that there may be more
-    /// terms.
+    /// terms and delayed faults.
     pub(crate) fn host_effect_goal_outcome(
         &mut self,
         goal: &Goal<HostEffectPredicate>,
     ) -> Result<Outcome, Stop>
         ensures kept { Keeps self.old.terms self.new.terms }
-        ensures unchanged { self.new ≡ record self.old { terms = self.new.terms } }
+        ensures unchanged { self.new ≡ evaluated self.old self.new }
+        ensures goes_back { GoesBack self.old self.new }
         ensures says { (m : TypingMode) → StandsFor self.old.typing_mode m → IfOk result (Says ((level_over self.old m goal.now.param_env.items).const_holds goal.now.predicate.constness goal.now.predicate.trait_ref.def_id (erased_args goal.now.predicate.trait_ref.args.items)) ((level_over self.old m goal.now.param_env.items).const_refuted goal.now.predicate.constness goal.now.predicate.trait_ref.def_id (erased_args goal.now.predicate.trait_ref.args.items))) }
         ensures stops { is_headline self.old.typing_mode ≡ true → IfErr result (λ s. s ≡ Stop.OutOfMemory) }
     {
         let trait_ref = &goal.predicate.trait_ref;
+        let mut met = Vec::new(self.allocator());
         let alloc = self.allocator();
         let ids = intern_args(alloc, &mut self.terms, &trait_ref.args)?;
         let setting = Setting {
@@ -87,28 +81,33 @@ impl EvalCtxt<'_> {
         };
         let depth = self.remaining_depth;
         let constness = goal.predicate.constness;
-        const_outcome(
+        let outcome = const_outcome(
             &setting,
             &mut self.terms,
+            &mut met,
             constness,
             trait_ref.def_id,
             &ids,
             depth,
-        )
+        )?;
+        self.record_faults(&met)?;
+        Ok(outcome)
     }
 
     /// What the goal that an alias and a term are equal comes to at the remaining depth. Nothing changes but
-    /// that there may be more terms.
+    /// that there may be more terms and delayed faults.
     pub(crate) fn projection_goal_outcome(
         &mut self,
         goal: &Goal<ProjectionPredicate>,
     ) -> Result<Outcome, Stop>
         ensures kept { Keeps self.old.terms self.new.terms }
-        ensures unchanged { self.new ≡ record self.old { terms = self.new.terms } }
+        ensures unchanged { self.new ≡ evaluated self.old self.new }
+        ensures goes_back { GoesBack self.old self.new }
         ensures says { (m : TypingMode) → StandsFor self.old.typing_mode m → IfOk result (Says ((level_over self.old m goal.now.param_env.items).equation_holds (erased (tree_of_alias goal.now.predicate.projection_term)) (erased (tree_of_term goal.now.predicate.term))) ((level_over self.old m goal.now.param_env.items).equation_refuted (erased (tree_of_alias goal.now.predicate.projection_term)) (erased (tree_of_term goal.now.predicate.term)))) }
         ensures stops { is_headline self.old.typing_mode ≡ true → IfErr result (λ s. s ≡ Stop.OutOfMemory) }
     {
         let predicate = &goal.predicate;
+        let mut met = Vec::new(self.allocator());
         let (alias, term) = intern_equation(
             &mut self.terms,
             &predicate.projection_term,
@@ -120,18 +119,23 @@ impl EvalCtxt<'_> {
             environment: &goal.param_env,
         };
         let depth = self.remaining_depth;
-        equation_outcome(&setting, &mut self.terms, alias, term, depth)
+        let outcome = equation_outcome(&setting, &mut self.terms, &mut met, alias, term, depth)?;
+        self.record_faults(&met)?;
+        Ok(outcome)
     }
 
-    /// Which term an alias has at the remaining depth. Nothing changes but that there may be more terms.
+    /// Which term an alias has at the remaining depth. Nothing changes but that there may be more terms
+    /// and delayed faults.
     pub(crate) fn alias_outcome(&mut self, goal: &Goal<NormalizesTo>) -> Result<Found, Stop>
         ensures kept { Keeps self.old.terms self.new.terms }
-        ensures unchanged { self.new ≡ record self.old { terms = self.new.terms } }
+        ensures unchanged { self.new ≡ evaluated self.old self.new }
+        ensures goes_back { GoesBack self.old self.new }
         ensures within { IfOk result (FoundIn self.new.terms) }
         ensures says { (m : TypingMode) → StandsFor self.old.typing_mode m → IfOk result (SaysWhich ((level_over self.old m goal.now.param_env.items).gives goal.now.predicate.alias.kind (erased_args goal.now.predicate.alias.args.items)) ((level_over self.old m goal.now.param_env.items).gives_refuted goal.now.predicate.alias.kind (erased_args goal.now.predicate.alias.args.items)) self.new.terms) }
         ensures stops { is_headline self.old.typing_mode ≡ true → IfErr result (λ s. s ≡ Stop.OutOfMemory) }
     {
         let alias = &goal.predicate.alias;
+        let mut met = Vec::new(self.allocator());
         let alloc = self.allocator();
         let ids = intern_args(alloc, &mut self.terms, &alias.args)?;
         let setting = Setting {
@@ -140,7 +144,9 @@ impl EvalCtxt<'_> {
             environment: &goal.param_env,
         };
         let depth = self.remaining_depth;
-        alias_term(&setting, &mut self.terms, alias.kind, &ids, depth)
+        let found = alias_term(&setting, &mut self.terms, &mut met, alias.kind, &ids, depth)?;
+        self.record_faults(&met)?;
+        Ok(found)
     }
 }
 
@@ -148,6 +154,7 @@ impl EvalCtxt<'_> {
 fn equation_outcome(
     setting: &Setting<'_>,
     terms: &mut TermTable,
+    met: &mut Vec<DelayedFault>,
     alias: TermId,
     term: TermId,
     depth: u32,
@@ -159,5 +166,5 @@ fn equation_outcome(
     ensures says { (m : TypingMode) → StandsFor setting.now.typing_mode.now m → IfOk result (Says ((level_in setting.now m depth).equation_holds (erased_at terms.old alias) (erased_at terms.old term)) ((level_in setting.now m depth).equation_refuted (erased_at terms.old alias) (erased_at terms.old term))) }
 {
     let premise = InternedPremise::Predicate(InternedPredicate::Projection(alias, term));
-    premise_outcome(setting, terms, &premise, depth)
+    premise_outcome(setting, terms, met, &premise, depth)
 }

@@ -135,13 +135,20 @@ impl EvalCtxt<'_> {
         ensures says { (m : modes) → StandsFor self.old.typing_mode m → IfOk result (Says (ClauseHolds (level_over self.old m environment.now) (predicate_at self.old.terms predicate)) (ClauseRefuted (level_over self.old m environment.now) (predicate_at self.old.terms predicate))) }
         ensures stops { is_headline self.old.typing_mode ≡ true → IfErr result (λ s. s ≡ Stop.OutOfMemory) }
     {
+        let mut met = Vec::new(self.allocator());
         let setting = Setting {
             rows: self.tables.rows(),
             typing_mode: &self.typing_mode,
             environment,
         };
         let premise = InternedPremise::Predicate(predicate);
-        premise_outcome(&setting, &mut self.terms, &premise, self.remaining_depth)
+        premise_outcome(
+            &setting,
+            &mut self.terms,
+            &mut met,
+            &premise,
+            self.remaining_depth,
+        )
     }
 
     /// Whether a predicate in which a variable stands holds at the remaining depth. It is asked with the bindings
@@ -296,12 +303,20 @@ impl EvalCtxt<'_> {
         ensures within { IfOk result (FoundIn self.new.terms) }
         ensures stops { is_headline self.old.typing_mode ≡ true → IfErr result (λ s. s ≡ Stop.OutOfMemory) }
     {
+        let mut met = Vec::new(self.allocator());
         let setting = Setting {
             rows: self.tables.rows(),
             typing_mode: &self.typing_mode,
             environment,
         };
-        alias_term(&setting, &mut self.terms, kind, args, self.remaining_depth)
+        alias_term(
+            &setting,
+            &mut self.terms,
+            &mut met,
+            kind,
+            args,
+            self.remaining_depth,
+        )
     }
 
     /// Makes an expected term the term that was found. An unbound general variable is bound to it as it stands,

@@ -15,6 +15,7 @@ use crate::aliases::alias_term;
 use crate::id_lists::own_list;
 use crate::instances::instance_of;
 use crate::outcomes::{Found, Setting, Stop};
+use goal_terms::answers::DelayedFault;
 use goal_terms::heads::Node;
 use goal_terms::term_nodes::TermId;
 use goal_terms::term_table::TermTable;
@@ -26,6 +27,7 @@ use goal_terms::view::TermRef;
 pub fn head_form(
     setting: &Setting<'_>,
     terms: &mut TermTable,
+    met: &mut Vec<DelayedFault>,
     id: TermId,
     depth: u32,
 ) -> Result<Found, Stop>
@@ -39,7 +41,7 @@ pub fn head_form(
         return Ok(Found::Is(id));
     };
     let args = own_list(setting, terms.parts(id))?;
-    alias_term(setting, terms, kind, args.as_slice(), depth)
+    alias_term(setting, terms, met, kind, args.as_slice(), depth)
 }
 
 /// The head form at a depth of a row's term under arguments.
@@ -47,6 +49,7 @@ pub fn head_form(
 pub(crate) fn head_form_under(
     setting: &Setting<'_>,
     terms: &mut TermTable,
+    met: &mut Vec<DelayedFault>,
     term: TermRef<'_>,
     args: &[TermId],
     depth: u32,
@@ -59,7 +62,7 @@ pub(crate) fn head_form_under(
     ensures says { (m : TypingMode) → StandsFor setting.now.typing_mode.now m → IfOk result (SaysWhich (HasHeadForm (level_in setting.now m depth) (under (erased_all terms.old args.now) (tree_of_ref term.entry))) (HeadFormRefuted (level_in setting.now m depth) (under (erased_all terms.old args.now) (tree_of_ref term.entry))) terms.new) }
 {
     let id = instance_of(terms, term, args)?;
-    head_form(setting, terms, id, depth)
+    head_form(setting, terms, met, id, depth)
 }
 
 /// The head form at a depth of a row's type or constant under arguments.
@@ -67,6 +70,7 @@ pub(crate) fn head_form_under(
 pub(crate) fn term_form(
     setting: &Setting<'_>,
     terms: &mut TermTable,
+    met: &mut Vec<DelayedFault>,
     term: &Term,
     args: &[TermId],
     depth: u32,
@@ -77,5 +81,5 @@ pub(crate) fn term_form(
     ensures stops { is_headline setting.now.typing_mode.now ≡ true → IfErr result (λ s. s ≡ Stop.OutOfMemory) }
     ensures says { (m : TypingMode) → StandsFor setting.now.typing_mode.now m → IfOk result (SaysWhich (HasHeadForm (level_in setting.now m depth) (under (erased_all terms.old args.now) (tree_of_term term.now))) (HeadFormRefuted (level_in setting.now m depth) (under (erased_all terms.old args.now) (tree_of_term term.now))) terms.new) }
 {
-    head_form_under(setting, terms, term.view(), args, depth)
+    head_form_under(setting, terms, met, term.view(), args, depth)
 }

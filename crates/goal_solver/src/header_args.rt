@@ -18,11 +18,6 @@ use goal_terms::terms::{GenericArg, Region};
 use goal_terms::view::TermRef;
 use std::alloc::Global;
 
-/// Where the memory of an evaluation comes from.
-pub fn allocator(setting: &Setting<'_>) -> Global {
-    *setting.rows.tables().traits.allocator()
-}
-
 /// Whether the parameter of a number, if there is one, isn't known.
 fn is_missing(known: &[Option<TermId>], number: Option<u32>) -> bool
     ensures { result ≡ is_missing known.now number }

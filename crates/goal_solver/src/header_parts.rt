@@ -10,10 +10,10 @@ ghost use Rattle.goal_solver.specs.Outcomes.{StandsFor, level_in, header_terms};
 ghost use Rattle.goal_solver.specs.HeaderWords.{is_this, erased_ref, IsBehind, GivesPart, PlaceIn, OptionIn, KnownIn, known_trees, SaysKnown, PartOutcome, KnownOutcome};
 
 use crate::head_forms::head_form;
-use crate::header_args::{add_known, allocator};
+use crate::header_args::add_known;
 use crate::header_places::{Place, find_among, find_place};
 use crate::outcomes::{Found, Setting, Stop};
-use goal_terms::answers::ParamKind;
+use goal_terms::answers::{DelayedFault, ParamKind};
 use goal_terms::compare::Regions;
 use goal_terms::term_nodes::TermId;
 use goal_terms::term_table::TermTable;
@@ -25,6 +25,7 @@ use goal_terms::view::{Parts, TermRef};
 fn part_at(
     setting: &Setting<'_>,
     terms: &mut TermTable,
+    met: &mut Vec<DelayedFault>,
     number: usize,
     place: Place<'_>,
     depth: u32,
@@ -38,7 +39,9 @@ fn part_at(
     match place {
         Place::Is(id) => Ok(Some(id)),
         Place::Missing => Ok(None),
-        Place::Behind(header, given) => part_behind(setting, terms, number, header, given, depth),
+        Place::Behind(header, given) => part_behind(
+            setting, terms, met, number, header, given, depth,
+        ),
     }
 }
 
@@ -47,6 +50,7 @@ fn part_at(
 fn part_behind(
     setting: &Setting<'_>,
     terms: &mut TermTable,
+    met: &mut Vec<DelayedFault>,
     number: usize,
     header: TermRef<'_>,
     given: TermId,
@@ -61,7 +65,7 @@ fn part_behind(
     if depth == 0 {
         return Ok(None);
     }
-    match head_form(setting, terms, given, depth - 1)? {
+    match head_form(setting, terms, met, given, depth - 1)? {
         Found::Refuted => Ok(None),
         Found::Undecided => Ok(None),
         Found::Is(form) => {
@@ -69,7 +73,7 @@ fn part_behind(
                 return Ok(None);
             }
             let place = find_place(terms, number, header, form);
-            part_at(setting, terms, number, place, depth - 1)
+            part_at(setting, terms, met, number, place, depth - 1)
         }
     }
 }
@@ -79,6 +83,7 @@ fn part_behind(
 fn known_part(
     setting: &Setting<'_>,
     terms: &mut TermTable,
+    met: &mut Vec<DelayedFault>,
     number: usize,
     header: &[GenericArg],
     given: &[TermId],
@@ -91,7 +96,7 @@ fn known_part(
     ensures says { IfOk result (PartOutcome setting.now depth (λ L. PartAmong L number (header_terms header.now) (erased_all terms.old given.now)) terms.new) }
 {
     let place = find_among(terms, number, Parts::Args(header), given);
-    part_at(setting, terms, number, place, depth)
+    part_at(setting, terms, met, number, place, depth)
 }
 
 /// The term of a parameter of a kind among the arguments of a header, if it is known at a depth.
@@ -99,6 +104,7 @@ fn known_part(
 fn known_arg(
     setting: &Setting<'_>,
     terms: &mut TermTable,
+    met: &mut Vec<DelayedFault>,
     number: usize,
     kind: ParamKind,
     header: &[GenericArg],
@@ -113,8 +119,8 @@ fn known_arg(
 {
     match kind {
         ParamKind::Lifetime => Ok(None),
-        ParamKind::Ty => known_part(setting, terms, number, header, given, depth),
-        ParamKind::Const => known_part(setting, terms, number, header, given, depth),
+        ParamKind::Ty => known_part(setting, terms, met, number, header, given, depth),
+        ParamKind::Const => known_part(setting, terms, met, number, header, given, depth),
     }
 }
 
@@ -123,6 +129,7 @@ fn known_arg(
 pub fn known_args(
     setting: &Setting<'_>,
     terms: &mut TermTable,
+    met: &mut Vec<DelayedFault>,
     params: &[ParamKind],
     header: &[GenericArg],
     given: &[TermId],
@@ -135,9 +142,9 @@ pub fn known_args(
     ensures stops { is_headline setting.now.typing_mode.now ≡ true → IfErr result (λ s. s ≡ Stop.OutOfMemory) }
     ensures says { IfOk result (λ known. KnownOutcome setting.now depth (header_terms header.now) (erased_all terms.old given.now) params.now (known_trees terms.new known.items)) }
 {
-    let mut known = Vec::new(allocator(setting));
+    let mut known = Vec::new(setting.allocator());
     for i in 0..params.len() {
-        let next = known_arg(setting, terms, i, params[i], header, given, depth)?;
+        let next = known_arg(setting, terms, met, i, params[i], header, given, depth)?;
         add_known(&mut known, next)?;
     }
     Ok(known)

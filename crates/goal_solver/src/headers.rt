@@ -10,11 +10,11 @@ ghost use Rattle.goal_solver.specs.Outcomes.{StandsFor, level_in, header_terms, 
 ghost use Rattle.goal_solver.specs.HeaderWords.{KnownIn, known_trees, AreFilled, is_complete, TestOutcome, KnownOutcome, MatchOutcome};
 
 use crate::equality::compare_lists;
-use crate::header_args::{allocator, filled_args, instances, is_complete};
+use crate::header_args::{filled_args, instances, is_complete};
 use crate::header_clashes::header_clashes;
 use crate::header_parts::known_args;
 use crate::outcomes::{HeaderMatch, Outcome, Setting, Stop};
-use goal_terms::answers::ParamKind;
+use goal_terms::answers::{DelayedFault, ParamKind};
 use goal_terms::term_nodes::TermId;
 use goal_terms::term_table::TermTable;
 use goal_terms::terms::GenericArg;
@@ -24,6 +24,7 @@ use goal_terms::terms::GenericArg;
 fn instances_fit(
     setting: &Setting<'_>,
     terms: &mut TermTable,
+    met: &mut Vec<DelayedFault>,
     header: &[GenericArg],
     given: &[TermId],
     args: &[TermId],
@@ -35,8 +36,8 @@ fn instances_fit(
     ensures stops { is_headline setting.now.typing_mode.now ≡ true → IfErr result (λ s. s ≡ Stop.OutOfMemory) }
     ensures says { IfOk result (TestOutcome setting.now depth (λ L. Pairs L.equal (map (under (erased_all terms.old args.now)) (header_terms header.now)) (erased_all terms.old given.now))) }
 {
-    let ids = instances(allocator(setting), terms, header, args)?;
-    match compare_lists(setting, terms, &ids, given, depth)? {
+    let ids = instances(setting.allocator(), terms, header, args)?;
+    match compare_lists(setting, terms, met, &ids, given, depth)? {
         Outcome::Holds => Ok(true),
         Outcome::Refuted => Ok(false),
         Outcome::Undecided => Ok(false),
@@ -48,6 +49,7 @@ fn instances_fit(
 fn match_complete(
     setting: &Setting<'_>,
     terms: &mut TermTable,
+    met: &mut Vec<DelayedFault>,
     params: &[ParamKind],
     header: &[GenericArg],
     given: &[TermId],
@@ -66,10 +68,10 @@ fn match_complete(
     ensures stops { is_headline setting.now.typing_mode.now ≡ true → IfErr result (λ s. s ≡ Stop.OutOfMemory) }
     ensures says { IfOk result (MatchOutcome setting.now depth params.now (header_terms header.now) (erased_all terms.old given.now) terms.new) }
 {
-    if instances_fit(setting, terms, header, given, &args, depth)? {
+    if instances_fit(setting, terms, met, header, given, &args, depth)? {
         return Ok(HeaderMatch::Fits(args));
     }
-    if header_clashes(setting, terms, header, given, known, &args, depth)? {
+    if header_clashes(setting, terms, met, header, given, known, &args, depth)? {
         return Ok(HeaderMatch::Clashes);
     }
     Ok(HeaderMatch::Known(args))
@@ -80,6 +82,7 @@ fn match_complete(
 fn match_incomplete(
     setting: &Setting<'_>,
     terms: &mut TermTable,
+    met: &mut Vec<DelayedFault>,
     params: &[ParamKind],
     header: &[GenericArg],
     given: &[TermId],
@@ -98,7 +101,7 @@ fn match_incomplete(
     ensures stops { is_headline setting.now.typing_mode.now ≡ true → IfErr result (λ s. s ≡ Stop.OutOfMemory) }
     ensures says { IfOk result (MatchOutcome setting.now depth params.now (header_terms header.now) (erased_all terms.old given.now) terms.new) }
 {
-    if header_clashes(setting, terms, header, given, known, args, depth)? {
+    if header_clashes(setting, terms, met, header, given, known, args, depth)? {
         Ok(HeaderMatch::Clashes)
     } else {
         Ok(HeaderMatch::Unknown)
@@ -110,6 +113,7 @@ fn match_incomplete(
 fn match_known(
     setting: &Setting<'_>,
     terms: &mut TermTable,
+    met: &mut Vec<DelayedFault>,
     params: &[ParamKind],
     header: &[GenericArg],
     given: &[TermId],
@@ -125,11 +129,15 @@ fn match_known(
     ensures stops { is_headline setting.now.typing_mode.now ≡ true → IfErr result (λ s. s ≡ Stop.OutOfMemory) }
     ensures says { IfOk result (MatchOutcome setting.now depth params.now (header_terms header.now) (erased_all terms.old given.now) terms.new) }
 {
-    let args = filled_args(allocator(setting), terms, known)?;
+    let args = filled_args(setting.allocator(), terms, known)?;
     if is_complete(params, known) {
-        match_complete(setting, terms, params, header, given, known, args, depth)
+        match_complete(
+            setting, terms, met, params, header, given, known, args, depth,
+        )
     } else {
-        match_incomplete(setting, terms, params, header, given, known, &args, depth)
+        match_incomplete(
+            setting, terms, met, params, header, given, known, &args, depth,
+        )
     }
 }
 
@@ -140,6 +148,7 @@ fn match_known(
 pub fn match_header(
     setting: &Setting<'_>,
     terms: &mut TermTable,
+    met: &mut Vec<DelayedFault>,
     params: &[ParamKind],
     header: &[GenericArg],
     given: &[TermId],
@@ -151,6 +160,6 @@ pub fn match_header(
     ensures stops { is_headline setting.now.typing_mode.now ≡ true → IfErr result (λ s. s ≡ Stop.OutOfMemory) }
     ensures says { (m : TypingMode) → StandsFor setting.now.typing_mode.now m → IfOk result (SaysMatch (level_in setting.now m depth) params.now (header_terms header.now) (erased_all terms.old given.now) terms.new) }
 {
-    let known = known_args(setting, terms, params, header, given, depth)?;
-    match_known(setting, terms, params, header, given, &known, depth)
+    let known = known_args(setting, terms, met, params, header, given, depth)?;
+    match_known(setting, terms, met, params, header, given, &known, depth)
 }

@@ -3,12 +3,6 @@ ghost use Rattle.std.specs.Prelude.{◌≡◌, ◌∷◌, ◌++◌, [], IfOk, Ma
 
 use crate::outcomes::Setting;
 use goal_terms::term_nodes::{OutOfMemory, TermId};
-use std::alloc::Global;
-
-/// What the lists of an evaluation are made with.
-pub(crate) fn memory(setting: &Setting<'_>) -> Global {
-    *setting.rows.tables().traits.allocator()
-}
 
 /// Some numbers, and then others.
 pub(crate) fn joined(
@@ -18,7 +12,7 @@ pub(crate) fn joined(
 ) -> Result<Vec<TermId>, OutOfMemory>
     ensures { IfOk result (λ made. made.items ≡ first.now ++ second.now) }
 {
-    let mut made = Vec::new(memory(setting));
+    let mut made = Vec::new(setting.allocator());
     for id in first {
         made.push(*id)?;
     }

@@ -19,9 +19,11 @@ use crate::id_lists::{joined, own_list};
 use crate::instances::{error_number, instances_of};
 use crate::outcomes::{Found, HeaderMatch, Outcome, Projection, Setting, Stop};
 use crate::premises::clauses_outcome;
+use crate::records::enter_fault;
 use crate::sayings::{Said, said_of};
 use crate::trait_candidates::match_impl;
 use goal_tables::rows::{Container, ImplRow};
+use goal_terms::answers::DelayedFault;
 use goal_terms::ids::ImplId;
 use goal_terms::term_nodes::TermId;
 use goal_terms::term_table::TermTable;
@@ -32,6 +34,7 @@ use goal_terms::terms::Term;
 pub fn impl_term(
     setting: &Setting<'_>,
     terms: &mut TermTable,
+    met: &mut Vec<DelayedFault>,
     row: &ImplRow,
     projection: &Projection<'_>,
     depth: u32,
@@ -42,12 +45,12 @@ pub fn impl_term(
     ensures stops { is_headline setting.now.typing_mode.now ≡ true → IfErr result (λ s. s ≡ Stop.OutOfMemory) }
     ensures says { (m : TypingMode) → StandsFor setting.now.typing_mode.now m → IfOk result (SaysWhich (ImplGives (setting_in setting.now m) (level_in setting.now m depth) (projection_at terms.old projection.now) (erased_at terms.old projection.now.itself) row.now) (ImplTermRefuted (setting_in setting.now m) (level_in setting.now m depth) (projection_at terms.old projection.now) row.now) terms.new) }
 {
-    match match_impl(setting, terms, row, trait_args(projection), depth)? {
+    match match_impl(setting, terms, met, row, trait_args(projection), depth)? {
         HeaderMatch::Clashes => Ok(Found::Refuted),
         HeaderMatch::Unknown => Ok(Found::Undecided),
-        HeaderMatch::Fits(found) => term_under(setting, terms, row, &found, projection, depth),
+        HeaderMatch::Fits(found) => term_under(setting, terms, met, row, &found, projection, depth),
         HeaderMatch::Known(found) => {
-            let term = term_under(setting, terms, row, &found, projection, depth)?;
+            let term = term_under(setting, terms, met, row, &found, projection, depth)?;
             Ok(refuted_only(term))
         }
     }
@@ -59,6 +62,7 @@ pub fn impl_term(
 fn term_under(
     setting: &Setting<'_>,
     terms: &mut TermTable,
+    met: &mut Vec<DelayedFault>,
     row: &ImplRow,
     found: &[TermId],
     projection: &Projection<'_>,
@@ -72,19 +76,21 @@ fn term_under(
     ensures says { (m : TypingMode) → StandsFor setting.now.typing_mode.now m → IfOk result (SaysWhich (OwnGives (setting_in setting.now m) (level_in setting.now m depth) row.now (projection_at terms.old projection.now) (erased_at terms.old projection.now.itself) (erased_all terms.old found.now)) (OwnRefuted (setting_in setting.now m) (level_in setting.now m depth) row.now (projection_at terms.old projection.now) (erased_all terms.old found.now)) terms.new) }
 {
     let clauses = &projection.item.own_predicates;
-    let outcome = clauses_outcome(setting, terms, clauses, projection.args, depth)?;
+    let outcome = clauses_outcome(setting, terms, met, clauses, projection.args, depth)?;
     if let Outcome::Refuted = outcome {
         return Ok(Found::Refuted);
     }
-    let term = said_term(setting, terms, row, found, projection, depth)?;
+    let term = said_term(setting, terms, met, row, found, projection, depth)?;
     Ok(found_behind(outcome, term))
 }
 
-/// The term that comes of what an impl says of an item, under terms of its parameters.
+/// The term that comes of what an impl says of an item, under terms of its parameters. A value that is missing
+/// is met as a delayed fault.
 #[cycle(closed)]
 fn said_term(
     setting: &Setting<'_>,
     terms: &mut TermTable,
+    met: &mut Vec<DelayedFault>,
     row: &ImplRow,
     found: &[TermId],
     projection: &Projection<'_>,
@@ -104,11 +110,18 @@ fn said_term(
             let error = error_number(setting, terms, projection.item.is_const, number)?;
             Ok(Found::Is(error))
         }
+        Said::Missing(definition) => {
+            enter_fault(met, DelayedFault::MissingItem(definition))?;
+            let error = error_number(setting, terms, projection.item.is_const, definition.0)?;
+            Ok(Found::Is(error))
+        }
         Said::Value(place, term) => {
-            value_term(setting, terms, row, found, projection, place, term, depth)
+            value_term(
+                setting, terms, met, row, found, projection, place, term, depth,
+            )
         }
         Said::Evaluated(place) => {
-            evaluated_term(setting, terms, row, found, projection, place, depth)
+            evaluated_term(setting, terms, met, row, found, projection, place, depth)
         }
     }
 }
@@ -118,6 +131,7 @@ fn said_term(
 fn value_term(
     setting: &Setting<'_>,
     terms: &mut TermTable,
+    met: &mut Vec<DelayedFault>,
     row: &ImplRow,
     found: &[TermId],
     projection: &Projection<'_>,
@@ -132,12 +146,12 @@ fn value_term(
     ensures stops { is_headline setting.now.typing_mode.now ≡ true → IfErr result (λ s. s ≡ Stop.OutOfMemory) }
     ensures says { (m : TypingMode) → StandsFor setting.now.typing_mode.now m → IfOk result (SaysWhich (SaidGives (setting_in setting.now m) (level_in setting.now m depth) row.now (erased_all terms.old found.now) (projection_at terms.old projection.now) (erased_at terms.old projection.now.itself) (a_value place (tree_of_term value.now))) (SaidRefuted (setting_in setting.now m) (level_in setting.now m depth) row.now (erased_all terms.old found.now) (projection_at terms.old projection.now) (a_value place (tree_of_term value.now))) terms.new) }
 {
-    match translated(setting, terms, row, found, projection, place, depth)? {
+    match translated(setting, terms, met, row, found, projection, place, depth)? {
         HeaderMatch::Clashes => Ok(Found::Refuted),
         HeaderMatch::Unknown => Ok(Found::Undecided),
-        HeaderMatch::Fits(args) => term_form(setting, terms, value, &args, depth),
+        HeaderMatch::Fits(args) => term_form(setting, terms, met, value, &args, depth),
         HeaderMatch::Known(args) => {
-            let form = term_form(setting, terms, value, &args, depth)?;
+            let form = term_form(setting, terms, met, value, &args, depth)?;
             Ok(refuted_only(form))
         }
     }
@@ -149,6 +163,7 @@ fn value_term(
 fn evaluated_term(
     setting: &Setting<'_>,
     terms: &mut TermTable,
+    met: &mut Vec<DelayedFault>,
     row: &ImplRow,
     found: &[TermId],
     projection: &Projection<'_>,
@@ -162,7 +177,7 @@ fn evaluated_term(
     ensures stops { is_headline setting.now.typing_mode.now ≡ true → IfErr result (λ s. s ≡ Stop.OutOfMemory) }
     ensures says { (m : TypingMode) → StandsFor setting.now.typing_mode.now m → IfOk result (SaysWhich (SaidGives (setting_in setting.now m) (level_in setting.now m depth) row.now (erased_all terms.old found.now) (projection_at terms.old projection.now) (erased_at terms.old projection.now.itself) (evaluated place)) (SaidRefuted (setting_in setting.now m) (level_in setting.now m depth) row.now (erased_all terms.old found.now) (projection_at terms.old projection.now) (evaluated place)) terms.new) }
 {
-    let args = translated(setting, terms, row, found, projection, place, depth)?;
+    let args = translated(setting, terms, met, row, found, projection, place, depth)?;
     Ok(refuted_clash(&args))
 }
 
@@ -172,6 +187,7 @@ fn evaluated_term(
 fn translated(
     setting: &Setting<'_>,
     terms: &mut TermTable,
+    met: &mut Vec<DelayedFault>,
     row: &ImplRow,
     found: &[TermId],
     projection: &Projection<'_>,
@@ -195,7 +211,7 @@ fn translated(
                 let args = joined(setting, found, own_args(projection))?;
                 return Ok(HeaderMatch::Fits(args));
             }
-            translated_to(setting, terms, row, found, projection, id, depth)
+            translated_to(setting, terms, met, row, found, projection, id, depth)
         }
     }
 }
@@ -205,6 +221,7 @@ fn translated(
 fn translated_to(
     setting: &Setting<'_>,
     terms: &mut TermTable,
+    met: &mut Vec<DelayedFault>,
     row: &ImplRow,
     found: &[TermId],
     projection: &Projection<'_>,
@@ -222,7 +239,15 @@ fn translated_to(
         return Ok(HeaderMatch::Unknown);
     };
     let header = instances_of(setting, terms, &row.trait_args, found)?;
-    other_args(setting, terms, other, &header, own_args(projection), depth)
+    other_args(
+        setting,
+        terms,
+        met,
+        other,
+        &header,
+        own_args(projection),
+        depth,
+    )
 }
 
 /// Another impl's arguments for a header, and then own ones.
@@ -230,6 +255,7 @@ fn translated_to(
 fn other_args(
     setting: &Setting<'_>,
     terms: &mut TermTable,
+    met: &mut Vec<DelayedFault>,
     other: &ImplRow,
     header: &[TermId],
     own: &[TermId],
@@ -245,6 +271,7 @@ fn other_args(
     match match_header(
         setting,
         terms,
+        met,
         &other.params,
         &other.trait_args,
         header,
@@ -252,9 +279,9 @@ fn other_args(
     )? {
         HeaderMatch::Clashes => Ok(HeaderMatch::Clashes),
         HeaderMatch::Unknown => Ok(HeaderMatch::Unknown),
-        HeaderMatch::Fits(found) => other_under(setting, terms, other, &found, own, depth),
+        HeaderMatch::Fits(found) => other_under(setting, terms, met, other, &found, own, depth),
         HeaderMatch::Known(found) => {
-            let args = other_under(setting, terms, other, &found, own, depth)?;
+            let args = other_under(setting, terms, met, other, &found, own, depth)?;
             Ok(known_only(args))
         }
     }
@@ -265,6 +292,7 @@ fn other_args(
 fn other_under(
     setting: &Setting<'_>,
     terms: &mut TermTable,
+    met: &mut Vec<DelayedFault>,
     other: &ImplRow,
     found: &[TermId],
     own: &[TermId],
@@ -277,7 +305,7 @@ fn other_under(
     ensures stops { is_headline setting.now.typing_mode.now ≡ true → IfErr result (λ s. s ≡ Stop.OutOfMemory) }
     ensures says { (m : TypingMode) → StandsFor setting.now.typing_mode.now m → IfOk result (SaysBehind (PremisesHold (level_in setting.now m depth) (clauses_under (erased_all terms.old found.now) other.now.predicates.items)) (PremisesRefuted (level_in setting.now m depth) (clauses_under (erased_all terms.old found.now) other.now.predicates.items)) (erased_all terms.old found.now ++ erased_all terms.old own.now) terms.new) }
 {
-    let outcome = clauses_outcome(setting, terms, &other.predicates, found, depth)?;
+    let outcome = clauses_outcome(setting, terms, met, &other.predicates, found, depth)?;
     let args = joined(setting, found, own)?;
     Ok(match_behind(outcome, args))
 }

@@ -11,7 +11,7 @@ ghost use Rattle.goal_kinds.specs.ImplTerms.{error_term};
 ghost use Rattle.goal_kinds.specs.Interned.{IsIn, AreIn, erased_at, erased_all};
 ghost use Rattle.goal_solver.specs.Outcomes.{header_terms};
 
-use crate::id_lists::{memory, own_list};
+use crate::id_lists::own_list;
 use crate::outcomes::Setting;
 use goal_terms::heads::{Head, Node};
 use goal_terms::term_nodes::{OutOfMemory, TermId};
@@ -46,7 +46,7 @@ pub(crate) fn instances_of(
     ensures within { IfOk result (λ made. AreIn terms.new made.items) }
     ensures trees { IfOk result (λ made. erased_all terms.new made.items ≡ map (under (erased_all terms.old args.now)) (header_terms header.now)) }
 {
-    let mut made = Vec::new(memory(setting));
+    let mut made = Vec::new(setting.allocator());
     for arg in header {
         let id = instance_of(terms, arg.view(), args)?;
         made.push(id)?;
@@ -86,7 +86,7 @@ pub(crate) fn error_number(
     } else {
         Head::TyError(error)
     };
-    terms.intern_node(Node::Head(head), Vec::new(memory(setting)))
+    terms.intern_node(Node::Head(head), Vec::new(setting.allocator()))
 }
 
 /// A type as the one argument of a header.
@@ -94,7 +94,7 @@ pub(crate) fn header_of_type(setting: &Setting<'_>, ty: &Ty) -> Result<Vec<Gener
     ensures { IfOk result (λ made. header_terms made.items ≡ erased (tree_of_ty ty.now) ∷ []) }
 {
     let copy = ty.clone()?;
-    let mut made = Vec::with_capacity(memory(setting), 1)?;
+    let mut made = Vec::with_capacity(setting.allocator(), 1)?;
     made.push(GenericArg::Ty(copy))?;
     Ok(made)
 }

@@ -68,28 +68,29 @@ impl EvalCtxt<'_> {
         ensures only_memory { IsOkUnless result Fault.OutOfMemory }
     {
         if let Node::Alias(_) = term.view().node() {
-            self.add_normalization(goal, into_alias(term))
+            self.add_normalization(&goal.param_env, into_alias(term), &goal.predicate.term)
         } else {
             self.bind_expected(&goal.predicate.term, term.view())
         }
     }
 
-    /// Adds the goal that an alias normalizes to the expected term of a goal, under its environment. Only memory is
-    /// refused; then nothing is added.
-    fn add_normalization(
+    /// Adds the goal that an alias normalizes to an expected term, in an environment. Only memory is refused; then
+    /// nothing is added.
+    pub(crate) fn add_normalization(
         &mut self,
-        goal: &Goal<NormalizesTo>,
+        environment: &[Clause],
         alias: AliasTerm,
+        expected: &Term,
     ) -> Result<(), Fault>
-        ensures added { OnOk result (AddsNormalization self.old self.new (tree_of_alias alias) (tree_of_term goal.now.predicate.term) goal.now.param_env.items) }
+        ensures added { OnOk result (AddsNormalization self.old self.new (tree_of_alias alias) (tree_of_term expected.now) environment.now) }
         ensures unchanged { OnErr result (self.new ≡ self.old) }
         ensures goes_back { GoesBack self.old self.new }
         ensures only_memory { IsOkUnless result Fault.OutOfMemory }
     {
-        let Ok(param_env) = goal.param_env.clone() else {
+        let Ok(param_env) = environment.to_vec(self.allocator()) else {
             return Err(Fault::OutOfMemory);
         };
-        let Ok(term) = goal.predicate.term.clone() else {
+        let Ok(term) = expected.clone() else {
             return Err(Fault::OutOfMemory);
         };
         let predicate = Predicate::NormalizesTo(NormalizesTo { alias, term });
@@ -151,7 +152,7 @@ impl EvalCtxt<'_> {
 
 #[tactic(auto, using(goal_terms::proofs::TreeLemmas::tree_equations))]
 /// The alias that a term is.
-fn into_alias(term: Term) -> AliasTerm
+pub(crate) fn into_alias(term: Term) -> AliasTerm
     requires { is_alias (node_of (tree_of_term term)) ≡ true }
     ensures { tree_of_alias result ≡ tree_of_term term }
 {

@@ -5,6 +5,7 @@ use goal_terms::answers::{OpaqueAccess, TraitGoalProvenVia};
 use goal_terms::modes::TypingMode;
 use goal_terms::predicates::Clause;
 use goal_terms::term_nodes::{OutOfMemory, TermId};
+use std::alloc::Global;
 
 /// What goals are evaluated over: tables, a typing mode and an environment.
 #[derive(Clone, Copy)]
@@ -12,6 +13,13 @@ pub struct Setting<'e> {
     pub rows: &'e IndexedTables,
     pub typing_mode: &'e TypingMode,
     pub environment: &'e [Clause],
+}
+
+impl Setting<'_> {
+    /// What the lists of an evaluation are made with.
+    pub(crate) fn allocator(&self) -> Global {
+        *self.rows.tables().traits.allocator()
+    }
 }
 
 /// Why an evaluation ends without an outcome: a growth was refused, or a rule reads a mode that isn't one of

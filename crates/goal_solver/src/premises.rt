@@ -14,6 +14,7 @@ use crate::outcomes::{Outcome, Setting, Stop};
 use crate::trait_candidates::trait_outcome;
 use goal_kinds::interned::{InternedPredicate, InternedPremise, InternedTrait};
 use goal_kinds::premise_lists::clauses_under;
+use goal_terms::answers::DelayedFault;
 use goal_terms::predicates::{BoundConstness, Clause};
 use goal_terms::term_nodes::TermId;
 use goal_terms::term_table::TermTable;
@@ -23,6 +24,7 @@ use goal_terms::term_table::TermTable;
 pub fn premise_outcome(
     setting: &Setting<'_>,
     terms: &mut TermTable,
+    met: &mut Vec<DelayedFault>,
     premise: &InternedPremise,
     depth: u32,
 ) -> Result<Outcome, Stop>
@@ -33,10 +35,10 @@ pub fn premise_outcome(
 {
     match premise {
         InternedPremise::Predicate(predicate) => {
-            predicate_outcome(setting, terms, predicate, depth)
+            predicate_outcome(setting, terms, met, predicate, depth)
         }
         InternedPremise::Equation(left, right) => {
-            compare_terms(setting, terms, *left, *right, depth)
+            compare_terms(setting, terms, met, *left, *right, depth)
         }
     }
 }
@@ -46,6 +48,7 @@ pub fn premise_outcome(
 fn predicate_outcome(
     setting: &Setting<'_>,
     terms: &mut TermTable,
+    met: &mut Vec<DelayedFault>,
     predicate: &InternedPredicate,
     depth: u32,
 ) -> Result<Outcome, Stop>
@@ -56,14 +59,22 @@ fn predicate_outcome(
 {
     match predicate {
         InternedPredicate::Trait(held) => {
-            let found = trait_outcome(setting, terms, held.def_id, &held.args, depth)?;
+            let found = trait_outcome(setting, terms, met, held.def_id, &held.args, depth)?;
             Ok(found.held())
         }
         InternedPredicate::Projection(alias, term) => {
-            equation_outcome(setting, terms, *alias, *term, depth)
+            equation_outcome(setting, terms, met, *alias, *term, depth)
         }
         InternedPredicate::HostEffect(constness, held) => {
-            const_outcome(setting, terms, *constness, held.def_id, &held.args, depth)
+            const_outcome(
+                setting,
+                terms,
+                met,
+                *constness,
+                held.def_id,
+                &held.args,
+                depth,
+            )
         }
     }
 }
@@ -73,6 +84,7 @@ fn predicate_outcome(
 fn equation_outcome(
     setting: &Setting<'_>,
     terms: &mut TermTable,
+    met: &mut Vec<DelayedFault>,
     alias: TermId,
     term: TermId,
     depth: u32,
@@ -86,7 +98,7 @@ fn equation_outcome(
     if depth == 0 {
         return Ok(Outcome::Undecided);
     }
-    compare_terms(setting, terms, alias, term, depth - 1)
+    compare_terms(setting, terms, met, alias, term, depth - 1)
 }
 
 /// Whether all of some premises hold at a depth. One that is refuted refutes them.
@@ -94,6 +106,7 @@ fn equation_outcome(
 pub fn premises_outcome(
     setting: &Setting<'_>,
     terms: &mut TermTable,
+    met: &mut Vec<DelayedFault>,
     premises: &[InternedPremise],
     depth: u32,
 ) -> Result<Outcome, Stop>
@@ -104,7 +117,7 @@ pub fn premises_outcome(
 {
     let mut found = Outcome::Holds;
     for premise in premises {
-        let next = premise_outcome(setting, terms, premise, depth)?;
+        let next = premise_outcome(setting, terms, met, premise, depth)?;
         found = found.and(next);
         if let Outcome::Refuted = found {
             return Ok(Outcome::Refuted);
@@ -118,6 +131,7 @@ pub fn premises_outcome(
 pub fn clauses_outcome(
     setting: &Setting<'_>,
     terms: &mut TermTable,
+    met: &mut Vec<DelayedFault>,
     clauses: &[Clause],
     args: &[TermId],
     depth: u32,
@@ -128,7 +142,7 @@ pub fn clauses_outcome(
     ensures says { (m : TypingMode) → StandsFor setting.now.typing_mode.now m → IfOk result (Says (PremisesHold (level_in setting.now m depth) (clauses_under (erased_all terms.old args.now) clauses.now)) (PremisesRefuted (level_in setting.now m depth) (clauses_under (erased_all terms.old args.now) clauses.now))) }
 {
     let premises = clauses_under(terms, clauses, args)?;
-    premises_outcome(setting, terms, &premises, depth)
+    premises_outcome(setting, terms, met, &premises, depth)
 }
 
 /// Whether traits hold at a depth as const traits of a constness.
@@ -136,6 +150,7 @@ pub fn clauses_outcome(
 pub fn conditions_outcome(
     setting: &Setting<'_>,
     terms: &mut TermTable,
+    met: &mut Vec<DelayedFault>,
     constness: BoundConstness,
     conditions: &[InternedTrait],
     depth: u32,
@@ -150,6 +165,7 @@ pub fn conditions_outcome(
         let next = const_outcome(
             setting,
             terms,
+            met,
             constness,
             condition.def_id,
             &condition.args,

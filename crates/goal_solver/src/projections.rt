@@ -13,10 +13,11 @@ ghost use Rattle.goal_kinds.specs.Settings.{is_headline};
 ghost use Rattle.goal_solver.specs.Outcomes.{StandsFor, setting_in, level_in, Says, SaysWhich, FoundIn, ProjectionIn, projection_at};
 ghost use Rattle.goal_solver.specs.ProjectionParts.{EqualArgsGive, EqualArgsRefuted, HaveHeadForms, SomeUnformed, FormedGives, LaterGives, LaterRefuted, ReplacedGives, ReplacedRefuted, ThroughGives, ThroughRefuted};
 
+use crate::combined::found_behind;
 use crate::equality::compare_lists;
 use crate::head_forms::head_form;
 use crate::impl_terms::impl_term;
-use crate::merging::{behind, both, merge_terms};
+use crate::merging::merge_terms;
 use crate::outcomes::{Found, Outcome, Projection, Setting, Stop, TraitOutcome};
 use crate::premises::{clauses_outcome, premises_outcome};
 use crate::projection_args::{
@@ -27,12 +28,11 @@ use goal_kinds::candidate_lists::{candidates_of_class, second_group};
 use goal_kinds::interned::{InternedCandidate, InternedPredicate, InternedPremise, ListedTerm};
 use goal_kinds::term_rules::term_rule;
 use goal_tables::rows::{ItemRow, TraitRow};
-use goal_terms::answers::TraitGoalProvenVia;
+use goal_terms::answers::{DelayedFault, TraitGoalProvenVia};
 use goal_terms::ids::{ItemId, TraitId};
 use goal_terms::term_nodes::TermId;
 use goal_terms::term_table::TermTable;
 use goal_terms::terms::AliasTermKind;
-use std::alloc::Global;
 
 /// A projection as it was given, whose trait goal holds through a class: the alias and its arguments, its
 /// item, and how many of its arguments are the trait's.
@@ -45,16 +45,12 @@ pub(crate) struct Given<'e> {
     pub(crate) args: &'e [TermId],
 }
 
-/// What lists are made with.
-fn memory(setting: &Setting<'_>) -> Global {
-    *setting.rows.tables().traits.allocator()
-}
-
 /// The term that a projection of an item has, one above a depth.
 #[cycle(closed)]
 pub fn projection_term(
     setting: &Setting<'_>,
     terms: &mut TermTable,
+    met: &mut Vec<DelayedFault>,
     kind: AliasTermKind,
     item: ItemId,
     args: &[TermId],
@@ -72,7 +68,7 @@ pub fn projection_term(
     let Some(trait_row) = setting.rows.trait_row(row.trait_id) else {
         return Ok(Found::Undecided);
     };
-    item_term(setting, terms, kind, row, trait_row, args, depth)
+    item_term(setting, terms, met, kind, row, trait_row, args, depth)
 }
 
 /// The term that a projection has by its item's row and its trait's.
@@ -80,6 +76,7 @@ pub fn projection_term(
 fn item_term(
     setting: &Setting<'_>,
     terms: &mut TermTable,
+    met: &mut Vec<DelayedFault>,
     kind: AliasTermKind,
     item: &ItemRow,
     trait_row: &TraitRow,
@@ -97,7 +94,7 @@ fn item_term(
     }
     let trait_params = trait_row.params.len();
     let trait_args = first_args(args, trait_params);
-    match trait_outcome(setting, terms, item.trait_id, trait_args, depth)? {
+    match trait_outcome(setting, terms, met, item.trait_id, trait_args, depth)? {
         TraitOutcome::Undecided => Ok(Found::Undecided),
         TraitOutcome::Refuted => Ok(Found::Refuted),
         TraitOutcome::Holds(class) => {
@@ -108,7 +105,7 @@ fn item_term(
                 class,
                 args,
             };
-            through_term(setting, terms, &given, depth)
+            through_term(setting, terms, met, &given, depth)
         }
     }
 }
@@ -118,6 +115,7 @@ fn item_term(
 pub(crate) fn through_term(
     setting: &Setting<'_>,
     terms: &mut TermTable,
+    met: &mut Vec<DelayedFault>,
     given: &Given<'_>,
     depth: u32,
 ) -> Result<Found, Stop>
@@ -131,10 +129,10 @@ pub(crate) fn through_term(
     if args.is_empty() {
         return Ok(Found::Undecided);
     }
-    match head_form(setting, terms, args[0], depth)? {
+    match head_form(setting, terms, met, args[0], depth)? {
         Found::Undecided => Ok(Found::Undecided),
         Found::Refuted => Ok(Found::Undecided),
-        Found::Is(self_ty) => replaced_term(setting, terms, given, self_ty, depth),
+        Found::Is(self_ty) => replaced_term(setting, terms, met, given, self_ty, depth),
     }
 }
 
@@ -143,6 +141,7 @@ pub(crate) fn through_term(
 fn replaced_term(
     setting: &Setting<'_>,
     terms: &mut TermTable,
+    met: &mut Vec<DelayedFault>,
     given: &Given<'_>,
     self_ty: TermId,
     depth: u32,
@@ -154,9 +153,9 @@ fn replaced_term(
     ensures stops { is_headline setting.now.typing_mode.now ≡ true → IfErr result (λ s. s ≡ Stop.OutOfMemory) }
     ensures says { (m : TypingMode) → StandsFor setting.now.typing_mode.now m → IfOk result (SaysWhich (ReplacedGives (setting_in setting.now m) (level_in setting.now m depth) given.now.kind given.now.item.now given.now.trait_params given.now.class (erased_all terms.old given.now.args.now) (erased_at terms.old self_ty)) (ReplacedRefuted (setting_in setting.now m) (level_in setting.now m depth) given.now.kind given.now.item.now given.now.trait_params given.now.class (erased_all terms.old given.now.args.now) (erased_at terms.old self_ty)) terms.new) }
 {
-    let alias = intern_alias(memory(setting), terms, given.kind, given.args)?;
-    let args = with_self(memory(setting), self_ty, given.args)?;
-    let itself = intern_alias(memory(setting), terms, given.kind, args.as_slice())?;
+    let alias = intern_alias(setting.allocator(), terms, given.kind, given.args)?;
+    let args = with_self(setting.allocator(), self_ty, given.args)?;
+    let itself = intern_alias(setting.allocator(), terms, given.kind, args.as_slice())?;
     let projection = Projection {
         item: given.item,
         trait_params: given.trait_params,
@@ -166,6 +165,7 @@ fn replaced_term(
     groups_term(
         setting,
         terms,
+        met,
         &projection,
         self_ty,
         alias,
@@ -179,6 +179,7 @@ fn replaced_term(
 fn groups_term(
     setting: &Setting<'_>,
     terms: &mut TermTable,
+    met: &mut Vec<DelayedFault>,
     projection: &Projection<'_>,
     self_ty: TermId,
     given: TermId,
@@ -193,10 +194,12 @@ fn groups_term(
     ensures stops { is_headline setting.now.typing_mode.now ≡ true → IfErr result (λ s. s ≡ Stop.OutOfMemory) }
     ensures says { (m : TypingMode) → StandsFor setting.now.typing_mode.now m → IfOk result (SaysWhich (GroupsGive (setting_in setting.now m) (level_in setting.now m depth) class (projection_at terms.old projection.now) (erased_at terms.old projection.now.itself) (erased_at terms.old given) (second_group (setting_in setting.now m) projection.now.item.now.trait_id (erased_at terms.old self_ty) class)) (GroupsRefuted (setting_in setting.now m) (level_in setting.now m depth) class (projection_at terms.old projection.now) (erased_at terms.old projection.now.itself) (second_group (setting_in setting.now m) projection.now.item.now.trait_id (erased_at terms.old self_ty) class)) terms.new) }
 {
-    match environment_term(setting, terms, projection, self_ty, depth)? {
+    match environment_term(setting, terms, met, projection, self_ty, depth)? {
         Found::Undecided => Ok(Found::Undecided),
-        Found::Is(term) => formed_term(setting, terms, projection, term, depth),
-        Found::Refuted => later_term(setting, terms, projection, self_ty, given, class, depth),
+        Found::Is(term) => formed_term(setting, terms, met, projection, term, depth),
+        Found::Refuted => later_term(
+            setting, terms, met, projection, self_ty, given, class, depth,
+        ),
     }
 }
 
@@ -205,6 +208,7 @@ fn groups_term(
 fn later_term(
     setting: &Setting<'_>,
     terms: &mut TermTable,
+    met: &mut Vec<DelayedFault>,
     projection: &Projection<'_>,
     self_ty: TermId,
     given: TermId,
@@ -219,7 +223,7 @@ fn later_term(
     ensures stops { is_headline setting.now.typing_mode.now ≡ true → IfErr result (λ s. s ≡ Stop.OutOfMemory) }
     ensures says { (m : TypingMode) → StandsFor setting.now.typing_mode.now m → IfOk result (SaysWhich (LaterGives (setting_in setting.now m) (level_in setting.now m depth) class (projection_at terms.old projection.now) (erased_at terms.old projection.now.itself) (erased_at terms.old given) (second_group (setting_in setting.now m) projection.now.item.now.trait_id (erased_at terms.old self_ty) class)) (LaterRefuted (setting_in setting.now m) (level_in setting.now m depth) class (projection_at terms.old projection.now) (erased_at terms.old projection.now.itself) (second_group (setting_in setting.now m) projection.now.item.now.trait_id (erased_at terms.old self_ty) class)) terms.new) }
 {
-    match second_term(setting, terms, projection, self_ty, class, depth)? {
+    match second_term(setting, terms, met, projection, self_ty, class, depth)? {
         Found::Undecided => Ok(Found::Undecided),
         Found::Refuted => match class {
             TraitGoalProvenVia::Misc => Ok(Found::Refuted),
@@ -227,7 +231,7 @@ fn later_term(
         },
         Found::Is(term) => match class {
             TraitGoalProvenVia::Misc => Ok(Found::Is(term)),
-            _ => formed_term(setting, terms, projection, term, depth),
+            _ => formed_term(setting, terms, met, projection, term, depth),
         },
     }
 }
@@ -237,6 +241,7 @@ fn later_term(
 fn environment_term(
     setting: &Setting<'_>,
     terms: &mut TermTable,
+    met: &mut Vec<DelayedFault>,
     projection: &Projection<'_>,
     self_ty: TermId,
     depth: u32,
@@ -256,7 +261,14 @@ fn environment_term(
         self_ty,
         TraitGoalProvenVia::ParamEnv,
     )?;
-    group_term(setting, terms, projection, candidates.as_slice(), depth)
+    group_term(
+        setting,
+        terms,
+        met,
+        projection,
+        candidates.as_slice(),
+        depth,
+    )
 }
 
 /// The term that the candidates after the environment give a projection.
@@ -264,6 +276,7 @@ fn environment_term(
 fn second_term(
     setting: &Setting<'_>,
     terms: &mut TermTable,
+    met: &mut Vec<DelayedFault>,
     projection: &Projection<'_>,
     self_ty: TermId,
     class: TraitGoalProvenVia,
@@ -284,7 +297,14 @@ fn second_term(
         self_ty,
         class,
     )?;
-    group_term(setting, terms, projection, candidates.as_slice(), depth)
+    group_term(
+        setting,
+        terms,
+        met,
+        projection,
+        candidates.as_slice(),
+        depth,
+    )
 }
 
 /// A term, where a projection's own arguments have head forms.
@@ -292,6 +312,7 @@ fn second_term(
 fn formed_term(
     setting: &Setting<'_>,
     terms: &mut TermTable,
+    met: &mut Vec<DelayedFault>,
     projection: &Projection<'_>,
     term: TermId,
     depth: u32,
@@ -304,7 +325,7 @@ fn formed_term(
     ensures says { (m : TypingMode) → StandsFor setting.now.typing_mode.now m → IfOk result (SaysWhich (FormedGives (level_in setting.now m depth) (projection_at terms.old projection.now) (erased_at terms.old term)) (OwnUnformed (level_in setting.now m depth) (projection_at terms.old projection.now)) terms.new) }
 {
     let own = later_args(projection.args, projection.trait_params);
-    match head_forms_outcome(setting, terms, own, depth)? {
+    match head_forms_outcome(setting, terms, met, own, depth)? {
         Outcome::Undecided => Ok(Found::Undecided),
         Outcome::Refuted => Ok(Found::Refuted),
         Outcome::Holds => Ok(Found::Is(term)),
@@ -316,6 +337,7 @@ fn formed_term(
 fn head_forms_outcome(
     setting: &Setting<'_>,
     terms: &mut TermTable,
+    met: &mut Vec<DelayedFault>,
     ids: &[TermId],
     depth: u32,
 ) -> Result<Outcome, Stop>
@@ -326,7 +348,7 @@ fn head_forms_outcome(
 {
     let mut outcome = Outcome::Holds;
     for id in ids {
-        match head_form(setting, terms, *id, depth)? {
+        match head_form(setting, terms, met, *id, depth)? {
             Found::Refuted => return Ok(Outcome::Refuted),
             Found::Undecided => outcome = Outcome::Undecided,
             Found::Is(_) => {}
@@ -340,6 +362,7 @@ fn head_forms_outcome(
 fn group_term(
     setting: &Setting<'_>,
     terms: &mut TermTable,
+    met: &mut Vec<DelayedFault>,
     projection: &Projection<'_>,
     candidates: &[InternedCandidate<'_>],
     depth: u32,
@@ -353,7 +376,7 @@ fn group_term(
 {
     let mut found = Found::Refuted;
     for candidate in candidates {
-        let next = candidate_term(setting, terms, projection, candidate, depth)?;
+        let next = candidate_term(setting, terms, met, projection, candidate, depth)?;
         found = merge_terms(terms, found, next);
         if let Found::Undecided = found {
             return Ok(Found::Undecided);
@@ -367,6 +390,7 @@ fn group_term(
 fn candidate_term(
     setting: &Setting<'_>,
     terms: &mut TermTable,
+    met: &mut Vec<DelayedFault>,
     projection: &Projection<'_>,
     candidate: &InternedCandidate<'_>,
     depth: u32,
@@ -380,11 +404,11 @@ fn candidate_term(
 {
     match candidate {
         InternedCandidate::Assumption(predicate) => {
-            assumption_term(setting, terms, projection, predicate, depth)
+            assumption_term(setting, terms, met, projection, predicate, depth)
         }
         InternedCandidate::ImpliedBound(_, _) => Ok(Found::Refuted),
-        InternedCandidate::Impl(row) => impl_term(setting, terms, row, projection, depth),
-        InternedCandidate::BuiltIn => built_in_term(setting, terms, projection, depth),
+        InternedCandidate::Impl(row) => impl_term(setting, terms, met, row, projection, depth),
+        InternedCandidate::BuiltIn => built_in_term(setting, terms, met, projection, depth),
         InternedCandidate::Error => Ok(Found::Refuted),
     }
 }
@@ -394,6 +418,7 @@ fn candidate_term(
 fn assumption_term(
     setting: &Setting<'_>,
     terms: &mut TermTable,
+    met: &mut Vec<DelayedFault>,
     projection: &Projection<'_>,
     predicate: &InternedPredicate,
     depth: u32,
@@ -409,7 +434,7 @@ fn assumption_term(
         InternedPredicate::Trait(_) => Ok(Found::Refuted),
         InternedPredicate::HostEffect(_, _) => Ok(Found::Refuted),
         InternedPredicate::Projection(alias, term) => {
-            equation_term(setting, terms, projection, *alias, *term, depth)
+            equation_term(setting, terms, met, projection, *alias, *term, depth)
         }
     }
 }
@@ -419,6 +444,7 @@ fn assumption_term(
 fn equation_term(
     setting: &Setting<'_>,
     terms: &mut TermTable,
+    met: &mut Vec<DelayedFault>,
     projection: &Projection<'_>,
     alias: TermId,
     term: TermId,
@@ -432,10 +458,18 @@ fn equation_term(
     ensures stops { is_headline setting.now.typing_mode.now ≡ true → IfErr result (λ s. s ≡ Stop.OutOfMemory) }
     ensures says { (m : TypingMode) → StandsFor setting.now.typing_mode.now m → IfOk result (SaysWhich (EquationGives (level_in setting.now m depth) (projection_at terms.old projection.now) (erased_at terms.old alias) (erased_at terms.old term)) (EquationRefuted (level_in setting.now m depth) (projection_at terms.old projection.now) (erased_at terms.old alias) (erased_at terms.old term)) terms.new) }
 {
-    let Some(args) = projected_args(memory(setting), terms, alias, projection.item.id)? else {
+    let Some(args) = projected_args(setting.allocator(), terms, alias, projection.item.id)? else {
         return Ok(Found::Refuted);
     };
-    equal_args_term(setting, terms, projection, args.as_slice(), term, depth)
+    equal_args_term(
+        setting,
+        terms,
+        met,
+        projection,
+        args.as_slice(),
+        term,
+        depth,
+    )
 }
 
 /// The term of a clause on a projection of the same item, by its arguments.
@@ -443,6 +477,7 @@ fn equation_term(
 fn equal_args_term(
     setting: &Setting<'_>,
     terms: &mut TermTable,
+    met: &mut Vec<DelayedFault>,
     projection: &Projection<'_>,
     args: &[TermId],
     term: TermId,
@@ -456,17 +491,17 @@ fn equal_args_term(
     ensures stops { is_headline setting.now.typing_mode.now ≡ true → IfErr result (λ s. s ≡ Stop.OutOfMemory) }
     ensures says { (m : TypingMode) → StandsFor setting.now.typing_mode.now m → IfOk result (SaysWhich (EqualArgsGive (level_in setting.now m depth) (projection_at terms.old projection.now) (erased_all terms.old args.now) (erased_at terms.old term)) (EqualArgsRefuted (level_in setting.now m depth) (projection_at terms.old projection.now) (erased_all terms.old args.now) (erased_at terms.old term)) terms.new) }
 {
-    let equal = compare_lists(setting, terms, args, projection.args, depth)?;
+    let equal = compare_lists(setting, terms, met, args, projection.args, depth)?;
     if let Outcome::Refuted = equal {
         return Ok(Found::Refuted);
     }
     let clauses = projection.item.own_predicates.as_slice();
-    let hold = clauses_outcome(setting, terms, clauses, projection.args, depth)?;
+    let hold = clauses_outcome(setting, terms, met, clauses, projection.args, depth)?;
     if let Outcome::Refuted = hold {
         return Ok(Found::Refuted);
     }
-    let found = head_form(setting, terms, term, depth)?;
-    Ok(behind(both(equal, hold), found))
+    let found = head_form(setting, terms, met, term, depth)?;
+    Ok(found_behind(equal.and(hold), found))
 }
 
 /// The term that a built-in rule gives a projection.
@@ -474,6 +509,7 @@ fn equal_args_term(
 fn built_in_term(
     setting: &Setting<'_>,
     terms: &mut TermTable,
+    met: &mut Vec<DelayedFault>,
     projection: &Projection<'_>,
     depth: u32,
 ) -> Result<Found, Stop>
@@ -484,7 +520,7 @@ fn built_in_term(
     ensures says { (m : TypingMode) → StandsFor setting.now.typing_mode.now m → IfOk result (SaysWhich (ListedGives (level_in setting.now m depth) (projection_at terms.old projection.now) (erased_at terms.old projection.now.itself) (term_rule setting.now.rows.now projection.now.item.now.id (erased_all terms.old projection.now.args.now))) (ListedRefuted (level_in setting.now m depth) (term_rule setting.now.rows.now projection.now.item.now.id (erased_all terms.old projection.now.args.now))) terms.new) }
 {
     let rule = term_rule(setting.rows, terms, projection.item.id, projection.args)?;
-    listed_term(setting, terms, projection, &rule, depth)
+    listed_term(setting, terms, met, projection, &rule, depth)
 }
 
 /// The term that what a built-in rule lists gives a projection.
@@ -492,6 +528,7 @@ fn built_in_term(
 fn listed_term(
     setting: &Setting<'_>,
     terms: &mut TermTable,
+    met: &mut Vec<DelayedFault>,
     projection: &Projection<'_>,
     rule: &ListedTerm,
     depth: u32,
@@ -507,9 +544,9 @@ fn listed_term(
         ListedTerm::Nothing => Ok(Found::Refuted),
         ListedTerm::Rigid => Ok(Found::Is(projection.itself)),
         ListedTerm::Behind(premises, term) => {
-            behind_term(setting, terms, premises.as_slice(), *term, depth)
+            behind_term(setting, terms, met, premises.as_slice(), *term, depth)
         }
-        ListedTerm::BySize(sized) => sized_term(setting, terms, projection, *sized, depth),
+        ListedTerm::BySize(sized) => sized_term(setting, terms, met, projection, *sized, depth),
     }
 }
 
@@ -518,6 +555,7 @@ fn listed_term(
 fn behind_term(
     setting: &Setting<'_>,
     terms: &mut TermTable,
+    met: &mut Vec<DelayedFault>,
     premises: &[InternedPremise],
     term: TermId,
     depth: u32,
@@ -529,12 +567,12 @@ fn behind_term(
     ensures stops { is_headline setting.now.typing_mode.now ≡ true → IfErr result (λ s. s ≡ Stop.OutOfMemory) }
     ensures says { (m : TypingMode) → StandsFor setting.now.typing_mode.now m → IfOk result (SaysWhich (λ u. PremisesHold (level_in setting.now m depth) (map (premise_at terms.old) premises.now) × HasHeadForm (level_in setting.now m depth) (erased_at terms.old term) u) (PremisesRefuted (level_in setting.now m depth) (map (premise_at terms.old) premises.now) ⊎ HeadFormRefuted (level_in setting.now m depth) (erased_at terms.old term)) terms.new) }
 {
-    let hold = premises_outcome(setting, terms, premises, depth)?;
+    let hold = premises_outcome(setting, terms, met, premises, depth)?;
     if let Outcome::Refuted = hold {
         return Ok(Found::Refuted);
     }
-    let found = head_form(setting, terms, term, depth)?;
-    Ok(behind(hold, found))
+    let found = head_form(setting, terms, met, term, depth)?;
+    Ok(found_behind(hold, found))
 }
 
 /// The term of a projection that is `()` where its self type is `Sized`, and else stays.
@@ -542,6 +580,7 @@ fn behind_term(
 fn sized_term(
     setting: &Setting<'_>,
     terms: &mut TermTable,
+    met: &mut Vec<DelayedFault>,
     projection: &Projection<'_>,
     sized: TraitId,
     depth: u32,
@@ -553,11 +592,11 @@ fn sized_term(
     ensures says { (m : TypingMode) → StandsFor setting.now.typing_mode.now m → IfOk result (SaysWhich (ListedGives (level_in setting.now m depth) (projection_at terms.old projection.now) (erased_at terms.old projection.now.itself) (listed_by_size sized)) (ListedRefuted (level_in setting.now m depth) (listed_by_size sized)) terms.new) }
 {
     let self_args = first_args(projection.args, 1);
-    match trait_outcome(setting, terms, sized, self_args, depth)? {
+    match trait_outcome(setting, terms, met, sized, self_args, depth)? {
         TraitOutcome::Undecided => Ok(Found::Undecided),
         TraitOutcome::Refuted => Ok(Found::Is(projection.itself)),
         TraitOutcome::Holds(_) => {
-            let unit = intern_unit(memory(setting), terms)?;
+            let unit = intern_unit(setting.allocator(), terms)?;
             Ok(Found::Is(unit))
         }
     }

@@ -1,13 +1,16 @@
 //! What a context records: opaque accesses and delayed faults, each once, in the order of first entry.
-ghost use Rattle.std.specs.Prelude.{◌≡◌, ◌↔◌, IsTrue, OnOk, OnErr, IsOkUnless};
-ghost use Rattle.std.specs.List.{Contains};
-ghost use Rattle.goal_solver.specs.Added.{RecordsAccess, RecordsFault};
+ghost use Rattle.std.specs.Prelude.{◌≡◌, ◌⊎◌, ◌↔◌, IsTrue, OnOk, OnErr, IsOkUnless};
+ghost use Rattle.std.specs.List.{All, Contains};
+ghost use Rattle.goal_terms.specs.declared.answers.DelayedFault.{DelayedFault as Delayed};
+ghost use Rattle.goal_solver.specs.Added.{Enters, RecordsAccess, RecordsFault};
 ghost use Rattle.goal_solver.specs.GoingBack.{GoesBack};
 ghost use Rattle.goal_solver.specs.Stored.{IsSet};
 
 use crate::context::EvalCtxt;
 use crate::faults::Fault;
+use crate::outcomes::Stop;
 use goal_terms::answers::{DelayedFault, OpaqueAccess};
+use goal_terms::term_nodes::OutOfMemory;
 
 impl EvalCtxt<'_> {
     /// What the answers so far would have read of another typing mode, each access once, in the order
@@ -51,14 +54,55 @@ impl EvalCtxt<'_> {
         ensures goes_back { GoesBack self.old self.new }
         ensures only_memory { IsOkUnless result Fault.OutOfMemory }
     {
-        if has_fault(self.delayed_faults.as_slice(), fault) {
-            return Ok(());
-        }
-        if self.delayed_faults.push(fault).is_err() {
+        if enter_fault(&mut self.delayed_faults, fault).is_err() {
             return Err(Fault::OutOfMemory);
         }
         Ok(())
     }
+
+    /// Records a delayed fault that a run or an evaluation met, as `record_fault` does.
+    pub(crate) fn meet_fault(&mut self, fault: DelayedFault) -> Result<(), Stop>
+        ensures recorded { OnOk result (Contains self.new.delayed_faults fault) }
+        ensures listed { (f : Delayed) → Contains self.new.delayed_faults f → Contains self.old.delayed_faults f ⊎ (fault ≡ f) }
+        ensures unchanged { self.new ≡ record self.old { delayed_faults = self.new.delayed_faults } }
+        ensures goes_back { GoesBack self.old self.new }
+        ensures only_memory { IsOkUnless result Stop.OutOfMemory }
+    {
+        let Ok(()) = self.record_fault(fault) else {
+            return Err(Stop::OutOfMemory);
+        };
+        Ok(())
+    }
+
+    /// Records the delayed faults that an evaluation met, in their order. Only memory is refused; then some of
+    /// them may be recorded.
+    pub(crate) fn record_faults(&mut self, met: &[DelayedFault]) -> Result<(), Stop>
+        ensures recorded { OnOk result (All (Contains self.new.delayed_faults) met.now) }
+        ensures unchanged { self.new ≡ record self.old { delayed_faults = self.new.delayed_faults } }
+        ensures goes_back { GoesBack self.old self.new }
+        ensures only_memory { IsOkUnless result Stop.OutOfMemory }
+    {
+        for fault in met {
+            self.meet_fault(*fault)?;
+        }
+        Ok(())
+    }
+}
+
+/// Enters a delayed fault behind others, where it isn't among them. Only memory is refused; then nothing
+/// changes.
+pub(crate) fn enter_fault(
+    met: &mut Vec<DelayedFault>,
+    fault: DelayedFault,
+) -> Result<(), OutOfMemory>
+    ensures entered { OnOk result (Enters fault met.old.items met.new.items) }
+    ensures unchanged { OnErr result (met.new.items ≡ met.old.items) }
+{
+    if has_fault(met.as_slice(), fault) {
+        return Ok(());
+    }
+    met.push(fault)?;
+    Ok(())
 }
 
 fn has_access(known: &[OpaqueAccess], access: OpaqueAccess) -> bool

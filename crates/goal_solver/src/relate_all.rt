@@ -85,6 +85,7 @@ impl EvalCtxt<'_> {
         ensures same { all_bound self.old (erased_all self.old.terms left.now) ≡ all_bound self.old (erased_all self.old.terms right.now) → HoldsWithMemory result }
         ensures stops { is_headline self.old.typing_mode ≡ true → IfErr result (λ s. s ≡ Stop.OutOfMemory) }
     {
+        let mut met = Vec::new(self.allocator());
         let lefts = follow_all(&mut self.terms, &self.inference, left)?;
         let rights = follow_all(&mut self.terms, &self.inference, right)?;
         let opens = !some_in_env(NodeTest::IsAnyInfer, environment);
@@ -93,7 +94,15 @@ impl EvalCtxt<'_> {
             typing_mode: &self.typing_mode,
             environment,
         };
-        settle_all(&setting, &mut self.terms, &lefts, &rights, opens, depth)
+        settle_all(
+            &setting,
+            &mut self.terms,
+            &mut met,
+            &lefts,
+            &rights,
+            opens,
+            depth,
+        )
     }
 
     /// What an outcome comes to in the context's typing mode: in coherence no refusal is final.

@@ -4,9 +4,12 @@ ghost use Rattle.std.specs.List.{AllZip};
 ghost use Rattle.goal_terms.specs.Erased.{erased};
 ghost use Rattle.goal_terms.specs.TableMeaning.{Keeps};
 ghost use Rattle.goal_terms.specs.TreeOf.{tree_of_term, tree_of_ty, tree_of_arg};
+ghost use Rattle.goal_terms.specs.declared.answers.Certainty.{Certainty as certain};
 ghost use Rattle.goal_infer.specs.Resolution.{resolution, IsSolved};
 ghost use Rattle.goal_solver.specs.Added.{has_goals};
 ghost use Rattle.goal_solver.specs.GoingBack.{GoesBack, restored};
+ghost use Rattle.goal_solver.specs.OpenRuns.{Evaluates};
+ghost use Rattle.goal_solver.specs.Refusals.{WhenRefused, RefusesPending};
 ghost use Rattle.goal_solver.specs.Relating.{IsFaultFor};
 ghost use Rattle.goal_solver.specs.Responses.{ListsSinceMark, IsValueOf, IsEntryOf, IsWithBindings, bindings_of, bound_since_mark, variable_of_kind, variable_at, variables_at, both_certain};
 ghost use Rattle.goal_solver.specs.State.{kinds_of};
@@ -36,6 +39,9 @@ impl EvalCtxt<'_> {
         certainty: Certainty,
     ) -> Result<Response, Fault>
         ensures listed { IfOk result (λ r. ListsSinceMark self.new r.certainty r) }
+        ensures evaluated { IfOk result (λ r. (c : certain) × Evaluates self.old self.new c × (r.certainty ≡ both_certain certainty c)) }
+        ensures refused { WhenRefused result (RefusesPending self.old self.new) }
+        ensures faults { self.new.delayed_faults ≡ self.old.delayed_faults }
         ensures yes { IfOk result (λ r. r.certainty ≡ Certainty.Yes → (certainty ≡ Certainty.Yes) × (has_goals self.new ≡ false)) }
         ensures unchanged { OnErr result (self.new ≡ restored self.old self.new) }
         ensures goes_back { GoesBack self.old self.new }
@@ -134,7 +140,7 @@ impl EvalCtxt<'_> {
 }
 
 /// Two certainties together.
-fn both(first: Certainty, second: Certainty) -> Certainty
+pub(crate) fn both(first: Certainty, second: Certainty) -> Certainty
     ensures { result ≡ both_certain first second }
 {
     match first {
@@ -245,7 +251,7 @@ fn copied_key(key: &OpaqueTypeKey) -> Result<OpaqueTypeKey, AllocError>
 }
 
 /// Copies of arguments.
-fn copied_args(alloc: Global, args: &[GenericArg]) -> Result<Vec<GenericArg>, AllocError>
+pub(crate) fn copied_args(alloc: Global, args: &[GenericArg]) -> Result<Vec<GenericArg>, AllocError>
     ensures { IfOk result (λ copies. map tree_of_arg copies.items ≡ map tree_of_arg args.now) }
 {
     args.to_vec(alloc)

@@ -21,7 +21,7 @@ ghost use Rattle.goal_solver.specs.RunRules.{NamedIn, RunIn, named_at, progress_
 use crate::equality::compare_lists;
 use crate::head_forms::{head_form, head_form_under};
 use crate::headers::match_header;
-use crate::id_lists::{joined, memory};
+use crate::id_lists::joined;
 use crate::instances::{header_of_type, instances_of};
 use crate::interning::{intern_args, intern_equation};
 use crate::outcomes::{Found, HeaderMatch, Outcome, Setting, Stop};
@@ -31,6 +31,7 @@ use goal_kinds::interned::{InternedPredicate, InternedPremise, InternedTrait};
 use goal_kinds::rules::{RowClauses, RowValue, RuleArguments, RuleEntry, RuleHeader, RuleTerm};
 use goal_tables::lookup::IndexedTables;
 use goal_tables::rows::DefValue;
+use goal_terms::answers::DelayedFault;
 use goal_terms::ids::{ImplId, InherentImplId};
 use goal_terms::node_tests::general_variable;
 use goal_terms::predicates::{Clause, ClauseKind};
@@ -44,6 +45,7 @@ use std::alloc::Global;
 pub(crate) fn run_entry(
     setting: &Setting<'_>,
     terms: &mut TermTable,
+    met: &mut Vec<DelayedFault>,
     run: &mut RuleRun,
     entry: &RuleEntry,
     depth: u32,
@@ -56,25 +58,25 @@ pub(crate) fn run_entry(
 {
     match entry {
         RuleEntry::Arguments(arguments) => {
-            let found = arguments_match(setting, terms, &run.named, arguments, depth)?;
+            let found = arguments_match(setting, terms, met, &run.named, arguments, depth)?;
             let reached = run.name(found)?;
             Ok(reached)
         }
         RuleEntry::Term(expected, term) => {
-            let found = term_found(setting, terms, &run.named, term, depth)?;
+            let found = term_found(setting, terms, met, &run.named, term, depth)?;
             let variable = general_variable(expected.view().node());
             Ok(run.give(variable, found))
         }
         RuleEntry::Equation(left, right) => {
-            let outcome = equation_outcome(setting, terms, left, right, depth)?;
+            let outcome = equation_outcome(setting, terms, met, left, right, depth)?;
             Ok(run.ask(outcome))
         }
         RuleEntry::Clause(_, clause) => {
-            let outcome = clause_outcome(setting, terms, clause, depth)?;
+            let outcome = clause_outcome(setting, terms, met, clause, depth)?;
             Ok(run.ask(outcome))
         }
         RuleEntry::RowClauses(row, number) => {
-            let outcome = row_outcome(setting, terms, &run.named, *row, *number, depth)?;
+            let outcome = row_outcome(setting, terms, met, &run.named, *row, *number, depth)?;
             Ok(run.ask(outcome))
         }
         RuleEntry::Access(_) => Ok(run.ask(Outcome::Holds)),
@@ -96,6 +98,7 @@ fn named_args(named: &[Vec<TermId>], number: u32) -> Option<&Vec<TermId>>
 fn arguments_match(
     setting: &Setting<'_>,
     terms: &mut TermTable,
+    met: &mut Vec<DelayedFault>,
     named: &[Vec<TermId>],
     arguments: &RuleArguments,
     depth: u32,
@@ -108,14 +111,14 @@ fn arguments_match(
 {
     match arguments {
         RuleArguments::Given(args) => {
-            let ids = intern_args(memory(setting), terms, args)?;
+            let ids = intern_args(setting.allocator(), terms, args)?;
             Ok(HeaderMatch::Fits(ids))
         }
         RuleArguments::Header(header, args) => {
-            header_match(setting, terms, *header, args, depth)
+            header_match(setting, terms, met, *header, args, depth)
         }
         RuleArguments::OtherImpl(other, of, number) => {
-            other_match(setting, terms, named, *other, *of, *number, depth)
+            other_match(setting, terms, met, named, *other, *of, *number, depth)
         }
         RuleArguments::Followed(number, own) => {
             followed_args(setting, terms, named, *number, own)
@@ -127,6 +130,7 @@ fn arguments_match(
 fn header_match(
     setting: &Setting<'_>,
     terms: &mut TermTable,
+    met: &mut Vec<DelayedFault>,
     header: RuleHeader,
     args: &[GenericArg],
     depth: u32,
@@ -136,10 +140,10 @@ fn header_match(
     ensures stops { is_headline setting.now.typing_mode.now ≡ true → IfErr result (λ s. s ≡ Stop.OutOfMemory) }
     ensures says { (m : TypingMode) → StandsFor setting.now.typing_mode.now m → IfOk result (SaysHeader (level_in setting.now m depth) (header_in setting.now.rows.now header) (header_terms args.now) terms.new) }
 {
-    let given = intern_args(memory(setting), terms, args)?;
+    let given = intern_args(setting.allocator(), terms, args)?;
     match header {
-        RuleHeader::Impl(id) => impl_match(setting, terms, id, &given, depth),
-        RuleHeader::InherentImpl(id) => inherent_match(setting, terms, id, &given, depth),
+        RuleHeader::Impl(id) => impl_match(setting, terms, met, id, &given, depth),
+        RuleHeader::InherentImpl(id) => inherent_match(setting, terms, met, id, &given, depth),
     }
 }
 
@@ -147,6 +151,7 @@ fn header_match(
 fn impl_match(
     setting: &Setting<'_>,
     terms: &mut TermTable,
+    met: &mut Vec<DelayedFault>,
     id: ImplId,
     given: &[TermId],
     depth: u32,
@@ -160,13 +165,22 @@ fn impl_match(
     let Some(row) = setting.rows.impl_row(id) else {
         return Ok(HeaderMatch::Unknown);
     };
-    match_header(setting, terms, &row.params, &row.trait_args, given, depth)
+    match_header(
+        setting,
+        terms,
+        met,
+        &row.params,
+        &row.trait_args,
+        given,
+        depth,
+    )
 }
 
 /// Whether the self type of an inherent impl fits a given term.
 fn inherent_match(
     setting: &Setting<'_>,
     terms: &mut TermTable,
+    met: &mut Vec<DelayedFault>,
     id: InherentImplId,
     given: &[TermId],
     depth: u32,
@@ -181,13 +195,14 @@ fn inherent_match(
         return Ok(HeaderMatch::Unknown);
     };
     let header = header_of_type(setting, &row.self_ty)?;
-    match_header(setting, terms, &row.params, &header, given, depth)
+    match_header(setting, terms, met, &row.params, &header, given, depth)
 }
 
 /// Whether the header of an impl fits that of another impl, under the arguments of a number.
 fn other_match(
     setting: &Setting<'_>,
     terms: &mut TermTable,
+    met: &mut Vec<DelayedFault>,
     named: &[Vec<TermId>],
     other: ImplId,
     of: ImplId,
@@ -213,6 +228,7 @@ fn other_match(
     match_header(
         setting,
         terms,
+        met,
         &fitting.params,
         &fitting.trait_args,
         &header,
@@ -237,7 +253,7 @@ fn followed_args(
     let Some(args) = named_args(named, number) else {
         return Ok(HeaderMatch::Unknown);
     };
-    let own_args = intern_args(memory(setting), terms, own)?;
+    let own_args = intern_args(setting.allocator(), terms, own)?;
     let all = joined(setting, args, &own_args)?;
     Ok(HeaderMatch::Fits(all))
 }
@@ -246,6 +262,7 @@ fn followed_args(
 fn equation_outcome(
     setting: &Setting<'_>,
     terms: &mut TermTable,
+    met: &mut Vec<DelayedFault>,
     left: &[GenericArg],
     right: &[GenericArg],
     depth: u32,
@@ -254,9 +271,9 @@ fn equation_outcome(
     ensures stops { is_headline setting.now.typing_mode.now ≡ true → IfErr result (λ s. s ≡ Stop.OutOfMemory) }
     ensures says { (m : TypingMode) → StandsFor setting.now.typing_mode.now m → IfOk result (Says (Pairs (level_in setting.now m depth).equal (header_terms left.now) (header_terms right.now)) (SomePair (level_in setting.now m depth).unequal (header_terms left.now) (header_terms right.now))) }
 {
-    let first = intern_args(memory(setting), terms, left)?;
-    let second = intern_args(memory(setting), terms, right)?;
-    compare_lists(setting, terms, &first, &second, depth)
+    let first = intern_args(setting.allocator(), terms, left)?;
+    let second = intern_args(setting.allocator(), terms, right)?;
+    compare_lists(setting, terms, met, &first, &second, depth)
 }
 
 /// What a clause says, as it stands.
@@ -292,6 +309,7 @@ fn clause_given(
 fn clause_outcome(
     setting: &Setting<'_>,
     terms: &mut TermTable,
+    met: &mut Vec<DelayedFault>,
     clause: &ClauseKind,
     depth: u32,
 ) -> Result<Outcome, Stop>
@@ -299,13 +317,13 @@ fn clause_outcome(
     ensures stops { is_headline setting.now.typing_mode.now ≡ true → IfErr result (λ s. s ≡ Stop.OutOfMemory) }
     ensures says { (m : TypingMode) → StandsFor setting.now.typing_mode.now m → IfOk result (Says (ClauseHolds (level_in setting.now m depth) (erased_predicate (tree_of_kind clause.now))) (ClauseRefuted (level_in setting.now m depth) (erased_predicate (tree_of_kind clause.now)))) }
 {
-    let predicate = clause_given(memory(setting), terms, clause)?;
+    let predicate = clause_given(setting.allocator(), terms, clause)?;
     let premise = InternedPremise::Predicate(predicate);
-    premise_outcome(setting, terms, &premise, depth)
+    premise_outcome(setting, terms, met, &premise, depth)
 }
 
 /// The clauses of a row.
-fn clauses_of(rows: &IndexedTables, row: RowClauses) -> Option<&[Clause]>
+pub(crate) fn clauses_of(rows: &IndexedTables, row: RowClauses) -> Option<&[Clause]>
     ensures { option_copied result ≡ clauses_in rows.now row }
 {
     match row {
@@ -320,6 +338,7 @@ fn clauses_of(rows: &IndexedTables, row: RowClauses) -> Option<&[Clause]>
 fn row_outcome(
     setting: &Setting<'_>,
     terms: &mut TermTable,
+    met: &mut Vec<DelayedFault>,
     named: &[Vec<TermId>],
     row: RowClauses,
     number: u32,
@@ -336,13 +355,14 @@ fn row_outcome(
     let Some(args) = named_args(named, number) else {
         return Ok(Outcome::Undecided);
     };
-    clauses_outcome(setting, terms, clauses, args, depth)
+    clauses_outcome(setting, terms, met, clauses, args, depth)
 }
 
 /// The term of an entry for the expected variable.
 fn term_found(
     setting: &Setting<'_>,
     terms: &mut TermTable,
+    met: &mut Vec<DelayedFault>,
     named: &[Vec<TermId>],
     term: &RuleTerm,
     depth: u32,
@@ -360,10 +380,10 @@ fn term_found(
         }
         RuleTerm::Normalized(term) => {
             let id = terms.intern(term)?;
-            head_form(setting, terms, id, depth)
+            head_form(setting, terms, met, id, depth)
         }
         RuleTerm::Value(value, number) => {
-            value_found(setting, terms, named, *value, *number, depth)
+            value_found(setting, terms, met, named, *value, *number, depth)
         }
     }
 }
@@ -372,6 +392,7 @@ fn term_found(
 fn value_found(
     setting: &Setting<'_>,
     terms: &mut TermTable,
+    met: &mut Vec<DelayedFault>,
     named: &[Vec<TermId>],
     value: RowValue,
     number: u32,
@@ -389,7 +410,7 @@ fn value_found(
     let Some(args) = named_args(named, number) else {
         return Ok(Found::Undecided);
     };
-    head_form_under(setting, terms, term, args, depth)
+    head_form_under(setting, terms, met, term, args, depth)
 }
 
 /// The value of a row, if it has one.

@@ -16,11 +16,13 @@ use goal_terms::answers::OpaqueAccess;
 use goal_terms::ids::DefId;
 use goal_terms::terms::Term;
 
-/// What an impl says of an item: the error of a number, the alias itself, the value of a definition that
-/// stands somewhere, a constant that would have to be evaluated, or nothing.
+/// What an impl says of an item: the error of a number, the error of a definition that lacks its value, the
+/// alias itself, the value of a definition that stands somewhere, a constant that would have to be evaluated,
+/// or nothing.
 #[derive(Clone, Copy)]
 pub enum Said<'t> {
     Error(u32),
+    Missing(DefId),
     Itself,
     Value(Container, &'t Term),
     Evaluated(Container),
@@ -84,7 +86,7 @@ fn said_by<'t>(row: &ImplRow, definition: &'t DefRow) -> Said<'t>
             if row.guaranteed_unsized {
                 Said::Itself
             } else {
-                Said::Error(definition.id.0)
+                Said::Missing(definition.id)
             }
         }
         DefValue::Term(term) => Said::Value(definition.container, term),

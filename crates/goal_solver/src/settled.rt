@@ -12,6 +12,7 @@ use crate::id_lists::own_list;
 use crate::open_terms::holds_variable;
 use crate::outcomes::{Outcome, Setting, Stop};
 use crate::pairs::{Tops, compare_tops};
+use goal_terms::answers::DelayedFault;
 use goal_terms::term_nodes::TermId;
 use goal_terms::term_table::TermTable;
 
@@ -23,6 +24,7 @@ use goal_terms::term_table::TermTable;
 pub(crate) fn settle(
     setting: &Setting<'_>,
     terms: &mut TermTable,
+    met: &mut Vec<DelayedFault>,
     left: TermId,
     right: TermId,
     opens: bool,
@@ -36,11 +38,11 @@ pub(crate) fn settle(
 {
     match compare_tops(terms, left, right) {
         Tops::Settled(outcome) => Ok(outcome),
-        Tops::NeedForms => settle_forms(setting, terms, left, right, opens, depth),
+        Tops::NeedForms => settle_forms(setting, terms, met, left, right, opens, depth),
         Tops::NeedParts => {
             let parts = own_list(setting, terms.parts(left))?;
             let others = own_list(setting, terms.parts(right))?;
-            settle_all(setting, terms, &parts, &others, opens, depth)
+            settle_all(setting, terms, met, &parts, &others, opens, depth)
         }
     }
 }
@@ -59,6 +61,7 @@ fn stays_open(terms: &TermTable, left: TermId, right: TermId, opens: bool) -> bo
 fn settle_forms(
     setting: &Setting<'_>,
     terms: &mut TermTable,
+    met: &mut Vec<DelayedFault>,
     left: TermId,
     right: TermId,
     opens: bool,
@@ -73,7 +76,7 @@ fn settle_forms(
     if stays_open(terms, left, right, opens) {
         return Ok(Outcome::Undecided);
     }
-    compare_terms(setting, terms, left, right, depth)
+    compare_terms(setting, terms, met, left, right, depth)
 }
 
 /// What two lists of terms come to in pairs, as `settle` says it of two terms. Lists of unlike lengths are
@@ -82,6 +85,7 @@ fn settle_forms(
 pub(crate) fn settle_all(
     setting: &Setting<'_>,
     terms: &mut TermTable,
+    met: &mut Vec<DelayedFault>,
     left: &[TermId],
     right: &[TermId],
     opens: bool,
@@ -102,7 +106,7 @@ pub(crate) fn settle_all(
         if outcome.is_refuted() {
             return Ok(Outcome::Refuted);
         }
-        let next = settle(setting, terms, left[i], right[i], opens, depth)?;
+        let next = settle(setting, terms, met, left[i], right[i], opens, depth)?;
         outcome = outcome.and(next);
     }
     Ok(outcome)

@@ -126,12 +126,19 @@ impl EvalCtxt<'_> {
         ensures says { (m : modes) → StandsFor self.old.typing_mode m → IfOk result (SaysWhich (HasHeadForm (level_over self.old m environment.now) (erased_at self.old.terms id)) (HeadFormRefuted (level_over self.old m environment.now) (erased_at self.old.terms id)) self.new.terms) }
         ensures stops { is_headline self.old.typing_mode ≡ true → IfErr result (λ s. s ≡ Stop.OutOfMemory) }
     {
+        let mut met = Vec::new(self.allocator());
         let setting = Setting {
             rows: self.tables.rows(),
             typing_mode: &self.typing_mode,
             environment,
         };
-        head_form(&setting, &mut self.terms, id, self.remaining_depth)
+        head_form(
+            &setting,
+            &mut self.terms,
+            &mut met,
+            id,
+            self.remaining_depth,
+        )
     }
 
     /// The term of a number, if it is a type or a constant. Only memory is refused.

@@ -23,7 +23,7 @@ use goal_kinds::candidate_lists::candidates_of_class;
 use goal_kinds::interned::{InternedCandidate, InternedPredicate};
 use goal_kinds::trait_rules::trait_rule;
 use goal_tables::rows::ImplRow;
-use goal_terms::answers::TraitGoalProvenVia;
+use goal_terms::answers::{DelayedFault, TraitGoalProvenVia};
 use goal_terms::ids::TraitId;
 use goal_terms::term_nodes::TermId;
 use goal_terms::term_table::TermTable;
@@ -33,6 +33,7 @@ use goal_terms::term_table::TermTable;
 pub fn trait_outcome(
     setting: &Setting<'_>,
     terms: &mut TermTable,
+    met: &mut Vec<DelayedFault>,
     trait_id: TraitId,
     args: &[TermId],
     depth: u32,
@@ -48,12 +49,12 @@ pub fn trait_outcome(
     let Some((first, rest)) = split_self_type(args) else {
         return Ok(TraitOutcome::Undecided);
     };
-    match head_form(setting, terms, first, depth - 1)? {
+    match head_form(setting, terms, met, first, depth - 1)? {
         Found::Undecided => Ok(TraitOutcome::Undecided),
         Found::Refuted => Ok(TraitOutcome::Refuted),
         Found::Is(self_ty) => {
             let replaced = with_self_type(setting.rows, self_ty, rest)?;
-            decide_trait(setting, terms, trait_id, self_ty, &replaced, depth - 1)
+            decide_trait(setting, terms, met, trait_id, self_ty, &replaced, depth - 1)
         }
     }
 }
@@ -64,6 +65,7 @@ pub fn trait_outcome(
 fn decide_trait(
     setting: &Setting<'_>,
     terms: &mut TermTable,
+    met: &mut Vec<DelayedFault>,
     trait_id: TraitId,
     self_ty: TermId,
     args: &[TermId],
@@ -76,17 +78,17 @@ fn decide_trait(
     ensures says { (m : TypingMode) → StandsFor setting.now.typing_mode.now m → IfOk result (SaysClasses (setting_in setting.now m) (level_in setting.now m depth) trait_id (erased_at terms.old self_ty) (erased_all terms.old args.now)) }
 {
     let class = TraitGoalProvenVia::ParamEnv;
-    let environment = class_outcome(setting, terms, trait_id, self_ty, args, class, depth)?;
+    let environment = class_outcome(setting, terms, met, trait_id, self_ty, args, class, depth)?;
     if let Some(decided) = environment.through(class) {
         return Ok(decided);
     }
     let class = TraitGoalProvenVia::AliasBound;
-    let bounds = class_outcome(setting, terms, trait_id, self_ty, args, class, depth)?;
+    let bounds = class_outcome(setting, terms, met, trait_id, self_ty, args, class, depth)?;
     if let Some(decided) = bounds.through(class) {
         return Ok(decided);
     }
     let class = TraitGoalProvenVia::Misc;
-    let rest = class_outcome(setting, terms, trait_id, self_ty, args, class, depth)?;
+    let rest = class_outcome(setting, terms, met, trait_id, self_ty, args, class, depth)?;
     match rest.through(class) {
         Some(decided) => Ok(decided),
         None => Ok(TraitOutcome::Refuted),
@@ -99,6 +101,7 @@ fn decide_trait(
 fn class_outcome(
     setting: &Setting<'_>,
     terms: &mut TermTable,
+    met: &mut Vec<DelayedFault>,
     trait_id: TraitId,
     self_ty: TermId,
     args: &[TermId],
@@ -119,7 +122,7 @@ fn class_outcome(
         self_ty,
         class,
     )?;
-    candidates_outcome(setting, terms, trait_id, args, &candidates, depth)
+    candidates_outcome(setting, terms, met, trait_id, args, &candidates, depth)
 }
 
 /// Whether one of some candidates shows at a depth that a trait holds for arguments, whose self type is a
@@ -128,6 +131,7 @@ fn class_outcome(
 pub fn candidates_outcome(
     setting: &Setting<'_>,
     terms: &mut TermTable,
+    met: &mut Vec<DelayedFault>,
     trait_id: TraitId,
     args: &[TermId],
     candidates: &[InternedCandidate<'_>],
@@ -141,7 +145,7 @@ pub fn candidates_outcome(
 {
     let mut found = Outcome::Refuted;
     for candidate in candidates {
-        let next = candidate_outcome(setting, terms, trait_id, args, candidate, depth)?;
+        let next = candidate_outcome(setting, terms, met, trait_id, args, candidate, depth)?;
         found = found.or(next);
         if let Outcome::Holds = found {
             return Ok(Outcome::Holds);
@@ -155,6 +159,7 @@ pub fn candidates_outcome(
 fn candidate_outcome(
     setting: &Setting<'_>,
     terms: &mut TermTable,
+    met: &mut Vec<DelayedFault>,
     trait_id: TraitId,
     args: &[TermId],
     candidate: &InternedCandidate<'_>,
@@ -168,14 +173,14 @@ fn candidate_outcome(
 {
     match candidate {
         InternedCandidate::Assumption(said) => {
-            assumption_outcome(setting, terms, trait_id, args, said, depth)
+            assumption_outcome(setting, terms, met, trait_id, args, said, depth)
         }
         InternedCandidate::ImpliedBound(_, _) => Ok(Outcome::Refuted),
         InternedCandidate::Impl(row) => {
-            let matched = match_impl(setting, terms, row, args, depth)?;
+            let matched = match_impl(setting, terms, met, row, args, depth)?;
             Ok(matched.impl_held())
         }
-        InternedCandidate::BuiltIn => rule_outcome(setting, terms, trait_id, args, depth),
+        InternedCandidate::BuiltIn => rule_outcome(setting, terms, met, trait_id, args, depth),
         InternedCandidate::Error => Ok(error_outcome(terms, args)),
     }
 }
@@ -185,6 +190,7 @@ fn candidate_outcome(
 fn assumption_outcome(
     setting: &Setting<'_>,
     terms: &mut TermTable,
+    met: &mut Vec<DelayedFault>,
     trait_id: TraitId,
     args: &[TermId],
     said: &InternedPredicate,
@@ -202,7 +208,7 @@ fn assumption_outcome(
     if held.def_id.0 != trait_id.0 {
         return Ok(Outcome::Refuted);
     }
-    compare_lists(setting, terms, &held.args, args, depth)
+    compare_lists(setting, terms, met, &held.args, args, depth)
 }
 
 /// Whether what a trait asks for as a trait alias or by its built-in rule holds at a depth.
@@ -210,6 +216,7 @@ fn assumption_outcome(
 fn rule_outcome(
     setting: &Setting<'_>,
     terms: &mut TermTable,
+    met: &mut Vec<DelayedFault>,
     trait_id: TraitId,
     args: &[TermId],
     depth: u32,
@@ -221,7 +228,7 @@ fn rule_outcome(
 {
     match trait_rule(setting.rows, terms, trait_id, args)? {
         None => Ok(Outcome::Refuted),
-        Some(premises) => premises_outcome(setting, terms, &premises, depth),
+        Some(premises) => premises_outcome(setting, terms, met, &premises, depth),
     }
 }
 
@@ -242,6 +249,7 @@ fn error_outcome(terms: &TermTable, args: &[TermId]) -> Outcome
 pub fn match_impl(
     setting: &Setting<'_>,
     terms: &mut TermTable,
+    met: &mut Vec<DelayedFault>,
     row: &ImplRow,
     args: &[TermId],
     depth: u32,
@@ -255,15 +263,23 @@ pub fn match_impl(
     if !row.polarity.is_positive() {
         return Ok(HeaderMatch::Clashes);
     }
-    match match_header(setting, terms, &row.params, &row.trait_args, args, depth)? {
+    match match_header(
+        setting,
+        terms,
+        met,
+        &row.params,
+        &row.trait_args,
+        args,
+        depth,
+    )? {
         HeaderMatch::Clashes => Ok(HeaderMatch::Clashes),
         HeaderMatch::Unknown => Ok(HeaderMatch::Unknown),
         HeaderMatch::Fits(known) => {
-            let clauses = clauses_outcome(setting, terms, &row.predicates, &known, depth)?;
+            let clauses = clauses_outcome(setting, terms, met, &row.predicates, &known, depth)?;
             Ok(HeaderMatch::fitting(known, clauses))
         }
         HeaderMatch::Known(known) => {
-            let clauses = clauses_outcome(setting, terms, &row.predicates, &known, depth)?;
+            let clauses = clauses_outcome(setting, terms, met, &row.predicates, &known, depth)?;
             Ok(HeaderMatch::known_only(known, clauses))
         }
     }

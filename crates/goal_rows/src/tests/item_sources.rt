@@ -2,9 +2,9 @@
 use crate::names::{A, BOX, VEC, W, Z};
 use crate::program_tables::whole_tables;
 use crate::program_types::{plain_type, projection_of, struct_of};
-use crate::tests::asked_terms::{a_of, assoc_of, tr_clause};
+use crate::tests::asked_terms::{a_of, assoc_of};
 use crate::tests::asking::{About, Question, analysis, context_text, plain_question, text_in_mode};
-use crate::tests::changes::set_source;
+use crate::tests::changes::{bind_vec, set_source};
 use goal_solver::context::EvalCtxt;
 use goal_tables::checked::{CheckedTables, check_tables};
 use goal_tables::rows::{DefValue, Source, Tables};
@@ -187,15 +187,6 @@ fn define_in_trait(alloc: Global, tables: &mut Tables) -> Result<(), AllocError>
 /// `Box<Self>`.
 fn box_of_param(alloc: Global) -> Result<DefValue, AllocError> {
     Ok(DefValue::Term(Term::Ty(struct_of(alloc, BOX, Ty::Param(0))?)))
-}
-
-fn bind_vec(alloc: Global, tables: &mut Tables) -> Result<(), AllocError> {
-    for row in tables.impls.as_mut_slice() {
-        if row.id == ImplId(1) {
-            row.predicates.push(tr_clause(alloc, Ty::Param(0))?)?;
-        }
-    }
-    Ok(())
 }
 
 fn asked_alias(alloc: Global, asked: Asked) -> Result<AliasTerm, AllocError> {

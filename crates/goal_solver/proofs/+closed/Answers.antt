@@ -567,6 +567,11 @@ impl_terms::said_term-returns-in_ok-error-in-Error-clause-says t c =
     λ m s. said-error (setting_in c.args.setting.now m) (level_in c.args.setting.now m c.args.depth) c.args.row.now (erased_all c.args.terms.now c.args.found.now) (projection_at c.args.terms.now c.args.projection.now) (erased_at c.args.terms.now c.args.projection.now.itself) (said_at c.in_ok-said_of.field-0) c.in-Error.number (erased_at c.error_number.new.terms c.in_ok-error-in-Error.error)
     (c.in_ok-said_of.ensures.says m s) (ap said_at c.in-Error.is) c.in_ok-error-in-Error.ensures.tree
 
+pub impl_terms::said_term-returns-in_ok-error-in-Missing-clause-says : goal.impl_terms::said_term-returns-in_ok-error-in-Missing-clause-says
+impl_terms::said_term-returns-in_ok-error-in-Missing-clause-says t c =
+    λ m s. said-error (setting_in c.args.setting.now m) (level_in c.args.setting.now m c.args.depth) c.args.row.now (erased_all c.args.terms.now c.args.found.now) (projection_at c.args.terms.now c.args.projection.now) (erased_at c.args.terms.now c.args.projection.now.itself) (said_at c.in_ok-said_of.field-0) c.in-Missing.definition.0 (erased_at c.error_number-in-Missing.new.terms c.in_ok-error-in-Missing.error)
+    (c.in_ok-said_of.ensures.says m s) (ap said_at c.in-Missing.is) c.in_ok-error-in-Missing.ensures.tree
+
 pub impl_terms::term_under-returns : goal.impl_terms::term_under-returns
 impl_terms::term_under-returns t c = record {
   kept = keeps-chain c.args.terms.now c.clauses_outcome.new.terms c.said_term.new.terms c.clauses_outcome.ensures.kept c.said_term.ensures.kept;
@@ -944,14 +949,14 @@ projections::assumption_term-returns-in-Projection-clause-says t c = λ m s.
 
 pub projections::behind_term-returns-clause-within :
     goal.projections::behind_term-returns-clause-within
-projections::behind_term-returns-clause-within t c = found_behind c.head_form.new.terms c.in_ok-hold.hold c.in_ok-found.found c.behind.result c.in_ok-found.ensures.within c.behind.ensures
+projections::behind_term-returns-clause-within t c = found_behind c.head_form.new.terms c.in_ok-hold.hold c.in_ok-found.found c.found_behind.result c.in_ok-found.ensures.within c.found_behind.ensures
 
 pub projections::behind_term-returns-clause-says :
     goal.projections::behind_term-returns-clause-says
 projections::behind_term-returns-clause-says t c = λ m s.
     premises-behind (level_in c.args.setting.now m c.args.depth) (consistent c.args.setting.now m c.args.depth) c.args.premises.now c.args.term
-    c.args.terms.now c.premises_outcome.new.terms c.head_form.new.terms c.premises_outcome.ensures.kept c.requires.term c.in_ok-hold.hold c.in_ok-found.found c.behind.result
-    (c.in_ok-hold.ensures.says m s) (c.in_ok-found.ensures.says m s) c.behind.ensures
+    c.args.terms.now c.premises_outcome.new.terms c.head_form.new.terms c.premises_outcome.ensures.kept c.requires.term c.in_ok-hold.hold c.in_ok-found.found c.found_behind.result
+    (c.in_ok-hold.ensures.says m s) (c.in_ok-found.ensures.says m s) c.found_behind.ensures
 
 pub projections::built_in_term-returns-clause-says :
     goal.projections::built_in_term-returns-clause-says
@@ -1006,7 +1011,7 @@ projections::equal_args_term-returns-in-Refuted-hold-clause-says t c = λ m s.
 
 pub projections::equal_args_term-returns-clause-within :
     goal.projections::equal_args_term-returns-clause-within
-projections::equal_args_term-returns-clause-within t c = found_behind c.head_form.new.terms c.both.result c.in_ok-found.found c.behind.result c.in_ok-found.ensures.within c.behind.ensures
+projections::equal_args_term-returns-clause-within t c = found_behind c.head_form.new.terms c.and.result c.in_ok-found.found c.found_behind.result c.in_ok-found.ensures.within c.found_behind.ensures
 
 pub projections::equal_args_term-returns-clause-says :
     goal.projections::equal_args_term-returns-clause-says
@@ -1014,8 +1019,8 @@ projections::equal_args_term-returns-clause-says t c = λ m s.
     equal_args-says (level_in c.args.setting.now m c.args.depth) (consistent c.args.setting.now m c.args.depth) c.args.projection.now c.args.args.now c.args.term
     c.args.terms.now c.compare_lists.new.terms c.clauses_outcome.new.terms c.head_form.new.terms c.compare_lists.ensures.kept
     (keeps-chain c.args.terms.now c.compare_lists.new.terms c.clauses_outcome.new.terms c.compare_lists.ensures.kept c.clauses_outcome.ensures.kept)
-    c.requires.projection c.requires.term c.as_slice-clauses.result.now c.as_slice-clauses.ensures.value c.in_ok-equal.equal c.in_ok-hold.hold c.both.result c.in_ok-found.found c.behind.result
-    (c.in_ok-equal.ensures.says m s) (c.in_ok-hold.ensures.says m s) (c.in_ok-found.ensures.says m s) c.both.ensures c.behind.ensures
+    c.requires.projection c.requires.term c.as_slice-clauses.result.now c.as_slice-clauses.ensures.value c.in_ok-equal.equal c.in_ok-hold.hold c.and.result c.in_ok-found.found c.found_behind.result
+    (c.in_ok-equal.ensures.says m s) (c.in_ok-hold.ensures.says m s) (c.in_ok-found.ensures.says m s) c.and.ensures c.found_behind.ensures
 
 pub projections::equation_term-returns-in_default-clause-says :
     goal.projections::equation_term-returns-in_default-clause-says
@@ -1058,6 +1063,18 @@ projections::group_term-returns-in-Undecided-clause-says t c = λ m s.
     c.loop-candidate.invariant.kept c.in_ok-next.ensures.kept c.args.projection.now c.requires.projection c.args.candidates.now c.loop-candidate.candidate-index c.candidate-item.result c.loop-candidate-test.true
     c.candidate-item.is c.requires.candidates c.loop-candidate.found c.in_ok-next.next c.merge_terms-found.result c.loop-candidate.invariant.within c.merge_terms-found.ensures
     (c.loop-candidate.invariant.says m s) (c.in_ok-next.ensures.says m s))
+
+pub projections::group_term-candidate_term-requires : goal.projections::group_term-candidate_term-requires
+projections::group_term-candidate_term-requires t c = (
+  omega arith,
+  (
+    (
+      are_in-grown c.args.terms.now c.loop-candidate.terms c.loop-candidate.invariant.kept c.args.projection.now.args.now c.requires.projection.0,
+      in-grown c.args.terms.now c.loop-candidate.terms c.loop-candidate.invariant.kept c.args.projection.now.itself c.requires.projection.1,
+    ),
+    candidate-in c.args.terms.now c.loop-candidate.terms c.args.candidates.now c.loop-candidate.candidate-index c.candidate-item.result c.loop-candidate.invariant.kept c.requires.candidates (omega arith) c.candidate-item.is,
+  ),
+)
 
 pub projections::group_term-loop-candidate-preserved :
     goal.projections::group_term-loop-candidate-preserved

@@ -19,8 +19,8 @@ returns-clause-added c = on_ok-map c.add_goal.result (λ e. record {
   normalizes = _;
   is = e;
   asks = refl;
-  environment = zip-map is_clone-value.it (λ (d : Clause). d.bound_regions) clause-regions _ _ c.in-Ok.ensures.cases.0;
-  clauses = zip-map is_clone-value.it (λ (d : Clause). tree_of_kind d.kind) clause-kind _ _ c.in-Ok.ensures.cases.0;
+  environment = zip-map is_clone-value.it (λ (d : Clause). d.bound_regions) clause-regions _ _ c.in-Ok.ensures.ok;
+  clauses = zip-map is_clone-value.it (λ (d : Clause). tree_of_kind d.kind) clause-kind _ _ c.in-Ok.ensures.ok;
   same_alias = refl;
   same_term = c.in-Ok-clone.ensures.cases;
 }) c.add_goal.ensures.added

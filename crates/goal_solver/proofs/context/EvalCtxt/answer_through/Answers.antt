@@ -7,10 +7,10 @@ use Rattle.goal_kinds.proofs.ConsistentLemmas.{each_level_is_consistent}
 use Rattle.std.specs.Prelude.{Ok, length}
 use Rattle.goal_solver.specs.Answers.{AnswersQuietly, erased_args, level_over}
 use Rattle.goal_solver.specs.State.{State, kinds_of}
-use Rattle.goal_solver.proofs.ApplicableLemmas.{nothing-applies, nothing-applies-later, nothing-listed, found-applies, grown-restored}
+use Rattle.goal_solver.proofs.ApplicableLemmas.{nothing-applies, nothing-applies-later, nothing-listed, found-applies, evaluated-restored}
 use Rattle.goal_solver.specs.Assembled.{level_through}
 use Rattle.goal_solver.specs.Outcomes.{FoundIn, SaysWhich}
-use Rattle.goal_solver.proofs.AnswerLemmas.{goes_back-grown, owed-grown}
+use Rattle.goal_solver.proofs.AnswerLemmas.{owed-evaluated}
 use Rattle.goal_solver.proofs.AssembledLemmas.{class-one, class-given, above-same}
 use Rattle.goal_solver.proofs.FoundAnswers.{found-sound, found-open_of_one}
 use Rattle.goal_solver.proofs.GoingBackLemmas.{goes_back-same}
@@ -23,13 +23,13 @@ pub returns-then-not-is_closed_alias-clause-goes_back : goal.returns-then-not-is
 returns-then-not-is_closed_alias-clause-goes_back c = goes_back-same c.args.self.now
 
 pub returns-in-Ok-Is-clause-goes_back : goal.returns-in-Ok-Is-clause-goes_back
-returns-in-Ok-Is-clause-goes_back c = goes_back-grown c.args.self.now c.class_outcome.new.self c.class_outcome.ensures.unchanged c.class_outcome.ensures.kept
+returns-in-Ok-Is-clause-goes_back c = c.class_outcome.ensures.goes_back
 
 pub returns-in-Ok-Refuted-clause-goes_back : goal.returns-in-Ok-Refuted-clause-goes_back
-returns-in-Ok-Refuted-clause-goes_back c = goes_back-grown c.args.self.now c.class_outcome.new.self c.class_outcome.ensures.unchanged c.class_outcome.ensures.kept
+returns-in-Ok-Refuted-clause-goes_back c = c.class_outcome.ensures.goes_back
 
 pub returns-in-Ok-Undecided-clause-goes_back : goal.returns-in-Ok-Undecided-clause-goes_back
-returns-in-Ok-Undecided-clause-goes_back c = goes_back-grown c.args.self.now c.class_outcome.new.self c.class_outcome.ensures.unchanged c.class_outcome.ensures.kept
+returns-in-Ok-Undecided-clause-goes_back c = c.class_outcome.ensures.goes_back
 
 pub returns-in-Ok-Is-clause-sound : goal.returns-in-Ok-Is-clause-sound
 returns-in-Ok-Is-clause-sound c = λ m owed.
@@ -39,7 +39,7 @@ returns-in-Ok-Is-clause-sound c = λ m owed.
     (sym (c.in-Some.ensures ∙ ap general_variable_at (c.node.ensures ∙ ap node_of c.view.ensures)))
     (subst (FoundIn c.class_outcome.new.self.terms) c.in-Ok-Is.field-0-is c.in-Ok-Is.ensures.within).0
     (subst (SaysWhich ((level_through (setting_of c.args.self.now.tables m c.args.environment.now) (level_over c.args.self.now m c.args.environment.now) c.args.class).gives c.args.asked.now.alias.kind (erased_args c.args.asked.now.alias.args.items)) ((level_through (setting_of c.args.self.now.tables m c.args.environment.now) (level_over c.args.self.now m c.args.environment.now) c.args.class).gives_refuted c.args.asked.now.alias.kind (erased_args c.args.asked.now.alias.args.items)) c.class_outcome.new.self.terms) c.in-Ok-Is.field-0-is
-    (c.in-Ok-Is.ensures.says m (owed-grown c.args.self.now c.class_outcome.new.self m c.class_outcome.ensures.unchanged owed)))
+    (c.in-Ok-Is.ensures.says m (owed-evaluated c.args.self.now c.class_outcome.new.self m c.class_outcome.ensures.unchanged owed)))
     c.respond_found.result (c.respond_found.ensures.yes, c.respond_found.ensures.maybe, c.respond_found.ensures.only_memory)
 
 pub returns-in-Ok-Is-clause-decided : goal.returns-in-Ok-Is-clause-decided
@@ -51,7 +51,7 @@ returns-in-Ok-Is-clause-decided c = λ m n owed closed expected undecided.
     c.class_outcome.new.self.terms c.in-Ok-Is.id c.in-Some.expected
     (subst (FoundIn c.class_outcome.new.self.terms) c.in-Ok-Is.field-0-is c.in-Ok-Is.ensures.within).0
     (subst (SaysWhich ((level_through (setting_of c.args.self.now.tables m c.args.environment.now) (level_over c.args.self.now m c.args.environment.now) c.args.class).gives c.args.asked.now.alias.kind (erased_args c.args.asked.now.alias.args.items)) ((level_through (setting_of c.args.self.now.tables m c.args.environment.now) (level_over c.args.self.now m c.args.environment.now) c.args.class).gives_refuted c.args.asked.now.alias.kind (erased_args c.args.asked.now.alias.args.items)) c.class_outcome.new.self.terms) c.in-Ok-Is.field-0-is
-    (c.in-Ok-Is.ensures.says m (owed-grown c.args.self.now c.class_outcome.new.self m c.class_outcome.ensures.unchanged owed)))
+    (c.in-Ok-Is.ensures.says m (owed-evaluated c.args.self.now c.class_outcome.new.self m c.class_outcome.ensures.unchanged owed)))
     c.respond_found.result (c.respond_found.ensures.yes, c.respond_found.ensures.maybe, c.respond_found.ensures.only_memory) undecided
 
 pub returns-in_default-clause-applies : goal.returns-in_default-clause-applies
@@ -79,7 +79,7 @@ returns-in-Err-clause-applies c = λ m s ok holds.
 pub returns-in-Ok-Is-clause-applies : goal.returns-in-Ok-Is-clause-applies
 returns-in-Ok-Is-clause-applies c = λ m s ok holds.
     found-applies c.args.self.now c.class_outcome.new.self m (suc c.args.self.now.remaining_depth) c.args.asked.now c.args.environment.now c.class_outcome.new.self.terms c.in-Ok-Is.id c.in-Some.expected c.respond_found.result
-    (grown-restored c.args.self.now c.class_outcome.new.self c.class_outcome.ensures.unchanged) c.is_well_formed.ensures.tables c.is_well_formed.ensures.storage
+    (evaluated-restored c.args.self.now c.class_outcome.new.self c.class_outcome.ensures.unchanged) c.is_well_formed.ensures.tables c.is_well_formed.ensures.storage
     (sym c.is_closed_alias.ensures ∙ c.if-not-is_closed_alias.false) ok
     (subst (λ (s : State). AnswersQuietly (length (kinds_of s)) c.respond_found.result) c.class_outcome.ensures.unchanged c.respond_found.ensures.quiet)
     (subst (FoundIn c.class_outcome.new.self.terms) c.in-Ok-Is.field-0-is c.in-Ok-Is.ensures.within).0

@@ -1,17 +1,16 @@
 use Rattle.std.proofs.Common.{refl}
-use Rattle.goal_solver.proofs.AnswerLemmas.{goes_back-grown}
 use Rattle.goal_solver.proofs.ApplicableLemmas.{nothing-applies-later, nothing-listed}
 use Rattle.std.specs.Prelude.{Ok}
 use Rattle.goal_solver.proofs.context.EvalCtxt.answer_trait.Goals as goal
 
 pub returns-in-Ok-Holds-clause-goes_back : goal.returns-in-Ok-Holds-clause-goes_back
-returns-in-Ok-Holds-clause-goes_back c = goes_back-grown c.args.self.now c.trait_outcome_at.new.self c.trait_outcome_at.ensures.unchanged c.trait_outcome_at.ensures.kept
+returns-in-Ok-Holds-clause-goes_back c = c.trait_outcome_at.ensures.goes_back
 
 pub returns-in-Ok-Refuted-clause-goes_back : goal.returns-in-Ok-Refuted-clause-goes_back
-returns-in-Ok-Refuted-clause-goes_back c = goes_back-grown c.args.self.now c.trait_outcome_at.new.self c.trait_outcome_at.ensures.unchanged c.trait_outcome_at.ensures.kept
+returns-in-Ok-Refuted-clause-goes_back c = c.trait_outcome_at.ensures.goes_back
 
 pub returns-in-Ok-Undecided-clause-goes_back : goal.returns-in-Ok-Undecided-clause-goes_back
-returns-in-Ok-Undecided-clause-goes_back c = goes_back-grown c.args.self.now c.trait_outcome_at.new.self c.trait_outcome_at.ensures.unchanged c.trait_outcome_at.ensures.kept
+returns-in-Ok-Undecided-clause-goes_back c = c.trait_outcome_at.ensures.goes_back
 
 pub returns-in-Ok-Holds-clause-applies : goal.returns-in-Ok-Holds-clause-applies
 returns-in-Ok-Holds-clause-applies c =

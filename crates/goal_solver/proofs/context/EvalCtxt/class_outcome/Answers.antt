@@ -1,3 +1,5 @@
+use Rattle.std.proofs.Common.{refl}
+use Rattle.goal_solver.proofs.BindingLemmas.{goes_back-interned}
 use Rattle.goal_solver.proofs.GoingBackLemmas.{solved-grown}
 use Rattle.goal_solver.proofs.context.EvalCtxt.class_outcome.Goals as goal
 
@@ -11,3 +13,17 @@ invariant_of-self c = (
   solved-grown c.self.inside.terms c.class_term.new.terms c.self.inside.inference c.class_term.ensures.kept c.self.invariant.5,
   c.self.invariant.6,
 )
+
+pub invariant_of-self-2 : goal.invariant_of-self-2
+invariant_of-self-2 c = (
+  c.self.invariant.0,
+  c.self.invariant.1,
+  c.self.invariant.2,
+  c.self.invariant.3,
+  c.self.invariant.4,
+  solved-grown c.self.inside.terms c.class_term.new.terms c.self.inside.inference c.class_term.ensures.kept c.self.invariant.5,
+  c.self.invariant.6,
+)
+
+pub returns-in_err-found-clause-goes_back : goal.returns-in_err-found-clause-goes_back
+returns-in_err-found-clause-goes_back c = goes_back-interned _ c.args.self.now _ c.class_term.new.terms c.self.view_is refl c.class_term.ensures.kept

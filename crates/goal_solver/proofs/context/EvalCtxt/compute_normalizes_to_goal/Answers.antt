@@ -4,7 +4,7 @@ use Rattle.goal_terms.specs.Tree.{node_of}
 use Rattle.goal_kinds.specs.Answers.{setting_of}
 use Rattle.goal_solver.specs.Outcomes.{FoundIn, SaysWhich}
 use Rattle.goal_solver.specs.Answers.{erased_args, level_over}
-use Rattle.goal_solver.proofs.AnswerLemmas.{alias_open-ground, goes_back-grown, owed-grown}
+use Rattle.goal_solver.proofs.AnswerLemmas.{alias_open-ground, owed-evaluated}
 use Rattle.goal_solver.proofs.FoundAnswers.{found-sound, found-open}
 use Rattle.goal_kinds.proofs.ConsistentLemmas.{each_level_is_consistent}
 use Rattle.goal_solver.proofs.GoingBackLemmas.{goes_back-same}
@@ -16,7 +16,7 @@ use Rattle.goal_kinds.specs.Settings.{is_headline}
 use Rattle.goal_solver.specs.Answers.{AnswersQuietly, is_closed_alias}
 use Rattle.goal_solver.specs.Outcomes.{StandsFor}
 use Rattle.goal_solver.specs.State.{State, kinds_of}
-use Rattle.goal_solver.proofs.ApplicableLemmas.{nothing-applies, nothing-applies-later, nothing-listed, accepted-open, found-applies, grown-restored, stands-for-some}
+use Rattle.goal_solver.proofs.ApplicableLemmas.{nothing-applies, nothing-applies-later, nothing-listed, accepted-open, found-applies, evaluated-restored, stands-for-some}
 use Rattle.goal_solver.proofs.context.EvalCtxt.compute_normalizes_to_goal.Goals as goal
 
 pub returns-in_default-clause-goes_back : goal.returns-in_default-clause-goes_back
@@ -34,13 +34,13 @@ pub returns-then-not-is_closed_alias-clause-goes_back : goal.returns-then-not-is
 returns-then-not-is_closed_alias-clause-goes_back c = goes_back-same c.args.self.now
 
 pub returns-in-Ok-Is-clause-goes_back : goal.returns-in-Ok-Is-clause-goes_back
-returns-in-Ok-Is-clause-goes_back c = goes_back-grown c.args.self.now c.alias_outcome.new.self c.alias_outcome.ensures.unchanged c.alias_outcome.ensures.kept
+returns-in-Ok-Is-clause-goes_back c = c.alias_outcome.ensures.goes_back
 
 pub returns-in-Ok-Refuted-clause-goes_back : goal.returns-in-Ok-Refuted-clause-goes_back
-returns-in-Ok-Refuted-clause-goes_back c = goes_back-grown c.args.self.now c.alias_outcome.new.self c.alias_outcome.ensures.unchanged c.alias_outcome.ensures.kept
+returns-in-Ok-Refuted-clause-goes_back c = c.alias_outcome.ensures.goes_back
 
 pub returns-in-Ok-Undecided-clause-goes_back : goal.returns-in-Ok-Undecided-clause-goes_back
-returns-in-Ok-Undecided-clause-goes_back c = goes_back-grown c.args.self.now c.alias_outcome.new.self c.alias_outcome.ensures.unchanged c.alias_outcome.ensures.kept
+returns-in-Ok-Undecided-clause-goes_back c = c.alias_outcome.ensures.goes_back
 
 pub returns-in-Ok-Is-clause-sound : goal.returns-in-Ok-Is-clause-sound
 returns-in-Ok-Is-clause-sound c = λ m owed.
@@ -50,7 +50,7 @@ returns-in-Ok-Is-clause-sound c = λ m owed.
     (sym (c.in-Some.ensures ∙ ap general_variable_at (c.node.ensures ∙ ap node_of c.view.ensures)))
     (subst (FoundIn c.alias_outcome.new.self.terms) c.in-Ok-Is.field-0-is c.in-Ok-Is.ensures.within).0
     (subst (SaysWhich ((level_over c.args.self.now m c.args.goal.now.param_env.items).gives c.args.goal.now.predicate.alias.kind (erased_args c.args.goal.now.predicate.alias.args.items)) ((level_over c.args.self.now m c.args.goal.now.param_env.items).gives_refuted c.args.goal.now.predicate.alias.kind (erased_args c.args.goal.now.predicate.alias.args.items)) c.alias_outcome.new.self.terms) c.in-Ok-Is.field-0-is
-    (c.in-Ok-Is.ensures.says m (owed-grown c.args.self.now c.alias_outcome.new.self m c.alias_outcome.ensures.unchanged owed)))
+    (c.in-Ok-Is.ensures.says m (owed-evaluated c.args.self.now c.alias_outcome.new.self m c.alias_outcome.ensures.unchanged owed)))
     c.respond_found.result (c.respond_found.ensures.yes, c.respond_found.ensures.maybe, c.respond_found.ensures.only_memory)
 
 pub returns-in-Ok-Is-clause-decided : goal.returns-in-Ok-Is-clause-decided
@@ -61,7 +61,7 @@ returns-in-Ok-Is-clause-decided c = λ m n owed closed expected undecided.
     c.alias_outcome.new.self.terms c.in-Ok-Is.id c.in-Some.expected
     (subst (FoundIn c.alias_outcome.new.self.terms) c.in-Ok-Is.field-0-is c.in-Ok-Is.ensures.within).0
     (subst (SaysWhich ((level_over c.args.self.now m c.args.goal.now.param_env.items).gives c.args.goal.now.predicate.alias.kind (erased_args c.args.goal.now.predicate.alias.args.items)) ((level_over c.args.self.now m c.args.goal.now.param_env.items).gives_refuted c.args.goal.now.predicate.alias.kind (erased_args c.args.goal.now.predicate.alias.args.items)) c.alias_outcome.new.self.terms) c.in-Ok-Is.field-0-is
-    (c.in-Ok-Is.ensures.says m (owed-grown c.args.self.now c.alias_outcome.new.self m c.alias_outcome.ensures.unchanged owed)))
+    (c.in-Ok-Is.ensures.says m (owed-evaluated c.args.self.now c.alias_outcome.new.self m c.alias_outcome.ensures.unchanged owed)))
     c.respond_found.result (c.respond_found.ensures.yes, c.respond_found.ensures.maybe, c.respond_found.ensures.only_memory) undecided
 
 pub returns-in_default-clause-applies : goal.returns-in_default-clause-applies
@@ -104,13 +104,13 @@ pub returns-in-Ok-Undecided-clause-whole : goal.returns-in-Ok-Undecided-clause-w
 unfolding IsAnswer
 returns-in-Ok-Undecided-clause-whole c = λ m n owed ok closed expected undecided.
     subst (SaysWhich ((level_over c.args.self.now m c.args.goal.now.param_env.items).gives c.args.goal.now.predicate.alias.kind (erased_args c.args.goal.now.predicate.alias.args.items)) ((level_over c.args.self.now m c.args.goal.now.param_env.items).gives_refuted c.args.goal.now.predicate.alias.kind (erased_args c.args.goal.now.predicate.alias.args.items)) c.alias_outcome.new.self.terms) c.in-Ok-Undecided.field-0-is
-    (c.in-Ok-Undecided.ensures.says m (owed-grown c.args.self.now c.alias_outcome.new.self m c.alias_outcome.ensures.unchanged owed))
+    (c.in-Ok-Undecided.ensures.says m (owed-evaluated c.args.self.now c.alias_outcome.new.self m c.alias_outcome.ensures.unchanged owed))
 
 pub returns-in-Ok-Is-clause-applies : goal.returns-in-Ok-Is-clause-applies
 returns-in-Ok-Is-clause-applies c = λ ok.
     let some : (m : TypingMode) × StandsFor c.args.self.now.typing_mode m = stands-for-some c.args.self.now.typing_mode (is_headline c.args.self.now.typing_mode) refl in
     found-applies c.args.self.now c.alias_outcome.new.self some.0 c.args.self.now.remaining_depth c.args.goal.now.predicate c.args.goal.now.param_env.items c.alias_outcome.new.self.terms c.in-Ok-Is.id c.in-Some.expected c.respond_found.result
-    (grown-restored c.args.self.now c.alias_outcome.new.self c.alias_outcome.ensures.unchanged) c.is_well_formed.ensures.tables c.is_well_formed.ensures.storage
+    (evaluated-restored c.args.self.now c.alias_outcome.new.self c.alias_outcome.ensures.unchanged) c.is_well_formed.ensures.tables c.is_well_formed.ensures.storage
     (sym (c.is_closed_alias.ensures ∙ ap (is_closed_alias c.args.goal.now.predicate.alias) c.deref.ensures.value) ∙ c.if-not-is_closed_alias.false) ok
     (subst (λ (s : State). AnswersQuietly (length (kinds_of s)) c.respond_found.result) c.alias_outcome.ensures.unchanged c.respond_found.ensures.quiet)
     (subst (FoundIn c.alias_outcome.new.self.terms) c.in-Ok-Is.field-0-is c.in-Ok-Is.ensures.within).0

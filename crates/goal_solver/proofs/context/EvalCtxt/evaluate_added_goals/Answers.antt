@@ -7,6 +7,7 @@ use Rattle.goal_solver.specs.State.{State}
 use Rattle.goal_solver.proofs.AsideLemmas.{aside-sound, aside-decided, aside-closed, aside-taken}
 use Rattle.goal_solver.proofs.GoingBackLemmas.{goes_back-same}
 use Rattle.goal_solver.proofs.PlaceLemmas.{taken-split}
+use Rattle.goal_solver.proofs.RefusalLemmas.{aside-refused}
 use Rattle.goal_solver.proofs.context.EvalCtxt.evaluate_added_goals.Goals as goal
 
 pub returns-in_err-pending-clause-goes_back : goal.returns-in_err-pending-clause-goes_back
@@ -39,3 +40,9 @@ returns-clause-closed c =
 
 pub returns-clause-taken : goal.returns-clause-taken
 returns-clause-taken c = aside-taken c.as_slice.result.now c.replace-goals.result.items c.evaluate_rounds-answered.new.taken.items c.evaluate_rounds-answered.result c.as_slice.ensures.value c.evaluate_rounds-answered.ensures.split
+
+pub returns-clause-refused : goal.returns-clause-refused
+returns-clause-refused c =
+    aside-refused _ c.args.self.now c.evaluate_rounds-answered.new.self _ c.replace-goals.new.dest.items c.as_slice.result.now c.replace-taken.new.dest.items c.in_ok-pending.pending.items c.evaluate_rounds-answered.result
+    c.self.view_is (c.as_slice.ensures.value ∙ ap (λ (v : Vec (GoalSource × Goal Predicate) Global). v.items) c.replace-goals.ensures.value ∙ ap (λ (s : State). s.goals) c.self.view_is)
+    (ap (λ (s : State). s.typing_mode) c.self-2.view_is) (ap (λ (s : State). s.accesses) c.self-2.view_is) c.in_ok-pending.ensures.split c.evaluate_rounds-answered.ensures.refused

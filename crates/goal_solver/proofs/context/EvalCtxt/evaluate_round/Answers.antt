@@ -9,6 +9,7 @@ use Rattle.goal_solver.specs.Relating.{IsFaultFor}
 use Rattle.goal_solver.proofs.AddedGoalLemmas.{round-begins, records-through, fault-before}
 use Rattle.goal_solver.proofs.GoingBackLemmas.{goes_back-same, goes_back-through}
 use Rattle.goal_solver.proofs.RoundLemmas.{next-listed, next-within, next-fault, next-says, next-split, next-begins, ends-says, ends-split, handed-on}
+use Rattle.goal_solver.proofs.RefusalLemmas.{refused-on, refuses-later}
 use Rattle.goal_solver.proofs.context.EvalCtxt.evaluate_round.Goals as goal
 
 pub loop-i-init : goal.loop-i-init
@@ -80,3 +81,14 @@ returns-clause-says c = λ m owed closed. ends-says c.args.self.now m c.args.goa
 
 pub returns-clause-split : goal.returns-clause-split
 returns-clause-split c = (c.loop-i.left.items, ends-split (length c.args.goals.now) c.loop-i.i c.args.places.now c.loop-i.taken.items c.loop-i.left.items (omega arith) c.loop-i.invariant.split, refl)
+
+pub returns-in_err-answered-clause-refused : goal.returns-in_err-answered-clause-refused
+returns-in_err-answered-clause-refused c =
+    refused-on _ c.from_residual.result c.in_err-answered.field-0.0 c.from_residual.ensures.1
+    (λ is. (
+      get_or c.args.places.now c.loop-i.i 0,
+      c.goal_at-added.result.now,
+      c.goal_at-added.ensures,
+      next-listed c.args.places.now c.loop-i.i (get_or c.args.places.now c.loop-i.i 0) (omega arith) refl,
+      refuses-later c.args.self.now c.loop-i.self c.evaluate_goal.new.self c.goal_at-added.result.now.1 c.loop-i.invariant.alone (c.in_err-answered.ensures.refused is),
+    ))

@@ -9,6 +9,8 @@ use Rattle.goal_solver.specs.State.{State}
 use Rattle.goal_solver.proofs.AddedGoalLemmas.{records-through, fault-before}
 use Rattle.goal_solver.proofs.GoingBackLemmas.{begins-through, goes_back-same, goes_back-through}
 use Rattle.goal_solver.proofs.RoundLemmas.{first-fault, first-done, first-open, left-none, left-some, same-lengths, handed-on}
+use Rattle.goal_solver.specs.Refusals.{RefusesListed}
+use Rattle.goal_solver.proofs.RefusalLemmas.{refused-on, refuses-among}
 use Rattle.goal_solver.proofs.context.EvalCtxt.evaluate_rounds.Goals as goal
 
 pub loop-round-init : goal.loop-round-init
@@ -113,3 +115,10 @@ returns-clause-closed c = λ closed. absurd (omega (arith, (c.loop-round.invaria
 
 pub returns-clause-split : goal.returns-clause-split
 returns-clause-split c = (c.loop-round.pending.items, c.loop-round.invariant.split, λ y. absurd y)
+
+pub returns-in_err-left-clause-refused : goal.returns-in_err-left-clause-refused
+returns-in_err-left-clause-refused c =
+    refused-on _ c.from_residual.result c.in_err-left.field-0.0 c.from_residual.ensures.1
+    (λ is. refuses-among c.args.self.now c.loop-round.self c.evaluate_round.new.self c.args.goals.now c.args.taken.now.items c.loop-round.taken.items c.args.places.items c.loop-round.pending.items
+    c.loop-round.invariant.alone c.requires.split c.loop-round.invariant.split c.loop-round.invariant.taken
+    (subst (RefusesListed c.loop-round.self c.evaluate_round.new.self c.args.goals.now) c.as_slice.ensures.value (c.in_err-left.ensures.refused is)))

@@ -1,3 +1,6 @@
+use Rattle.std.proofs.Common.{refl}
+use Rattle.goal_terms.proofs.InternLemmas.{keeps-chain}
+use Rattle.goal_solver.proofs.BindingLemmas.{goes_back-interned}
 use Rattle.goal_solver.proofs.GoingBackLemmas.{solved-grown, solved-grown_twice}
 use Rattle.goal_solver.proofs.context.EvalCtxt.host_effect_goal_outcome.Goals as goal
 
@@ -22,3 +25,21 @@ invariant_of-self-2 c = (
   solved-grown_twice c.self.inside.terms c.intern_args.new.terms c.const_outcome.new.terms c.self.inside.inference c.intern_args.ensures.kept c.const_outcome.ensures.kept c.self.invariant.5,
   c.self.invariant.6,
 )
+
+pub invariant_of-self-in_err-outcome : goal.invariant_of-self-in_err-outcome
+invariant_of-self-in_err-outcome c = (
+  c.self.invariant.0,
+  c.self.invariant.1,
+  c.self.invariant.2,
+  c.self.invariant.3,
+  c.self.invariant.4,
+  solved-grown_twice c.self.inside.terms c.intern_args.new.terms c.const_outcome.new.terms c.self.inside.inference c.intern_args.ensures.kept c.const_outcome.ensures.kept c.self.invariant.5,
+  c.self.invariant.6,
+)
+
+pub returns-in_err-ids-clause-goes_back : goal.returns-in_err-ids-clause-goes_back
+returns-in_err-ids-clause-goes_back c = goes_back-interned _ c.args.self.now _ c.intern_args.new.terms c.self.view_is refl c.intern_args.ensures.kept
+
+pub returns-in_err-outcome-clause-goes_back : goal.returns-in_err-outcome-clause-goes_back
+returns-in_err-outcome-clause-goes_back c =
+    goes_back-interned _ c.args.self.now _ c.const_outcome.new.terms c.self.view_is refl (keeps-chain c.self.inside.terms c.intern_args.new.terms c.const_outcome.new.terms c.intern_args.ensures.kept c.const_outcome.ensures.kept)

@@ -1,10 +1,7 @@
 use Rattle.std.proofs.Common.{rules}
-use Rattle.goal_solver.proofs.GoingBackLemmas.{goes_back-same, goes_back-when_same, goes_back-when_fault}
-use Rattle.goal_solver.proofs.StoredLemmas.{set-pushed}
+use Rattle.goal_solver.proofs.GoingBackLemmas.{goes_back-when_same, goes_back-faults}
+use Rattle.goal_solver.proofs.RecordedLemmas.{set-entered, begins-entered}
 use Rattle.goal_solver.proofs.context.EvalCtxt.record_fault.Goals as goal
-
-pub returns-then-has_fault-clause-goes_back : goal.returns-then-has_fault-clause-goes_back
-returns-then-has_fault-clause-goes_back c = goes_back-same c.args.self.now
 
 pub returns-then-is_err-clause-goes_back : goal.returns-then-is_err-clause-goes_back
 returns-then-is_err-clause-goes_back c = goes_back-when_same c.args.self.now _ (search rules)
@@ -15,10 +12,10 @@ invariant_of-self-2 c = (
   c.self.invariant.1,
   c.self.invariant.2,
   c.self.invariant.3,
-  set-pushed c.self.inside.delayed_faults.items c.push.new.self.items c.args.fault (search rules) (search rules) c.self.invariant.4,
+  set-entered c.args.fault c.self.inside.delayed_faults.items c.enter_fault.new.met.items (search rules) c.self.invariant.4,
   c.self.invariant.5,
   c.self.invariant.6,
 )
 
 pub returns-clause-goes_back : goal.returns-clause-goes_back
-returns-clause-goes_back c = goes_back-when_fault c.args.self.now _ c.args.fault (search rules)
+returns-clause-goes_back c = goes_back-faults c.args.self.now _ (search rules) (begins-entered c.args.fault c.args.self.now.delayed_faults c.enter_fault.new.met.items (search rules))

@@ -1,23 +1,20 @@
-use Rattle.std.proofs.Common.{None, Some, ap, sym, subst, ◌∙◌}
+use Rattle.std.proofs.Common.{None, Some, ap, subst, ◌∙◌}
 use Rattle.goal_solver.specs.Answers.{level_over}
 use Rattle.goal_solver.specs.RunRules.{setting_over, RuledIn, AreListed}
 use Rattle.goal_solver.specs.declared.rule_runs.RuleOutcome.TheVariants as ruled
-use Rattle.goal_solver.proofs.GoingBackLemmas.{goes_back-same, goes_back-through}
+use Rattle.goal_solver.proofs.GoingBackLemmas.{goes_back-through}
 use Rattle.goal_solver.proofs.RecordedLemmas.{listed-kept, unsure-recorded}
 use Rattle.goal_solver.proofs.RuleAnswerLemmas.{held-sound, rule-found-sound, rule-found-open, unsettled-open, refuted-sound, owed-run, says_rule-as}
 use Rattle.goal_solver.proofs.context.EvalCtxt.rule_response.Goals as goal
 
-pub returns-then-has_variable-clause-goes_back : goal.returns-then-has_variable-clause-goes_back
-returns-then-has_variable-clause-goes_back c = goes_back-same c.args.self.now
-
 pub returns-in-Ok-Holds-None-clause-sound : goal.returns-in-Ok-Holds-None-clause-sound
-returns-in-Ok-Holds-None-clause-sound c = λ m owed.
+returns-in-Ok-Holds-None-clause-sound c = λ m owed closed.
     let says = (says_rule-as (setting_over c.args.self.now m c.args.environment.now) (level_over c.args.self.now m c.args.environment.now) c.deref-2.result.now c.args.rule.now.entries.items c.run_entries.new.self.terms c.in-Ok-Holds-None.field-0 (ruled.Holds None) c.deref-2.ensures.value (c.in-Ok-Holds-None.field-0-is ∙ ap (λ o. ruled.Holds o) c.in-Ok-Holds-None.field-0-0-is)
     (c.in-Ok-Holds-None.ensures.says m (owed-run c.args.self.now c.run_entries.new.self m c.run_entries.ensures.goes_back owed))) in
-    held-sound (setting_over c.args.self.now m c.args.environment.now) (level_over c.args.self.now m c.args.environment.now) c.args.rule.now c.respond-in-Ok-Holds-None.result says.0 says.1 c.respond-in-Ok-Holds-None.ensures.certainty c.respond-in-Ok-Holds-None.ensures.values
+    held-sound (setting_over c.args.self.now m c.args.environment.now) (level_over c.args.self.now m c.args.environment.now) c.args.rule.now c.respond.result says.0 says.1 c.respond.ensures.certainty c.respond.ensures.values
 
 pub returns-in-Ok-Holds-Some-clause-sound : goal.returns-in-Ok-Holds-Some-clause-sound
-returns-in-Ok-Holds-Some-clause-sound c = λ m owed.
+returns-in-Ok-Holds-Some-clause-sound c = λ m owed closed.
     let says = (says_rule-as (setting_over c.args.self.now m c.args.environment.now) (level_over c.args.self.now m c.args.environment.now) c.deref-2.result.now c.args.rule.now.entries.items c.run_entries.new.self.terms c.in-Ok-Holds-Some.field-0 (ruled.Holds (Some (c.in-Ok-Holds-Some.expected, c.in-Ok-Holds-Some.id))) c.deref-2.ensures.value (c.in-Ok-Holds-Some.field-0-is ∙ ap (λ o. ruled.Holds o) c.in-Ok-Holds-Some.field-0-0-is)
     (c.in-Ok-Holds-Some.ensures.says m (owed-run c.args.self.now c.run_entries.new.self m c.run_entries.ensures.goes_back owed))) in
     rule-found-sound (setting_over c.args.self.now m c.args.environment.now) (level_over c.args.self.now m c.args.environment.now) c.args.rule.now c.run_entries.new.self.terms c.in-Ok-Holds-Some.id c.in-Ok-Holds-Some.expected
@@ -53,10 +50,13 @@ pub returns-in-Err-clause-goes_back : goal.returns-in-Err-clause-goes_back
 returns-in-Err-clause-goes_back c = goes_back-through c.args.self.now c.run_entries.new.self c.stopped.new.self c.run_entries.ensures.goes_back c.stopped.ensures.goes_back
 
 pub returns-in-Ok-Refuted-clause-sound : goal.returns-in-Ok-Refuted-clause-sound
-returns-in-Ok-Refuted-clause-sound c = λ m owed.
+returns-in-Ok-Refuted-clause-sound c = λ m owed closed.
     refuted-sound (setting_over c.args.self.now m c.args.environment.now) (level_over c.args.self.now m c.args.environment.now) c.args.rule.now c.refuted.result (c.refuted.ensures.owed m owed)
     (says_rule-as (setting_over c.args.self.now m c.args.environment.now) (level_over c.args.self.now m c.args.environment.now) c.deref-2.result.now c.args.rule.now.entries.items c.run_entries.new.self.terms c.in-Ok-Refuted.field-0 ruled.Refuted c.deref-2.ensures.value c.in-Ok-Refuted.field-0-is
     (c.in-Ok-Refuted.ensures.says m (owed-run c.args.self.now c.run_entries.new.self m c.run_entries.ensures.goes_back owed)))
+
+pub returns-then-has_variable-clause-listed : goal.returns-then-has_variable-clause-listed
+returns-then-has_variable-clause-listed c = subst (λ es. AreListed es c.args.self.now c.run_open.new.self) c.deref-then-has_variable.ensures.value c.run_open.ensures.listed
 
 pub returns-in-Ok-Holds-None-clause-listed : goal.returns-in-Ok-Holds-None-clause-listed
 returns-in-Ok-Holds-None-clause-listed c = subst (λ es. AreListed es c.args.self.now c.run_entries.new.self) c.deref-2.ensures.value c.run_entries.ensures.listed

@@ -4,6 +4,7 @@ use Rattle.goal_solver.specs.State.{State}
 use Rattle.goal_solver.proofs.AddedGoalLemmas.{restored-owed, restored-alone, restored-fault, restored-itself}
 use Rattle.goal_solver.proofs.GoingBackLemmas.{goes_back-restored}
 use Rattle.goal_solver.proofs.VariableLemmas.{on_err}
+use Rattle.goal_solver.proofs.RefusalLemmas.{restored-refused}
 use Rattle.goal_solver.proofs.context.EvalCtxt.try_evaluate_added_goals.Goals as goal
 
 pub rollback-requires : goal.rollback-requires
@@ -46,3 +47,9 @@ pub returns-then-is_err-clause-fault : goal.returns-then-is_err-clause-fault
 returns-then-is_err-clause-fault c =
     restored-fault c.args.self.now c.evaluate_added_goals-answered.new.self c.rollback.new.self c.evaluate_added_goals-answered.result
     (c.rollback.ensures.undone c.args.self.now c.snapshot-before.ensures c.evaluate_added_goals-answered.ensures.goes_back) c.evaluate_added_goals-answered.ensures.fault
+
+pub returns-then-is_err-clause-refused : goal.returns-then-is_err-clause-refused
+returns-then-is_err-clause-refused c =
+    restored-refused c.args.self.now c.evaluate_added_goals-answered.new.self c.rollback.new.self c.evaluate_added_goals-answered.result
+    (c.rollback.ensures.undone c.args.self.now c.snapshot-before.ensures c.evaluate_added_goals-answered.ensures.goes_back) c.evaluate_added_goals-answered.ensures.goes_back
+    c.evaluate_added_goals-answered.ensures.refused

@@ -1,0 +1,11 @@
+use Rattle.std.proofs.Common.{◌≡◌, take}
+use Rattle.std.specs.List.{All, Contains}
+use Rattle.goal_solver.specs.GoingBack.{GoesBack}
+use Rattle.goal_solver.proofs.context.EvalCtxt.record_faults.Given as goal
+
+abbrev pub invariant-loop-fault : goal.invariant-loop-fault
+invariant-loop-fault l = record {
+  recorded : All (Contains l.self.delayed_faults) (take l.fault-index l.met);
+  unchanged : l.self ≡ record l.fn.self { delayed_faults = l.self.delayed_faults };
+  back : GoesBack l.fn.self l.self;
+}

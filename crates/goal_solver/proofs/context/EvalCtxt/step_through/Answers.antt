@@ -1,0 +1,124 @@
+use Rattle.std.proofs.Common.{sym, subst}
+use Rattle.std.specs.Prelude.{slice_get}
+use Rattle.goal_terms.specs.TreeOf.{trees_of, tree_of_term}
+use Rattle.goal_kinds.specs.Rules.{clauses_in}
+use Rattle.goal_solver.specs.OpenRuns.{open_progress, named_trees, source_of, AddsRow, GivesTerm, NamesOpen}
+use Rattle.goal_solver.proofs.BindingLemmas.{on_ok-map}
+use Rattle.goal_solver.proofs.GoingBackLemmas.{goes_back-same}
+use Rattle.goal_solver.proofs.OpenStepLemmas.{arguments-step, equation-step, clause-step, row-step, term-step, access-step, fault-step, fault-listed, evaluation-step, undecided-step, refused-step}
+use Rattle.goal_solver.specs.Refusals.{RefusesNames, RefusesTerm}
+use Rattle.goal_solver.proofs.RefusalLemmas.{memory-only, refused-on, refused-map, arguments-refused, equation-refused, term-refused, evaluation-refused, refusal-refused}
+use Rattle.goal_solver.proofs.context.EvalCtxt.step_through.Goals as goal
+
+pub returns-in_err-certainty-in-Refused-clause-goes_back : goal.returns-in_err-certainty-in-Refused-clause-goes_back
+returns-in_err-certainty-in-Refused-clause-goes_back c = goes_back-same c.args.self.now
+
+pub returns-in_ok-found-in-Arguments-clause-steps : goal.returns-in_ok-found-in-Arguments-clause-steps
+returns-in_ok-found-in-Arguments-clause-steps c =
+    on_ok-map c.name.result
+    (λ after. arguments-step c.args.environment.now c.args.entry.now c.in-Arguments.arguments c.args.self.now (open_progress c.args.run.now) c.open_arguments.new.self (open_progress c.name.new.self)
+    (trees_of c.in_ok-found-in-Arguments.found.args.items) c.in_ok-found-in-Arguments.found.certainty c.in-Arguments.is
+    (subst (λ ns. NamesOpen c.args.environment.now (named_trees ns) c.in-Arguments.arguments c.args.self.now (trees_of c.in_ok-found-in-Arguments.found.args.items) c.in_ok-found-in-Arguments.found.certainty c.open_arguments.new.self)
+    c.deref.ensures.value c.in_ok-found-in-Arguments.ensures.names)
+    after)
+    c.name.ensures.named
+
+pub returns-in_ok-certainty-in-Equation-clause-steps : goal.returns-in_ok-certainty-in-Equation-clause-steps
+returns-in_ok-certainty-in-Equation-clause-steps c =
+    equation-step c.args.environment.now c.args.entry.now c.in-Equation.left c.in-Equation.right c.deref-in-Equation.result.now c.deref-in-Equation-2.result.now c.args.self.now (open_progress c.args.run.now)
+    c.equate_args.new.self (open_progress c.join.new.self) c.in_ok-certainty-in-Equation.certainty c.in-Equation.is c.deref-in-Equation.ensures.value c.deref-in-Equation-2.ensures.value
+    c.in_ok-certainty-in-Equation.ensures.equates c.join.ensures
+
+pub returns-in_ok-ask_clause-in-Clause-clause-steps : goal.returns-in_ok-ask_clause-in-Clause-clause-steps
+returns-in_ok-ask_clause-in-Clause-clause-steps c =
+    clause-step c.args.environment.now c.args.entry.now c.in-Clause.source c.in-Clause.clause c.args.self.now (open_progress c.args.run.now) c.ask_clause.new.self (open_progress c.join-in-Clause.new.self)
+    c.in-Clause.is c.in_ok-ask_clause-in-Clause.ensures.added c.join-in-Clause.ensures
+
+pub returns-in_ok-certainty-in-RowClauses-clause-steps : goal.returns-in_ok-certainty-in-RowClauses-clause-steps
+returns-in_ok-certainty-in-RowClauses-clause-steps c =
+    row-step c.args.environment.now c.args.entry.now c.in-RowClauses.row c.in-RowClauses.number c.args.self.now (open_progress c.args.run.now) c.ask_row.new.self (open_progress c.join-in-RowClauses.new.self)
+    c.in_ok-certainty-in-RowClauses.certainty c.in-RowClauses.is
+    (subst (λ ns. AddsRow (source_of c.in-RowClauses.row) c.args.environment.now (clauses_in c.args.self.now.tables c.in-RowClauses.row) (slice_get (named_trees ns) c.in-RowClauses.number) c.args.self.now
+    c.in_ok-certainty-in-RowClauses.certainty c.ask_row.new.self) c.deref-in-RowClauses.ensures.value c.in_ok-certainty-in-RowClauses.ensures.added)
+    c.join-in-RowClauses.ensures
+
+pub returns-in_ok-certainty-in-Term-clause-steps : goal.returns-in_ok-certainty-in-Term-clause-steps
+returns-in_ok-certainty-in-Term-clause-steps c =
+    term-step c.args.environment.now c.args.entry.now c.in-Term.expected c.in-Term.term c.args.self.now (open_progress c.args.run.now) c.give_open.new.self (open_progress c.join-in-Term.new.self)
+    c.in_ok-certainty-in-Term.certainty c.in-Term.is
+    (subst (λ ns. GivesTerm c.args.environment.now (named_trees ns) (tree_of_term c.in-Term.expected) c.in-Term.term c.args.self.now c.in_ok-certainty-in-Term.certainty c.give_open.new.self)
+    c.deref-in-Term.ensures.value c.in_ok-certainty-in-Term.ensures.gives)
+    c.join-in-Term.ensures
+
+pub returns-in_ok-certainty-in-Access-clause-steps : goal.returns-in_ok-certainty-in-Access-clause-steps
+returns-in_ok-certainty-in-Access-clause-steps c =
+    access-step c.args.environment.now c.args.entry.now c.in-Access.access c.args.self.now (open_progress c.args.run.now) c.read_open.new.self (open_progress c.join-in-Access.new.self)
+    c.in_ok-certainty-in-Access.certainty c.in-Access.is c.in_ok-certainty-in-Access.ensures.reads c.join-in-Access.ensures
+
+pub returns-in-DelayedFault-clause-steps : goal.returns-in-DelayedFault-clause-steps
+returns-in-DelayedFault-clause-steps c =
+    on_ok-map c.record_fault.result
+    (λ records. fault-step c.args.environment.now c.args.entry.now c.in-DelayedFault.fault c.args.self.now (open_progress c.args.run.now) c.record_fault.new.self c.in-DelayedFault.is records)
+    c.record_fault.ensures.recorded
+
+pub returns-in-DelayedFault-clause-listed : goal.returns-in-DelayedFault-clause-listed
+returns-in-DelayedFault-clause-listed c =
+    fault-listed c.record_fault.result c.args.entry.now c.in-DelayedFault.fault c.args.self.now c.record_fault.new.self c.in-DelayedFault.is c.record_fault.ensures.recorded c.record_fault.ensures.unchanged
+
+pub returns-in-Evaluation-clause-steps : goal.returns-in-Evaluation-clause-steps
+returns-in-Evaluation-clause-steps c =
+    on_ok-map c.evaluate_pending.result
+    (λ h. evaluation-step c.args.environment.now c.args.entry.now c.args.self.now (open_progress c.args.run.now) c.evaluate_pending.new.self c.in-Evaluation.is h)
+    c.evaluate_pending.ensures.evaluates
+
+pub returns-in-Undecided-clause-steps : goal.returns-in-Undecided-clause-steps
+returns-in-Undecided-clause-steps c =
+    undecided-step c.args.environment.now c.args.entry.now c.args.self.now (open_progress c.args.run.now) (open_progress c.join-in-Undecided.new.self) c.in-Undecided.is c.join-in-Undecided.ensures
+
+pub returns-in-Undecided-clause-goes_back : goal.returns-in-Undecided-clause-goes_back
+returns-in-Undecided-clause-goes_back c = goes_back-same c.args.self.now
+
+pub returns-in_ok-certainty-in-Refused-clause-steps : goal.returns-in_ok-certainty-in-Refused-clause-steps
+returns-in_ok-certainty-in-Refused-clause-steps c =
+    refused-step c.args.environment.now c.args.entry.now c.args.self.now (open_progress c.args.run.now) (open_progress c.join-in-Refused.new.self) c.in_ok-certainty-in-Refused.certainty
+    c.in-Refused.is (sym c.in_ok-certainty-in-Refused.ensures) c.join-in-Refused.ensures
+
+pub returns-in_ok-certainty-in-Refused-clause-goes_back : goal.returns-in_ok-certainty-in-Refused-clause-goes_back
+returns-in_ok-certainty-in-Refused-clause-goes_back c = goes_back-same c.args.self.now
+
+pub returns-in_err-found-in-Arguments-clause-refused : goal.returns-in_err-found-in-Arguments-clause-refused
+returns-in_err-found-in-Arguments-clause-refused c =
+    refused-on _ c.from_residual.result c.in_err-found-in-Arguments.field-0.0 c.from_residual.ensures.1
+    (λ is. arguments-refused c.args.environment.now c.args.entry.now c.in-Arguments.arguments c.args.self.now (open_progress c.args.run.now) c.open_arguments.new.self c.in-Arguments.is
+    (subst (λ ns. RefusesNames c.args.environment.now (named_trees ns) c.in-Arguments.arguments c.args.self.now c.open_arguments.new.self) c.deref.ensures.value
+    (c.in_err-found-in-Arguments.ensures.refused is)))
+
+pub returns-in_ok-found-in-Arguments-clause-refused : goal.returns-in_ok-found-in-Arguments-clause-refused
+returns-in_ok-found-in-Arguments-clause-refused c = memory-only _ c.name.result c.name.ensures.only_memory
+
+pub returns-in_err-certainty-in-Equation-clause-refused : goal.returns-in_err-certainty-in-Equation-clause-refused
+returns-in_err-certainty-in-Equation-clause-refused c =
+    refused-on _ c.from_residual-in_err-certainty-in-Equation.result c.in_err-certainty-in-Equation.field-0.0 c.from_residual-in_err-certainty-in-Equation.ensures.1
+    (λ is. equation-refused c.args.environment.now c.args.entry.now c.in-Equation.left c.in-Equation.right c.deref-in-Equation.result.now c.deref-in-Equation-2.result.now c.args.self.now
+    (open_progress c.args.run.now) c.equate_args.new.self c.in-Equation.is c.deref-in-Equation.ensures.value c.deref-in-Equation-2.ensures.value (c.in_err-certainty-in-Equation.ensures.refused is))
+
+pub returns-in_err-certainty-in-Term-clause-refused : goal.returns-in_err-certainty-in-Term-clause-refused
+returns-in_err-certainty-in-Term-clause-refused c =
+    refused-on _ c.from_residual-in_err-certainty-in-Term.result c.in_err-certainty-in-Term.field-0.0 c.from_residual-in_err-certainty-in-Term.ensures.1
+    (λ is. term-refused c.args.environment.now c.args.entry.now c.in-Term.expected c.in-Term.term c.args.self.now (open_progress c.args.run.now) c.give_open.new.self c.in-Term.is
+    (subst (λ ns. RefusesTerm c.args.environment.now (named_trees ns) (tree_of_term c.in-Term.expected) c.in-Term.term c.args.self.now c.give_open.new.self)
+    c.deref-in-Term.ensures.value (c.in_err-certainty-in-Term.ensures.refused is)))
+
+pub returns-in-DelayedFault-clause-refused : goal.returns-in-DelayedFault-clause-refused
+returns-in-DelayedFault-clause-refused c = memory-only _ c.record_fault.result c.record_fault.ensures.only_memory
+
+pub returns-in-Evaluation-clause-refused : goal.returns-in-Evaluation-clause-refused
+returns-in-Evaluation-clause-refused c =
+    refused-map c.evaluate_pending.result
+    (λ h. evaluation-refused c.args.environment.now c.args.entry.now c.args.self.now (open_progress c.args.run.now) c.evaluate_pending.new.self c.in-Evaluation.is h)
+    c.evaluate_pending.ensures.refused
+
+pub returns-in_err-certainty-in-Refused-clause-refused : goal.returns-in_err-certainty-in-Refused-clause-refused
+returns-in_err-certainty-in-Refused-clause-refused c =
+    refused-on _ c.from_residual-in_err-certainty-in-Refused.result c.in_err-certainty-in-Refused.field-0.0 c.from_residual-in_err-certainty-in-Refused.ensures.1
+    (refusal-refused c.args.environment.now c.args.entry.now c.args.self.now (open_progress c.args.run.now) c.in_err-certainty-in-Refused.field-0.0 c.in-Refused.is c.in_err-certainty-in-Refused.ensures)

@@ -1,0 +1,27 @@
+use Rattle.std.proofs.Common.{rules, ◌≡◌, false}
+use Rattle.std.specs.Prelude.{◌==◌}
+use Rattle.goal_solver.proofs.GoingBackLemmas.{goes_back-same}
+use Rattle.goal_solver.proofs.TranslatedAnswers.{taken-other}
+use Rattle.goal_solver.proofs.context.EvalCtxt.translate_args.Goals as goal
+
+pub returns-in_err-args-in-Trait-clause-goes_back : goal.returns-in_err-args-in-Trait-clause-goes_back
+returns-in_err-args-in-Trait-clause-goes_back c = goes_back-same c.args.self.now
+
+pub returns-in_err-args-in-Impl-clause-goes_back : goal.returns-in_err-args-in-Impl-clause-goes_back
+returns-in_err-args-in-Impl-clause-goes_back c = goes_back-same c.args.self.now
+
+pub returns-then-id-impl_id-clause-goes_back : goal.returns-then-id-impl_id-clause-goes_back
+returns-then-id-impl_id-clause-goes_back c = goes_back-same c.args.self.now
+
+pub returns-in_ok-args-in-Trait-clause-goes_back : goal.returns-in_ok-args-in-Trait-clause-goes_back
+returns-in_ok-args-in-Trait-clause-goes_back c = goes_back-same c.args.self.now
+
+pub returns-else-id-impl_id-clause-decided : goal.returns-else-id-impl_id-clause-decided
+returns-else-id-impl_id-clause-decided c = λ m owed q taken.
+    let other : (c.in-Impl.id.0 == c.args.impl_id.0) ≡ false = search rules in
+    c.args_of_other.ensures.decided m owed q (taken-other c.args.self.now c.args.impl_id c.in-Impl.id c.args.container q c.in-Impl.is other taken)
+
+pub returns-else-id-impl_id-clause-fresh : goal.returns-else-id-impl_id-clause-fresh
+returns-else-id-impl_id-clause-fresh c = λ m owed q taken.
+    let other : (c.in-Impl.id.0 == c.args.impl_id.0) ≡ false = search rules in
+    c.args_of_other.ensures.fresh m owed q (taken-other c.args.self.now c.args.impl_id c.in-Impl.id c.args.container q c.in-Impl.is other taken)

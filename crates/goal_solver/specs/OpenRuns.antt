@@ -1,0 +1,234 @@
+-- What running a list of entries with inference variables does: one step for each entry, in order, and a closing evaluation.
+use Rattle.std.specs.Prelude.{◌≡◌, ◌⊎◌, true, false, List, [], ◌∷◌, ◌++◌, length, map, Option, Some, None, option_map, slice_get, Result, Ok, Err, Vec}
+use Rattle.std.specs.Global.{Global}
+use Rattle.std.specs.List.{AllZip}
+use Rattle.goal_terms.specs.Folding.{instance, instantiating}
+use Rattle.goal_terms.specs.PredicateTrees.{PredicateTree, tree_of_kind, tree_of_whole_clause, folded_predicate}
+use Rattle.goal_terms.specs.Tree.{Tree, node_of}
+use Rattle.goal_terms.specs.TreeOf.{trees_of, tree_of_ty, tree_of_term}
+use Rattle.goal_terms.specs.declared.answers.Certainty.{Certainty}
+use Rattle.goal_terms.specs.declared.answers.Certainty.TheVariants as certainty
+use Rattle.goal_terms.specs.declared.answers.GoalSource.{GoalSource}
+use Rattle.goal_terms.specs.declared.answers.GoalSource.TheVariants as source
+use Rattle.goal_terms.specs.declared.answers.OpaqueAccess.{OpaqueAccess}
+use Rattle.goal_terms.specs.declared.answers.Response.{Response}
+use Rattle.goal_terms.specs.declared.modes.TypingMode.{TypingMode}
+use Rattle.goal_terms.specs.declared.modes.TypingMode.TheVariants as mode
+use Rattle.goal_terms.specs.declared.predicates.Clause.{Clause}
+use Rattle.goal_terms.specs.declared.predicates.ClauseKind.{ClauseKind}
+use Rattle.goal_terms.specs.declared.predicates.ClauseKind.TheVariants as clause
+use Rattle.goal_terms.specs.declared.predicates.Goal.{Goal}
+use Rattle.goal_terms.specs.declared.predicates.Predicate.{Predicate}
+use Rattle.goal_terms.specs.declared.predicates.Predicate.TheVariants as predicate
+use Rattle.goal_terms.specs.declared.terms.GenericArg.{GenericArg}
+use Rattle.goal_tables.specs.Rows.{impl_of, inherent_impl_of}
+use Rattle.goal_tables.specs.declared.rows.ImplRow.{ImplRow}
+use Rattle.goal_tables.specs.declared.rows.Tables.{Tables}
+use Rattle.goal_kinds.specs.Rules.{MatchedHeader, clauses_in, value_in}
+use Rattle.goal_kinds.specs.Settings.{is_headline}
+use Rattle.goal_kinds.specs.declared.faults.Fault.{Fault}
+use Rattle.goal_kinds.specs.declared.faults.Fault.TheVariants as fault
+use Rattle.goal_kinds.specs.declared.rules.RowClauses.{RowClauses}
+use Rattle.goal_kinds.specs.declared.rules.RowClauses.TheVariants as clauses
+use Rattle.goal_kinds.specs.declared.rules.RuleArguments.{RuleArguments}
+use Rattle.goal_kinds.specs.declared.rules.RuleArguments.TheVariants as arguments
+use Rattle.goal_kinds.specs.declared.rules.RuleEntry.{RuleEntry}
+use Rattle.goal_kinds.specs.declared.rules.RuleEntry.TheVariants as entry
+use Rattle.goal_kinds.specs.declared.rules.RuleHeader.{RuleHeader}
+use Rattle.goal_kinds.specs.declared.rules.RuleHeader.TheVariants as header
+use Rattle.goal_kinds.specs.declared.rules.RuleTerm.{RuleTerm}
+use Rattle.goal_kinds.specs.declared.rules.RuleTerm.TheVariants as term
+use Rattle.goal_solver.specs.Added.{has_goals, with_goals, RecordsAccess, RecordsFault}
+use Rattle.goal_solver.specs.AddedGoals.{ArePendingClosed, ArePendingUndecided, IsPendingAnswer, ChangesTaken}
+use Rattle.goal_solver.specs.Answers.{IsOwed}
+use Rattle.goal_solver.specs.Binding.{AddsNormalization}
+use Rattle.goal_solver.specs.Equating.{IsEquated}
+use Rattle.goal_solver.specs.GoingBack.{GoesBack, restored, begun}
+use Rattle.goal_solver.specs.Pending.{is_alias}
+use Rattle.goal_solver.specs.Relating.{ChangesRecords, LeavesOpen, SaysYes}
+use Rattle.goal_solver.specs.Responses.{ListsSinceMark, both_certain}
+use Rattle.goal_solver.specs.State.{State, kinds_of}
+use Rattle.goal_solver.specs.Variables.{with_variables, kind_for, fresh_args}
+use Rattle.goal_solver.specs.declared.open_arguments.OpenRun.{OpenRun}
+
+-- how far such a list was run: the arguments that were named, and how sure all entries so far are
+pub record OpenProgress : Type 0 where
+  pub named : List (List Tree)
+  pub certainty : Certainty
+
+-- the trees of lists of arguments
+abbrev pub named_trees : List (Vec GenericArg Global) → List (List Tree)
+named_trees named = map (λ (args : Vec GenericArg Global). trees_of args.items) named
+
+abbrev pub open_progress : OpenRun → OpenProgress
+open_progress r = record { named = named_trees r.named.items; certainty = r.certainty }
+
+-- where a run begins
+abbrev pub open_start : OpenProgress
+open_start = record { named = []; certainty = certainty.Yes }
+
+-- after an entry of a certainty: all are as sure as the least sure one
+abbrev pub after_entry : OpenProgress → Certainty → OpenProgress
+after_entry p c = record { named = p.named; certainty = both_certain p.certainty c }
+
+-- after one that names arguments, which come last
+abbrev pub after_naming : OpenProgress → List Tree → Certainty → OpenProgress
+after_naming p ts c = record { named = p.named ++ ts ∷ []; certainty = both_certain p.certainty c }
+
+-- two lists of terms are made equal, as `eq_args` does it
+pub record Equates (env : List Clause) (ts us : List Tree) (old new : State) (c : Certainty) : Type 0 where
+  pub equated : IsEquated old new env ts us (Ok c)
+  pub alone : ChangesRecords old new
+  pub back : GoesBack old new
+
+-- the goals that are pending are evaluated, as `try_evaluate_added_goals` does it
+pub record Evaluates (old new : State) (c : Certainty) : Type 0 where
+  pub sound : (m : TypingMode) → IsOwed new m → ArePendingClosed old → IsPendingAnswer old m (Ok c)
+  pub decided : (m : TypingMode) → IsOwed new m → ArePendingClosed old → LeavesOpen (Ok c) → ArePendingUndecided old m
+  pub closed : ArePendingClosed old → new.inference ≡ old.inference
+  pub taken : SaysYes (Ok c) → has_goals new ≡ false
+  pub alone : ChangesTaken old new
+  pub back : GoesBack old new
+
+-- nothing is done, and the list is undecided from here on
+abbrev pub StaysUndecided : State → Certainty → State → Type 0
+StaysUndecided s c u = (u ≡ s) × (c ≡ certainty.Maybe)
+
+-- what a clause says, as a goal's predicate
+abbrev pub predicate_of : ClauseKind → Predicate
+predicate_of (clause.Trait q) = predicate.Trait q
+predicate_of (clause.Projection q) = predicate.Projection q
+predicate_of (clause.HostEffect q) = predicate.HostEffect q
+
+-- a goal asks, from a source and in an environment, for what a clause says
+pub record IsGoalOf (from : GoalSource) (env : List Clause) (q : PredicateTree) (g : GoalSource × Goal Predicate) : Type 0 where
+  pub kind : ClauseKind
+  pub source : g.0 ≡ from
+  pub asks : g.1.predicate ≡ predicate_of kind
+  pub same : tree_of_kind kind ≡ q
+  pub environment : map tree_of_whole_clause g.1.param_env.items ≡ map tree_of_whole_clause env
+
+-- a goal for each of some clauses is added, in order, and nothing else changes
+pub record AddsGoals (from : GoalSource) (env : List Clause) (qs : List PredicateTree) (old new : State) : Type 0 where
+  pub added : List (GoalSource × Goal Predicate)
+  pub asked : AllZip (IsGoalOf from env) qs added
+  pub is : new ≡ with_goals added old
+
+-- a header as its row has it
+abbrev pub open_header : Tables → RuleHeader → Option MatchedHeader
+open_header t (header.Impl i) = option_map (λ r. record { params = r.params.items; terms = trees_of r.trait_args.items }) (impl_of t i)
+open_header t (header.InherentImpl i) = option_map (λ q. record { params = q.params.items; terms = tree_of_ty q.self_ty ∷ [] }) (inherent_impl_of t i)
+
+-- a header is matched: fresh variables stand for its parameters, and are named, and its terms are made equal to given ones
+pub record Matches (env : List Clause) (h : MatchedHeader) (given : List Tree) (s : State) (ts : List Tree) (c : Certainty) (u : State) : Type 0 where
+  pub fresh : ts ≡ fresh_args h.params (length (kinds_of s))
+  pub equates : Equates env (map (instance ts) h.terms) given (with_variables (map kind_for h.params) s) u c
+
+-- so it is where the row and the given terms are there; else no arguments are named
+abbrev pub MatchesIf : List Clause → Option MatchedHeader → Option (List Tree) → State → List Tree → Certainty → State → Type 0
+MatchesIf env (Some h) (Some given) s ts c u = Matches env h given s ts c u
+MatchesIf env (Some h) None s ts c u = (ts ≡ []) × StaysUndecided s c u
+MatchesIf env None o s ts c u = (ts ≡ []) × StaysUndecided s c u
+
+-- the header of an impl under arguments
+abbrev pub other_header : Option ImplRow → Option (List Tree) → Option (List Tree)
+other_header (Some r) (Some z) = Some (map (instance z) (trees_of r.trait_args.items))
+other_header (Some r) None = None
+other_header None o = None
+
+-- earlier arguments are named, with others behind them
+abbrev pub Follows : Option (List Tree) → List Tree → State → List Tree → Certainty → State → Type 0
+Follows (Some z) own s ts c u = (ts ≡ z ++ own) × (u ≡ s) × (c ≡ certainty.Yes)
+Follows None own s ts c u = (ts ≡ []) × StaysUndecided s c u
+
+-- an entry names arguments
+abbrev pub NamesOpen : List Clause → List (List Tree) → RuleArguments → State → List Tree → Certainty → State → Type 0
+NamesOpen env named (arguments.Given args) s ts c u = (ts ≡ trees_of args.items) × (u ≡ s) × (c ≡ certainty.Yes)
+NamesOpen env named (arguments.Header h args) s ts c u = MatchesIf env (open_header s.tables h) (Some (trees_of args.items)) s ts c u
+NamesOpen env named (arguments.OtherImpl i j n) s ts c u =
+    MatchesIf env (open_header s.tables (header.Impl i)) (other_header (impl_of s.tables j) (slice_get named n)) s ts c u
+NamesOpen env named (arguments.Followed n own) s ts c u = Follows (slice_get named n) (trees_of own.items) s ts c u
+
+-- what a row's clauses are asked for
+abbrev pub source_of : RowClauses → GoalSource
+source_of (clauses.Impl i) = source.ImplWhereBound
+source_of (clauses.Item i) = source.AliasWellFormed
+source_of (clauses.Free i) = source.Misc
+source_of (clauses.Inherent i) = source.Misc
+
+-- the clauses of a row under arguments
+abbrev pub clauses_with : List Tree → List Clause → List PredicateTree
+clauses_with ts cs = map (λ (k : Clause). folded_predicate (instantiating ts) 0 (tree_of_kind k.kind)) cs
+
+-- goals for the clauses of a row under earlier arguments are added
+abbrev pub AddsRow : GoalSource → List Clause → Option (List Clause) → Option (List Tree) → State → Certainty → State → Type 0
+AddsRow from env (Some cs) (Some ts) s c u = AddsGoals from env (clauses_with ts cs) s u × (c ≡ certainty.Yes)
+AddsRow from env (Some cs) None s c u = StaysUndecided s c u
+AddsRow from env None o s c u = StaysUndecided s c u
+
+-- the expected term is given a head form: the goal is added that an alias normalizes to it, and any other term is made equal to it
+abbrev pub GivesForm : List Clause → Tree → Tree → State → Certainty → State → Type 0
+GivesForm env v t s c u =
+    ((is_alias (node_of t) ≡ true) × AddsNormalization s u t v env × (c ≡ certainty.Yes))
+    ⊎ ((is_alias (node_of t) ≡ false) × Equates env (v ∷ []) (t ∷ []) s u c)
+
+-- that of a row's value under earlier arguments
+abbrev pub GivesValue : List Clause → Tree → Option Tree → Option (List Tree) → State → Certainty → State → Type 0
+GivesValue env v (Some t) (Some ts) s c u = GivesForm env v (instance ts t) s c u
+GivesValue env v (Some t) None s c u = StaysUndecided s c u
+GivesValue env v None o s c u = StaysUndecided s c u
+
+-- the expected term is given what an entry says; a term as it stands is made equal to it
+abbrev pub GivesTerm : List Clause → List (List Tree) → Tree → RuleTerm → State → Certainty → State → Type 0
+GivesTerm env named v (term.AsItStands e) s c u = Equates env (v ∷ []) (tree_of_term e ∷ []) s u c
+GivesTerm env named v (term.Normalized e) s c u = GivesForm env v (tree_of_term e) s c u
+GivesTerm env named v (term.Value w n) s c u = GivesValue env v (value_in s.tables w) (slice_get named n) s c u
+
+-- that the mode is read is recorded; outside the headline modes the list may stay undecided in place of this
+abbrev pub ReadsMode : OpaqueAccess → State → Certainty → State → Type 0
+ReadsMode a s c u =
+    (RecordsAccess a s u × (c ≡ certainty.Yes))
+    ⊎ ((is_headline s.typing_mode ≡ false) × (u ≡ record s { accesses = u.accesses }) × GoesBack s u × (c ≡ certainty.Maybe))
+
+-- what a rule that doesn't stand is answered: in coherence no refusal is final
+abbrev pub refusal_in : TypingMode → Result Certainty Fault
+refusal_in mode.Coherence = Ok certainty.Maybe
+refusal_in _ = Err fault.NoSolution
+
+-- something is done with a certainty, which joins those before it
+abbrev pub Joins : OpenProgress → OpenProgress → (Certainty → Type 0) → Type 0
+Joins p q Does = (c : Certainty) × Does c × (q ≡ after_entry p c)
+
+-- the step of an entry: what the call that it stands for may do to a context, and how far the list was run then
+unfoldable pub Steps : List Clause → RuleEntry → State → OpenProgress → State → OpenProgress → Type 0
+Steps env (entry.Arguments a) s p u q = (ts : List Tree) × (c : Certainty) × NamesOpen env p.named a s ts c u × (q ≡ after_naming p ts c)
+Steps env (entry.Equation ts us) s p u q = Joins p q (λ c. Equates env (trees_of ts.items) (trees_of us.items) s u c)
+Steps env (entry.Clause g k) s p u q = Joins p q (λ c. AddsGoals g env (tree_of_kind k ∷ []) s u × (c ≡ certainty.Yes))
+Steps env (entry.RowClauses w n) s p u q = Joins p q (λ c. AddsRow (source_of w) env (clauses_in s.tables w) (slice_get p.named n) s c u)
+Steps env (entry.Term v e) s p u q = Joins p q (λ c. GivesTerm env p.named (tree_of_term v) e s c u)
+Steps env (entry.Access a) s p u q = Joins p q (λ c. ReadsMode a s c u)
+Steps env (entry.DelayedFault f) s p u q = RecordsFault f s u × (q ≡ p)
+Steps env entry.Evaluation s p u q = (c : Certainty) × Evaluates s u c × (q ≡ p)
+Steps env entry.Undecided s p u q = (u ≡ s) × (q ≡ after_entry p certainty.Maybe)
+Steps env entry.Refused s p u q = Joins p q (λ c. (u ≡ s) × (refusal_in s.typing_mode ≡ Ok c))
+
+-- a chain of states: the step of each entry, in order, and no other step
+unfoldable pub RunsThrough : List Clause → List RuleEntry → State → OpenProgress → State → OpenProgress → Type 0
+RunsThrough env [] s p u q = (u ≡ s) × (q ≡ p)
+RunsThrough env (e ∷ es) s p u q = (z : State) × (r : OpenProgress) × Steps env e s p z r × RunsThrough env es z r u q
+
+-- the closing evaluation: the goals are evaluated, and the response lists what came since the mark, as sure as the entries and the goals are
+pub record Closes (c : Certainty) (old new : State) (r : Response) : Type 0 where
+  pub answered : Certainty
+  pub evaluates : Evaluates old new answered
+  pub certainty : r.certainty ≡ both_certain c answered
+  pub lists : ListsSinceMark new r.certainty r
+
+-- a list is run: in a trial, through all entries and the closing evaluation, and everything goes back then but for terms and records
+pub record RunsOpen (env : List Clause) (es : List RuleEntry) (old new : State) (r : Response) : Type 0 where
+  pub last : State
+  pub progress : OpenProgress
+  pub through : RunsThrough env es (begun old) open_start last progress
+  pub closed : State
+  pub closes : Closes progress.certainty last closed r
+  pub back : new ≡ restored old closed

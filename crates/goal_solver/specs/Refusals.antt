@@ -1,0 +1,134 @@
+-- What refusals rest on: those of the goals that are pending, of the steps of a list of entries with inference variables, and of such a list.
+use Rattle.std.specs.Prelude.{◌≡◌, ◌≢◌, ◌⊎◌, ◌<◌, ℕ, false, List, [], ◌∷◌, ◌++◌, length, map, Option, Some, None, slice_get, Result, Err, IfErr}
+use Rattle.goal_terms.specs.Folding.{instance}
+use Rattle.goal_terms.specs.Tree.{Tree, node_of}
+use Rattle.goal_terms.specs.TreeOf.{trees_of, tree_of_term}
+use Rattle.goal_terms.specs.declared.answers.GoalSource.{GoalSource}
+use Rattle.goal_terms.specs.declared.modes.TypingMode.{TypingMode}
+use Rattle.goal_terms.specs.declared.modes.TypingMode.TheVariants as mode
+use Rattle.goal_terms.specs.declared.predicates.Clause.{Clause}
+use Rattle.goal_terms.specs.declared.predicates.Goal.{Goal}
+use Rattle.goal_terms.specs.declared.predicates.Predicate.{Predicate}
+use Rattle.goal_tables.specs.Rows.{impl_of}
+use Rattle.goal_kinds.specs.Rules.{MatchedHeader, value_in}
+use Rattle.goal_kinds.specs.declared.faults.Fault.{Fault}
+use Rattle.goal_kinds.specs.declared.faults.Fault.TheVariants as fault
+use Rattle.goal_kinds.specs.declared.rules.RuleArguments.{RuleArguments}
+use Rattle.goal_kinds.specs.declared.rules.RuleArguments.TheVariants as arguments
+use Rattle.goal_kinds.specs.declared.rules.RuleEntry.{RuleEntry}
+use Rattle.goal_kinds.specs.declared.rules.RuleEntry.TheVariants as entry
+use Rattle.goal_kinds.specs.declared.rules.RuleHeader.TheVariants as header
+use Rattle.goal_kinds.specs.declared.rules.RuleTerm.{RuleTerm}
+use Rattle.goal_kinds.specs.declared.rules.RuleTerm.TheVariants as term
+use Rattle.goal_solver.specs.AddedGoals.{IsClosedGoal, IsRefutedIn, IsPending, count_of}
+use Rattle.goal_solver.specs.Answers.{IsOwed}
+use Rattle.goal_solver.specs.Equating.{IsEquated}
+use Rattle.goal_solver.specs.GoingBack.{GoesBack, restored, begun}
+use Rattle.goal_solver.specs.OpenRuns.{OpenProgress, open_start, open_header, other_header, refusal_in, RunsThrough}
+use Rattle.goal_solver.specs.Pending.{is_alias}
+use Rattle.goal_solver.specs.State.{State, kinds_of}
+use Rattle.goal_solver.specs.Variables.{with_variables, kind_for, fresh_args}
+
+-- what a refusal rests on; nothing is said of another answer or fault
+abbrev pub WhenRefused : {T : Type 0} → Result T Fault → Type 0 → Type 0
+WhenRefused r P = IfErr r (λ f. f ≡ fault.NoSolution → P)
+
+-- two lists of terms are refused to be equal, as `eq_args` does it: all that it says of a refusal is so, and nothing is bound
+pub record RefusesEqual (env : List Clause) (ts us : List Tree) (old new : State) : Type 0 where
+  pub equated : IsEquated old new env ts us (Err fault.NoSolution)
+  pub undone : new ≡ restored old new
+  pub back : GoesBack old new
+
+-- a goal is refused: outside of coherence, and it is refuted if it is closed
+pub record RefusesGoal (old new : State) (g : Goal Predicate) : Type 0 where
+  pub final : old.typing_mode ≢ mode.Coherence
+  pub refuted : (m : TypingMode) → IsOwed new m → IsClosedGoal g.predicate g.param_env.items → IsRefutedIn old m g
+
+-- so is one of the goals at listed places
+abbrev pub RefusesListed : State → State → List (GoalSource × Goal Predicate) → List ℕ → Type 0
+RefusesListed old new goals places = (i : ℕ) × (p : GoalSource × Goal Predicate) × (slice_get goals i ≡ Some p) × (0 < count_of i places) × RefusesGoal old new p.1
+
+-- or one of those that are pending
+abbrev pub RefusesOne : State → State → Type 0
+RefusesOne old new = (i : ℕ) × (p : GoalSource × Goal Predicate) × IsPending old i p × RefusesGoal old new p.1
+
+-- the goals that are pending are refused, as `try_evaluate_added_goals` does it: one of them is, and what came of the others goes back
+pub record RefusesPending (old new : State) : Type 0 where
+  pub one : RefusesOne old new
+  pub undone : new ≡ restored old new
+  pub back : GoesBack old new
+
+-- a header is refused: its terms under fresh variables can't be made equal to the given ones
+abbrev pub RefusesMatch : List Clause → MatchedHeader → List Tree → State → State → Type 0
+RefusesMatch env h given s u =
+    RefusesEqual env (map (instance (fresh_args h.params (length (kinds_of s)))) h.terms) given (with_variables (map kind_for h.params) s) u
+
+-- so it is only where the row and the given terms are there
+abbrev pub RefusesMatchIf : List Clause → Option MatchedHeader → Option (List Tree) → State → State → Type 0
+RefusesMatchIf env (Some h) (Some given) s u = RefusesMatch env h given s u
+RefusesMatchIf env (Some h) None s u = ⊥
+RefusesMatchIf env None o s u = ⊥
+
+-- arguments that an entry names are refused only where they are those of a header
+abbrev pub RefusesNames : List Clause → List (List Tree) → RuleArguments → State → State → Type 0
+RefusesNames env named (arguments.Given args) s u = ⊥
+RefusesNames env named (arguments.Header h args) s u = RefusesMatchIf env (open_header s.tables h) (Some (trees_of args.items)) s u
+RefusesNames env named (arguments.OtherImpl i j n) s u = RefusesMatchIf env (open_header s.tables (header.Impl i)) (other_header (impl_of s.tables j) (slice_get named n)) s u
+RefusesNames env named (arguments.Followed n own) s u = ⊥
+
+-- the head form of a term is refused for an expected one: the term is no alias, and the two can't be made equal
+abbrev pub RefusesForm : List Clause → Tree → Tree → State → State → Type 0
+RefusesForm env v t s u = (is_alias (node_of t) ≡ false) × RefusesEqual env (v ∷ []) (t ∷ []) s u
+
+-- that of a row's value under earlier arguments
+abbrev pub RefusesValue : List Clause → Tree → Option Tree → Option (List Tree) → State → State → Type 0
+RefusesValue env v (Some t) (Some ts) s u = RefusesForm env v (instance ts t) s u
+RefusesValue env v (Some t) None s u = ⊥
+RefusesValue env v None o s u = ⊥
+
+-- what an entry says is refused for its expected term
+abbrev pub RefusesTerm : List Clause → List (List Tree) → Tree → RuleTerm → State → State → Type 0
+RefusesTerm env named v (term.AsItStands e) s u = RefusesEqual env (v ∷ []) (tree_of_term e ∷ []) s u
+RefusesTerm env named v (term.Normalized e) s u = RefusesForm env v (tree_of_term e) s u
+RefusesTerm env named v (term.Value w n) s u = RefusesValue env v (value_in s.tables w) (slice_get named n) s u
+
+-- the step of an entry is refused, and what is left then: only a header, an equation, a term, an evaluation and a rule that doesn't stand can be
+unfoldable pub StepRefused : List Clause → RuleEntry → State → OpenProgress → State → Type 0
+StepRefused env (entry.Arguments a) s p u = RefusesNames env p.named a s u
+StepRefused env (entry.Equation ts us) s p u = RefusesEqual env (trees_of ts.items) (trees_of us.items) s u
+StepRefused env (entry.Clause g k) s p u = ⊥
+StepRefused env (entry.RowClauses w n) s p u = ⊥
+StepRefused env (entry.Term v e) s p u = RefusesTerm env p.named (tree_of_term v) e s u
+StepRefused env (entry.Access a) s p u = ⊥
+StepRefused env (entry.DelayedFault f) s p u = ⊥
+StepRefused env entry.Evaluation s p u = RefusesPending s u
+StepRefused env entry.Undecided s p u = ⊥
+StepRefused env entry.Refused s p u = (u ≡ s) × (refusal_in s.typing_mode ≡ Err fault.NoSolution)
+
+-- the steps of the entries before one are taken, in order, and the step of that one is refused
+pub record StopsAtEntry (env : List Clause) (es : List RuleEntry) (old new : State) : Type 0 where
+  pub before : List RuleEntry
+  pub at : RuleEntry
+  pub behind : List RuleEntry
+  pub split : es ≡ before ++ at ∷ behind
+  pub last : State
+  pub progress : OpenProgress
+  pub through : RunsThrough env before old open_start last progress
+  pub refused : StepRefused env at last progress new
+
+-- the steps of all entries are taken, in order, and the closing evaluation is refused
+pub record StopsAtEnd (env : List Clause) (es : List RuleEntry) (old new : State) : Type 0 where
+  pub last : State
+  pub progress : OpenProgress
+  pub through : RunsThrough env es old open_start last progress
+  pub refused : RefusesPending last new
+
+-- what a refusal of a list's run rests on: the step of an entry, or the closing evaluation
+abbrev pub StopsSomewhere : List Clause → List RuleEntry → State → State → Type 0
+StopsSomewhere env es old new = StopsAtEntry env es old new ⊎ StopsAtEnd env es old new
+
+-- a list is refused: in a trial, at one of its entries or at the closing evaluation, and everything goes back then but for terms and records
+pub record IsRefusedOpen (env : List Clause) (es : List RuleEntry) (old new : State) : Type 0 where
+  pub stopped : State
+  pub stops : StopsSomewhere env es (begun old) stopped
+  pub back : new ≡ restored old stopped

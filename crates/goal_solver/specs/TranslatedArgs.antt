@@ -1,0 +1,153 @@
+-- The arguments that a definition of a goal's item takes.
+use Rattle.std.specs.Prelude.{◌≡◌, ◌==◌, ◌||◌, ◌⊎◌, false, List, ◌++◌, length, map, drop, Result, Ok, Err, Vec, if◌then◌else◌}
+use Rattle.std.specs.Global.{Global}
+use Rattle.std.specs.List.{AllZip, list_any}
+use Rattle.goal_terms.specs.Folding.{instance, instantiating}
+use Rattle.goal_terms.specs.NodeTests.{is_any_infer, some_node}
+use Rattle.goal_terms.specs.PredicateTrees.{PredicateTree, tree_of_trait_predicate, tree_of_projection, tree_of_host_effect, tree_of_whole_clause, folded_clause}
+use Rattle.goal_terms.specs.Tree.{Tree}
+use Rattle.goal_terms.specs.TreeOf.{trees_of}
+use Rattle.goal_terms.specs.declared.answers.Certainty.{Certainty}
+use Rattle.goal_terms.specs.declared.answers.Certainty.TheVariants as certainty
+use Rattle.goal_terms.specs.declared.answers.GoalSource.{GoalSource}
+use Rattle.goal_terms.specs.declared.answers.GoalSource.TheVariants as source
+use Rattle.goal_terms.specs.declared.answers.VarKind.{VarKind}
+use Rattle.goal_terms.specs.declared.heads.Variable.{Variable}
+use Rattle.goal_terms.specs.declared.ids.ImplId.{ImplId}
+use Rattle.goal_terms.specs.declared.predicates.Clause.{Clause}
+use Rattle.goal_terms.specs.declared.predicates.Goal.{Goal}
+use Rattle.goal_terms.specs.declared.predicates.NormalizesTo.{NormalizesTo}
+use Rattle.goal_terms.specs.declared.predicates.Predicate.{Predicate}
+use Rattle.goal_terms.specs.declared.predicates.Predicate.TheVariants as predicate
+use Rattle.goal_terms.specs.declared.predicates.TraitRef.{TraitRef}
+use Rattle.goal_terms.specs.declared.terms.GenericArg.{GenericArg}
+use Rattle.goal_tables.specs.Predicates.{some_in_env}
+use Rattle.goal_tables.specs.Rows.{impl_of}
+use Rattle.goal_tables.specs.declared.rows.Container.{Container}
+use Rattle.goal_tables.specs.declared.rows.Container.TheVariants as container
+use Rattle.goal_tables.specs.declared.rows.ImplRow.{ImplRow}
+use Rattle.goal_kinds.specs.Headers.{under, AllKnown, Fits, Clashes}
+use Rattle.goal_kinds.specs.ImplTerms.{Taken, from_projection, from_impl, from_other}
+use Rattle.goal_kinds.specs.Level.{Level}
+use Rattle.goal_kinds.specs.TraitGoals.{header_of}
+use Rattle.goal_kinds.specs.Words.{Pairs}
+use Rattle.goal_kinds.specs.declared.faults.Fault.{Fault}
+use Rattle.goal_kinds.specs.declared.faults.Fault.TheVariants as fault
+use Rattle.goal_solver.specs.Added.{with_goals}
+use Rattle.goal_solver.specs.Answers.{erased_args}
+use Rattle.goal_solver.specs.Equating.{IsEquated}
+use Rattle.goal_solver.specs.Relating.{all_bound, all_replaced}
+use Rattle.goal_solver.specs.State.{State, kinds_of}
+use Rattle.goal_solver.specs.Variables.{with_variables, kind_for, fresh_args}
+use Rattle.goal_solver.specs.Variables.{with_variables}
+
+-- whose arguments a definition takes that an impl uses, by where it stands
+abbrev pub taken_by : State → ImplId → Container → Taken
+taken_by s i (container.Trait j) = from_projection
+taken_by s i (container.Impl j) = if j.0 == i.0 then from_impl else from_other (impl_of s.tables j)
+
+-- the arguments of a goal's alias that come after its trait's
+abbrev pub own_after : TraitRef → Goal NormalizesTo → List Tree
+own_after r g = drop (length r.args.items) (trees_of g.predicate.alias.args.items)
+
+-- the arguments of a trait reference with the bindings of a context followed, lifetimes aside
+abbrev pub bound_ref : State → TraitRef → List Tree
+bound_ref s r = all_bound s (erased_args r.args.items)
+
+-- neither terms nor an environment hold an inference variable
+abbrev pub AreClosedIn : List Clause → List Tree → Type 0
+AreClosedIn env ts = (list_any (some_node is_any_infer) ts || some_in_env is_any_infer env) ≡ false
+
+-- how certain an answer is
+abbrev pub certainty_in : Result (Vec GenericArg Global × Certainty) Fault → Result Certainty Fault
+certainty_in (Ok r) = Ok r.1
+certainty_in (Err f) = Err f
+
+-- just these arguments are answered, with this certainty; only memory is refused
+abbrev pub AnswersJust : List Tree → Certainty → Result (Vec GenericArg Global × Certainty) Fault → Type 0
+AnswersJust ts c (Ok r) = (trees_of r.0.items ≡ ts) × (r.1 ≡ c)
+AnswersJust ts c (Err f) = f ≡ fault.OutOfMemory
+
+-- a yes says that an impl's header fits given terms under the answered arguments before the own ones; else these are the terms of the parameters, if all are known
+abbrev pub IsTranslatedBy : Level → ImplRow → List Tree → List Tree → List Tree → Certainty → Type 0
+IsTranslatedBy L q gs own args certainty.Yes = (s : List Tree) × Fits L q.params.items (header_of q) gs s × (args ≡ s ++ own)
+IsTranslatedBy L q gs own args certainty.Maybe = (s : List Tree) → AllKnown L q.params.items (header_of q) gs s → args ≡ s ++ own
+
+-- and a refusal says that it clashes
+abbrev pub IsTranslation : Level → ImplRow → List Tree → List Tree → Result (Vec GenericArg Global × Certainty) Fault → Type 0
+IsTranslation L q gs own (Ok r) = IsTranslatedBy L q gs own (erased_args r.0.items) r.1
+IsTranslation L q gs own (Err fault.NoSolution) = Clashes L q.params.items (header_of q) gs
+IsTranslation L q gs own (Err f) = Unit {0}
+
+-- an impl's header neither fits given terms nor clashes with them
+abbrev pub IsHeaderOpen : Level → ImplRow → List Tree → Type 0
+IsHeaderOpen L q gs = ((s : List Tree) → Fits L q.params.items (header_of q) gs s → ⊥) × (Clashes L q.params.items (header_of q) gs → ⊥)
+
+-- an impl's header under the answered arguments before the own ones is equal to given terms, with trees put for the variables
+abbrev pub IsEqualUnder : Level → ImplRow → (Variable → Tree) → List Tree → List Tree → Result (Vec GenericArg Global × Certainty) Fault → Type 0
+IsEqualUnder L q ρ gs own (Ok r) = (s : List Tree) × (trees_of r.0.items ≡ s ++ own) × Pairs L.equal (all_replaced ρ gs) (all_replaced ρ (map (under s) (header_of q)))
+IsEqualUnder L q ρ gs own (Err f) = Unit {0}
+
+-- fresh variables for an impl's parameters
+abbrev pub fresh_for : State → ImplRow → List Tree
+fresh_for s q = fresh_args q.params.items (length (kinds_of s))
+
+-- a context in which they were made, and nothing else
+abbrev pub with_fresh : ImplRow → State → State
+with_fresh q s = with_variables (map kind_for q.params.items) s
+
+-- they were made, no variable was bound, and they are answered before the own arguments
+abbrev pub IsFresh : State → State → ImplRow → List Tree → List Tree → Type 0
+IsFresh old new q own args = (new.inference ≡ (with_fresh q old).inference) × (args ≡ fresh_for old q ++ own)
+
+-- no variable was bound, and none was made but these
+abbrev pub BindsNothing : State → State → ImplRow → List Tree → List Tree → Type 0
+BindsNothing old new q own args = (new.inference ≡ old.inference) ⊎ IsFresh old new q own args
+
+-- they are answered before the own arguments, as certainly as the impl's header under them was made equal to given terms
+abbrev pub IsMadeEqual : State → State → List Clause → ImplRow → List Tree → List Tree → Result (Vec GenericArg Global × Certainty) Fault → Type 0
+IsMadeEqual old new env q ts own (Ok r) =
+    (trees_of r.0.items ≡ fresh_for old q ++ own)
+    × IsEquated (with_fresh q old) new env ts (map (instance (fresh_for old q)) (trees_of q.trait_args.items)) (Ok r.1)
+IsMadeEqual old new env q ts own (Err f) = Unit {0}
+
+-- a predicate asks this
+abbrev pub Asks : Predicate → PredicateTree → Type 0
+Asks (predicate.Trait q) t = tree_of_trait_predicate q ≡ t
+Asks (predicate.Projection q) t = tree_of_projection q ≡ t
+Asks (predicate.HostEffect q) t = tree_of_host_effect q ≡ t
+Asks (predicate.NormalizesTo q) t = ⊥
+Asks predicate.Ambiguous t = ⊥
+
+-- two environments have the same clauses
+abbrev pub IsSameEnvironment : List Clause → List Clause → Type 0
+IsSameEnvironment env copies = map tree_of_whole_clause copies ≡ map tree_of_whole_clause env
+
+-- a goal asks in an environment what a clause says under arguments, below its binder
+abbrev pub AsksUnder : List Clause → List Tree → Clause → Goal Predicate → Type 0
+AsksUnder env s c g = IsSameEnvironment env g.param_env.items × Asks g.predicate (folded_clause (instantiating s) 0 (tree_of_whole_clause c)).kind
+
+-- and names no source
+abbrev pub IsGoalUnder : List Clause → List Tree → Clause → GoalSource × Goal Predicate → Type 0
+IsGoalUnder env s c p = (p.0 ≡ source.Misc) × AsksUnder env s c p.1
+
+-- as many arguments of an impl as it has parameters, with others after them, are answered, and the impl's where clauses under them were added as goals
+pub record IsAdded (old new : State) (q : ImplRow) (env : List Clause) (own args : List Tree) : Type 0 where
+  pub first : List Tree
+  pub count : length first ≡ length q.params.items
+  pub all : args ≡ first ++ own
+  pub goals : List (GoalSource × Goal Predicate)
+  pub added : new.goals ≡ old.goals ++ goals
+  pub asks : AllZip (IsGoalUnder env first) q.predicates.items goals
+
+-- a goal for each where clause is added, and nothing else changes
+abbrev pub AddsClauses : State → State → List Clause → List Clause → List Tree → Type 0
+AddsClauses old new env clauses s = (goals : List (GoalSource × Goal Predicate)) × AllZip (IsGoalUnder env s) clauses goals × (new ≡ with_goals goals old)
+
+-- variables are made, and nothing else changes
+abbrev pub MakesVariables : State → State → Type 0
+MakesVariables old new = (ks : List VarKind) × (new ≡ with_variables ks old)
+
+-- only terms, inference state, added goals and recorded accesses change
+abbrev pub ChangesGoals : State → State → Type 0
+ChangesGoals old new = new ≡ record old { terms = new.terms; inference = new.inference; goals = new.goals; accesses = new.accesses }
