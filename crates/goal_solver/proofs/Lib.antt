@@ -14,6 +14,8 @@ pub mod TermErrorLemmas
 pub mod TraitOutcomeLemmas
 pub mod BeforeLemmas
 pub mod ProjectionArgLemmas
+mod EqualResponses
+mod MergedLemmas
 pub mod MergingLemmas
 pub mod ProjectionTermLemmas
 pub mod RecordedLemmas
@@ -58,8 +60,15 @@ pub mod OpenRunLemmas
 pub mod ClosingLemmas
 pub mod TrailLemmas
 pub mod ListedLemmas
+mod LaterLemmas
+mod OpenGoalLemmas
+mod OpenClassLemmas
+mod BelowLemmas
 pub mod RefusalLemmas
 mod AssembledLemmas
 pub mod WhereGoalLemmas
 pub mod TranslatedLemmas
 pub mod TranslatedAnswers
+pub mod CollectingLemmas
+pub mod CollectedTermLemmas
+pub mod CollectedObjectLemmas

@@ -140,7 +140,7 @@ module _ (u : State) (solved : IsSolved u.terms u.inference) where
   values-follow (n ∷ rest) = follow-next n rest (values-follow rest)
 
 -- fresh variables leave a state solved
-solved-with_kinds : (T : List Tree) (s : Inference) (ks : List VarKind) → IsSolved T s → IsSolved T (with_kinds ks s)
+pub solved-with_kinds : (T : List Tree) (s : Inference) (ks : List VarKind) → IsSolved T s → IsSolved T (with_kinds ks s)
 solved-with_kinds T s [] solved = subst (λ vs. IsSolved T (record s { variables = vs })) (sym (append-nil s.variables)) solved
 solved-with_kinds T s (k ∷ ks) solved =
     subst (λ vs. IsSolved T (record s { variables = vs })) (append_assoc s.variables (unbound k ∷ []) (map unbound ks))

@@ -4,6 +4,7 @@ pub mod Variables
 pub mod Added
 pub mod Stored
 pub mod Goals
+pub mod MergedRules
 pub mod Outcomes
 pub mod Answers
 pub mod Pending
@@ -27,3 +28,5 @@ pub mod OpenRuns
 pub mod Refusals
 pub mod Assembled
 pub mod TranslatedArgs
+pub mod Collecting
+pub mod OpenGoals

@@ -13,12 +13,13 @@ ghost use Rattle.goal_solver.specs.Outcomes.{StandsFor, setting_in, level_in, Sa
 use crate::combined::{found_behind, refuted_only};
 use crate::head_forms::{head_form_under, term_form};
 use crate::headers::match_header;
-use crate::id_lists::{joined, split_first};
+use crate::id_lists::joined;
 use crate::instances::{alias_number, header_of_type};
 use crate::mode_tests::{access_of, is_headline, reveals};
 use crate::outcomes::{Found, HeaderMatch, Outcome, Setting, Stop};
 use crate::premises::clauses_outcome;
 use crate::projections::projection_term;
+use crate::self_types::split_self_type;
 use goal_tables::rows::{FreeRow, InherentImplRow, InherentRow, OpaqueRow};
 use goal_terms::answers::DelayedFault;
 use goal_terms::ids::{FreeId, InherentId, OpaqueId};
@@ -114,7 +115,7 @@ fn inherent_term(
     let Some(holder) = setting.rows.inherent_impl_row(row.impl_id) else {
         return Ok(Found::Undecided);
     };
-    let Some((self_ty, own)) = split_first(args) else {
+    let Some((self_ty, own)) = split_self_type(args) else {
         return Ok(Found::Undecided);
     };
     inherent_by_impl(setting, terms, met, row, holder, self_ty, own, depth)

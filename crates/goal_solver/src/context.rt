@@ -69,7 +69,7 @@ impl<'t> Model for EvalCtxt<'t> {
 }
 
 /// How much a context holds of what a rollback undoes.
-#[derive(Clone, Copy, Debug, PartialEq, Eq, Hash)]
+#[derive(Clone, Copy, PartialEq, Eq)]
 pub(crate) struct Snapshot {
     inference: state::Snapshot,
     goals: usize,
@@ -78,7 +78,7 @@ pub(crate) struct Snapshot {
 }
 
 /// How much a context held of what a response lists when the innermost trial began.
-#[derive(Clone, Copy, Debug, PartialEq, Eq, Hash)]
+#[derive(Clone, Copy)]
 pub(crate) struct Mark {
     pub(crate) inference: state::Snapshot,
     pub(crate) storage: usize,

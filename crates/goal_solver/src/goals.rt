@@ -74,7 +74,11 @@ pub fn check_goal<P: PredicateTerms>(
     Ok(())
 }
 
-fn lies_in_goal<P: PredicateTerms>(tables: &CheckedTables, fault: TermFault, goal: &Goal<P>) -> bool
+pub(crate) fn lies_in_goal<P: PredicateTerms>(
+    tables: &CheckedTables,
+    fault: TermFault,
+    goal: &Goal<P>,
+) -> bool
     ensures { result ≡ (P.has_fault goal.now.predicate tables.now fault || in_env tables.now fault goal.now.param_env.items) }
 {
     goal.predicate.lies_in(tables.rows(), fault)

@@ -1,5 +1,5 @@
 //! Lists of numbers of terms.
-ghost use Rattle.std.specs.Prelude.{◌≡◌, ◌∷◌, ◌++◌, [], IfOk, MatchOption};
+ghost use Rattle.std.specs.Prelude.{◌≡◌, ◌++◌, IfOk};
 
 use crate::outcomes::Setting;
 use goal_terms::term_nodes::{OutOfMemory, TermId};
@@ -27,14 +27,4 @@ pub(crate) fn own_list(setting: &Setting<'_>, ids: &[TermId]) -> Result<Vec<Term
     ensures { IfOk result (λ made. made.items ≡ ids.now) }
 {
     joined(setting, ids, &[])
-}
-
-/// The first of some numbers, and the others.
-pub(crate) fn split_first(ids: &[TermId]) -> Option<(TermId, &[TermId])>
-    ensures { MatchOption result (ids.now ≡ []) (λ p. ids.now ≡ p.0 ∷ p.1.now) }
-{
-    match ids {
-        [] => None,
-        [first, rest @ ..] => Some((*first, rest)),
-    }
 }

@@ -22,14 +22,14 @@ use std::alloc::{AllocError, Global};
 
 /// How far a list with inference variables was run: the lists of arguments that were named so far, and how
 /// sure all entries so far are.
-#[derive(Debug, Drop)]
+#[derive(Drop)]
 pub struct OpenRun {
     pub named: Vec<Vec<GenericArg>>,
     pub certainty: Certainty,
 }
 
 /// Arguments that an entry names, and how sure it is of them.
-#[derive(Debug, Drop)]
+#[derive(Drop)]
 pub struct NamedArgs {
     pub args: Vec<GenericArg>,
     pub certainty: Certainty,

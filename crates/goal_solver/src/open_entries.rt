@@ -8,7 +8,7 @@ ghost use Rattle.goal_kinds.specs.Rules.{clauses_in, value_in};
 ghost use Rattle.goal_kinds.specs.declared.rules.RowValue.TheVariants as of_row;
 ghost use Rattle.goal_terms.specs.declared.answers.Certainty.{Certainty as certain};
 ghost use Rattle.goal_solver.specs.GoingBack.{GoesBack};
-ghost use Rattle.goal_solver.specs.OpenRuns.{open_progress, named_trees, clauses_with, predicate_of, source_of, AddsGoals, AddsRow, Equates, Evaluates, GivesForm, GivesTerm, GivesValue, refusal_in, ReadsMode, Steps};
+ghost use Rattle.goal_solver.specs.OpenRuns.{open_progress, named_trees, clauses_with, source_of, AddsGoals, AddsRow, Equates, Evaluates, GivesForm, GivesTerm, GivesValue, refusal_in, ReadsMode, Steps};
 ghost use Rattle.goal_solver.specs.Refusals.{WhenRefused, RefusesEqual, RefusesPending, RefusesForm, RefusesValue, RefusesTerm, StepRefused};
 ghost use Rattle.goal_solver.specs.Relating.{IsFaultFor};
 ghost use Rattle.goal_solver.specs.RunRules.{AreListed};
@@ -18,6 +18,7 @@ use crate::faults::Fault;
 use crate::instantiate::into_alias;
 use crate::open_arguments::{OpenRun, args_of_number};
 use crate::rule_entries::clauses_of;
+use crate::where_goals::predicate_of;
 use goal_kinds::rules::{RowClauses, RowValue, RuleEntry, RuleTerm};
 use goal_tables::lookup::IndexedTables;
 use goal_tables::rows::DefValue;
@@ -26,7 +27,7 @@ use goal_terms::heads::Node;
 use goal_terms::ids::{DefId, FreeId, InherentId, OpaqueId};
 use goal_terms::instantiate::instantiate;
 use goal_terms::modes::TypingMode;
-use goal_terms::predicates::{Clause, ClauseKind, Goal, Predicate};
+use goal_terms::predicates::{Clause, ClauseKind, Goal};
 use goal_terms::terms::{GenericArg, Term, Ty};
 use std::alloc::{AllocError, Global};
 
@@ -93,7 +94,7 @@ impl EvalCtxt<'_> {
     }
 
     /// What a rule that doesn't stand is answered. In coherence no refusal is final, so it is undecided there.
-    fn open_refusal(&self) -> Result<Certainty, Fault>
+    pub(crate) fn open_refusal(&self) -> Result<Certainty, Fault>
         ensures { result ≡ refusal_in self.now.typing_mode }
     {
         match self.typing_mode {
@@ -154,7 +155,7 @@ impl EvalCtxt<'_> {
             source,
             Goal {
                 param_env,
-                predicate: into_predicate(kind),
+                predicate: predicate_of(kind),
             },
         )
     }
@@ -308,17 +309,6 @@ fn source_of(row: RowClauses) -> GoalSource
         RowClauses::Impl(_) => GoalSource::ImplWhereBound,
         RowClauses::Item(_) => GoalSource::AliasWellFormed,
         RowClauses::Free(_) | RowClauses::Inherent(_) => GoalSource::Misc,
-    }
-}
-
-/// What a clause says, as a goal's predicate.
-fn into_predicate(kind: ClauseKind) -> Predicate
-    ensures { result ≡ predicate_of kind }
-{
-    match kind {
-        ClauseKind::Trait(predicate) => Predicate::Trait(predicate),
-        ClauseKind::Projection(predicate) => Predicate::Projection(predicate),
-        ClauseKind::HostEffect(predicate) => Predicate::HostEffect(predicate),
     }
 }
 

@@ -24,7 +24,7 @@ impl Setting<'_> {
 
 /// Why an evaluation ends without an outcome: a growth was refused, or a rule reads a mode that isn't one of
 /// the headline.
-#[derive(Clone, Copy, Debug, PartialEq, Eq)]
+#[derive(Clone, Copy)]
 pub enum Stop {
     OutOfMemory,
     ReadsMode(OpaqueAccess),
@@ -42,7 +42,7 @@ impl From<OutOfMemory> for Stop {
 }
 
 /// What a question comes to.
-#[derive(Clone, Copy, Debug, PartialEq, Eq, Hash)]
+#[derive(Clone, Copy)]
 pub enum Outcome {
     Holds,
     Refuted,
@@ -50,7 +50,7 @@ pub enum Outcome {
 }
 
 /// What a trait goal comes to.
-#[derive(Clone, Copy, Debug, PartialEq, Eq, Hash)]
+#[derive(Clone, Copy)]
 pub enum TraitOutcome {
     Holds(TraitGoalProvenVia),
     Refuted,
@@ -58,7 +58,7 @@ pub enum TraitOutcome {
 }
 
 /// Which term is found.
-#[derive(Clone, Copy, Debug, PartialEq, Eq, Hash)]
+#[derive(Clone, Copy)]
 pub enum Found {
     Is(TermId),
     Refuted,
@@ -67,7 +67,7 @@ pub enum Found {
 
 /// What a header, or an impl, comes to for given arguments. Where its parameters are known, these are their
 /// terms.
-#[derive(Debug, Drop)]
+#[derive(Drop)]
 pub enum HeaderMatch {
     Fits(Vec<TermId>),
     Known(Vec<TermId>),

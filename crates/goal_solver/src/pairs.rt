@@ -14,21 +14,21 @@ use goal_terms::term_nodes::{OutOfMemory, TermId};
 use goal_terms::term_table::TermTable;
 
 /// Two terms that are to be compared.
-#[derive(Clone, Copy, Debug)]
+#[derive(Clone, Copy)]
 pub struct TermPair {
     pub left: TermId,
     pub right: TermId,
 }
 
 /// What a comparison leaves: pairs of terms of which one is an alias, and what all other places come to.
-#[derive(Debug, Drop)]
+#[derive(Drop)]
 pub struct Pending {
     pub outcome: Outcome,
     pub pairs: Vec<TermPair>,
 }
 
 /// What the tops of two terms say: an outcome, or that head forms or the parts decide.
-#[derive(Clone, Copy, Debug)]
+#[derive(Clone, Copy)]
 pub enum Tops {
     Settled(Outcome),
     NeedForms,
@@ -36,7 +36,7 @@ pub enum Tops {
 }
 
 /// The head forms of two terms, or what is said of these where not both are found.
-#[derive(Clone, Copy, Debug)]
+#[derive(Clone, Copy)]
 pub enum Forms {
     Found(TermId, TermId),
     Lacking(Outcome),

@@ -8,7 +8,7 @@ use std::alloc::Global;
 
 /// How far a rule's list of entries was run: the lists of arguments that were named so far, whether all
 /// entries so far hold, and the term that was found, with the expected variable that it is for.
-#[derive(Debug, Drop)]
+#[derive(Drop)]
 pub struct RuleRun {
     pub named: Vec<Vec<TermId>>,
     pub holds: bool,
@@ -16,7 +16,7 @@ pub struct RuleRun {
 }
 
 /// Where an entry leads: to the next one, or to what the whole list comes to.
-#[derive(Clone, Copy, Debug, PartialEq, Eq, Hash)]
+#[derive(Clone, Copy)]
 pub enum Reached {
     Next,
     Refuted,
@@ -25,7 +25,7 @@ pub enum Reached {
 
 /// What a list of entries comes to. Where it holds and has a term, this is the term with the expected
 /// variable that it is for.
-#[derive(Clone, Copy, Debug, PartialEq, Eq, Hash)]
+#[derive(Clone, Copy)]
 pub enum RuleOutcome {
     Holds(Option<(u32, TermId)>),
     Refuted,

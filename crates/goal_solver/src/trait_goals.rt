@@ -1,5 +1,5 @@
 //! Trait goals.
-ghost use Rattle.std.specs.Prelude.{◌≡◌, ℕ, true, length, IfOk};
+ghost use Rattle.std.specs.Prelude.{◌≡◌, ℕ, suc, true, length, IfOk};
 ghost use Rattle.goal_terms.specs.PredicateTrees.{holds};
 ghost use Rattle.goal_terms.specs.declared.modes.TypingMode.{TypingMode};
 ghost use Rattle.goal_kinds.specs.Answers.{Answer, IsAnswer, decides, setting_of, whether};
@@ -7,6 +7,7 @@ ghost use Rattle.goal_kinds.specs.Levels.{level};
 ghost use Rattle.goal_solver.specs.Answers.{IsOwed, level_over, erased_args, AreClosed, IsTraitAnswer, IsOpen, IsMaybe, AnswersQuietly, IsFaultOf};
 ghost use Rattle.goal_solver.specs.Binding.{IsApplicable};
 ghost use Rattle.goal_solver.specs.GoingBack.{GoesBack, restored};
+ghost use Rattle.goal_solver.specs.OpenGoals.{MergesTrait, WhenAnswered, at_depth};
 ghost use Rattle.goal_solver.specs.State.{kinds_of};
 
 use crate::closed_goals::has_variable;
@@ -20,19 +21,28 @@ use goal_terms::terms::GenericArg;
 
 #[tactic(auto, using(crate::proofs::AnswerLemmas::answering))]
 impl EvalCtxt<'_> {
-    /// Whether a trait goal holds. `Yes`: a derivation no higher than the remaining depth shows it, through
-    /// the class that the answer names. `NoSolution`: a refutation no higher does. `Maybe`, for a closed goal
-    /// in a headline mode: there is neither. A goal with inference variables is `Maybe`, and a refuted one in
-    /// coherence. No two answers at any depths disagree. Inference state, added goals and storage are as
-    /// before; the answer can be applied. At depth 0 it takes no memory.
+    /// Whether a trait goal holds. For a closed goal in a headline mode, `Yes`: a derivation no higher than the
+    /// remaining depth shows it, through the class that the answer names. `NoSolution`: a refutation no higher
+    /// does. `Maybe`: there is neither. No two answers at any depths disagree.
+    ///
+    /// A goal with inference variables is answered by its candidates at one less of the depth. Those of the
+    /// environment come first, then the bounds of its self type, then the rest, each taken for the head form of
+    /// the self type. Their rules are run one by one. Of the first class that isn't wholly refused, all that aren't
+    /// refused must have the same response, which is the answer; else it is `Maybe`. Where all candidates are
+    /// refused it is `NoSolution`. It is `Maybe` where the self type is a general variable, or an alias whose
+    /// term isn't known.
+    ///
+    /// In coherence a refuted goal is `Maybe`. Inference state, added goals and storage are as before; the answer
+    /// can be applied. At depth 0 it takes no memory.
     pub fn compute_trait_goal(&mut self, goal: &Goal<TraitPredicate>) -> Result<Response, Fault>
-        ensures sound { (m : TypingMode) → IsOwed self.new m → IsTraitAnswer (level_over self.old m goal.now.param_env.items) goal.now.predicate.trait_ref.def_id (erased_args goal.now.predicate.trait_ref.args.items) result }
+        ensures sound { (m : TypingMode) → IsOwed self.new m → AreClosed goal.now.predicate.trait_ref.args.items goal.now.param_env.items → IsTraitAnswer (level_over self.old m goal.now.param_env.items) goal.now.predicate.trait_ref.def_id (erased_args goal.now.predicate.trait_ref.args.items) result }
         ensures decided { (m : TypingMode) → IsOwed self.new m → AreClosed goal.now.predicate.trait_ref.args.items goal.now.param_env.items → IsMaybe result → IsOpen (level_over self.old m goal.now.param_env.items) goal.now.predicate.trait_ref.def_id (erased_args goal.now.predicate.trait_ref.args.items) }
         ensures agrees { (m : TypingMode) (n k : ℕ) (a b : Answer) → decides a ≡ true → decides b ≡ true → IsAnswer (level (setting_of self.old.tables m goal.now.param_env.items) n) (whether (holds goal.now.predicate.trait_ref.def_id (erased_args goal.now.predicate.trait_ref.args.items))) a → IsAnswer (level (setting_of self.old.tables m goal.now.param_env.items) k) (whether (holds goal.now.predicate.trait_ref.def_id (erased_args goal.now.predicate.trait_ref.args.items))) b → a ≡ b }
         ensures unchanged { self.new ≡ restored self.old self.new }
         ensures goes_back { GoesBack self.old self.new }
         ensures fault { IsFaultOf self.old self.new result }
-        ensures quiet { AnswersQuietly (length (kinds_of self.old)) result }
+        ensures quiet { AreClosed goal.now.predicate.trait_ref.args.items goal.now.param_env.items → AnswersQuietly (length (kinds_of self.old)) result }
+        ensures merged { (n : ℕ) → (AreClosed goal.now.predicate.trait_ref.args.items goal.now.param_env.items → ⊥) → self.old.remaining_depth ≡ suc n → WhenAnswered result (MergesTrait goal.now (at_depth n self.old) result (at_depth n self.new)) }
         ensures applies { IfOk result (IsApplicable self.new) }
     {
         self.is_well_formed();
@@ -40,7 +50,7 @@ impl EvalCtxt<'_> {
             return Ok(self.respond(Certainty::Maybe, None));
         }
         if has_variable(goal) {
-            return Ok(self.respond(Certainty::Maybe, None));
+            return self.merge_below(goal);
         }
         let trait_ref = &goal.predicate.trait_ref;
         let depth = self.remaining_depth;

@@ -3,6 +3,7 @@ ghost use Rattle.std.specs.Prelude.{◌≡◌, IfOk};
 ghost use Rattle.std.specs.List.{AllZip};
 ghost use Rattle.goal_terms.specs.PredicateTrees.{tree_of_kind};
 ghost use Rattle.goal_terms.specs.TreeOf.{trees_of};
+ghost use Rattle.goal_solver.specs.OpenRuns.{predicate_of};
 ghost use Rattle.goal_solver.specs.TranslatedArgs.{Asks, IsSameEnvironment, AsksUnder, IsGoalUnder};
 
 use goal_terms::answers::GoalSource;
@@ -48,15 +49,16 @@ fn goal_under(
 }
 
 /// Copies of clauses.
-fn copied_clauses(alloc: Global, clauses: &[Clause]) -> Result<Vec<Clause>, AllocError>
+pub(crate) fn copied_clauses(alloc: Global, clauses: &[Clause]) -> Result<Vec<Clause>, AllocError>
     ensures { IfOk result (λ copies. IsSameEnvironment clauses.now copies.items) }
 {
     clauses.to_vec(alloc)
 }
 
 /// The predicate that asks what a clause says.
-fn predicate_of(kind: ClauseKind) -> Predicate
-    ensures { Asks result (tree_of_kind kind) }
+pub(crate) fn predicate_of(kind: ClauseKind) -> Predicate
+    ensures is { result ≡ predicate_of kind }
+    ensures asks { Asks result (tree_of_kind kind) }
 {
     match kind {
         ClauseKind::Trait(predicate) => Predicate::Trait(predicate),

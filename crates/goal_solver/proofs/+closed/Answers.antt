@@ -354,27 +354,27 @@ aliases::inherent_term-returns-in_default-inherent_impl_row-clause-says t c =
     λ m s. inherent-no_impl (setting_in c.args.setting.now m) (level_in c.args.setting.now m c.args.depth) (inherent_of c.args.setting.now.rows.now c.args.id) c.in-Some.row.now
     (erased_all c.args.terms.now c.args.args.now) c.in-Some.ensures c.in_default-inherent_impl_row.ensures
 
-pub aliases::inherent_term-returns-in_default-split_first-clause-says : goal.aliases::inherent_term-returns-in_default-split_first-clause-says
-aliases::inherent_term-returns-in_default-split_first-clause-says t c =
+pub aliases::inherent_term-returns-in_default-split_self_type-clause-says : goal.aliases::inherent_term-returns-in_default-split_self_type-clause-says
+aliases::inherent_term-returns-in_default-split_self_type-clause-says t c =
     λ m s. inherent-no_args (setting_in c.args.setting.now m) (level_in c.args.setting.now m c.args.depth) (inherent_of c.args.setting.now.rows.now c.args.id) (erased_all c.args.terms.now c.args.args.now)
-    (ap (erased_all c.args.terms.now) c.in_default-split_first.ensures)
+    (ap (erased_all c.args.terms.now) c.in_default-split_self_type.ensures)
 
 pub aliases::inherent_term-inherent_by_impl-requires : goal.aliases::inherent_term-inherent_by_impl-requires
 aliases::inherent_term-inherent_by_impl-requires t c =
-    let are : AreIn c.args.terms.now (c.in-Some-split_first.self_ty ∷ c.in-Some-split_first.own.now) = subst (AreIn c.args.terms.now) c.in-Some-split_first.ensures c.requires in (
+    let are : AreIn c.args.terms.now (c.in-Some-split_self_type.self_ty ∷ c.in-Some-split_self_type.own.now) = subst (AreIn c.args.terms.now) c.in-Some-split_self_type.ensures c.requires in (
       omega arith,
       (
-        All-head (IsIn c.args.terms.now) c.in-Some-split_first.self_ty c.in-Some-split_first.own.now are,
-        All-tail (IsIn c.args.terms.now) c.in-Some-split_first.self_ty c.in-Some-split_first.own.now are,
+        All-head (IsIn c.args.terms.now) c.in-Some-split_self_type.self_ty c.in-Some-split_self_type.own.now are,
+        All-tail (IsIn c.args.terms.now) c.in-Some-split_self_type.self_ty c.in-Some-split_self_type.own.now are,
       ),
     )
 
 pub aliases::inherent_term-returns-clause-says : goal.aliases::inherent_term-returns-clause-says
 aliases::inherent_term-returns-clause-says t c =
     λ m s. inherent-there (setting_in c.args.setting.now m) (level_in c.args.setting.now m c.args.depth) (inherent_of c.args.setting.now.rows.now c.args.id) c.in-Some.row.now
-    c.in-Some-inherent_impl_row.holder.now (erased_at c.args.terms.now c.in-Some-split_first.self_ty) (erased_all c.args.terms.now c.in-Some-split_first.own.now)
+    c.in-Some-inherent_impl_row.holder.now (erased_at c.args.terms.now c.in-Some-split_self_type.self_ty) (erased_all c.args.terms.now c.in-Some-split_self_type.own.now)
     (erased_all c.args.terms.now c.args.args.now) c.inherent_by_impl.new.terms c.inherent_by_impl.result c.in-Some.ensures c.in-Some-inherent_impl_row.ensures
-    (ap (erased_all c.args.terms.now) c.in-Some-split_first.ensures) (c.inherent_by_impl.ensures.says m s)
+    (ap (erased_all c.args.terms.now) c.in-Some-split_self_type.ensures) (c.inherent_by_impl.ensures.says m s)
 
 pub aliases::opaque_term-returns-in_default-clause-says : goal.aliases::opaque_term-returns-in_default-clause-says
 aliases::opaque_term-returns-in_default-clause-says t c =

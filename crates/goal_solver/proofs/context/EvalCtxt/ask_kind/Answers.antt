@@ -8,5 +8,5 @@ returns-in_default-clause-goes_back c = goes_back-same c.args.self.now
 
 pub returns-clause-added : goal.returns-clause-added
 returns-clause-added c = on_ok-map c.add_goal.result
-    (λ e. goal-added c.args.source c.args.environment.now c.args.kind c.into_predicate.result c.in-Ok.param_env c.args.self.now c.add_goal.new.self c.into_predicate.ensures c.in-Ok.ensures.ok e)
+    (λ e. goal-added c.args.source c.args.environment.now c.args.kind c.predicate_of.result c.in-Ok.param_env c.args.self.now c.add_goal.new.self c.predicate_of.ensures.is c.in-Ok.ensures.ok e)
     c.add_goal.ensures.added

@@ -14,12 +14,5 @@ returns-then-remaining_depth-eq0-clause-decided c = λ m owed closed undecided.
 pub returns-then-remaining_depth-eq0-clause-goes_back : goal.returns-then-remaining_depth-eq0-clause-goes_back
 returns-then-remaining_depth-eq0-clause-goes_back c = goes_back-same c.args.self.now
 
-pub returns-then-has_variable-clause-goes_back : goal.returns-then-has_variable-clause-goes_back
-returns-then-has_variable-clause-goes_back c = goes_back-same c.args.self.now
-
 pub returns-then-remaining_depth-eq0-clause-applies : goal.returns-then-remaining_depth-eq0-clause-applies
 returns-then-remaining_depth-eq0-clause-applies c = nothing-applies c.args.self.now c.respond.result c.is_well_formed.ensures.storage c.respond.ensures.quiet c.respond.ensures.values
-
-pub returns-then-has_variable-clause-applies : goal.returns-then-has_variable-clause-applies
-returns-then-has_variable-clause-applies c =
-    nothing-applies c.args.self.now c.respond-then-has_variable.result c.is_well_formed.ensures.storage c.respond-then-has_variable.ensures.quiet c.respond-then-has_variable.ensures.values

@@ -1,9 +1,6 @@
 use Rattle.goal_solver.proofs.GoingBackLemmas.{goes_back-same}
 use Rattle.goal_solver.proofs.context.EvalCtxt.merge_trait_goal.Goals as goal
 
-pub returns-then-has_variable-clause-goes_back : goal.returns-then-has_variable-clause-goes_back
-returns-then-has_variable-clause-goes_back g c = goes_back-same c.args.self.now
-
 pub returns-in_default-clause-goes_back : goal.returns-in_default-clause-goes_back
 returns-in_default-clause-goes_back g c = goes_back-same c.args.self.now
 

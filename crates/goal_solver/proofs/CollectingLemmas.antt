@@ -1,0 +1,157 @@
+-- Lists of rules that are collected from candidates.
+use Rattle.std.proofs.Common.{◌≡◌, ◌≢◌, ◌⊎◌, ◌==◌, inl, inr, ℕ, zero, suc, ◌+◌, ◌<◌, ◌≤◌, Bool, true, false, cond, Option, Some, None, is_some, List, [], ◌∷◌, ◌++◌, length, map, take, get_or, refl, sym, ap, subst, ◌∙◌, append_assoc, append-nil, eq-eqb, arith}
+use Rattle.std.specs.Prelude.{filter, find, if◌then◌else◌}
+use Rattle.std.specs.Option.{option_map}
+use Rattle.std.proofs.lemmas.Bool.Decides.{eqb_tells}
+use Rattle.std.proofs.lemmas.List.{take_all}
+use Rattle.goal_terms.specs.declared.ids.TraitId.{TraitId}
+use Rattle.goal_tables.specs.Faults.{IsChecked}
+use Rattle.goal_tables.specs.Places.{first_place, has_double}
+use Rattle.goal_tables.specs.Rows.{impl_of}
+use Rattle.goal_tables.specs.declared.rows.ImplRow.{ImplRow}
+use Rattle.goal_tables.specs.declared.rows.Tables.{Tables}
+use Rattle.goal_kinds.specs.Candidates.{Candidate, by_impl, impls_for}
+use Rattle.goal_kinds.specs.declared.rules.Rule.{Rule}
+use Rattle.goal_kinds.proofs.AnswerLaws.{impls-not_doubled}
+use Rattle.goal_kinds.proofs.CandidateClasses.{impl-passes, impl-fails}
+use Rattle.goal_kinds.proofs.GrowingLists.{one-more}
+use Rattle.goal_kinds.proofs.TableKindLemmas.{both_fail}
+use Rattle.goal_solver.specs.Collecting.{Adds, AreCollected, Collects}
+
+-- a rule for one more candidate
+collected-more : (P : Rule → Candidate → Type 0) (L : Candidate → Type 0) (rs : List Rule) (cs : List Candidate) (r : Rule) (c : Candidate) →
+    P r c → AreCollected P L rs cs → AreCollected P L (rs ++ r ∷ []) (cs ++ c ∷ [])
+unfolding AreCollected
+collected-more P L rs [] r c s h = inr (r, [], ap (λ qs. qs ++ r ∷ []) h, s, refl)
+collected-more P L rs (d ∷ cs) r c s (inl h) = inl (h.0, collected-more P L rs cs r c s h.1)
+collected-more P L rs (d ∷ cs) r c s (inr h) = inr (h.0, h.1 ++ r ∷ [], ap (λ qs. qs ++ r ∷ []) h.2, h.3, collected-more P L h.1 cs r c s h.4)
+
+-- one more candidate without a rule
+collected-lacks : (P : Rule → Candidate → Type 0) (L : Candidate → Type 0) (rs : List Rule) (cs : List Candidate) (c : Candidate) →
+    L c → AreCollected P L rs cs → AreCollected P L rs (cs ++ c ∷ [])
+unfolding AreCollected
+collected-lacks P L rs [] c s h = inl (s, h)
+collected-lacks P L rs (d ∷ cs) c s (inl h) = inl (h.0, collected-lacks P L rs cs c s h.1)
+collected-lacks P L rs (d ∷ cs) c s (inr h) = inr (h.0, h.1, h.2, h.3, collected-lacks P L h.1 cs c s h.4)
+
+-- two lists of rules, one behind the other
+pub collected-append : (P : Rule → Candidate → Type 0) (L : Candidate → Type 0) (rs qs : List Rule) (cs ds : List Candidate) →
+    AreCollected P L rs cs → AreCollected P L qs ds → AreCollected P L (rs ++ qs) (cs ++ ds)
+unfolding AreCollected
+collected-append P L rs qs [] ds h k = subst (λ x. AreCollected P L (x ++ qs) ds) (sym h) k
+collected-append P L rs qs (c ∷ cs) ds (inl h) k = inl (h.0, collected-append P L rs qs cs ds h.1 k)
+collected-append P L rs qs (c ∷ cs) ds (inr h) k = inr (h.0, h.1 ++ qs, ap (λ x. x ++ qs) h.2, h.3, collected-append P L h.1 qs cs ds h.4 k)
+
+-- what is said in weaker words
+pub collected-weaker : (P Q : Rule → Candidate → Type 0) (L M : Candidate → Type 0) → ((r : Rule) (c : Candidate) → P r c → Q r c) → ((c : Candidate) → L c → M c) →
+    (rs : List Rule) (cs : List Candidate) → AreCollected P L rs cs → AreCollected Q M rs cs
+unfolding AreCollected
+collected-weaker P Q L M f g rs [] h = h
+collected-weaker P Q L M f g rs (c ∷ cs) (inl h) = inl (g c h.0, collected-weaker P Q L M f g rs cs h.1)
+collected-weaker P Q L M f g rs (c ∷ cs) (inr h) = inr (h.0, h.1, h.2, f h.0 c h.3, collected-weaker P Q L M f g h.1 cs h.4)
+
+-- one more candidate
+pub collected-adds : (P : Rule → Candidate → Type 0) (L : Candidate → Type 0) (rs after : List Rule) (cs : List Candidate) (c : Candidate) →
+    Adds P L c rs after → AreCollected P L rs cs → AreCollected P L after (cs ++ c ∷ [])
+collected-adds P L rs after cs c (inl a) h = subst (λ x. AreCollected P L x (cs ++ c ∷ [])) (sym a.1) (collected-more P L rs cs a.0 c a.2 h)
+collected-adds P L rs after cs c (inr a) h = subst (λ x. AreCollected P L x (cs ++ c ∷ [])) (sym a.0) (collected-lacks P L rs cs c a.1 h)
+
+-- the reason in other words
+pub adds-weaker : (P Q : Rule → Candidate → Type 0) (L M : Candidate → Type 0) (c : Candidate) → ((r : Rule) → P r c → Q r c) → (L c → M c) →
+    (rs after : List Rule) → Adds P L c rs after → Adds Q M c rs after
+adds-weaker P Q L M c f g rs after (inl a) = inl (a.0, a.1, f a.0 a.2)
+adds-weaker P Q L M c f g rs after (inr a) = inr (a.0, g a.1)
+
+-- more rules for more candidates
+pub collects-chain : (P : Rule → Candidate → Type 0) (L : Candidate → Type 0) (cs ds : List Candidate) (before mid after : List Rule) →
+    Collects P L cs before mid → Collects P L ds mid after → Collects P L (cs ++ ds) before after
+collects-chain P L cs ds before mid after h k es collected =
+    subst (AreCollected P L after) (append_assoc es cs ds) (k (es ++ cs) (h es collected))
+
+-- no rule for no candidate
+pub collects-nothing : (P : Rule → Candidate → Type 0) (L : Candidate → Type 0) (rs : List Rule) → Collects P L [] rs rs
+collects-nothing P L rs es h = subst (AreCollected P L rs) (sym (append-nil es)) h
+
+-- from no rules at all
+pub collects-from_none : (P : Rule → Candidate → Type 0) (L : Candidate → Type 0) (cs : List Candidate) (before after : List Rule) →
+    before ≡ [] → Collects P L cs before after → AreCollected P L after cs
+unfolding AreCollected
+collects-from_none P L cs before after none h = h [] none
+
+-- one candidate
+pub collects-one : (P : Rule → Candidate → Type 0) (L : Candidate → Type 0) (before after : List Rule) (c : Candidate) → Adds P L c before after →
+    Collects P L (c ∷ []) before after
+collects-one P L before after c a es h = collected-adds P L before after es c a h
+
+-- the next candidate of a list
+pub collects-more : {X : Type 0} (P : Rule → Candidate → Type 0) (L : Candidate → Type 0) (f : X → Candidate) (xs : List X) (i : ℕ) (x : X) (before rs after : List Rule) →
+    i < length xs → x ≡ get_or xs i x → Adds P L (f x) rs after → Collects P L (map f (take i xs)) before rs → Collects P L (map f (take (i + 1) xs)) before after
+collects-more P L f xs i x before rs after l at a h es collected =
+    subst (AreCollected P L after) (one-more f es (es ++ map f (take i xs)) xs x i (f x) l at refl refl)
+    (collected-adds P L rs after (es ++ map f (take i xs)) (f x) a (h es collected))
+
+-- all candidates of a list
+pub collects-all : {X : Type 0} (P : Rule → Candidate → Type 0) (L : Candidate → Type 0) (f : X → Candidate) (xs : List X) (i : ℕ) (before after : List Rule) →
+    length xs ≤ i → Collects P L (map f (take i xs)) before after → Collects P L (map f xs) before after
+collects-all P L f xs i before after l h = subst (λ ys. Collects P L (map f ys) before after) (take_all i xs l) h
+
+-- the next impl, which is of the trait or not
+pub collects-impl : (P : Rule → Candidate → Type 0) (L : Candidate → Type 0) (i : TraitId) (rows : List ImplRow) (n : ℕ) (r : ImplRow) (before rs after : List Rule) →
+    n < length rows → r ≡ get_or rows n r → r.trait_id.0 ≡ i.0 → Adds P L (by_impl r) rs after →
+    Collects P L (map by_impl (filter (λ q. q.trait_id.0 == i.0) (take n rows))) before rs →
+    Collects P L (map by_impl (filter (λ q. q.trait_id.0 == i.0) (take (n + 1) rows))) before after
+collects-impl P L i rows n r before rs after l at e a h es collected =
+    subst (AreCollected P L after) (impl-passes i es (es ++ map by_impl (filter (λ q. q.trait_id.0 == i.0) (take n rows))) rows r n l at e refl)
+    (collected-adds P L rs after (es ++ map by_impl (filter (λ q. q.trait_id.0 == i.0) (take n rows))) (by_impl r) a (h es collected))
+
+pub collects-no_impl : (P : Rule → Candidate → Type 0) (L : Candidate → Type 0) (i : TraitId) (rows : List ImplRow) (n : ℕ) (r : ImplRow) (before rs : List Rule) →
+    n < length rows → r ≡ get_or rows n r → r.trait_id.0 ≢ i.0 →
+    Collects P L (map by_impl (filter (λ q. q.trait_id.0 == i.0) (take n rows))) before rs →
+    Collects P L (map by_impl (filter (λ q. q.trait_id.0 == i.0) (take (n + 1) rows))) before rs
+collects-no_impl P L i rows n r before rs l at e h es collected =
+    subst (AreCollected P L rs) (impl-fails i es (es ++ map by_impl (filter (λ q. q.trait_id.0 == i.0) (take n rows))) rows r n l at e refl) (h es collected)
+
+-- a key that stands in a list has a place there
+placed : (b : Bool) (o : Option ℕ) → (b ≡ true) ⊎ (is_some o ≡ true) → is_some (if b then Some 0 else option_map suc o) ≡ true
+placed true o h = refl
+placed false o (inl e) = absurd (cc)
+placed false (Some n) (inr e) = refl
+placed false None (inr e) = e
+
+-- an element's number stands in the list of all numbers
+number-there : {X : Type 0} (f : X → ℕ) (xs : List X) (n : ℕ) (x : X) (k : ℕ) → n < length xs → x ≡ get_or xs n x → f x ≡ k → is_some (first_place ◌==◌ (map f xs) k) ≡ true
+number-there f [] n x k l at e = absurd (omega arith)
+number-there f (y ∷ xs) zero x k l at e = placed (f y == k) (first_place ◌==◌ (map f xs) k) (inl (eq-eqb (f y) k (ap f (sym at) ∙ e)))
+number-there f (y ∷ xs) (suc n) x k l at e = placed (f y == k) (first_place ◌==◌ (map f xs) k) (inr (number-there f xs n x k (omega arith) at e))
+
+-- where no numbers are doubled, each element is found by its own
+pub found-by_number : {X : Type 0} (f : X → ℕ) (xs : List X) (n : ℕ) (x : X) → has_double ◌==◌ (map f xs) ≡ false → n < length xs → x ≡ get_or xs n x →
+    find (λ y. f y == f x) xs ≡ Some x
+found-by_number f [] n x d l at = absurd (omega arith)
+found-by_number f (y ∷ xs) zero x d l at =
+    ap (λ b. cond b (Some y) (find (λ z. f z == f x) xs)) (eq-eqb (f y) (f x) (ap f (sym at))) ∙ ap (λ z. Some z) (sym at)
+found-by_number f (y ∷ xs) (suc n) x d l at = elim (eqb_tells (f y) (f x)) [
+  | inl p ↦
+      let none : is_some (first_place ◌==◌ (map f xs) (f y)) ≡ false = (both_fail _ _ d).0 in
+      let some : is_some (first_place ◌==◌ (map f xs) (f y)) ≡ true = number-there f xs n x (f y) (omega arith) at (sym p.1) in
+      absurd (cc)
+  | inr p ↦
+      ap (λ b. cond b (Some y) (find (λ z. f z == f x) xs)) p.0 ∙ found-by_number f xs n x (both_fail (is_some (first_place ◌==◌ (map f xs) (f y))) _ d).1 (omega arith) at
+]
+
+-- the row of an impl's id, over accepted tables
+pub impl-found : (t : Tables) → IsChecked t → (n : ℕ) (r : ImplRow) → n < length t.impls.items → r ≡ get_or t.impls.items n r → impl_of t r.id ≡ Some r
+impl-found t checked n r l at = found-by_number (λ q. q.id.0) t.impls.items n r (impls-not_doubled t checked) l at
+
+-- all impls of a trait
+pub collects-impls : (P : Rule → Candidate → Type 0) (L : Candidate → Type 0) (t : Tables) (i : TraitId) (rows : List ImplRow) (n : ℕ) (before after : List Rule) →
+    rows ≡ t.impls.items → length rows ≤ n → Collects P L (map by_impl (filter (λ q. q.trait_id.0 == i.0) (take n rows))) before after →
+    Collects P L (map by_impl (impls_for t i)) before after
+collects-impls P L t i rows n before after same l h =
+    subst (λ rs. Collects P L (map by_impl (filter (λ q. q.trait_id.0 == i.0) rs)) before after) (take_all n rows l ∙ same) h
+
+-- traits of one number are one
+pub same_trait : (i j : TraitId) → i.0 ≡ j.0 → i ≡ j
+same_trait i j e = ap (λ (n : ℕ). numbered n) e where
+  numbered : ℕ → TraitId
+  numbered n = record { 0 = n }

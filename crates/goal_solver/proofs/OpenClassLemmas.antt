@@ -1,0 +1,223 @@
+-- Trait goals with inference variables: how their forms and their classes answer.
+use Rattle.std.proofs.Common.{◌≡◌, ◌||◌, ◌<◌, length, ℕ, Bool, true, false, Option, Some, None, Result, Ok, Err, List, [], ◌∷◌, inl, inr, get_or, refl, sym, ap, subst, ◌∙◌}
+use Rattle.std.specs.List.{All}
+use Rattle.std.specs.Prelude.{IfOk}
+use Rattle.std.proofs.lemmas.Option.{slice_get-get_or}
+use Rattle.goal_terms.specs.Erased.{erased}
+use Rattle.goal_terms.specs.Tree.{Tree, node_of}
+use Rattle.goal_terms.specs.TreeOf.{tree_of_term, tree_of_ty}
+use Rattle.goal_terms.specs.declared.answers.Certainty.{Certainty}
+use Rattle.goal_terms.specs.declared.answers.Certainty.TheVariants as certainty
+use Rattle.goal_terms.specs.declared.answers.Response.{Response}
+use Rattle.goal_terms.specs.declared.answers.TraitGoalProvenVia.{TraitGoalProvenVia}
+use Rattle.goal_terms.specs.declared.answers.TraitGoalProvenVia.TheVariants as class
+use Rattle.goal_terms.specs.declared.modes.TypingMode.{TypingMode}
+use Rattle.goal_terms.specs.declared.modes.TypingMode.TheVariants as mode
+use Rattle.goal_terms.specs.declared.predicates.Clause.{Clause}
+use Rattle.goal_terms.specs.declared.predicates.Goal.{Goal}
+use Rattle.goal_terms.specs.declared.terms.Term.{Term}
+use Rattle.goal_terms.specs.declared.terms.Ty.{Ty}
+use Rattle.goal_terms.proofs.TableLemmas.{list_any-none}
+use Rattle.goal_tables.specs.Clauses.{lies_in_clause_kind}
+use Rattle.goal_tables.specs.Predicates.{lies_in_env}
+use Rattle.goal_tables.specs.declared.rows.ImplRow.{ImplRow}
+use Rattle.goal_tables.specs.declared.rows.Tables.{Tables}
+use Rattle.goal_tables.specs.declared.sites.TermFault.{TermFault}
+use Rattle.goal_tables.specs.declared.sites.TermFault.TheVariants.{UnknownItem, WrongArgumentCount, WrongArgumentKind}
+use Rattle.goal_infer.proofs.DecisionLemmas.{either-false}
+use Rattle.goal_kinds.specs.Answers.{setting_of}
+use Rattle.goal_kinds.specs.CandidateRules.{HasNoKindFault, IsAcceptedClause}
+use Rattle.goal_kinds.specs.Candidates.{environment, rest}
+use Rattle.goal_kinds.specs.Premises.{TraitTree}
+use Rattle.goal_kinds.specs.Settings.{is_headline}
+use Rattle.goal_kinds.specs.declared.faults.Fault.{Fault}
+use Rattle.goal_kinds.specs.declared.faults.Fault.TheVariants as fault
+use Rattle.goal_kinds.specs.declared.rules.Rule.{Rule}
+use Rattle.goal_solver.specs.Answers.{IsOwed, level_over, IsMaybe}
+use Rattle.goal_solver.specs.Collecting.{KindWords, words_for, Speaks, Lacks, AreCollected, CollectsBounds, CollectsEnvironment, CollectsFor}
+use Rattle.goal_solver.specs.GoingBack.{restored}
+use Rattle.goal_solver.specs.HeadForms.{IsClosedForm, IsFormAnswer, IsFormOpen, IsAnswered, bound_term}
+use Rattle.goal_solver.specs.OpenGoals.{AsksForm, IsNoForm, IsConsidered, Considers, fault_in, has_kind_fault, IsLeft, IsFormless, FormsGoal, IsClassAnswer, ClassAnswers, IsRefusedIn, ByClasses, trait_classes, WhenAnswered, MergesGoal}
+use Rattle.goal_solver.specs.MergedRules.{MergesRules}
+use Rattle.goal_solver.specs.OpenRuns.{refusal_in}
+use Rattle.goal_solver.specs.Pending.{is_alias}
+use Rattle.goal_solver.specs.State.{State}
+use Rattle.goal_solver.specs.TranslatedArgs.{IsSameEnvironment}
+use Rattle.goal_solver.specs.declared.merged_rules.Merged.{Merged}
+
+-- of an error only a refusal is claimed something
+pub when-refused : (A : Type 0) (f : Fault) → (f ≡ fault.NoSolution → A) → WhenAnswered (Err f) A
+when-refused A fault.NoSolution h = h refl
+when-refused A fault.RerunNonErased h = tt
+when-refused A fault.OutOfMemory h = tt
+when-refused A fault.NotForThisKind h = tt
+
+-- a goal whose self type is refuted to have a head form is refused
+pub refused-formless : {P : Type 0} (K : KindWords P) (g : Goal P) (s u : State) (f : Fault) → (f ≡ fault.NoSolution → IsFormless K.self_type g s u) →
+    WhenAnswered (Err f) (MergesGoal K g s (Err f) u)
+refused-formless K g s u f h = when-refused (MergesGoal K g s (Err f) u) f (λ e. inr (inl (h e, ap Err e)))
+
+-- the faults that a goal without some doesn't have
+none-in : {P : Type 0} (lies : P → Tables → TermFault → Bool) (t : Tables) (g : Goal P) → has_kind_fault lies t g ≡ false →
+    (fault_in lies t g UnknownItem ≡ false) × (fault_in lies t g WrongArgumentCount ≡ false) × (fault_in lies t g WrongArgumentKind ≡ false)
+none-in lies t g h =
+    let last = either-false (fault_in lies t g UnknownItem || fault_in lies t g WrongArgumentCount) (fault_in lies t g WrongArgumentKind) h in
+    let two = either-false (fault_in lies t g UnknownItem) (fault_in lies t g WrongArgumentCount) last.0 in
+    (two.0, two.1, last.1)
+
+in-both : {P : Type 0} (lies : P → Tables → TermFault → Bool) (t : Tables) (g : Goal P) (f : TermFault) → fault_in lies t g f ≡ false →
+    (lies g.predicate t f ≡ false) × (lies_in_env t f g.param_env.items ≡ false)
+in-both lies t g f h = either-false (lies g.predicate t f) (lies_in_env t f g.param_env.items) h
+
+pub no-kind-fault : {P : Type 0} (lies : P → Tables → TermFault → Bool) (t : Tables) (g : Goal P) → has_kind_fault lies t g ≡ false → HasNoKindFault (λ f. lies g.predicate t f)
+no-kind-fault lies t g h =
+    let each = none-in lies t g h in
+    ((in-both lies t g UnknownItem each.0).0, (in-both lies t g WrongArgumentCount each.1).0, (in-both lies t g WrongArgumentKind each.2).0)
+
+clause-faultless : (t : Tables) (f : TermFault) (env : List Clause) (k : ℕ) (d : Clause) → k < length env → lies_in_env t f env ≡ false →
+    lies_in_clause_kind t [] f (get_or env k d).kind ≡ false
+clause-faultless t f env k d l h = list_any-none (λ c. lies_in_clause_kind t [] f c.kind) env k (get_or env k d) (slice_get-get_or env k d l) h
+
+accepted-clauses : {P : Type 0} (lies : P → Tables → TermFault → Bool) (t : Tables) (g : Goal P) → has_kind_fault lies t g ≡ false → All (λ c. IsAcceptedClause t c.kind) g.param_env.items
+accepted-clauses lies t g h = λ k d l.
+    let each = none-in lies t g h in (
+      clause-faultless t UnknownItem g.param_env.items k d l (in-both lies t g UnknownItem each.0).1,
+      clause-faultless t WrongArgumentCount g.param_env.items k d l (in-both lies t g WrongArgumentCount each.1).1,
+      clause-faultless t WrongArgumentKind g.param_env.items k d l (in-both lies t g WrongArgumentKind each.2).1,
+    )
+
+-- the rules of a class are collected, by what is said of each class
+pub collects-for : {P : Type 0} (K : KindWords P) (t : Tables) (g : Goal P) (m : TypingMode) (c : TraitGoalProvenVia) (rs : List Rule) → has_kind_fault K.has_fault t g ≡ false →
+    (c ≡ class.ParamEnv → All (λ x. IsAcceptedClause t x.kind) g.param_env.items → CollectsEnvironment (words_for K t g m) rs) →
+    ((q : TraitTree) (s : Ty) → c ≡ class.AliasBound → K.trait_asked g.predicate t ≡ Some q → K.self_type g.predicate ≡ Some s →
+    CollectsBounds (words_for K t g m) (K.additional g.predicate (setting_of t m g.param_env.items)) s [] rs) →
+    ((q : TraitTree) (s : Ty) → c ≡ class.Misc → is_headline m ≡ true → K.trait_asked g.predicate t ≡ Some q → K.self_type g.predicate ≡ Some s →
+    ((r : ImplRow) → r.trait_id ≡ q.def_id → K.is_impl_for g.predicate t r) →
+    AreCollected (Speaks (words_for K t g m)) (Lacks (words_for K t g m)) rs (rest (setting_of t m g.param_env.items) q.def_id (erased (tree_of_ty s)))) →
+    CollectsFor K t g m c rs
+collects-for K t g m class.ParamEnv rs f env bounds others = env refl (accepted-clauses K.has_fault t g f)
+collects-for K t g m class.AliasBound rs f env bounds others = λ q s asked of. bounds q s refl asked of
+collects-for K t g m class.Misc rs f env bounds others = λ q s headline asked of own. others q s refl headline asked of own
+
+-- the head form of a term is asked for as that of its tree
+pub asks-form : (es env : List Clause) (x : Term) (t : Tree) (a b : State) (r : Result (Option Term) Fault) → es ≡ env → tree_of_term x ≡ t →
+    ((m : TypingMode) → IsOwed b m → IsFormAnswer (level_over a m es) (bound_term a x) r) →
+    ((m : TypingMode) → IsOwed b m → IsClosedForm (bound_term a x) es → r ≡ Ok None → IsFormOpen (level_over a m es) (bound_term a x)) →
+    (is_alias (node_of (bound_term a x)) ≡ false → IfOk r (IsAnswered (bound_term a x))) → b ≡ restored a b → AsksForm env t a b r
+asks-form es env x t a b r e f sound decided itself back =
+    subst (λ u. AsksForm env u a b r) f
+    (subst (λ v. AsksForm v (tree_of_term x) a b r) e (record { sound = sound; decided = decided; itself = itself; back = back }))
+
+-- the first class that answers decides
+abbrev CollectsBy : Type 1
+CollectsBy = TypingMode → TraitGoalProvenVia → List Rule → Type 0
+
+pub first-answers : (C : CollectsBy) (env : List Clause) (c : TraitGoalProvenVia) (cs : List TraitGoalProvenVia) (s u : State) (a : Response) →
+    ClassAnswers C env c s (Some a) u → ByClasses C env (c ∷ cs) s (Ok a) u
+unfolding ByClasses
+first-answers C env c cs s u a h = inl (a, h, refl)
+
+-- where it doesn't, the next ones do
+pub next-answers : (C : CollectsBy) (env : List Clause) (c : TraitGoalProvenVia) (cs : List TraitGoalProvenVia) (s z u : State) (r : Result Response Fault) →
+    ClassAnswers C env c s None z → ByClasses C env cs z r u → ByClasses C env (c ∷ cs) s r u
+unfolding ByClasses
+next-answers C env c cs s z u r h rest = inr (z, h, rest)
+
+-- and without any the goal is refused
+pub none-answers : (C : CollectsBy) (env : List Clause) (s u : State) (r : Result Response Fault) → u ≡ s → IsRefusedIn s.typing_mode r → ByClasses C env [] s r u
+unfolding ByClasses
+none-answers C env s u r e h = (e, h)
+
+refusal-maybe : (m : TypingMode) (c : Certainty) → refusal_in m ≡ Ok c → (refusal_in m ≡ Ok certainty.Maybe) × (c ≡ certainty.Maybe)
+refusal-maybe mode.Coherence c e = (refl, cc)
+refusal-maybe _ c e = absurd (cc)
+
+pub refused-ok : (m : TypingMode) (c : Certainty) (r : Response) → Ok c ≡ refusal_in m → r.certainty ≡ c → IsRefusedIn m (Ok r)
+refused-ok m c r e f =
+    let h = refusal-maybe m c (sym e) in inr (h.0, f ∙ h.1)
+
+pub refused-err : (m : TypingMode) (f : Fault) → Err f ≡ refusal_in m → f ≡ fault.NoSolution → IsRefusedIn m (Err f)
+refused-err m f e h = inl (sym e ∙ ap Err h, ap Err h)
+
+-- a class answers by what its rules are merged to
+pub class-answers : (C : CollectsBy) (env es : List Clause) (c : TraitGoalProvenVia) (s u : State) (rules qs : List Rule) (m n : Merged) (a : Option Response) → es ≡ env → qs ≡ rules →
+    C s.typing_mode c rules → MergesRules es qs s m u → m ≡ n → IsClassAnswer c n a → ClassAnswers C env c s a u
+class-answers C env es c s u rules qs m n a e f h merges is k =
+    (rules, h, n, subst (λ x. MergesRules env rules s x u) is (subst (λ xs. MergesRules env xs s m u) f (subst (λ xs. MergesRules xs qs s m u) e merges)), k)
+
+-- what is claimed of an answer follows from another claim of it
+pub answered-map : (A B : Type 0) (r : Result Response Fault) → (A → B) → WhenAnswered r A → WhenAnswered r B
+answered-map A B (Ok x) f h = f h
+answered-map A B (Err fault.NoSolution) f h = f h
+answered-map A B (Err fault.RerunNonErased) f h = tt
+answered-map A B (Err fault.OutOfMemory) f h = tt
+answered-map A B (Err fault.NotForThisKind) f h = tt
+
+-- what a goal's self type's form comes to
+pub formless : {P : Type 0} (self_of : P → Option Ty) (g : Goal P) (s : Ty) (a b : State) (r : Result (Option Term) Fault) → Some s ≡ self_of g.predicate →
+    AsksForm g.param_env.items (tree_of_ty s) a b r → r ≡ Err fault.NoSolution → IsFormless self_of g a b
+formless self_of g s a b r e h is = (s, sym e, subst (λ x. AsksForm g.param_env.items (tree_of_ty s) a b x) is h)
+
+none-considered : (o : Option Term) (r : Option Ty) → IsConsidered o r → ((x : Ty) → r ≡ Some x → ⊥) → IsNoForm o
+none-considered o None h n = h
+none-considered o (Some x) h n = absurd (n x refl)
+
+pub no-form : {P : Type 0} (self_of : P → Option Ty) (with_self : P → Tree → P → Type 0) (lies : Goal P → Bool) (g : Goal P) (s : Ty) (a b : State) (r : Result (Option Term) Fault) (o : Option Term)
+    (f : Option Ty) → Some s ≡ self_of g.predicate → AsksForm g.param_env.items (tree_of_ty s) a b r → r ≡ Ok o → IsConsidered o f → ((x : Ty) → f ≡ Some x → ⊥) →
+    IsLeft self_of with_self lies g a b
+no-form self_of with_self lies g s a b r o f e h is k n =
+    inr (inl (s, sym e, o, subst (λ x. AsksForm g.param_env.items (tree_of_ty s) a b x) is h, none-considered o f k n))
+
+pub considers : {P : Type 0} (self_of : P → Option Ty) (with_self : P → Tree → P → Type 0) (g h : Goal P) (s : Ty) (a b : State) (r : Result (Option Term) Fault) (o : Option Term) (form : Ty) →
+    Some s ≡ self_of g.predicate → AsksForm g.param_env.items (tree_of_ty s) a b r → r ≡ Ok o → IsConsidered o (Some form) → with_self g.predicate (tree_of_ty form) h.predicate →
+    IsSameEnvironment g.param_env.items h.param_env.items → Considers self_of with_self g h a b
+considers self_of with_self g h s a b r o form e asked is k replaced same = record {
+  self = s;
+  asked = sym e;
+  form = form;
+  found = subst (λ x. AsksForm g.param_env.items (tree_of_ty s) a b x) (is ∙ ap (λ (x : Option Term). Ok x) k.0) asked;
+  general = k.1;
+  replaced = replaced;
+  environment = same;
+}
+
+-- a goal that is considered is answered by its classes
+pub by-classes : {P : Type 0} (K : KindWords P) (g h : Goal P) (s z u : State) (r : Result Response Fault) (o : Option (Goal P)) →
+    FormsGoal K.self_type K.is_with_self (has_kind_fault K.has_fault s.tables) g s z o → o ≡ Some h → z.tables ≡ s.tables →
+    WhenAnswered r (ByClasses (CollectsFor K z.tables h) h.param_env.items trait_classes z r u) → WhenAnswered r (MergesGoal K g s r u)
+by-classes K g h s z u r o forms is same by =
+    let f = subst (λ x. FormsGoal K.self_type K.is_with_self (has_kind_fault K.has_fault s.tables) g s z x) is forms in
+    answered-map (ByClasses (CollectsFor K z.tables h) h.param_env.items trait_classes z r u) (MergesGoal K g s r u) r
+    (λ b. inr (inr (h, z, f.0, f.1, subst (λ t. ByClasses (CollectsFor K t h) h.param_env.items trait_classes z r u) same b))) by
+
+-- what a class answers, by the tables that there were before
+pub answered-by : {P : Type 0} (K : KindWords P) (g : Goal P) (t : Tables) (c : TraitGoalProvenVia) (z u : State) (o a : Option Response) → z.tables ≡ t → o ≡ a →
+    ClassAnswers (CollectsFor K z.tables g) g.param_env.items c z o u → ClassAnswers (CollectsFor K t g) g.param_env.items c z a u
+answered-by K g t c z u o a e f h =
+    subst (λ x. ClassAnswers (CollectsFor K x g) g.param_env.items c z a u) e (subst (λ x. ClassAnswers (CollectsFor K z.tables g) g.param_env.items c z x u) f h)
+
+pub none-left : (o : Option Response) → ((x : Response) → o ≡ Some x → ⊥) → o ≡ None
+none-left None n = refl
+none-left (Some x) n = absurd (n x refl)
+
+-- a state that is restored thrice is restored
+pub restored-thrice : (a b c d : State) → b ≡ restored a b → c ≡ restored b c → d ≡ restored c d → d ≡ restored a d
+restored-thrice a b c d e f g = g ∙ ap (λ (s : State). restored s d) f ∙ ap (λ (s : State). restored s d) e
+
+-- the same of what a context shows
+pub collects-in : {P : Type 0} (K : KindWords P) (x a : State) (g : Goal P) (c : TraitGoalProvenVia) (rs : List Rule) → x ≡ a → has_kind_fault K.has_fault a.tables g ≡ false →
+    (c ≡ class.ParamEnv → All (λ k. IsAcceptedClause x.tables k.kind) g.param_env.items → CollectsEnvironment (words_for K x.tables g x.typing_mode) rs) →
+    ((q : TraitTree) (s : Ty) → c ≡ class.AliasBound → K.trait_asked g.predicate x.tables ≡ Some q → K.self_type g.predicate ≡ Some s →
+    CollectsBounds (words_for K x.tables g x.typing_mode) (K.additional g.predicate (setting_of x.tables x.typing_mode g.param_env.items)) s [] rs) →
+    ((q : TraitTree) (s : Ty) → c ≡ class.Misc → is_headline x.typing_mode ≡ true → K.trait_asked g.predicate x.tables ≡ Some q → K.self_type g.predicate ≡ Some s →
+    ((r : ImplRow) → r.trait_id ≡ q.def_id → K.is_impl_for g.predicate x.tables r) →
+    AreCollected (Speaks (words_for K x.tables g x.typing_mode)) (Lacks (words_for K x.tables g x.typing_mode)) rs (rest (setting_of x.tables x.typing_mode g.param_env.items) q.def_id (erased (tree_of_ty s)))) →
+    CollectsFor K a.tables g a.typing_mode c rs
+collects-in K x a g c rs e f env bounds others =
+    subst (λ (s : State). CollectsFor K s.tables g s.typing_mode c rs) e
+    (collects-for K x.tables g x.typing_mode c rs (subst (λ (s : State). has_kind_fault K.has_fault s.tables g ≡ false) (sym e) f) env bounds others)
+
+pub faulty-in : {P : Type 0} (lies : P → Tables → TermFault → Bool) (x u a : State) (g : Goal P) (r b : Bool) → x ≡ u → u ≡ restored a u → r ≡ has_kind_fault lies x.tables g → r ≡ b →
+    has_kind_fault lies a.tables g ≡ b
+faulty-in lies x u a g r b e back is f =
+    ap (λ (t : Tables). has_kind_fault lies t g) (sym (ap (λ (s : State). s.tables) e ∙ ap (λ (s : State). s.tables) back)) ∙ sym is ∙ f

@@ -1,0 +1,146 @@
+-- How a trait goal with inference variables is answered: by its candidates, class by class.
+use Rattle.std.specs.Prelude.{◌≡◌, ◌⊎◌, ℕ, Bool, true, false, ◌||◌, List, [], ◌∷◌, Option, Some, None, Result, Ok, Err, IfOk}
+use Rattle.goal_terms.specs.NodeTests.{general_variable_at}
+use Rattle.goal_terms.specs.Tree.{Tree, node_of}
+use Rattle.goal_terms.specs.TreeOf.{tree_of_term, tree_of_ty}
+use Rattle.goal_terms.specs.declared.answers.Certainty.{Certainty}
+use Rattle.goal_terms.specs.declared.answers.Certainty.TheVariants as certainty
+use Rattle.goal_terms.specs.declared.answers.Response.{Response}
+use Rattle.goal_terms.specs.declared.answers.TraitGoalProvenVia.{TraitGoalProvenVia}
+use Rattle.goal_terms.specs.declared.answers.TraitGoalProvenVia.TheVariants as class
+use Rattle.goal_terms.specs.declared.modes.TypingMode.{TypingMode}
+use Rattle.goal_terms.specs.declared.predicates.Clause.{Clause}
+use Rattle.goal_terms.specs.declared.predicates.Goal.{Goal}
+use Rattle.goal_terms.specs.declared.predicates.TraitPredicate.{TraitPredicate}
+use Rattle.goal_terms.specs.declared.terms.Term.{Term}
+use Rattle.goal_terms.specs.declared.terms.Term.TheVariants as term
+use Rattle.goal_terms.specs.declared.terms.Ty.{Ty}
+use Rattle.goal_tables.specs.Predicates.{lies_in_env}
+use Rattle.goal_tables.specs.declared.rows.Tables.{Tables}
+use Rattle.goal_tables.specs.declared.sites.TermFault.{TermFault}
+use Rattle.goal_tables.specs.declared.sites.TermFault.TheVariants.{UnknownItem, WrongArgumentCount, WrongArgumentKind}
+use Rattle.goal_kinds.specs.declared.faults.Fault.{Fault}
+use Rattle.goal_kinds.specs.declared.faults.Fault.TheVariants as fault
+use Rattle.goal_kinds.specs.declared.rules.Rule.{Rule}
+use Rattle.goal_solver.specs.Answers.{IsOwed, level_over, IsMaybe}
+use Rattle.goal_solver.specs.Binding.{bound_term}
+use Rattle.goal_solver.specs.Collecting.{KindWords, trait_words, CollectsFor}
+use Rattle.goal_solver.specs.GoingBack.{restored}
+use Rattle.goal_solver.specs.HeadForms.{IsClosedForm, IsFormAnswer, IsFormOpen, IsAnswered}
+use Rattle.goal_solver.specs.MergedRules.{MergesRules}
+use Rattle.goal_solver.specs.OpenRuns.{refusal_in}
+use Rattle.goal_solver.specs.Pending.{is_alias}
+use Rattle.goal_solver.specs.State.{State}
+use Rattle.goal_solver.specs.TranslatedArgs.{IsSameEnvironment}
+use Rattle.goal_solver.specs.declared.merged_rules.Merged.{Merged}
+use Rattle.goal_solver.specs.declared.merged_rules.Merged.TheVariants as merged
+
+-- the head form of a term is asked for, as `structurally_normalize_term` answers it
+pub record AsksForm (env : List Clause) (t : Tree) (old new : State) (r : Result (Option Term) Fault) : Type 0 where
+  pub sound : (m : TypingMode) → IsOwed new m → IsFormAnswer (level_over old m env) (bound_term old t) r
+  pub decided : (m : TypingMode) → IsOwed new m → IsClosedForm (bound_term old t) env → r ≡ Ok None → IsFormOpen (level_over old m env) (bound_term old t)
+  pub itself : is_alias (node_of (bound_term old t)) ≡ false → IfOk r (IsAnswered (bound_term old t))
+  pub back : new ≡ restored old new
+
+-- what is answered for a head form is no type, or a general variable
+abbrev pub IsNoForm : Option Term → Type 0
+IsNoForm None = Unit {0}
+IsNoForm (Some (term.Ty t)) = (n : ℕ) × (general_variable_at (node_of (tree_of_ty t)) ≡ Some n)
+IsNoForm (Some (term.Const c)) = Unit {0}
+
+-- the type in it, if there is one
+abbrev pub IsConsidered : Option Term → Option Ty → Type 0
+IsConsidered a None = IsNoForm a
+IsConsidered a (Some t) = (a ≡ Some (term.Ty t)) × (general_variable_at (node_of (tree_of_ty t)) ≡ None)
+
+-- a goal whose self type has a head form is considered for that form, in the same environment
+pub record Considers {P : Type 0} (self_of : P → Option Ty) (with_self : P → Tree → P → Type 0) (g h : Goal P) (old new : State) : Type 0 where
+  pub self : Ty
+  pub asked : self_of g.predicate ≡ Some self
+  pub form : Ty
+  pub found : AsksForm g.param_env.items (tree_of_ty self) old new (Ok (Some (term.Ty form)))
+  pub general : general_variable_at (node_of (tree_of_ty form)) ≡ None
+  pub replaced : with_self g.predicate (tree_of_ty form) h.predicate
+  pub environment : IsSameEnvironment g.param_env.items h.param_env.items
+
+-- whether an id, a number of arguments or a kind is wrong in a goal
+abbrev pub fault_in : {P : Type 0} → (P → Tables → TermFault → Bool) → Tables → Goal P → TermFault → Bool
+fault_in lies t g f = lies g.predicate t f || lies_in_env t f g.param_env.items
+
+abbrev pub has_kind_fault : {P : Type 0} → (P → Tables → TermFault → Bool) → Tables → Goal P → Bool
+has_kind_fault lies t g = fault_in lies t g UnknownItem || fault_in lies t g WrongArgumentCount || fault_in lies t g WrongArgumentKind
+
+-- there is no such form, or the goal for it isn't one that a check accepts
+abbrev pub IsLeft : {P : Type 0} → (P → Option Ty) → (P → Tree → P → Type 0) → (Goal P → Bool) → Goal P → State → State → Type 0
+IsLeft {P} self_of with_self lies g old new =
+    ((self_of g.predicate ≡ None) × (new ≡ old))
+    ⊎ ((self : Ty) × (self_of g.predicate ≡ Some self) × (a : Option Term) × AsksForm g.param_env.items (tree_of_ty self) old new (Ok a) × IsNoForm a)
+    ⊎ ((h : Goal P) × Considers self_of with_self g h old new × (lies h ≡ true))
+
+-- it is refuted that the self type has a head form
+abbrev pub IsFormless : {P : Type 0} → (P → Option Ty) → Goal P → State → State → Type 0
+IsFormless self_of g old new = (self : Ty) × (self_of g.predicate ≡ Some self) × AsksForm g.param_env.items (tree_of_ty self) old new (Err fault.NoSolution)
+
+-- a goal is considered, or left undecided, or refused, by the head form of its self type
+abbrev pub FormsGoal : {P : Type 0} → (P → Option Ty) → (P → Tree → P → Type 0) → (Goal P → Bool) → Goal P → State → State → Option (Goal P) → Type 0
+FormsGoal self_of with_self lies g old new None = IsLeft self_of with_self lies g old new
+FormsGoal self_of with_self lies g old new (Some h) = Considers self_of with_self g h old new × (lies h ≡ false)
+
+-- a response with the class through which it says yes
+abbrev pub class_named : TraitGoalProvenVia → Certainty → Option TraitGoalProvenVia
+class_named c certainty.Yes = Some c
+class_named c certainty.Maybe = None
+
+abbrev pub proven_by : TraitGoalProvenVia → Response → Response
+proven_by c r = record r { proven_via = class_named c r.certainty }
+
+-- what a class answers, by what its rules are merged to: nothing where all are refused
+abbrev pub IsClassAnswer : TraitGoalProvenVia → Merged → Option Response → Type 0
+IsClassAnswer c merged.Refuted a = a ≡ None
+IsClassAnswer c (merged.Answered r) a = a ≡ Some (proven_by c r)
+IsClassAnswer c merged.Split None = ⊥
+IsClassAnswer c merged.Split (Some r) = r.certainty ≡ certainty.Maybe
+
+-- the rules of a class for a goal are run and merged, and the class answers
+abbrev pub ClassAnswers : (TypingMode → TraitGoalProvenVia → List Rule → Type 0) → List Clause → TraitGoalProvenVia → State → Option Response → State → Type 0
+ClassAnswers Collects env c s a u = (rules : List Rule) × Collects s.typing_mode c rules × (m : Merged) × MergesRules env rules s m u × IsClassAnswer c m a
+
+-- a goal whose candidates are all refused is refused; in coherence no refusal is final
+abbrev pub IsRefusedIn : TypingMode → Result Response Fault → Type 0
+IsRefusedIn m r = ((refusal_in m ≡ Err fault.NoSolution) × (r ≡ Err fault.NoSolution)) ⊎ ((refusal_in m ≡ Ok certainty.Maybe) × IsMaybe r)
+
+-- the first of some classes that answers decides, and where none does the goal is refused
+unfoldable pub ByClasses : (TypingMode → TraitGoalProvenVia → List Rule → Type 0) → List Clause → List TraitGoalProvenVia → State → Result Response Fault → State → Type 0
+ByClasses Collects env [] s r u = (u ≡ s) × IsRefusedIn s.typing_mode r
+ByClasses Collects env (c ∷ cs) s r u =
+    ((a : Response) × ClassAnswers Collects env c s (Some a) u × (r ≡ Ok a))
+    ⊎ ((z : State) × ClassAnswers Collects env c s None z × ByClasses Collects env cs z r u)
+
+-- the classes of a trait goal, in order
+abbrev pub trait_classes : List TraitGoalProvenVia
+trait_classes = class.ParamEnv ∷ class.AliasBound ∷ class.Misc ∷ []
+
+-- a context with another depth left
+abbrev pub at_depth : ℕ → State → State
+at_depth n s = record s { remaining_depth = n }
+
+-- a claim about an answer, where there is one
+abbrev pub WhenAnswered : Result Response Fault → Type 0 → Type 0
+WhenAnswered (Ok r) A = A
+WhenAnswered (Err fault.NoSolution) A = A
+WhenAnswered (Err f) A = Unit {0}
+
+-- a goal is answered by its candidates: undecided where it isn't considered, refused where it is refuted that its self type has a head form, and else by its classes
+abbrev pub MergesGoal : {P : Type 0} → KindWords P → Goal P → State → Result Response Fault → State → Type 0
+MergesGoal {P} K g s r u =
+    (IsLeft K.self_type K.is_with_self (has_kind_fault K.has_fault s.tables) g s u × IsMaybe r)
+    ⊎ (IsFormless K.self_type g s u × (r ≡ Err fault.NoSolution))
+    ⊎ ((h : Goal P)
+    × (z : State)
+    × Considers K.self_type K.is_with_self g h s z
+    × (has_kind_fault K.has_fault s.tables h ≡ false)
+    × ByClasses (CollectsFor K s.tables h) h.param_env.items trait_classes z r u)
+
+-- so a trait goal is
+abbrev pub MergesTrait : Goal TraitPredicate → State → Result Response Fault → State → Type 0
+MergesTrait g s r u = MergesGoal trait_words g s r u
