@@ -1,209 +1,262 @@
-//! Questions that tests ask of tables, in an environment, in a mode and to a depth.
+//! Questions that tests ask of tables, as constant data, and their answers.
 use crate::answer::{Answer, Refusal};
-use crate::program_tables::whole_tables;
+use crate::tests::changes::{Change, changed_tables};
+use crate::tests::sketches::{Asked, ClauseSketch, goal_of};
 use goal_solver::context::EvalCtxt;
 use goal_solver::faults::Fault;
 use goal_solver::goals::check_goal;
 use goal_tables::checked::{CheckedTables, check_tables};
-use goal_terms::answers::{Certainty, Response};
+use goal_terms::answers::{Certainty, DelayedFault, OpaqueAccess, Response, VarKind};
 use goal_terms::modes::TypingMode;
 use goal_terms::predicates::{
-    BoundConstness, Clause, Goal, HostEffectPredicate, NormalizesTo, ProjectionPredicate,
-    TraitPredicate, TraitRef,
+    Goal, HostEffectPredicate, NormalizesTo, Predicate, ProjectionPredicate, TraitPredicate,
 };
-use goal_terms::terms::{AliasTerm, Term, Ty};
+use goal_terms::terms::GenericArg;
 use std::alloc::Global;
+use std::process::Abort;
 use std::test::Fail;
 
-/// What a question is about.
-#[derive(Drop)]
-pub enum About {
-    /// Whether a trait holds.
-    Trait(TraitRef),
-    /// Whether a trait holds as a const trait.
-    ConstTrait(TraitRef),
-    /// The type that an alias stands for.
-    Type(AliasTerm),
-    /// The constant that an alias stands for.
-    Const(AliasTerm),
-    /// Whether an alias is equal to a type.
-    Equation(AliasTerm, Ty),
+/// The mode that is asked in.
+#[derive(Clone, Copy)]
+pub enum Mode {
+    Coherence,
+    /// In which no opaque type is defined.
+    Analysis,
+    PostAnalysis,
+    /// Without a mode, where a goal that needs one is undecided.
+    Erased,
+    /// Without a mode, where a goal that needs one is refused.
+    ErasedThatStops,
 }
 
-/// A question in an environment.
-#[derive(Drop)]
-pub struct Question {
-    pub param_env: Vec<Clause>,
-    pub about: About,
+/// What is asked, the limit and the answer, behind a name.
+pub type Row = (&'static str, Asked, u32, &'static str);
+
+/// Rows that ask in one setting, and what each of them records.
+pub struct Group {
+    pub changes: &'static [Change],
+    pub assumed: &'static [ClauseSketch],
+    pub mode: Mode,
+    pub rows: &'static [Row],
+    pub accesses: &'static [OpaqueAccess],
+    pub delayed: &'static [DelayedFault],
 }
 
-/// A question in an empty environment.
-pub fn plain_question(alloc: Global, about: About) -> Question {
-    Question {
-        param_env: Vec::new(alloc),
-        about,
+/// No rows that ask of the program's tables in analysis, in an empty environment.
+pub const PLAIN: Group = Group {
+    changes: &[],
+    assumed: &[],
+    mode: Mode::Analysis,
+    rows: &[],
+    accesses: &[],
+    delayed: &[],
+};
+
+/// The variables of a row: 0 takes a type that is asked for, and 1 a constant.
+const VARIABLES: &[VarKind] = &[VarKind::Ty, VarKind::Const];
+
+/// The tables of the program after changes, checked.
+pub fn checked_after(alloc: Global, changes: &[Change]) -> Result<CheckedTables, Fail> {
+    Ok(check_tables(changed_tables(alloc, changes)?)?)
+}
+
+/// A context in a mode, with a limit on the depth and variables.
+pub fn context_in<'t>(
+    alloc: Global,
+    tables: &'t CheckedTables,
+    mode: Mode,
+    limit: u32,
+    variables: &[VarKind],
+) -> Result<EvalCtxt<'t>, Fail> {
+    let stops = matches!(mode, Mode::ErasedThatStops);
+    let mut context = EvalCtxt::new(tables, typing_mode(alloc, mode), limit, stops)?;
+    make_variables(&mut context, variables)?;
+    Ok(context)
+}
+
+/// Makes variables of kinds.
+fn make_variables(context: &mut EvalCtxt<'_>, kinds: &[VarKind]) -> Result<(), Fault> {
+    for kind in kinds {
+        fresh(context, *kind)?;
+    }
+    Ok(())
+}
+
+/// A fresh variable of a kind.
+pub fn fresh(context: &mut EvalCtxt<'_>, kind: VarKind) -> Result<GenericArg, Fault> {
+    match kind {
+        VarKind::Ty => Ok(GenericArg::Ty(context.next_ty_infer()?)),
+        VarKind::Int => Ok(GenericArg::Ty(context.next_int_infer()?)),
+        VarKind::Float => Ok(GenericArg::Ty(context.next_float_infer()?)),
+        VarKind::Const => Ok(GenericArg::Const(context.next_const_infer()?)),
+        VarKind::Region => Ok(GenericArg::Lifetime(context.next_region_var()?)),
     }
 }
 
-/// The whole tables, checked.
-pub fn checked_tables(alloc: Global) -> Result<CheckedTables, Fail> {
-    Ok(check_tables(whole_tables(alloc)?)?)
-}
-
-/// The mode of a function's body in which no opaque type is defined.
-pub fn analysis(alloc: Global) -> TypingMode {
-    TypingMode::Analysis {
-        defining_opaque_types: Vec::new(alloc),
+/// The mode of a context.
+fn typing_mode(alloc: Global, mode: Mode) -> TypingMode {
+    match mode {
+        Mode::Coherence => TypingMode::Coherence,
+        Mode::Analysis => TypingMode::Analysis {
+            defining_opaque_types: Vec::new(alloc),
+        },
+        Mode::PostAnalysis => TypingMode::PostAnalysis,
+        Mode::Erased | Mode::ErasedThatStops => TypingMode::ErasedNotCoherence,
     }
 }
 
-/// The text of the answer to a question in analysis, with a limit on the depth.
-pub fn answer_text(
-    alloc: Global,
-    tables: &CheckedTables,
-    question: Question,
-    limit: u32,
-) -> Result<String, Fail> {
-    text_in_mode(alloc, tables, question, analysis(alloc), limit)
+/// Asserts the answers of the rows of groups.
+pub fn assert_groups(rt: &impl Abort, alloc: Global, groups: &[Group]) -> Result<(), Fail> {
+    for group in groups {
+        assert_group(rt, alloc, group)?;
+    }
+    Ok(())
 }
 
-/// The text of the answer to a question in a mode, with a limit on the depth.
-pub fn text_in_mode(
-    alloc: Global,
-    tables: &CheckedTables,
-    question: Question,
-    mode: TypingMode,
-    limit: u32,
-) -> Result<String, Fail> {
-    let mut context = EvalCtxt::new(tables, mode, limit, false)?;
-    context_text(alloc, tables, &mut context, question)
+/// Asserts the answers of the rows of a group.
+pub fn assert_group(rt: &impl Abort, alloc: Global, group: &Group) -> Result<(), Fail> {
+    let tables = checked_after(alloc, group.changes)?;
+    for row in group.rows {
+        assert_row(rt, alloc, &tables, group, row)?;
+    }
+    Ok(())
 }
 
-/// The text of what a context answers to a question.
-pub fn context_text(
+/// Asks twice in one context, the second time with all records made.
+fn assert_row(
+    rt: &impl Abort,
+    alloc: Global,
+    tables: &CheckedTables,
+    group: &Group,
+    row: &Row,
+) -> Result<(), Fail> {
+    let mut context = context_in(alloc, tables, group.mode, row.2, VARIABLES)?;
+    assert_asked(rt, alloc, tables, &mut context, group.assumed, row)?;
+    assert_asked(rt, alloc, tables, &mut context, group.assumed, row)?;
+    assert_eq!(rt; context.opaque_accesses(), group.accesses, "{}", row.0);
+    assert_eq!(rt; context.delayed_faults(), group.delayed, "{}", row.0);
+    Ok(())
+}
+
+/// Asserts what a context answers to what a row asks.
+fn assert_asked(
+    rt: &impl Abort,
     alloc: Global,
     tables: &CheckedTables,
     context: &mut EvalCtxt<'_>,
-    question: Question,
-) -> Result<String, Fail> {
-    let answer = ask(tables, context, question)?;
-    Ok(format!(in alloc; "{answer}")?)
+    assumed: &[ClauseSketch],
+    row: &Row,
+) -> Result<(), Fail> {
+    let (name, asked, _, expected) = row;
+    let goal = goal_of(alloc, assumed, asked)?;
+    let answer = answer_of(ask(tables, context, goal)?)?;
+    let text = format!(in alloc; "{answer}")?;
+    assert_eq!(rt; text.as_str(), *expected, "{name}");
+    Ok(())
 }
 
-/// The answer to a question, of a context that has no goals.
+/// What a context answers to a goal that it takes.
 fn ask(
     tables: &CheckedTables,
     context: &mut EvalCtxt<'_>,
-    question: Question,
-) -> Result<Answer, Fail> {
-    let param_env = question.param_env;
-    match question.about {
-        About::Trait(trait_ref) => ask_trait(tables, context, param_env, trait_ref),
-        About::ConstTrait(trait_ref) => ask_const(tables, context, param_env, trait_ref),
-        About::Type(alias) => ask_type(tables, context, param_env, alias),
-        About::Const(alias) => ask_constant(tables, context, param_env, alias),
-        About::Equation(alias, ty) => ask_equation(tables, context, param_env, alias, ty),
+    goal: Goal<Predicate>,
+) -> Result<Result<Response, Fault>, Fail> {
+    let param_env = goal.param_env;
+    match goal.predicate {
+        Predicate::Trait(predicate) => ask_trait(
+            tables,
+            context,
+            &Goal {
+                param_env,
+                predicate,
+            },
+        ),
+        Predicate::HostEffect(predicate) => {
+            ask_const(
+                tables,
+                context,
+                &Goal {
+                    param_env,
+                    predicate,
+                },
+            )
+        }
+        Predicate::Projection(predicate) => {
+            ask_equation(
+                tables,
+                context,
+                &Goal {
+                    param_env,
+                    predicate,
+                },
+            )
+        }
+        Predicate::NormalizesTo(predicate) => {
+            ask_alias(
+                tables,
+                context,
+                &Goal {
+                    param_env,
+                    predicate,
+                },
+            )
+        }
+        Predicate::Ambiguous => Ok(Err(Fault::NoSolution)),
     }
 }
 
+/// What a context answers to a goal of a trait.
 fn ask_trait(
     tables: &CheckedTables,
     context: &mut EvalCtxt<'_>,
-    param_env: Vec<Clause>,
-    trait_ref: TraitRef,
-) -> Result<Answer, Fail> {
-    let goal = Goal {
-        param_env,
-        predicate: TraitPredicate { trait_ref },
-    };
-    check_goal(tables, context, &goal)?;
-    answer_of(context.compute_trait_goal(&goal))
+    goal: &Goal<TraitPredicate>,
+) -> Result<Result<Response, Fault>, Fail> {
+    check_goal(tables, context, goal)?;
+    Ok(context.compute_trait_goal(goal))
 }
 
+/// What a context answers to a goal of a const trait.
 fn ask_const(
     tables: &CheckedTables,
     context: &mut EvalCtxt<'_>,
-    param_env: Vec<Clause>,
-    trait_ref: TraitRef,
-) -> Result<Answer, Fail> {
-    let predicate = HostEffectPredicate {
-        trait_ref,
-        constness: BoundConstness::Const,
-    };
-    let goal = Goal {
-        param_env,
-        predicate,
-    };
-    check_goal(tables, context, &goal)?;
-    answer_of(context.compute_host_effect_goal(&goal))
+    goal: &Goal<HostEffectPredicate>,
+) -> Result<Result<Response, Fault>, Fail> {
+    check_goal(tables, context, goal)?;
+    Ok(context.compute_host_effect_goal(goal))
 }
 
-fn ask_type(
-    tables: &CheckedTables,
-    context: &mut EvalCtxt<'_>,
-    param_env: Vec<Clause>,
-    alias: AliasTerm,
-) -> Result<Answer, Fail> {
-    let term = Term::Ty(context.next_ty_infer()?);
-    ask_alias(tables, context, param_env, NormalizesTo { alias, term })
-}
-
-fn ask_constant(
-    tables: &CheckedTables,
-    context: &mut EvalCtxt<'_>,
-    param_env: Vec<Clause>,
-    alias: AliasTerm,
-) -> Result<Answer, Fail> {
-    let term = Term::Const(context.next_const_infer()?);
-    ask_alias(tables, context, param_env, NormalizesTo { alias, term })
-}
-
-fn ask_alias(
-    tables: &CheckedTables,
-    context: &mut EvalCtxt<'_>,
-    param_env: Vec<Clause>,
-    predicate: NormalizesTo,
-) -> Result<Answer, Fail> {
-    let goal = Goal {
-        param_env,
-        predicate,
-    };
-    check_goal(tables, context, &goal)?;
-    answer_of(context.compute_normalizes_to_goal(&goal))
-}
-
+/// What a context answers to a goal of an equation.
 fn ask_equation(
     tables: &CheckedTables,
     context: &mut EvalCtxt<'_>,
-    param_env: Vec<Clause>,
-    projection_term: AliasTerm,
-    ty: Ty,
-) -> Result<Answer, Fail> {
-    let predicate = ProjectionPredicate {
-        projection_term,
-        term: Term::Ty(ty),
-    };
-    let goal = Goal {
-        param_env,
-        predicate,
-    };
-    check_goal(tables, context, &goal)?;
-    answer_of(context.compute_projection_goal(&goal))
+    goal: &Goal<ProjectionPredicate>,
+) -> Result<Result<Response, Fault>, Fail> {
+    check_goal(tables, context, goal)?;
+    Ok(context.compute_projection_goal(goal))
 }
 
+/// What a context answers to a goal of an alias's term.
+fn ask_alias(
+    tables: &CheckedTables,
+    context: &mut EvalCtxt<'_>,
+    goal: &Goal<NormalizesTo>,
+) -> Result<Result<Response, Fault>, Fail> {
+    check_goal(tables, context, goal)?;
+    Ok(context.compute_normalizes_to_goal(goal))
+}
+
+/// The answer that a response or a fault is.
 fn answer_of(answered: Result<Response, Fault>) -> Result<Answer, Fail> {
     match answered {
-        Ok(response) => Ok(certain_answer(response)),
+        Ok(response) => {
+            let mut values = response.var_values;
+            match response.certainty {
+                Certainty::Maybe => Ok(Answer::Maybe),
+                Certainty::Yes => Ok(Answer::Yes(values.pop().map(|(_, term)| term))),
+            }
+        }
         Err(Fault::NoSolution) => Ok(Answer::No),
         Err(Fault::RerunNonErased) => Ok(Answer::Refused(Refusal::Run(Fault::RerunNonErased))),
         Err(fault) => Err(Fail::from(fault)),
-    }
-}
-
-fn certain_answer(response: Response) -> Answer {
-    let mut values = response.var_values;
-    match response.certainty {
-        Certainty::Maybe => Answer::Maybe,
-        Certainty::Yes => Answer::Yes(values.pop().map(|(_, term)| term)),
     }
 }

@@ -1,222 +1,138 @@
-//! Questions of the whole tables, in analysis and in environments.
-use crate::names::{A, P, X, Z};
-use crate::program_types::{plain_type, projection_of};
-use crate::tests::asked_terms::{
-    a_of, assoc_of, equation_clause, plain_alias, tr_clause, trait_at_i32_clause,
+//! Questions of the program's tables, in analysis and in environments.
+use crate::names::{TR, TRAIT};
+use crate::tests::asking::{Group, PLAIN, assert_groups};
+use crate::tests::sketches::{
+    A_OF_X, ASSOC, Asked, ClauseSketch, I32, STRUCT_P, STRUCT_Z, T, TR_A, TermSketch, TypeSketch,
+    U8, U16, V0,
 };
-use crate::tests::asking::{About, Question, answer_text, checked_tables};
-use goal_tables::checked::CheckedTables;
-use goal_terms::ids::{AdtId, FreeId};
-use goal_terms::predicates::Clause;
-use goal_terms::scalars::UintTy;
-use goal_terms::terms::{AliasTerm, Ty};
-use std::alloc::{AllocError, Global};
-use std::process::Abort;
+use goal_terms::ids::FreeId;
+use goal_terms::terms::AliasTermKind;
 use std::test::Fail;
 
-/// The own argument of `Assoc`.
-#[derive(Clone, Copy)]
-enum Own {
-    U8,
-    /// `F`, which is `u8`.
-    Free,
-    /// `<STRUCT as Tr>::A`.
-    Of(AdtId),
-}
+/// The variable that takes what an alias stands for.
+const TAKEN: TermSketch = TermSketch::Ty(V0);
 
-/// The clauses of an environment.
-#[derive(Clone, Copy)]
-enum Environment {
-    /// `Z: Tr`.
-    Holds,
-    /// `Z: Tr`, `<Z as Tr>::A == u16`.
-    Says,
-    /// `T: Tr`, `<T as Tr>::A == u8` twice.
-    SaysTwice,
-    /// `T: Tr`, `<T as Tr>::A == <T as Tr>::A`.
-    SaysItself,
-    /// `T: Trait<i32>`, `<T as Trait<i32>>::Assoc<OWN> == u16`.
-    Assoc(Own),
-}
+/// `F`, which is `u8`.
+const FREE: TypeSketch = TypeSketch::Alias(AliasTermKind::FreeTy(FreeId(2)), &[]);
 
-/// What a row asks.
-#[derive(Clone, Copy)]
-enum Asked {
-    /// `<Z as Tr>::A`.
-    OfZ,
-    /// `<T as Tr>::A`.
-    OfParam,
-    /// `<T as Trait<i32>>::Assoc<OWN>`.
-    Assoc(Own),
-}
+/// `<P as Tr>::A`, where `P` has no impl.
+const A_OF_P: TypeSketch = TypeSketch::Alias(TR_A, &[STRUCT_P]);
 
-/// An environment, what is asked in it, the limit and the answer, behind a name.
-type Row = (&'static str, Environment, Asked, u32, &'static str);
+/// `T: Tr`.
+const T_HOLDS: ClauseSketch = ClauseSketch::Holds(TR, &[T]);
 
-const ROWS: [Row; 9] = [
-    (
-        "the impl is hidden",
-        Environment::Holds,
-        Asked::OfZ,
-        2,
-        "yes <Z as Tr>::A",
-    ),
-    (
-        "not the impl's term",
-        Environment::Says,
-        Asked::OfZ,
-        2,
-        "yes u16",
-    ),
-    (
-        "the same twice",
-        Environment::SaysTwice,
-        Asked::OfParam,
-        2,
-        "yes u8",
-    ),
-    (
-        "the alias itself",
-        Environment::SaysItself,
-        Asked::OfParam,
-        128,
-        "maybe",
-    ),
-    (
-        "a refuted own argument",
-        Environment::Assoc(Own::Of(P)),
-        Asked::Assoc(Own::Of(P)),
-        3,
-        "no",
-    ),
-    (
-        "a refuted own argument, too deep",
-        Environment::Assoc(Own::Of(P)),
-        Asked::Assoc(Own::Of(P)),
-        2,
-        "maybe",
-    ),
-    (
-        "an undecided own argument",
-        Environment::Assoc(Own::Of(X)),
-        Asked::Assoc(Own::Of(X)),
-        128,
-        "maybe",
-    ),
-    (
-        "an own argument that is an alias",
-        Environment::Assoc(Own::U8),
-        Asked::Assoc(Own::Free),
-        3,
-        "yes u16",
-    ),
-    (
-        "an own argument that is an alias, too deep",
-        Environment::Assoc(Own::U8),
-        Asked::Assoc(Own::Free),
-        2,
-        "maybe",
-    ),
+/// `T: Trait<i32>`.
+const T_AT_I32: ClauseSketch = ClauseSketch::Holds(TRAIT, &[T, I32]);
+
+const ENVIRONMENTS: &[Group] = &[
+    Group {
+        assumed: &[ClauseSketch::Holds(TR, &[STRUCT_Z])],
+        rows: &[(
+            "the impl is hidden",
+            Asked::Is(TR_A, &[STRUCT_Z], TAKEN),
+            2,
+            "yes <Z as Tr>::A",
+        )],
+        ..PLAIN
+    },
+    Group {
+        assumed: &[
+            ClauseSketch::Holds(TR, &[STRUCT_Z]),
+            ClauseSketch::Equals(TR_A, &[STRUCT_Z], U16),
+        ],
+        rows: &[(
+            "not the impl's term",
+            Asked::Is(TR_A, &[STRUCT_Z], TAKEN),
+            2,
+            "yes u16",
+        )],
+        ..PLAIN
+    },
+    Group {
+        assumed: &[
+            T_HOLDS,
+            ClauseSketch::Equals(TR_A, &[T], U8),
+            ClauseSketch::Equals(TR_A, &[T], U8),
+        ],
+        rows: &[("the same twice", Asked::Is(TR_A, &[T], TAKEN), 2, "yes u8")],
+        ..PLAIN
+    },
+    Group {
+        assumed: &[
+            T_HOLDS,
+            ClauseSketch::Equals(TR_A, &[T], TypeSketch::Alias(TR_A, &[T])),
+        ],
+        rows: &[(
+            "the alias itself",
+            Asked::Is(TR_A, &[T], TAKEN),
+            128,
+            "maybe",
+        )],
+        ..PLAIN
+    },
 ];
 
-fn own_type(alloc: Global, own: Own) -> Result<Ty, AllocError> {
-    Ok(match own {
-        Own::U8 => Ty::Uint(UintTy::U8),
-        Own::Free => Ty::Alias(plain_alias(alloc, FreeId(2))),
-        Own::Of(id) => Ty::Alias(projection_of(alloc, A, plain_type(alloc, id))?),
-    })
+#[test]
+fn questions_in_environments(rt: HostRuntime) -> Result<(), Fail> {
+    assert_groups(&rt, rt.alloc(), ENVIRONMENTS)
 }
 
-fn asked_alias(alloc: Global, asked: Asked) -> Result<AliasTerm, AllocError> {
-    match asked {
-        Asked::OfZ => projection_of(alloc, A, plain_type(alloc, Z)),
-        Asked::OfParam => a_of(alloc, Ty::Param(0)),
-        Asked::Assoc(own) => assoc_of(alloc, Ty::Param(0), own_type(alloc, own)?),
-    }
-}
-
-/// The clause that a trait holds.
-fn held(alloc: Global, environment: Environment) -> Result<Clause, AllocError> {
-    match environment {
-        Environment::Holds | Environment::Says => tr_clause(alloc, plain_type(alloc, Z)),
-        Environment::SaysTwice | Environment::SaysItself => tr_clause(alloc, Ty::Param(0)),
-        Environment::Assoc(_) => trait_at_i32_clause(alloc, Ty::Param(0)),
-    }
-}
-
-/// The clause that a type is what a row asks about.
-fn said(alloc: Global, asked: Asked, ty: Ty) -> Result<Clause, AllocError> {
-    Ok(equation_clause(asked_alias(alloc, asked)?, ty))
-}
-
-/// The clause that an alias is an unsigned integer type.
-fn said_uint(alloc: Global, asked: Asked, ty: UintTy) -> Result<Clause, AllocError> {
-    said(alloc, asked, Ty::Uint(ty))
-}
-
-/// The clause `<T as Tr>::A == <T as Tr>::A`.
-fn said_itself(alloc: Global) -> Result<Clause, AllocError> {
-    said(alloc, Asked::OfParam, Ty::Alias(a_of(alloc, Ty::Param(0))?))
-}
-
-/// Adds the clauses that say what an alias is.
-fn push_said(
-    alloc: Global,
-    clauses: &mut Vec<Clause>,
-    environment: Environment,
-) -> Result<(), AllocError> {
-    match environment {
-        Environment::Holds => {}
-        Environment::Says => clauses.push(said_uint(alloc, Asked::OfZ, UintTy::U16)?)?,
-        Environment::SaysTwice => {
-            clauses.push(said_uint(alloc, Asked::OfParam, UintTy::U8)?)?;
-            clauses.push(said_uint(alloc, Asked::OfParam, UintTy::U8)?)?;
-        }
-        Environment::SaysItself => clauses.push(said_itself(alloc)?)?,
-        Environment::Assoc(own) => {
-            clauses.push(said_uint(alloc, Asked::Assoc(own), UintTy::U16)?)?;
-        }
-    }
-    Ok(())
-}
-
-fn clauses(alloc: Global, environment: Environment) -> Result<Vec<Clause>, AllocError> {
-    let mut clauses = vec![in alloc; held(alloc, environment)?]?;
-    push_said(alloc, &mut clauses, environment)?;
-    Ok(clauses)
-}
-
-/// What a row asks, in its environment.
-fn question(alloc: Global, environment: Environment, asked: Asked) -> Result<Question, AllocError> {
-    Ok(Question {
-        param_env: clauses(alloc, environment)?,
-        about: About::Type(asked_alias(alloc, asked)?),
-    })
-}
-
-/// Asserts the answer of a row.
-fn assert_row(
-    rt: &impl Abort,
-    alloc: Global,
-    tables: &CheckedTables,
-    row: Row,
-) -> Result<(), Fail> {
-    let (name, environment, asked, limit, expected) = row;
-    let text = answer_text(alloc, tables, question(alloc, environment, asked)?, limit)?;
-    assert_eq!(rt; text.as_str(), expected, "{name}");
-    Ok(())
-}
-
-fn assert_rows(rt: &impl Abort, alloc: Global, tables: &CheckedTables) -> Result<(), Fail> {
-    for row in ROWS {
-        assert_row(rt, alloc, tables, row)?;
-    }
-    Ok(())
-}
+const OWN_ARGUMENTS: &[Group] = &[
+    Group {
+        assumed: &[
+            T_AT_I32,
+            ClauseSketch::Equals(ASSOC, &[T, I32, A_OF_P], U16),
+        ],
+        rows: &[
+            (
+                "a refuted own argument",
+                Asked::Is(ASSOC, &[T, I32, A_OF_P], TAKEN),
+                3,
+                "no",
+            ),
+            (
+                "a refuted own argument, too deep",
+                Asked::Is(ASSOC, &[T, I32, A_OF_P], TAKEN),
+                2,
+                "maybe",
+            ),
+        ],
+        ..PLAIN
+    },
+    Group {
+        assumed: &[
+            T_AT_I32,
+            ClauseSketch::Equals(ASSOC, &[T, I32, A_OF_X], U16),
+        ],
+        rows: &[(
+            "an undecided own argument",
+            Asked::Is(ASSOC, &[T, I32, A_OF_X], TAKEN),
+            128,
+            "maybe",
+        )],
+        ..PLAIN
+    },
+    Group {
+        assumed: &[T_AT_I32, ClauseSketch::Equals(ASSOC, &[T, I32, U8], U16)],
+        rows: &[
+            (
+                "an own argument that is an alias",
+                Asked::Is(ASSOC, &[T, I32, FREE], TAKEN),
+                3,
+                "yes u16",
+            ),
+            (
+                "an own argument that is an alias, too deep",
+                Asked::Is(ASSOC, &[T, I32, FREE], TAKEN),
+                2,
+                "maybe",
+            ),
+        ],
+        ..PLAIN
+    },
+];
 
 #[test]
-fn aliases_in_environments(rt: HostRuntime) -> Result<(), Fail> {
-    let alloc = rt.alloc();
-    let tables = checked_tables(alloc)?;
-    assert_rows(&rt, alloc, &tables)
+fn own_arguments(rt: HostRuntime) -> Result<(), Fail> {
+    assert_groups(&rt, rt.alloc(), OWN_ARGUMENTS)
 }
