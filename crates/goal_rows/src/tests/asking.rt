@@ -9,7 +9,7 @@ use goal_tables::checked::{CheckedTables, check_tables};
 use goal_terms::answers::{Certainty, DelayedFault, OpaqueAccess, Response, VarKind};
 use goal_terms::modes::TypingMode;
 use goal_terms::predicates::{
-    Goal, HostEffectPredicate, NormalizesTo, Predicate, ProjectionPredicate, TraitPredicate,
+    Clause, Goal, HostEffectPredicate, NormalizesTo, Predicate, ProjectionPredicate, TraitPredicate,
 };
 use goal_terms::terms::GenericArg;
 use std::alloc::Global;
@@ -163,43 +163,15 @@ fn ask(
 ) -> Result<Result<Response, Fault>, Fail> {
     let param_env = goal.param_env;
     match goal.predicate {
-        Predicate::Trait(predicate) => ask_trait(
-            tables,
-            context,
-            &Goal {
-                param_env,
-                predicate,
-            },
-        ),
+        Predicate::Trait(predicate) => ask_trait(tables, context, &in_env(param_env, predicate)),
         Predicate::HostEffect(predicate) => {
-            ask_const(
-                tables,
-                context,
-                &Goal {
-                    param_env,
-                    predicate,
-                },
-            )
+            ask_const(tables, context, &in_env(param_env, predicate))
         }
         Predicate::Projection(predicate) => {
-            ask_equation(
-                tables,
-                context,
-                &Goal {
-                    param_env,
-                    predicate,
-                },
-            )
+            ask_equation(tables, context, &in_env(param_env, predicate))
         }
         Predicate::NormalizesTo(predicate) => {
-            ask_alias(
-                tables,
-                context,
-                &Goal {
-                    param_env,
-                    predicate,
-                },
-            )
+            ask_alias(tables, context, &in_env(param_env, predicate))
         }
         Predicate::Ambiguous => Ok(Err(Fault::NoSolution)),
     }
@@ -213,6 +185,14 @@ fn ask_trait(
 ) -> Result<Result<Response, Fault>, Fail> {
     check_goal(tables, context, goal)?;
     Ok(context.compute_trait_goal(goal))
+}
+
+/// The goal of a predicate in an environment.
+fn in_env<P>(param_env: Vec<Clause>, predicate: P) -> Goal<P> {
+    Goal {
+        param_env,
+        predicate,
+    }
 }
 
 /// What a context answers to a goal of a const trait.
