@@ -1,7 +1,6 @@
 -- What evaluating the goals that were added says, goal by goal.
-use Rattle.std.proofs.Common.{◌≡◌, inl, inr, ℕ, zero, suc, ◌+◌, ◌<◌, ◌≤◌, List, [], ◌∷◌, ◌++◌, length, take, drop, Some, Result, Ok, Err, refl, sym, ap, ◌∙◌, subst, arith}
+use Rattle.std.proofs.Common.{◌≡◌, inl, inr, ℕ, zero, suc, ◌+◌, ◌<◌, List, [], ◌∷◌, ◌++◌, length, take, Some, Result, Ok, Err, refl, sym, ap, ◌∙◌, subst, arith}
 use Rattle.std.specs.Prelude.{IfOk, slice_get}
-use Rattle.std.specs.List.{Contains}
 use Rattle.goal_terms.specs.declared.answers.Certainty.{Certainty}
 use Rattle.goal_terms.specs.declared.answers.Certainty.TheVariants as certainty
 use Rattle.goal_terms.specs.declared.answers.GoalSource.{GoalSource}
@@ -21,7 +20,7 @@ use Rattle.goal_kinds.specs.Settings.{Setting, is_headline}
 use Rattle.goal_kinds.proofs.ConsistentLemmas.{each_level_is_consistent}
 use Rattle.goal_kinds.proofs.PremiseLemmas.{no_clause_refuted}
 use Rattle.goal_solver.specs.AddedGoals.{GoalHolds, GoalRefuted, HoldsIn, IsRefutedIn, IsClosedGoal, IsGoalAnswer, IsVerdict, IsPending, ArePendingClosed, IsPendingAnswer, ArePendingUndecided, ChangesTaken}
-use Rattle.goal_solver.specs.AddedGoals.{same_place, count_of, one_below, AreSplit, AreClosedAt, AllHoldAt, SomeRefutedAt, LeavesUndecided, IsAnswerAt}
+use Rattle.goal_solver.specs.AddedGoals.{same_place, count_of, AreSplit, AreClosedAt, AllHoldAt, SomeRefutedAt, LeavesUndecided, IsAnswerAt}
 use Rattle.goal_solver.specs.Answers.{IsOwed, level_over}
 use Rattle.goal_solver.specs.GoingBack.{BeginsWith, GoesBack, restored}
 use Rattle.goal_solver.specs.Outcomes.{StandsFor, Says}
@@ -33,8 +32,7 @@ use Rattle.goal_solver.specs.declared.outcomes.Outcome.{Outcome}
 use Rattle.goal_solver.specs.declared.outcomes.Outcome.TheVariants as outcome
 use Rattle.goal_solver.specs.declared.outcomes.Stop.{Stop}
 use Rattle.goal_solver.proofs.GoingBackLemmas.{goes_back-same}
-use Rattle.goal_solver.proofs.PlaceLemmas.{same-is, count-one, count-none, count-pushed, count-at, counted-at, contains-counted, counted-contains, uncounted, is-below, one-below, one_below-once}
-use Rattle.goal_solver.proofs.StoredLemmas.{some-is}
+use Rattle.goal_solver.proofs.PlaceLemmas.{same-is, count-one, count-none, count-pushed, contains-counted, uncounted, is-below, one-below, one_below-once}
 
 -- changes one after the other
 pub inference-through : (a b c : State) → ChangesInference a b → ChangesInference b c → ChangesInference a c

@@ -1,7 +1,7 @@
 -- What the calls answer at depth 0, and that no two answers disagree.
-use Rattle.std.proofs.Common.{◌≡◌, inl, inr, ℕ, zero, true, List, Result, Ok, Err, refl, subst, sym, ap, ◌∙◌}
-use Rattle.std.proofs.lemmas.Bool.{false≢true}
+use Rattle.std.proofs.Common.{◌≡◌, ◌≢◌, inl, inr, ℕ, zero, true, List, Result, Ok, Err, refl, subst, sym, ap, ◌∙◌}
 use Rattle.std.specs.Prelude.{IfOk, IfErr}
+use Rattle.goal_terms.specs.declared.answers.Certainty.{Certainty}
 use Rattle.goal_terms.specs.declared.answers.Certainty.TheVariants as certainty
 use Rattle.goal_terms.specs.declared.answers.Response.{Response}
 use Rattle.goal_terms.specs.declared.predicates.BoundConstness.{BoundConstness}
@@ -12,15 +12,17 @@ use Rattle.goal_terms.specs.declared.ids.TraitId.{TraitId}
 use Rattle.goal_terms.specs.declared.modes.TypingMode.{TypingMode}
 use Rattle.goal_terms.specs.declared.predicates.Clause.{Clause}
 use Rattle.goal_terms.specs.declared.terms.AliasTermKind.{AliasTermKind}
+use Rattle.goal_terms.specs.declared.terms.Term.{Term}
 use Rattle.goal_kinds.specs.Levels.{level}
 use Rattle.goal_kinds.specs.Premises.{ClauseHolds, ClauseRefuted}
 use Rattle.goal_kinds.specs.Settings.{Setting, is_headline}
 use Rattle.goal_kinds.specs.Level.{Level}
 use Rattle.goal_kinds.proofs.AnswerLaws.{answers-agree}
-use Rattle.goal_solver.specs.Answers.{IsOwed, level_over, IsMaybe, IsOpen, IsUndecided, IsAliasOpen, IsHoldingResponse, IsPredicateAnswer, IsConclusion}
+use Rattle.goal_solver.specs.Answers.{IsOwed, level_over, IsMaybe, IsOpen, IsUndecided, IsAliasOpen, IsTraitResponse, IsTraitAnswer, IsAliasResponse, IsAliasAnswer, IsHoldingResponse, IsPredicateAnswer, IsConclusion}
 use Rattle.goal_solver.specs.GoingBack.{GoesBack, evaluated, restored}
 use Rattle.goal_solver.specs.Outcomes.{StandsFor, Says}
 use Rattle.goal_kinds.specs.declared.faults.Fault.{Fault}
+use Rattle.goal_kinds.specs.declared.faults.Fault.TheVariants as fault
 use Rattle.goal_solver.specs.declared.outcomes.Outcome.{Outcome}
 use Rattle.goal_solver.specs.declared.outcomes.Outcome.TheVariants as outcome
 use Rattle.goal_solver.specs.declared.outcomes.Stop.{Stop}
@@ -90,16 +92,44 @@ evaluated-grown a b e = subst (λ (s : State). s ≡ evaluated a s) (sym e) refl
 pub owed-grown : (a b : State) (m : TypingMode) → b ≡ record a { terms = b.terms } → IsOwed b m → StandsFor a.typing_mode m
 owed-grown a b m e owed = owed-evaluated a b m (evaluated-grown a b e) owed
 
--- a conclusion is as sound as the outcome, and undecided only where that is
-concluded-sound : (L : Level) (p : PredicateTree) (o : Result Outcome Stop) (r : Result Response Fault) → IfOk o (Says (ClauseHolds L p) (ClauseRefuted L p)) →
-    IsConclusion o r → IsPredicateAnswer L p r
-concluded-sound L p (Ok outcome.Holds) (Ok x) h c = subst (IsHoldingResponse L p) (sym c.0) h
-concluded-sound L p (Ok outcome.Holds) (Err f) h c = absurd (false≢true c.1)
-concluded-sound L p (Ok outcome.Refuted) r h c = subst (IsPredicateAnswer L p) (sym c) h
-concluded-sound L p (Ok outcome.Undecided) (Ok x) h c = subst (IsHoldingResponse L p) (sym c) tt
-concluded-sound L p (Ok outcome.Undecided) (Err f) h c = absurd c
-concluded-sound L p (Err s) r h c = subst (IsPredicateAnswer L p) (sym c) tt
+-- what is answered yes holds, and what is refused is refuted
+yes-holds : (L : Level) (p : PredicateTree) (o : Result Outcome Stop) (x : Certainty) → IfOk o (Says (ClauseHolds L p) (ClauseRefuted L p)) →
+    (x ≡ certainty.Yes → o ≡ Ok outcome.Holds) → IsHoldingResponse L p x
+yes-holds L p o certainty.Yes h sure = subst (λ q. IfOk q (Says (ClauseHolds L p) (ClauseRefuted L p))) (sure refl) h
+yes-holds L p o certainty.Maybe h sure = tt
 
+answered-soundly : (L : Level) (p : PredicateTree) (o : Result Outcome Stop) (r : Result Response Fault) → IfOk o (Says (ClauseHolds L p) (ClauseRefuted L p)) →
+    IfOk r (λ x. x.certainty ≡ certainty.Yes → o ≡ Ok outcome.Holds) → (r ≡ Err fault.NoSolution → o ≡ Ok outcome.Refuted) → IsPredicateAnswer L p r
+answered-soundly L p o (Ok x) h sure never = yes-holds L p o x.certainty h sure
+answered-soundly L p o (Err fault.NoSolution) h sure never = subst (λ q. IfOk q (Says (ClauseHolds L p) (ClauseRefuted L p))) (never refl) h
+answered-soundly L p o (Err fault.RerunNonErased) h sure never = tt
+answered-soundly L p o (Err fault.OutOfMemory) h sure never = tt
+answered-soundly L p o (Err fault.NotForThisKind) h sure never = tt
+
+-- an answer that isn't sure is sound, if its refusal is
+unsure-trait : (L : Level) (i : TraitId) (ts : List Tree) (x : Certainty) (r : Response) → (x ≡ certainty.Yes → ⊥) → IsTraitResponse L i ts x r
+unsure-trait L i ts certainty.Yes r h = absurd (h refl)
+unsure-trait L i ts certainty.Maybe r h = tt
+
+pub trait-unsure : (L : Level) (i : TraitId) (ts : List Tree) (r : Result Response Fault) → IfOk r (λ x. x.certainty ≢ certainty.Yes) → (r ≡ Err fault.NoSolution → L.trait_refuted i ts) → IsTraitAnswer L i ts r
+trait-unsure L i ts (Ok x) h never = unsure-trait L i ts x.certainty x h
+trait-unsure L i ts (Err fault.NoSolution) h never = never refl
+trait-unsure L i ts (Err fault.RerunNonErased) h never = tt
+trait-unsure L i ts (Err fault.OutOfMemory) h never = tt
+trait-unsure L i ts (Err fault.NotForThisKind) h never = tt
+
+unsure-alias : (L : Level) (k : AliasTermKind) (ts : List Tree) (e : Term) (x : Certainty) (r : Response) → (x ≡ certainty.Yes → ⊥) → IsAliasResponse L k ts e x r
+unsure-alias L k ts e certainty.Yes r h = absurd (h refl)
+unsure-alias L k ts e certainty.Maybe r h = tt
+
+pub alias-unsure : (L : Level) (k : AliasTermKind) (ts : List Tree) (e : Term) (r : Result Response Fault) → IfOk r (λ x. x.certainty ≢ certainty.Yes) → (r ≡ Err fault.NoSolution → L.gives_refuted k ts) → IsAliasAnswer L k ts e r
+alias-unsure L k ts e (Ok x) h never = unsure-alias L k ts e x.certainty x h
+alias-unsure L k ts e (Err fault.NoSolution) h never = never refl
+alias-unsure L k ts e (Err fault.RerunNonErased) h never = tt
+alias-unsure L k ts e (Err fault.OutOfMemory) h never = tt
+alias-unsure L k ts e (Err fault.NotForThisKind) h never = tt
+
+-- a conclusion is undecided only where the outcome is
 concluded-open : (L : Level) (p : PredicateTree) (o : Result Outcome Stop) (r : Result Response Fault) → IfOk o (Says (ClauseHolds L p) (ClauseRefuted L p)) →
     IsConclusion o r → IsMaybe r → IsUndecided L p
 concluded-open L p (Ok outcome.Holds) (Ok x) h c e = absurd (yes_is_not_maybe (sym c.0 ∙ e))
@@ -121,12 +151,11 @@ stops-later : (a b : State) (o : Result Outcome Stop) → b ≡ evaluated a b �
     is_headline b.typing_mode ≡ true → IfErr o (λ s. s ≡ stop.OutOfMemory)
 stops-later a b o e h k = h (ap (λ (s : State). is_headline s.typing_mode) (sym e) ∙ k)
 
--- the call answers soundly, and leaves undecided only what is so
-pub predicate-sound : (a b z : State) (env : List Clause) (p : PredicateTree) (o : Result Outcome Stop) (r : Result Response Fault) → b ≡ evaluated a b → z ≡ restored b z →
-    SaysOf a env p o → (is_headline a.typing_mode ≡ true → IfErr o (λ s. s ≡ stop.OutOfMemory)) → IsConcluded b z o r →
-    (m : TypingMode) → IsOwed z m → IsPredicateAnswer (level_over a m env) p r
-predicate-sound a b z env p o r e f says stops concluded m owed =
-    concluded-sound (level_over a m env) p o r (says m (owed-stands a b z m e f owed)) (concluded m owed (stops-later a b o e stops))
+-- the call answers soundly, in every mode, and leaves undecided only what is so
+pub predicate-sound : (a : State) (env : List Clause) (p : PredicateTree) (o : Result Outcome Stop) (r : Result Response Fault) → SaysOf a env p o →
+    IfOk r (λ x. x.certainty ≡ certainty.Yes → o ≡ Ok outcome.Holds) → (r ≡ Err fault.NoSolution → o ≡ Ok outcome.Refuted) →
+    (m : TypingMode) → StandsFor a.typing_mode m → IsPredicateAnswer (level_over a m env) p r
+predicate-sound a env p o r says sure never m stands = answered-soundly (level_over a m env) p o r (says m stands) sure never
 
 pub predicate-decided : (a b z : State) (env : List Clause) (p : PredicateTree) (o : Result Outcome Stop) (r : Result Response Fault) → b ≡ evaluated a b → z ≡ restored b z →
     SaysOf a env p o → (is_headline a.typing_mode ≡ true → IfErr o (λ s. s ≡ stop.OutOfMemory)) → IsConcluded b z o r →

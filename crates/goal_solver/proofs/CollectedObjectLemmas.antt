@@ -1,11 +1,11 @@
 -- What the clauses of a `dyn` self type say, as owned clauses.
-use Rattle.std.proofs.Common.{◌≡◌, ℕ, ◌+◌, ◌<◌, ◌≤◌, get_or, take, append_assoc, append-nil, Bool, true, false, Vec, Global, Option, Some, List, [], ◌∷◌, ◌++◌, length, map, refl, sym, ap, ap₂, subst, ◌∙◌}
+use Rattle.std.proofs.Common.{◌≡◌, ℕ, ◌+◌, ◌<◌, ◌≤◌, get_or, take, append_assoc, append-nil, Bool, true, false, Vec, Global, Some, List, [], ◌∷◌, ◌++◌, length, map, refl, sym, ap, ap₂, subst, ◌∙◌}
 use Rattle.std.proofs.lemmas.List.{map_push, take_more, take_all}
 use Rattle.std.proofs.lemmas.Simd.{map-map}
 use Rattle.std.specs.Prelude.{if◌then◌else◌}
 use Rattle.goal_terms.specs.Erased.{erased}
 use Rattle.goal_terms.specs.PredicateTrees.{holds, equals}
-use Rattle.goal_terms.specs.Tree.{Tree, Trees, node, alias, forest, node_of, parts_of, list_of}
+use Rattle.goal_terms.specs.Tree.{Tree, Trees, node, alias, forest, node_of, parts_of}
 use Rattle.goal_terms.specs.TreeOf.{tree_of_arg, tree_of_alias, tree_of_clause, tree_of_term, tree_of_ty, trees_of, at_type, is_type_kind}
 use Rattle.goal_terms.specs.declared.heads.Head.TheVariants as head
 use Rattle.goal_terms.specs.declared.ids.ItemId.{ItemId}

@@ -15,12 +15,11 @@ use Rattle.goal_terms.specs.declared.terms.Term.{Term}
 use Rattle.goal_terms.specs.declared.terms.Ty.{Ty}
 use Rattle.goal_terms.specs.contracts.answers.VarKindPartialEq.TheImpl as kinds
 use Rattle.goal_terms.specs.contracts.terms.RegionPartialEq.TheImpl as regions
-use Rattle.goal_terms.specs.declared.answers.Response.{Response}
 use Rattle.goal_terms.specs.declared.answers.VarKind.{VarKind}
 use Rattle.goal_terms.specs.declared.answers.VarKind.TheVariants as kind
 use Rattle.goal_terms.specs.declared.terms.Region.{Region}
 use Rattle.goal_terms.specs.declared.terms.Region.TheVariants as region
-use Rattle.goal_solver.specs.MergedRules.{value_tree, entry_tree, AreSame}
+use Rattle.goal_solver.specs.MergedRules.{value_tree, entry_tree}
 
 both-parts : (a b : Bool) → a && b ≡ true → (a ≡ true) × (b ≡ true)
 both-parts true b e = (refl, e)

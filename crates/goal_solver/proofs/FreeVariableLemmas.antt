@@ -1,5 +1,5 @@
 -- Where variables stand once bindings are followed.
-use Rattle.std.proofs.Common.{◌≡◌, Bool, true, false, ◌||◌, not, ℕ, ◌+◌, List, length, Option, Some, None, refl, sym, ap, ◌∙◌}
+use Rattle.std.proofs.Common.{◌≡◌, Bool, true, false, ◌||◌, ℕ, ◌+◌, List, length, Some, None, refl, sym, ap, ◌∙◌}
 use Rattle.std.specs.Prelude.{slice_get}
 use Rattle.goal_terms.specs.NodeTests.{some_node, some_in_row, is_infer}
 use Rattle.goal_terms.specs.SameTree.{same_node}
@@ -12,8 +12,7 @@ use Rattle.goal_terms.specs.declared.heads.Variable.{Variable}
 use Rattle.goal_terms.specs.declared.term_nodes.TermId.{TermId}
 use Rattle.goal_infer.specs.Occurrence.{place_of, place_in_row, place_at, joined, within_alias}
 use Rattle.goal_infer.specs.Replacement.{same_variable}
-use Rattle.goal_infer.specs.Inference.{Inference}
-use Rattle.goal_infer.specs.Resolution.{binding_of, resolution, resolved, Agrees, IsSolved}
+use Rattle.goal_infer.specs.Resolution.{binding_of, resolved, Agrees, IsSolved}
 use Rattle.goal_infer.specs.declared.occurs.Occurrence.{Occurrence}
 use Rattle.goal_infer.specs.declared.occurs.Occurrence.TheVariants.{Nowhere, InAliasesAlone, Outside}
 use Rattle.goal_solver.specs.FreeVariables.{is_somewhere, reaches}

@@ -22,7 +22,7 @@ use Rattle.goal_solver.specs.GoingBack.{restored}
 use Rattle.goal_solver.specs.MergedRules.{IfAnswered}
 use Rattle.goal_solver.specs.OpenGoals.{proven_by}
 use Rattle.goal_solver.specs.Relating.{AgreesWith}
-use Rattle.goal_solver.specs.State.{State, kinds_in, kinds_of}
+use Rattle.goal_solver.specs.State.{State, kinds_in}
 use Rattle.goal_solver.specs.Stored.{HasOneTypeAKey}
 use Rattle.goal_solver.specs.Variables.{with_kinds, with_variables}
 use Rattle.goal_solver.specs.declared.merged_rules.Merged.{Merged}

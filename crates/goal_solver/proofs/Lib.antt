@@ -72,3 +72,4 @@ pub mod TranslatedAnswers
 pub mod CollectingLemmas
 pub mod CollectedTermLemmas
 pub mod CollectedObjectLemmas
+mod OpenProjectionLemmas

@@ -1,5 +1,5 @@
 -- What lists all that came since a trial began can be applied to the context that the trial began in.
-use Rattle.std.proofs.Common.{◌≡◌, ◌≢◌, ℕ, zero, suc, ◌+◌, Bool, true, false, List, [], ◌∷◌, ◌++◌, length, map, take, drop, Option, Some, None, refl, sym, ap, ◌∙◌, subst, arith, append_assoc}
+use Rattle.std.proofs.Common.{◌≡◌, ◌≢◌, ℕ, zero, suc, Bool, true, false, List, [], ◌∷◌, ◌++◌, length, map, take, drop, Option, Some, None, refl, sym, ap, ◌∙◌, subst, arith, append_assoc}
 use Rattle.std.specs.Prelude.{IsTrue, min, slice_get, Result, Ok, Err, IfOk}
 use Rattle.std.specs.List.{All, AllZip, cons_option}
 use Rattle.std.proofs.lemmas.List.{append-nil, map-append, length-map, length-take, take-append-drop}

@@ -27,13 +27,13 @@ use Rattle.goal_tables.specs.declared.sites.TermFault.TheVariants.{UnknownItem, 
 use Rattle.goal_infer.proofs.DecisionLemmas.{either-false}
 use Rattle.goal_kinds.specs.Answers.{setting_of}
 use Rattle.goal_kinds.specs.CandidateRules.{HasNoKindFault, IsAcceptedClause}
-use Rattle.goal_kinds.specs.Candidates.{environment, rest}
+use Rattle.goal_kinds.specs.Candidates.{rest}
 use Rattle.goal_kinds.specs.Premises.{TraitTree}
 use Rattle.goal_kinds.specs.Settings.{is_headline}
 use Rattle.goal_kinds.specs.declared.faults.Fault.{Fault}
 use Rattle.goal_kinds.specs.declared.faults.Fault.TheVariants as fault
 use Rattle.goal_kinds.specs.declared.rules.Rule.{Rule}
-use Rattle.goal_solver.specs.Answers.{IsOwed, level_over, IsMaybe}
+use Rattle.goal_solver.specs.Answers.{IsOwed, level_over}
 use Rattle.goal_solver.specs.Collecting.{KindWords, words_for, Speaks, Lacks, AreCollected, CollectsBounds, CollectsEnvironment, CollectsFor}
 use Rattle.goal_solver.specs.GoingBack.{restored}
 use Rattle.goal_solver.specs.HeadForms.{IsClosedForm, IsFormAnswer, IsFormOpen, IsAnswered, bound_term}

@@ -1,5 +1,5 @@
 -- Trait goals with inference variables: what is considered, and what the classes answer.
-use Rattle.std.proofs.Common.{◌≡◌, ℕ, Bool, true, false, Option, Some, None, refl, sym, ap, ◌∙◌, subst}
+use Rattle.std.proofs.Common.{◌≡◌, ℕ, true, Option, Some, None, refl, sym, ◌∙◌, subst}
 use Rattle.std.specs.Prelude.{is_some}
 use Rattle.goal_terms.specs.NodeTests.{general_variable_at}
 use Rattle.goal_terms.specs.Tree.{node_of}

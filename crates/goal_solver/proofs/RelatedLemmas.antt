@@ -1,6 +1,6 @@
 -- What equating terms says.
-use Rattle.std.proofs.Common.{◌≡◌, ◌≢◌, ◌↔◌, ◌⊎◌, inl, inr, ℕ, zero, suc, ◌<◌, ◌≤◌, Bool, true, false, ◌||◌, ◌&&◌, List, [], ◌∷◌, length, map, take, drop, Option, Some, None, Result, Ok, Err, refl, sym, ap, ◌∙◌, subst, ⊎_elim, arith}
-use Rattle.std.specs.Prelude.{if◌then◌else◌, slice_get, not, unwrap_or, IfOk, IfErr}
+use Rattle.std.proofs.Common.{◌≡◌, ◌≢◌, ◌↔◌, inl, inr, ℕ, zero, suc, ◌<◌, Bool, true, false, ◌||◌, ◌&&◌, List, [], ◌∷◌, length, map, take, drop, Option, Some, None, Result, Ok, Err, refl, sym, ap, ◌∙◌, subst, arith}
+use Rattle.std.specs.Prelude.{if◌then◌else◌, slice_get, not, unwrap_or, IfOk}
 use Rattle.std.specs.List.{All, list_any}
 use Rattle.std.proofs.lemmas.List.Elements.{All-nil, All-cons, All-head, All-tail, All-weaker}
 use Rattle.goal_terms.specs.Erased.{erased}
@@ -9,7 +9,7 @@ use Rattle.std.proofs.lemmas.Bool.{false≢true}
 use Rattle.goal_terms.specs.SameTree.{same_node, same_tree}
 use Rattle.goal_terms.specs.declared.heads.Node.TheVariants as nodes
 use Rattle.goal_terms.specs.Sorts.{sort_of, is_argument_sort}
-use Rattle.goal_terms.specs.TableMeaning.{tree_at, AreBelow, Keeps}
+use Rattle.goal_terms.specs.TableMeaning.{AreBelow, Keeps}
 use Rattle.goal_terms.specs.Tree.{Tree, Trees, node, alias, variable, none, more, node_of}
 use Rattle.goal_terms.specs.declared.heads.Variable.{Variable}
 use Rattle.goal_terms.specs.declared.modes.TypingMode.{TypingMode}
@@ -20,18 +20,18 @@ use Rattle.goal_tables.specs.Predicates.{some_in_env}
 use Rattle.goal_infer.specs.Following.{sort_at}
 use Rattle.goal_infer.specs.Inference as inference
 use Rattle.goal_infer.specs.Inference.{Inference}
-use Rattle.goal_infer.specs.ListUnification.{MakesAllSame, AllClosed, ListsClash, AreDecidedWherePlain, AreIdentified, AreClashing, AreUntouched, lists_are_plain, all_resolved}
+use Rattle.goal_infer.specs.ListUnification.{MakesAllSame, AllClosed, ListsClash, AreDecidedWherePlain, AreIdentified, AreClashing, AreUntouched, lists_are_plain}
 use Rattle.goal_terms.specs.NodeTests.{same_var_kind}
 use Rattle.goal_terms.specs.declared.answers.VarKind.{VarKind}
-use Rattle.goal_infer.specs.Replacement.{replaced, OfKinds, number_of, kind_of_variable}
+use Rattle.goal_infer.specs.Replacement.{replaced, number_of, kind_of_variable}
 use Rattle.goal_infer.specs.Resolution.{resolution, resolved, term_at, binding_of, binding_in, Agrees, IsSolved}
 use Rattle.goal_infer.specs.Undo.{unbound_at, unbound}
-use Rattle.goal_infer.specs.Unification.{IsUnified, IsClosed, Clash, RowsClash, are_plain, rows_are_plain, both_definite, is_open}
+use Rattle.goal_infer.specs.Unification.{IsUnified, Clash, RowsClash, are_plain, rows_are_plain, both_definite, is_open}
 use Rattle.goal_infer.proofs.ReplacementLemmas.{replaced-twice, replaced-pointwise}
 use Rattle.goal_infer.specs.declared.undo.InferVariable.{InferVariable}
 use Rattle.goal_infer.specs.declared.unify.Unified.{Unified}
 use Rattle.goal_infer.specs.declared.unify.Unified.TheVariants as unified
-use Rattle.goal_infer.proofs.SolvedLemmas.{agrees-kept, resolved-kept, solved-kept}
+use Rattle.goal_infer.proofs.SolvedLemmas.{agrees-kept, resolved-kept}
 use Rattle.goal_kinds.proofs.InternedLemmas.{are_in-grown}
 use Rattle.goal_kinds.proofs.UnderLemmas.{are_in-below}
 use Rattle.goal_kinds.specs.Answers.{setting_of}
@@ -42,10 +42,10 @@ use Rattle.goal_kinds.specs.Levels.{level}
 use Rattle.goal_kinds.specs.Settings.{Setting, is_headline}
 use Rattle.goal_kinds.specs.Words.{Pairs, SomePair}
 use Rattle.goal_solver.specs.GoingBack.{GoesBack}
-use Rattle.goal_solver.specs.Outcomes.{Says, StandsFor, level_in}
+use Rattle.goal_solver.specs.Outcomes.{StandsFor}
 use Rattle.goal_solver.specs.Pending.{IsOfKind, AreListsOfOneKind}
-use Rattle.goal_solver.specs.Relating.{IsRelated, ChangesInference, AgreesWith, Identifies, all_replaced, all_bound, AreDefinite, AreClosedSides, SaysEqual, IsFinalIn}
-use Rattle.goal_solver.specs.Settled.{AreSettled, AreSettledIn, HoldsWithMemory, outcome_in, IsPlainOrSame}
+use Rattle.goal_solver.specs.Relating.{IsRelated, ChangesInference, AgreesWith, Identifies, all_replaced, all_bound, SaysEqual, IsFinalIn}
+use Rattle.goal_solver.specs.Settled.{AreSettled, AreSettledIn, outcome_in, IsPlainOrSame}
 use Rattle.goal_solver.specs.State.{State, IsValid, kinds_of}
 use Rattle.goal_solver.specs.declared.outcomes.Setting as over
 use Rattle.goal_solver.specs.declared.outcomes.Outcome.{Outcome}

@@ -12,7 +12,7 @@ use Rattle.goal_terms.specs.declared.predicates.Predicate.{Predicate}
 use Rattle.goal_infer.specs.Inference.{Inference}
 use Rattle.goal_kinds.specs.declared.faults.Fault.{Fault}
 use Rattle.goal_kinds.specs.declared.faults.Fault.TheVariants as fault
-use Rattle.goal_solver.specs.AddedGoals.{IsClosedGoal, IsGoalAnswer, HoldsIn, IsRefutedIn, count_of, AreSplit, AreClosedAt, AllHoldAt, SomeRefutedAt, LeavesUndecided, IsListed, IsRefusalAt, IsAnswerAt}
+use Rattle.goal_solver.specs.AddedGoals.{IsClosedGoal, IsGoalAnswer, count_of, AreSplit, AreClosedAt, AllHoldAt, SomeRefutedAt, LeavesUndecided, IsListed, IsRefusalAt, IsAnswerAt}
 use Rattle.goal_solver.specs.Answers.{IsOwed}
 use Rattle.goal_solver.specs.GoingBack.{BeginsWith, GoesBack, lengths_of}
 use Rattle.goal_solver.specs.Relating.{ChangesRecords}

@@ -1,10 +1,9 @@
 -- A run through all entries of a rule, and the answer that it leads to.
-use Rattle.std.proofs.Common.{◌≡◌, ◌<◌, ◌≤◌, ◌+◌, ℕ, Bool, true, false, List, [], ◌∷◌, length, get_or, drop, Some, None, Option, Result, Ok, Err, inl, inr, refl, sym, ap, ◌∙◌, subst, ⊎_elim}
-use Rattle.std.specs.Prelude.{IfOk}
+use Rattle.std.proofs.Common.{◌≡◌, ◌<◌, ◌≤◌, ◌+◌, ℕ, Bool, true, false, List, [], ◌∷◌, length, get_or, drop, Some, None, Result, Ok, Err, inl, inr, refl, sym, ap, ◌∙◌, subst, ⊎_elim}
 use Rattle.std.proofs.lemmas.Bool.{false≢true}
-use Rattle.goal_terms.specs.Sorts.{IsTerm, is_term_sort, sort_of}
+use Rattle.goal_terms.specs.Sorts.{IsTerm, is_term_sort}
 use Rattle.goal_terms.specs.TableMeaning.{tree_at, Keeps}
-use Rattle.goal_terms.specs.Tree.{Tree, node_of}
+use Rattle.goal_terms.specs.Tree.{Tree}
 use Rattle.goal_terms.specs.declared.answers.Certainty.TheVariants as certainty
 use Rattle.goal_terms.specs.declared.answers.Response.{Response}
 use Rattle.goal_terms.specs.declared.modes.TypingMode.{TypingMode}
@@ -25,7 +24,7 @@ use Rattle.goal_kinds.proofs.RuleLemmas.{entries_hold-said, one_given, gives-not
 use Rattle.goal_solver.specs.Answers.{IsOwed, IsMaybe, level_over}
 use Rattle.goal_solver.specs.GoingBack.{GoesBack, restored}
 use Rattle.goal_solver.specs.Outcomes.{StandsFor}
-use Rattle.goal_solver.specs.RunRules.{setting_over, asked_of, IsAskedOnce, Progress, progress_at, at_start, named_at, term_at, IsRunning, IsUnsettled, Leads, LeadsOn, SaysRule, RuledIn, ListsTerm, IsRuleResponse, IsRuleAnswer, IsRuleOpen}
+use Rattle.goal_solver.specs.RunRules.{setting_over, asked_of, IsAskedOnce, Progress, progress_at, named_at, term_at, IsRunning, IsUnsettled, Leads, LeadsOn, SaysRule, ListsTerm, IsRuleResponse, IsRuleAnswer, IsRuleOpen}
 use Rattle.goal_solver.specs.State.{State}
 use Rattle.goal_solver.specs.declared.rule_runs.RuleRun.{RuleRun}
 use Rattle.goal_solver.specs.declared.rule_runs.Reached.{Reached}
@@ -35,7 +34,7 @@ use Rattle.goal_solver.specs.declared.rule_runs.RuleOutcome.TheVariants as ruled
 use Rattle.goal_solver.proofs.AnswerLemmas.{goes_back-grown}
 use Rattle.goal_solver.proofs.GoingBackLemmas.{goes_back-through}
 use Rattle.goal_solver.proofs.FoundAnswers.{AnswersFound, is_term, sort-erased}
-use Rattle.goal_solver.proofs.RuleRunLemmas.{progress_of, progress-same, start-running, end-says}
+use Rattle.goal_solver.proofs.RuleRunLemmas.{progress-same, start-running, end-says}
 use Rattle.std.proofs.lemmas.List.{at_drop_more, drop_all}
 
 -- what is left of a list of entries says the same as all of it, in each mode for which a run stands

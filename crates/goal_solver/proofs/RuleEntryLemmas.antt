@@ -1,8 +1,7 @@
 -- What is found of the entries of rules, said as the meaning of rules says it.
-use Rattle.std.proofs.Common.{◌≡◌, ◌⊎◌, ℕ, List, [], ◌∷◌, ◌++◌, map, Some, None, Option, Result, Ok, Err, refl, sym, ap, ◌∙◌, subst}
+use Rattle.std.proofs.Common.{◌≡◌, ℕ, List, ◌++◌, Some, None, Option, Result, Ok, Err, refl, sym, ap, ◌∙◌, subst}
 use Rattle.std.specs.Prelude.{Vec, slice_get, IfOk}
 use Rattle.std.specs.Global.{Global}
-use Rattle.std.specs.List.{All}
 use Rattle.std.specs.Option.{option_map, option_and_then}
 use Rattle.std.proofs.lemmas.List.{map-append}
 use Rattle.std.proofs.lemmas.List.Elements.{All-append}
@@ -53,13 +52,11 @@ use Rattle.goal_solver.specs.Combined.{SaysMatched}
 use Rattle.goal_solver.specs.Outcomes.{Says, SaysWhich, SaysMatch, header_terms}
 use Rattle.goal_solver.specs.RunRules.{named_at, NamedIn, SaysNamed, SaysHeader}
 use Rattle.goal_solver.specs.declared.outcomes.Outcome.{Outcome}
-use Rattle.goal_solver.specs.declared.outcomes.Outcome.TheVariants as outcome
 use Rattle.goal_solver.specs.declared.outcomes.Found.{Found}
 use Rattle.goal_solver.specs.declared.outcomes.Found.TheVariants as found
 use Rattle.goal_solver.specs.declared.outcomes.HeaderMatch.{HeaderMatch}
 use Rattle.goal_solver.specs.declared.outcomes.HeaderMatch.TheVariants as match
 use Rattle.goal_solver.specs.declared.outcomes.Stop.{Stop}
-use Rattle.goal_solver.proofs.MergingLemmas.{which-map}
 use Rattle.goal_solver.proofs.RowTermLemmas.{type-argument, term-argument}
 use Rattle.goal_solver.proofs.SaidLemmas.{match-as}
 

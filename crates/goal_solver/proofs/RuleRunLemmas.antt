@@ -1,8 +1,7 @@
 -- The steps of a run through a rule's list of entries.
-use Rattle.std.proofs.Common.{◌≡◌, ◌⊎◌, ℕ, Bool, true, false, List, [], ◌∷◌, ◌++◌, map, Some, None, Option, inl, inr, refl, sym, ap, ◌∙◌, subst, ⊎_elim}
+use Rattle.std.proofs.Common.{◌≡◌, ◌⊎◌, ℕ, Bool, true, false, List, [], ◌∷◌, ◌++◌, Some, None, Option, inl, inr, refl, sym, ap, ◌∙◌, subst, ⊎_elim}
 use Rattle.std.specs.Prelude.{Vec}
 use Rattle.std.specs.Global.{Global}
-use Rattle.std.specs.List.{All}
 use Rattle.std.proofs.lemmas.Bool.{false≢true}
 use Rattle.std.proofs.lemmas.List.{map-append}
 use Rattle.std.proofs.lemmas.List.Elements.{All-push, All-nil}
@@ -36,7 +35,7 @@ use Rattle.goal_kinds.proofs.PremiseLemmas.{no_clause_refuted}
 use Rattle.goal_kinds.proofs.RuleLemmas.{entries_hold-said, one_known, one_list_known, names-known, no_names_nothing, no_row_clauses_refuted, no_term_none}
 use Rattle.goal_solver.specs.Answers.{expected_variable}
 use Rattle.goal_solver.specs.Outcomes.{Says, SaysWhich, FoundIn, MatchIn}
-use Rattle.goal_solver.specs.RunRules.{asked_of, IsAskedOnce, Progress, named_at, NamedIn, term_at, TermIn, progress_at, RunIn, at_start, MayBe, found_for, IsRunning, IsUnsettled, Leads, LeadsOn, SaysRule, RuledIn, SaysNamed, run_asking, reached_asking, run_taking, run_giving, reached_giving, NamesOn}
+use Rattle.goal_solver.specs.RunRules.{asked_of, IsAskedOnce, Progress, named_at, NamedIn, term_at, TermIn, progress_at, RunIn, at_start, found_for, IsRunning, LeadsOn, SaysRule, RuledIn, SaysNamed, run_asking, reached_asking, run_taking, run_giving, reached_giving, NamesOn}
 use Rattle.goal_solver.specs.declared.outcomes.Outcome.{Outcome}
 use Rattle.goal_solver.specs.declared.outcomes.Outcome.TheVariants as outcome
 use Rattle.goal_solver.specs.declared.outcomes.Found.{Found}

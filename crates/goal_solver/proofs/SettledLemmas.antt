@@ -2,14 +2,12 @@
 use Rattle.std.proofs.Common.{◌≡◌, ◌≢◌, ◌↔◌, ◌⊎◌, inl, inr, ℕ, zero, suc, ◌+◌, ◌<◌, ◌≤◌, Bool, true, false, ◌||◌, List, [], ◌∷◌, ◌++◌, length, map, take, get_or, refl, sym, ap, ap₂, ◌∙◌, subst, ⊎_elim, arith}
 use Rattle.std.specs.Prelude.{IfOk, IfErr, IsErrAnd, Result, Ok, Err}
 use Rattle.std.specs.List.{list_any}
-use Rattle.std.proofs.lemmas.Bool.{false≢true}
 use Rattle.std.proofs.lemmas.List.{length-map, length-take, take_all, take_more, take-map, map-append, get_or-map}
 use Rattle.goal_terms.specs.NodeTests.{some_node, some_in_row, is_any_infer}
 use Rattle.goal_terms.specs.Erased.{erased}
 use Rattle.goal_terms.specs.TableMeaning.{tree_at, Keeps}
 use Rattle.goal_terms.specs.Tree.{Tree, Trees, node, alias, variable, none, more, node_of, parts_of, list_of}
 use Rattle.goal_terms.specs.declared.heads.Head.{Head}
-use Rattle.goal_terms.specs.declared.heads.Node.{Node}
 use Rattle.goal_terms.specs.declared.heads.Node.TheVariants as nodes
 use Rattle.goal_terms.specs.declared.heads.Variable.{Variable}
 use Rattle.goal_terms.specs.declared.modes.TypingMode.{TypingMode}
@@ -20,7 +18,7 @@ use Rattle.goal_infer.specs.Replacement.{replaced, replaced_row}
 use Rattle.goal_infer.specs.Unification.{IsClosed}
 use Rattle.goal_kinds.specs.Equality.{Equal, Unequal, EqualByForm, UnequalByForm, RowEqual, RowUnequal}
 use Rattle.goal_kinds.specs.Interned.{erased_at, erased_all}
-use Rattle.goal_kinds.specs.Level.{Level, nothing, HasHeadForm, HeadFormRefuted}
+use Rattle.goal_kinds.specs.Level.{nothing, HasHeadForm, HeadFormRefuted}
 use Rattle.goal_kinds.specs.Levels.{level}
 use Rattle.goal_kinds.specs.Settings.{Setting, is_headline}
 use Rattle.goal_kinds.specs.Words.{Pairs, SomePair}
@@ -29,7 +27,7 @@ use Rattle.goal_solver.specs.Joined.{both}
 use Rattle.goal_solver.specs.Outcomes.{Says, StandsFor, level_in, setting_in}
 use Rattle.goal_solver.specs.Pending.{HaveOneHead, IsOfKind}
 use Rattle.goal_terms.specs.Sorts.{sort_of, is_argument_sort}
-use Rattle.goal_solver.specs.Relating.{Identifies, all_replaced, SaysEqual}
+use Rattle.goal_solver.specs.Relating.{all_replaced, SaysEqual}
 use Rattle.goal_solver.specs.Settled.{IsSettled, AreSettled, HoldsWithMemory}
 use Rattle.goal_solver.specs.declared.outcomes.Setting as over
 use Rattle.goal_solver.specs.declared.outcomes.Outcome.{Outcome}

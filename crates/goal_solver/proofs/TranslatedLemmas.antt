@@ -32,7 +32,6 @@ use Rattle.goal_kinds.specs.Level.{Level}
 use Rattle.goal_kinds.specs.Settings.{is_headline}
 use Rattle.goal_kinds.specs.TraitGoals.{header_of}
 use Rattle.goal_kinds.specs.declared.faults.Fault.{Fault}
-use Rattle.goal_kinds.specs.declared.faults.Fault.TheVariants as fault
 use Rattle.goal_kinds.proofs.SubstitutionLemmas.{one_substitution}
 use Rattle.goal_kinds.proofs.UnderLemmas.{under-erased_term}
 use Rattle.goal_solver.specs.Answers.{IsOwed, erased_args}

@@ -30,3 +30,4 @@ pub mod Assembled
 pub mod TranslatedArgs
 pub mod Collecting
 pub mod OpenGoals
+pub mod OpenProjections

@@ -2,7 +2,7 @@
 use Rattle.std.specs.Prelude.{◌≡◌, ◌⊎◌, ℕ, Bool, true, false, ◌||◌, List, [], ◌∷◌, Option, Some, None, Result, Ok, Err, IfOk}
 use Rattle.goal_terms.specs.NodeTests.{general_variable_at}
 use Rattle.goal_terms.specs.Tree.{Tree, node_of}
-use Rattle.goal_terms.specs.TreeOf.{tree_of_term, tree_of_ty}
+use Rattle.goal_terms.specs.TreeOf.{tree_of_ty}
 use Rattle.goal_terms.specs.declared.answers.Certainty.{Certainty}
 use Rattle.goal_terms.specs.declared.answers.Certainty.TheVariants as certainty
 use Rattle.goal_terms.specs.declared.answers.Response.{Response}

@@ -15,12 +15,14 @@ ghost use Rattle.goal_solver.specs.Goals.{IsAcceptedNormalization};
 ghost use Rattle.goal_solver.specs.Collecting.{kind_words};
 ghost use Rattle.goal_solver.specs.GoingBack.{GoesBack, restored};
 ghost use Rattle.goal_solver.specs.OpenGoals.{MergesGoal, WhenAnswered};
+ghost use Rattle.goal_solver.specs.OpenProjections.{MergesThrough};
 ghost use Rattle.goal_solver.specs.Outcomes.{StandsFor};
 ghost use Rattle.goal_solver.specs.State.{kinds_of};
 
 use crate::closed_goals::has_variable;
 use crate::context::EvalCtxt;
 use crate::faults::Fault;
+use crate::open_projections::asks_open;
 use goal_kinds::goal_kind::{GoalKind, MergeRule};
 use goal_terms::answers::{Certainty, Response, TraitGoalProvenVia};
 use goal_terms::predicates::Goal;
@@ -28,34 +30,38 @@ use goal_terms::predicates::Goal;
 impl EvalCtxt<'_> {
     /// What the candidates of a goal at the remaining depth make it, which is the goal's answer one height above.
     /// A trait goal, also one with inference variables, is answered as [`EvalCtxt::compute_trait_goal`] would one
-    /// above, and `proven_via` isn't read. For a projection `proven_via` is taken for the class through which its trait goal holds: `Yes` gives
-    /// the term that the candidates then give, as the value of the goal's expected variable, `NoSolution` says
-    /// that they give none, and `Maybe`, for a closed goal in a headline mode whose expected term is a general
-    /// variable, that neither is so, at least of no type and no constant. Where the trait goal does hold through
-    /// that class at the remaining depth, this is the alias's answer one above, as
-    /// [`EvalCtxt::compute_normalizes_to_goal`] would give it. Without a class a projection is `Maybe`, and so is
-    /// a host effect goal so far. A projection with inference variables besides the expected one is `Maybe`, and a
-    /// refuted goal in coherence. Inference state, added goals and storage are as before.
+    /// above, and `proven_via` isn't read. For a projection `proven_via` is taken for the class through which its
+    /// trait goal holds: `Yes` gives the term that the candidates then give, as the value of the goal's expected
+    /// variable, `NoSolution` says that they give none, and `Maybe`, for a closed goal in a headline mode whose
+    /// expected term is a general variable, that neither is so, at least of no type and no constant. Where the trait
+    /// goal does hold through that class at the remaining depth, this is the alias's answer one above, as
+    /// [`EvalCtxt::compute_normalizes_to_goal`] would give it. A projection with inference variables besides the
+    /// expected one is answered by its candidates as that call does it once the trait goal holds. Without a class a
+    /// projection is `Maybe`, and so is a host effect goal so far. In a mode that isn't of the headline `Yes` and
+    /// `NoSolution` to a closed goal are right in every headline mode, and in coherence a refuted goal is `Maybe`.
+    /// Inference state, added goals and storage are as before.
     pub fn assemble_and_merge_candidates<G: GoalKind + Drop>(
         &mut self,
         proven_via: Option<TraitGoalProvenVia>,
         goal: &Goal<G>,
     ) -> Result<Response, Fault>
-        ensures sound { (m : TypingMode) (q : trait_tree) → IsOwed self.new m → AsksTrait G.merging (G.trait_asked goal.now.predicate self.old.tables) q → (G.has_passing goal.now.predicate is_any_infer || some_env is_any_infer goal.now.param_env.items) ≡ false → IsTraitAnswer (level_above self.old m goal.now.param_env.items) q.def_id q.args result }
+        ensures sound { (m : TypingMode) (q : trait_tree) → StandsFor self.old.typing_mode m → AsksTrait G.merging (G.trait_asked goal.now.predicate self.old.tables) q → (G.has_passing goal.now.predicate is_any_infer || some_env is_any_infer goal.now.param_env.items) ≡ false → IsTraitAnswer (level_above self.old m goal.now.param_env.items) q.def_id q.args result }
         ensures decided { (m : TypingMode) (q : trait_tree) → IsOwed self.new m → AsksTrait G.merging (G.trait_asked goal.now.predicate self.old.tables) q → (G.has_passing goal.now.predicate is_any_infer || some_env is_any_infer goal.now.param_env.items) ≡ false → IsMaybe result → IsOpen (level_above self.old m goal.now.param_env.items) q.def_id q.args }
-        ensures sound_through { (m : TypingMode) (c : proven) (p : normalizes) → IsOwed self.new m → AsksThrough G.merging proven_via (G.normalization goal.now.predicate) c p → IsAliasAnswer (level_through (setting_of self.old.tables m goal.now.param_env.items) (level_over self.old m goal.now.param_env.items) c) p.alias.kind (erased_args p.alias.args.items) p.term result }
+        ensures sound_through { (m : TypingMode) (c : proven) (p : normalizes) → StandsFor self.old.typing_mode m → AsksThrough G.merging proven_via (G.normalization goal.now.predicate) c p → is_closed_alias p.alias goal.now.param_env.items ≡ true → IsAliasAnswer (level_through (setting_of self.old.tables m goal.now.param_env.items) (level_over self.old m goal.now.param_env.items) c) p.alias.kind (erased_args p.alias.args.items) p.term result }
         ensures decided_through { (m : TypingMode) (c : proven) (p : normalizes) (n : ℕ) → IsOwed self.new m → AsksThrough G.merging proven_via (G.normalization goal.now.predicate) c p → is_closed_alias p.alias goal.now.param_env.items ≡ true → expected_variable p.term ≡ Some n → IsMaybe result → IsAliasOpen (level_through (setting_of self.old.tables m goal.now.param_env.items) (level_over self.old m goal.now.param_env.items) c) p.alias.kind (erased_args p.alias.args.items) }
-        ensures sound_above { (m : TypingMode) (c : proven) (p : normalizes) → IsOwed self.new m → AsksThrough G.merging proven_via (G.normalization goal.now.predicate) c p → HoldsThrough (setting_of self.old.tables m goal.now.param_env.items) (level_over self.old m goal.now.param_env.items) c p.alias.kind (erased_args p.alias.args.items) → IsAliasAnswer (level_above self.old m goal.now.param_env.items) p.alias.kind (erased_args p.alias.args.items) p.term result }
+        ensures sound_above { (m : TypingMode) (c : proven) (p : normalizes) → StandsFor self.old.typing_mode m → AsksThrough G.merging proven_via (G.normalization goal.now.predicate) c p → HoldsThrough (setting_of self.old.tables m goal.now.param_env.items) (level_over self.old m goal.now.param_env.items) c p.alias.kind (erased_args p.alias.args.items) → is_closed_alias p.alias goal.now.param_env.items ≡ true → IsAliasAnswer (level_above self.old m goal.now.param_env.items) p.alias.kind (erased_args p.alias.args.items) p.term result }
         ensures decided_above { (m : TypingMode) (c : proven) (p : normalizes) (n : ℕ) → IsOwed self.new m → AsksThrough G.merging proven_via (G.normalization goal.now.predicate) c p → HoldsThrough (setting_of self.old.tables m goal.now.param_env.items) (level_over self.old m goal.now.param_env.items) c p.alias.kind (erased_args p.alias.args.items) → is_closed_alias p.alias goal.now.param_env.items ≡ true → expected_variable p.term ≡ Some n → IsMaybe result → IsAliasOpen (level_above self.old m goal.now.param_env.items) p.alias.kind (erased_args p.alias.args.items) }
         ensures none { (G.merging ≡ merging_by.HostEffectGoals) ⊎ ((G.merging ≡ merging_by.Projections) × (proven_via ≡ None)) → IsMaybe result }
         ensures unchanged { self.new ≡ restored self.old self.new }
         ensures goes_back { GoesBack self.old self.new }
         ensures fault { IsFaultOf self.old self.new result }
-        ensures quiet { (G.merging ≢ merging_by.TraitGoals) ⊎ ((G.has_passing goal.now.predicate is_any_infer || some_env is_any_infer goal.now.param_env.items) ≡ false) → AnswersQuietly (length (kinds_of self.old)) result }
+        ensures quiet { (G.merging ≡ merging_by.TraitGoals → (G.has_passing goal.now.predicate is_any_infer || some_env is_any_infer goal.now.param_env.items) ≡ false) → ((c : proven) (p : normalizes) → AsksThrough G.merging proven_via (G.normalization goal.now.predicate) c p → is_closed_alias p.alias goal.now.param_env.items ≡ true) → AnswersQuietly (length (kinds_of self.old)) result }
         ensures merged { G.merging ≡ merging_by.TraitGoals → ((G.has_passing goal.now.predicate is_any_infer || some_env is_any_infer goal.now.param_env.items) ≡ false → ⊥) → WhenAnswered result (MergesGoal (kind_words G.merging G.has_term G.self_type G.is_with_self G.has_fault G.trait_asked G.passes G.is_impl_for G.candidate_gives G.candidate_refuted G.is_for G.additional) goal.now self.old result self.new) }
         ensures applies { (G.merging ≢ merging_by.Projections) ⊎ (proven_via ≡ None) → IfOk result (IsApplicable self.new) }
         ensures whole { (m : TypingMode) (c : proven) (p : normalizes) (n : ℕ) → IsOwed self.new m → AsksThrough G.merging proven_via (G.normalization goal.now.predicate) c p → HoldsThrough (setting_of self.old.tables m goal.now.param_env.items) (level_over self.old m goal.now.param_env.items) c p.alias.kind (erased_args p.alias.args.items) → IsAcceptedNormalization self.old p goal.now.param_env.items → is_closed_alias p.alias goal.now.param_env.items ≡ true → expected_variable p.term ≡ Some n → IsMaybe result → IsAnswer (level_above self.old m goal.now.param_env.items) (which_term p.alias.kind (erased_args p.alias.args.items)) maybe }
         ensures applies_above { (m : TypingMode) (c : proven) (p : normalizes) → StandsFor self.old.typing_mode m → AsksThrough G.merging proven_via (G.normalization goal.now.predicate) c p → HoldsThrough (setting_of self.old.tables m goal.now.param_env.items) (level_over self.old m goal.now.param_env.items) c p.alias.kind (erased_args p.alias.args.items) → IsAcceptedNormalization self.old p goal.now.param_env.items → IfOk result (IsApplicable self.new) }
+        ensures merged_through { (c : proven) (p : normalizes) (k : ℕ) → AsksThrough G.merging proven_via (G.normalization goal.now.predicate) c p → is_closed_alias p.alias goal.now.param_env.items ≡ false → expected_variable p.term ≡ Some k → WhenAnswered result (MergesThrough (kind_words G.merging G.has_term G.self_type G.is_with_self G.has_fault G.trait_asked G.passes G.is_impl_for G.candidate_gives G.candidate_refuted G.is_for G.additional) p c goal.now self.old result self.new) }
+        ensures applies_open { (c : proven) (p : normalizes) (k : ℕ) → AsksThrough G.merging proven_via (G.normalization goal.now.predicate) c p → is_closed_alias p.alias goal.now.param_env.items ≡ false → expected_variable p.term ≡ Some k → IfOk result (IsApplicable self.new) }
     {
         match G::merge_rule() {
             MergeRule::TraitGoals => self.merge_trait_goal(goal),
@@ -69,7 +75,7 @@ impl EvalCtxt<'_> {
 
     /// What the candidates of a trait goal make it.
     fn merge_trait_goal<G: GoalKind + Drop>(&mut self, goal: &Goal<G>) -> Result<Response, Fault>
-        ensures sound { (m : TypingMode) (q : trait_tree) → IsOwed self.new m → G.trait_asked goal.now.predicate self.old.tables ≡ Some q → (G.has_passing goal.now.predicate is_any_infer || some_env is_any_infer goal.now.param_env.items) ≡ false → IsTraitAnswer (level_above self.old m goal.now.param_env.items) q.def_id q.args result }
+        ensures sound { (m : TypingMode) (q : trait_tree) → StandsFor self.old.typing_mode m → G.trait_asked goal.now.predicate self.old.tables ≡ Some q → (G.has_passing goal.now.predicate is_any_infer || some_env is_any_infer goal.now.param_env.items) ≡ false → IsTraitAnswer (level_above self.old m goal.now.param_env.items) q.def_id q.args result }
         ensures decided { (m : TypingMode) (q : trait_tree) → IsOwed self.new m → G.trait_asked goal.now.predicate self.old.tables ≡ Some q → (G.has_passing goal.now.predicate is_any_infer || some_env is_any_infer goal.now.param_env.items) ≡ false → IsMaybe result → IsOpen (level_above self.old m goal.now.param_env.items) q.def_id q.args }
         ensures unchanged { self.new ≡ restored self.old self.new }
         ensures goes_back { GoesBack self.old self.new }
@@ -94,21 +100,26 @@ impl EvalCtxt<'_> {
         class: TraitGoalProvenVia,
         goal: &Goal<G>,
     ) -> Result<Response, Fault>
-        ensures sound_through { (m : TypingMode) (p : normalizes) → IsOwed self.new m → G.normalization goal.now.predicate ≡ Some p → IsAliasAnswer (level_through (setting_of self.old.tables m goal.now.param_env.items) (level_over self.old m goal.now.param_env.items) class) p.alias.kind (erased_args p.alias.args.items) p.term result }
+        ensures sound_through { (m : TypingMode) (p : normalizes) → StandsFor self.old.typing_mode m → G.normalization goal.now.predicate ≡ Some p → is_closed_alias p.alias goal.now.param_env.items ≡ true → IsAliasAnswer (level_through (setting_of self.old.tables m goal.now.param_env.items) (level_over self.old m goal.now.param_env.items) class) p.alias.kind (erased_args p.alias.args.items) p.term result }
         ensures decided_through { (m : TypingMode) (p : normalizes) (n : ℕ) → IsOwed self.new m → G.normalization goal.now.predicate ≡ Some p → is_closed_alias p.alias goal.now.param_env.items ≡ true → expected_variable p.term ≡ Some n → IsMaybe result → IsAliasOpen (level_through (setting_of self.old.tables m goal.now.param_env.items) (level_over self.old m goal.now.param_env.items) class) p.alias.kind (erased_args p.alias.args.items) }
-        ensures sound_above { (m : TypingMode) (p : normalizes) → IsOwed self.new m → G.normalization goal.now.predicate ≡ Some p → HoldsThrough (setting_of self.old.tables m goal.now.param_env.items) (level_over self.old m goal.now.param_env.items) class p.alias.kind (erased_args p.alias.args.items) → IsAliasAnswer (level_above self.old m goal.now.param_env.items) p.alias.kind (erased_args p.alias.args.items) p.term result }
+        ensures sound_above { (m : TypingMode) (p : normalizes) → StandsFor self.old.typing_mode m → G.normalization goal.now.predicate ≡ Some p → HoldsThrough (setting_of self.old.tables m goal.now.param_env.items) (level_over self.old m goal.now.param_env.items) class p.alias.kind (erased_args p.alias.args.items) → is_closed_alias p.alias goal.now.param_env.items ≡ true → IsAliasAnswer (level_above self.old m goal.now.param_env.items) p.alias.kind (erased_args p.alias.args.items) p.term result }
         ensures decided_above { (m : TypingMode) (p : normalizes) (n : ℕ) → IsOwed self.new m → G.normalization goal.now.predicate ≡ Some p → HoldsThrough (setting_of self.old.tables m goal.now.param_env.items) (level_over self.old m goal.now.param_env.items) class p.alias.kind (erased_args p.alias.args.items) → is_closed_alias p.alias goal.now.param_env.items ≡ true → expected_variable p.term ≡ Some n → IsMaybe result → IsAliasOpen (level_above self.old m goal.now.param_env.items) p.alias.kind (erased_args p.alias.args.items) }
         ensures unchanged { self.new ≡ restored self.old self.new }
         ensures goes_back { GoesBack self.old self.new }
         ensures fault { IsFaultOf self.old self.new result }
-        ensures quiet { AnswersQuietly (length (kinds_of self.old)) result }
+        ensures quiet { ((p : normalizes) → G.normalization goal.now.predicate ≡ Some p → is_closed_alias p.alias goal.now.param_env.items ≡ true) → AnswersQuietly (length (kinds_of self.old)) result }
         ensures whole { (m : TypingMode) (p : normalizes) (n : ℕ) → IsOwed self.new m → G.normalization goal.now.predicate ≡ Some p → HoldsThrough (setting_of self.old.tables m goal.now.param_env.items) (level_over self.old m goal.now.param_env.items) class p.alias.kind (erased_args p.alias.args.items) → IsAcceptedNormalization self.old p goal.now.param_env.items → is_closed_alias p.alias goal.now.param_env.items ≡ true → expected_variable p.term ≡ Some n → IsMaybe result → IsAnswer (level_above self.old m goal.now.param_env.items) (which_term p.alias.kind (erased_args p.alias.args.items)) maybe }
         ensures applies_above { (m : TypingMode) (p : normalizes) → StandsFor self.old.typing_mode m → G.normalization goal.now.predicate ≡ Some p → HoldsThrough (setting_of self.old.tables m goal.now.param_env.items) (level_over self.old m goal.now.param_env.items) class p.alias.kind (erased_args p.alias.args.items) → IsAcceptedNormalization self.old p goal.now.param_env.items → IfOk result (IsApplicable self.new) }
+        ensures merged_through { (p : normalizes) (k : ℕ) → G.normalization goal.now.predicate ≡ Some p → is_closed_alias p.alias goal.now.param_env.items ≡ false → expected_variable p.term ≡ Some k → WhenAnswered result (MergesThrough (kind_words G.merging G.has_term G.self_type G.is_with_self G.has_fault G.trait_asked G.passes G.is_impl_for G.candidate_gives G.candidate_refuted G.is_for G.additional) p class goal.now self.old result self.new) }
+        ensures applies_open { (p : normalizes) (k : ℕ) → G.normalization goal.now.predicate ≡ Some p → is_closed_alias p.alias goal.now.param_env.items ≡ false → expected_variable p.term ≡ Some k → IfOk result (IsApplicable self.new) }
     {
         self.is_well_formed();
         let Some(asked) = goal.predicate.normalizes_to() else {
             return Ok(self.undecided());
         };
+        if asks_open(asked, &goal.param_env) {
+            return self.merge_through(class, asked, goal);
+        }
         self.answer_through(class, asked, &goal.param_env)
     }
 

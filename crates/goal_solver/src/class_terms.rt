@@ -110,7 +110,7 @@ impl EvalCtxt<'_> {
         asked: &NormalizesTo,
         environment: &[Clause],
     ) -> Result<Response, Fault>
-        ensures sound { (m : TypingMode) → IsOwed self.new m → IsAliasAnswer (level_through (setting_of self.old.tables m environment.now) (level_over self.old m environment.now) class) asked.now.alias.kind (erased_args asked.now.alias.args.items) asked.now.term result }
+        ensures sound { (m : TypingMode) → StandsFor self.old.typing_mode m → IsAliasAnswer (level_through (setting_of self.old.tables m environment.now) (level_over self.old m environment.now) class) asked.now.alias.kind (erased_args asked.now.alias.args.items) asked.now.term result }
         ensures decided { (m : TypingMode) (n : ℕ) → IsOwed self.new m → is_closed_alias asked.now.alias environment.now ≡ true → expected_variable asked.now.term ≡ Some n → IsMaybe result → IsAliasOpen (level_through (setting_of self.old.tables m environment.now) (level_over self.old m environment.now) class) asked.now.alias.kind (erased_args asked.now.alias.args.items) }
         ensures unchanged { self.new ≡ restored self.old self.new }
         ensures goes_back { GoesBack self.old self.new }

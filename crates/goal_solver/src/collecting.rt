@@ -334,7 +334,7 @@ fn push_declared_rules<G: GoalKind>(
 }
 
 /// Adds rules. Want of memory is the only refusal.
-fn push_rules(found: &mut Vec<Rule>, rules: Vec<Rule>) -> Result<(), OutOfMemory>
+pub(crate) fn push_rules(found: &mut Vec<Rule>, rules: Vec<Rule>) -> Result<(), OutOfMemory>
     ensures { IfOk result (λ _. found.new.items ≡ found.old.items ++ rules.items) }
 {
     for rule in rules {

@@ -1,5 +1,5 @@
 //! What the calls answer where an evaluation is stopped or a goal refuted.
-ghost use Rattle.std.specs.Prelude.{◌≡◌, ◌≢◌, ◌⊎◌, true, false, [], Err, IfOk, IfErr};
+ghost use Rattle.std.specs.Prelude.{◌≡◌, ◌≢◌, ◌⊎◌, true, false, [], Ok, Err, IfOk, IfErr};
 ghost use Rattle.goal_terms.specs.declared.answers.Certainty.TheVariants as certainty;
 ghost use Rattle.goal_terms.specs.declared.modes.TypingMode.{TypingMode as modes};
 ghost use Rattle.goal_kinds.specs.Settings.{is_headline};
@@ -29,6 +29,7 @@ impl EvalCtxt<'_> {
         ensures quiet { AnswersQuietly (length (kinds_of self.old)) result }
         ensures nothing { ListsNothing result }
         ensures unsure { IfOk result (λ r. r.certainty ≢ certainty.Yes) }
+        ensures never { result ≡ Err Fault.NoSolution → ⊥ }
     {
         let certainty = self.undecided_by(stop)?;
         Ok(self.respond(certainty, None))
@@ -75,6 +76,8 @@ impl EvalCtxt<'_> {
     /// What a call answers to a goal that holds or not.
     pub(crate) fn conclude(&mut self, outcome: Result<Outcome, Stop>) -> Result<Response, Fault>
         ensures owed { (m : modes) → IsOwed self.new m → (is_headline self.old.typing_mode ≡ true → IfErr outcome (λ s. s ≡ Stop.OutOfMemory)) → IsConclusion outcome result }
+        ensures yes { IfOk result (λ r. r.certainty ≡ certainty.Yes → outcome ≡ Ok Outcome.Holds) }
+        ensures no { result ≡ Err Fault.NoSolution → outcome ≡ Ok Outcome.Refuted }
         ensures unchanged { self.new ≡ restored self.old self.new }
         ensures goes_back { GoesBack self.old self.new }
         ensures fault { IsFaultOf self.old self.new result }

@@ -44,6 +44,7 @@ mod normalizes_to;
 mod open_arguments;
 mod open_entries;
 mod open_goals;
+mod open_projections;
 mod open_runs;
 mod open_terms;
 pub mod outcomes;

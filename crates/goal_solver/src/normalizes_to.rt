@@ -1,5 +1,5 @@
 //! Normalization of aliases.
-ghost use Rattle.std.specs.Prelude.{◌≡◌, ℕ, true, length, Some, IfOk, IsOkUnless};
+ghost use Rattle.std.specs.Prelude.{◌≡◌, ℕ, suc, true, false, length, Some, IfOk, IsOkUnless};
 ghost use Rattle.goal_terms.specs.TableMeaning.{HasTerm};
 ghost use Rattle.goal_terms.specs.declared.answers.Certainty.TheVariants as certainty;
 ghost use Rattle.goal_terms.specs.declared.modes.TypingMode.{TypingMode};
@@ -10,6 +10,9 @@ ghost use Rattle.goal_solver.specs.Answers.{IsOwed, level_over, erased_args, is_
 ghost use Rattle.goal_solver.specs.Binding.{IsApplicable};
 ghost use Rattle.goal_solver.specs.Goals.{IsAcceptedNormalization};
 ghost use Rattle.goal_solver.specs.GoingBack.{GoesBack, restored};
+ghost use Rattle.goal_solver.specs.OpenGoals.{WhenAnswered, at_depth};
+ghost use Rattle.goal_solver.specs.OpenProjections.{MergesProjection};
+ghost use Rattle.goal_solver.specs.Outcomes.{StandsFor};
 ghost use Rattle.goal_solver.specs.State.{kinds_of};
 
 use crate::closed_goals::is_closed_alias;
@@ -23,26 +26,40 @@ use goal_terms::term_nodes::TermId;
 
 #[tactic(auto, using(crate::proofs::AnswerLemmas::answering))]
 impl EvalCtxt<'_> {
-    /// The term that an alias normalizes to, as the value of the goal's expected variable. `Yes`: a derivation no
-    /// higher than the remaining depth gives the term. `NoSolution`: a refutation no higher shows that there is
-    /// none. `Maybe`, for a closed goal in a headline mode whose expected term is a general variable: there is
-    /// neither, at least no type and no constant; for a goal that [`crate::goals::check_goal`] accepts, nothing else
-    /// either. A goal with other inference variables is `Maybe`, and a refuted one in coherence. No two answers at
-    /// any depths disagree. Inference state, added goals and storage are as before: the answer says what would
-    /// change, and it can be applied, if the goal was accepted. At depth 0 it takes no memory.
+    /// The term that an alias normalizes to, as the value of the goal's expected variable. For a closed goal, `Yes`:
+    /// a derivation no higher than the remaining depth gives the term. `NoSolution`: a refutation no higher shows
+    /// that there is none. In a mode that isn't of the headline both are right in every headline mode. `Maybe`, in a
+    /// headline mode and where the expected term is a general variable: there is neither, at least no type and no
+    /// constant; for a goal that [`crate::goals::check_goal`] accepts, nothing else either. No two answers at any
+    /// depths disagree.
+    ///
+    /// A projection with other inference variables is answered at one less of the depth. Its trait goal is answered
+    /// first, as [`EvalCtxt::compute_trait_goal`] does it: a refusal is the answer, and where it is `Maybe` so is
+    /// the answer. The candidates of the environment then come first; after them the bounds of the self type, or
+    /// these and the rest together where the trait goal holds by the rest. Their rules are run one by one. Of the
+    /// first of the two groups that isn't wholly refused, all that aren't refused must have the same response, which
+    /// is the answer; else it is `Maybe`. Where the environment gives the term, or the bounds in a goal whose trait
+    /// goal holds by the environment or the bounds, the head form of each own type or constant argument is asked
+    /// for: a refused one makes `NoSolution`, an undecided one or a general variable `Maybe`. Where all are
+    /// refused it is `NoSolution` if the trait goal holds by the rest, and else the expected variable's value is the
+    /// alias as it stands. An alias of another kind with such variables is `Maybe`.
+    ///
+    /// In coherence a refuted goal is `Maybe`. Inference state, added goals and storage are as before: the answer
+    /// says what would change, and it can be applied, if the goal was accepted. At depth 0 it takes no memory.
     pub fn compute_normalizes_to_goal(
         &mut self,
         goal: &Goal<NormalizesTo>,
     ) -> Result<Response, Fault>
-        ensures sound { (m : TypingMode) → IsOwed self.new m → IsAliasAnswer (level_over self.old m goal.now.param_env.items) goal.now.predicate.alias.kind (erased_args goal.now.predicate.alias.args.items) goal.now.predicate.term result }
+        ensures sound { (m : TypingMode) → StandsFor self.old.typing_mode m → is_closed_alias goal.now.predicate.alias goal.now.param_env.items ≡ true → IsAliasAnswer (level_over self.old m goal.now.param_env.items) goal.now.predicate.alias.kind (erased_args goal.now.predicate.alias.args.items) goal.now.predicate.term result }
         ensures decided { (m : TypingMode) (n : ℕ) → IsOwed self.new m → is_closed_alias goal.now.predicate.alias goal.now.param_env.items ≡ true → expected_variable goal.now.predicate.term ≡ Some n → IsMaybe result → IsAliasOpen (level_over self.old m goal.now.param_env.items) goal.now.predicate.alias.kind (erased_args goal.now.predicate.alias.args.items) }
         ensures agrees { (m : TypingMode) (n k : ℕ) (a b : Answer) → decides a ≡ true → decides b ≡ true → IsAnswer (level (setting_of self.old.tables m goal.now.param_env.items) n) (which_term goal.now.predicate.alias.kind (erased_args goal.now.predicate.alias.args.items)) a → IsAnswer (level (setting_of self.old.tables m goal.now.param_env.items) k) (which_term goal.now.predicate.alias.kind (erased_args goal.now.predicate.alias.args.items)) b → a ≡ b }
         ensures unchanged { self.new ≡ restored self.old self.new }
         ensures goes_back { GoesBack self.old self.new }
         ensures fault { IsFaultOf self.old self.new result }
-        ensures quiet { AnswersQuietly (length (kinds_of self.old)) result }
+        ensures quiet { is_closed_alias goal.now.predicate.alias goal.now.param_env.items ≡ true → AnswersQuietly (length (kinds_of self.old)) result }
         ensures whole { (m : TypingMode) (n : ℕ) → IsOwed self.new m → IsAcceptedNormalization self.old goal.now.predicate goal.now.param_env.items → is_closed_alias goal.now.predicate.alias goal.now.param_env.items ≡ true → expected_variable goal.now.predicate.term ≡ Some n → IsMaybe result → IsAnswer (level_over self.old m goal.now.param_env.items) (which_term goal.now.predicate.alias.kind (erased_args goal.now.predicate.alias.args.items)) maybe }
         ensures applies { IsAcceptedNormalization self.old goal.now.predicate goal.now.param_env.items → IfOk result (IsApplicable self.new) }
+        ensures merged { (n k : ℕ) → is_closed_alias goal.now.predicate.alias goal.now.param_env.items ≡ false → expected_variable goal.now.predicate.term ≡ Some k → self.old.remaining_depth ≡ suc n → WhenAnswered result (MergesProjection goal.now (at_depth n self.old) result (at_depth n self.new)) }
     {
         self.is_well_formed();
         let Some(expected) = general_variable(goal.predicate.term.view().node()) else {
@@ -52,7 +69,7 @@ impl EvalCtxt<'_> {
             return Ok(self.respond(Certainty::Maybe, None));
         }
         if !is_closed_alias(&goal.predicate.alias, &goal.param_env) {
-            return Ok(self.respond(Certainty::Maybe, None));
+            return self.project_below(goal);
         }
         match self.alias_outcome(goal) {
             Ok(Found::Is(id)) => self.respond_found(expected, id),

@@ -63,7 +63,10 @@ impl EvalCtxt<'_> {
     /// The goal to consider candidates for: that for the head form of the self type. There is none where the head
     /// form is undecided or a general variable, or where the goal isn't one that a check accepts. Inference
     /// state, added goals and storage are as before.
-    fn considered<G: GoalKind + Drop>(&mut self, goal: &Goal<G>) -> Result<Option<Goal<G>>, Fault>
+    pub(crate) fn considered<G: GoalKind + Drop>(
+        &mut self,
+        goal: &Goal<G>,
+    ) -> Result<Option<Goal<G>>, Fault>
         ensures forms { IfOk result (FormsGoal G.self_type G.is_with_self (has_kind_fault G.has_fault self.old.tables) goal.now self.old self.new) }
         ensures formless { IfErr result (λ f. f ≡ Fault.NoSolution → IsFormless G.self_type goal.now self.old self.new) }
         ensures unchanged { self.new ≡ restored self.old self.new }

@@ -9,6 +9,7 @@ ghost use Rattle.goal_kinds.specs.Levels.{level};
 ghost use Rattle.goal_solver.specs.Answers.{IsOwed, level_over, IsClosedEquation, IsPredicateAnswer, IsUndecided, IsMaybe, AnswersQuietly, IsFaultOf};
 ghost use Rattle.goal_solver.specs.Binding.{IsApplicable};
 ghost use Rattle.goal_solver.specs.GoingBack.{GoesBack, restored};
+ghost use Rattle.goal_solver.specs.Outcomes.{StandsFor};
 ghost use Rattle.goal_solver.specs.State.{kinds_of};
 
 use crate::closed_goals::has_variable;
@@ -20,15 +21,16 @@ use goal_terms::predicates::{Goal, ProjectionPredicate};
 #[tactic(auto, using(crate::proofs::AnswerLemmas::answering))]
 impl EvalCtxt<'_> {
     /// Whether an alias and a term are equal, lifetimes aside. `Yes`: a derivation no higher than the remaining
-    /// depth shows it. `NoSolution`: a refutation no higher does. `Maybe`, for a closed goal in a headline
-    /// mode: there is neither. A goal with inference variables is `Maybe`, and a refuted one in coherence. No
-    /// two answers at any depths disagree. Inference state, added goals and storage are as before; the answer can be applied. At depth 0
-    /// it takes no memory.
+    /// depth shows it. `NoSolution`: a refutation no higher does. In a mode that isn't of the headline both are
+    /// right in every headline mode. `Maybe`, for a closed goal in a headline mode: there is neither. A goal with
+    /// inference variables is `Maybe`, and a refuted one in coherence. No two answers at any depths disagree.
+    /// Inference state, added goals and storage are as before; the answer can be applied. At depth 0 it takes no
+    /// memory.
     pub fn compute_projection_goal(
         &mut self,
         goal: &Goal<ProjectionPredicate>,
     ) -> Result<Response, Fault>
-        ensures sound { (m : TypingMode) → IsOwed self.new m → IsPredicateAnswer (level_over self.old m goal.now.param_env.items) (equals (erased (tree_of_alias goal.now.predicate.projection_term)) (erased (tree_of_term goal.now.predicate.term))) result }
+        ensures sound { (m : TypingMode) → StandsFor self.old.typing_mode m → IsPredicateAnswer (level_over self.old m goal.now.param_env.items) (equals (erased (tree_of_alias goal.now.predicate.projection_term)) (erased (tree_of_term goal.now.predicate.term))) result }
         ensures decided { (m : TypingMode) → IsOwed self.new m → IsClosedEquation goal.now.predicate.projection_term goal.now.predicate.term goal.now.param_env.items → IsMaybe result → IsUndecided (level_over self.old m goal.now.param_env.items) (equals (erased (tree_of_alias goal.now.predicate.projection_term)) (erased (tree_of_term goal.now.predicate.term))) }
         ensures agrees { (m : TypingMode) (n k : ℕ) (a b : Answer) → decides a ≡ true → decides b ≡ true → IsAnswer (level (setting_of self.old.tables m goal.now.param_env.items) n) (whether (equals (erased (tree_of_alias goal.now.predicate.projection_term)) (erased (tree_of_term goal.now.predicate.term)))) a → IsAnswer (level (setting_of self.old.tables m goal.now.param_env.items) k) (whether (equals (erased (tree_of_alias goal.now.predicate.projection_term)) (erased (tree_of_term goal.now.predicate.term)))) b → a ≡ b }
         ensures unchanged { self.new ≡ restored self.old self.new }

@@ -8,6 +8,7 @@ ghost use Rattle.goal_solver.specs.Answers.{IsOwed, level_over, erased_args, Are
 ghost use Rattle.goal_solver.specs.Binding.{IsApplicable};
 ghost use Rattle.goal_solver.specs.GoingBack.{GoesBack, restored};
 ghost use Rattle.goal_solver.specs.OpenGoals.{MergesTrait, WhenAnswered, at_depth};
+ghost use Rattle.goal_solver.specs.Outcomes.{StandsFor};
 ghost use Rattle.goal_solver.specs.State.{kinds_of};
 
 use crate::closed_goals::has_variable;
@@ -21,9 +22,10 @@ use goal_terms::terms::GenericArg;
 
 #[tactic(auto, using(crate::proofs::AnswerLemmas::answering))]
 impl EvalCtxt<'_> {
-    /// Whether a trait goal holds. For a closed goal in a headline mode, `Yes`: a derivation no higher than the
-    /// remaining depth shows it, through the class that the answer names. `NoSolution`: a refutation no higher
-    /// does. `Maybe`: there is neither. No two answers at any depths disagree.
+    /// Whether a trait goal holds. For a closed goal, `Yes`: a derivation no higher than the remaining depth shows
+    /// it, through the class that the answer names. `NoSolution`: a refutation no higher does. In a mode that isn't
+    /// of the headline both are right in every headline mode. `Maybe`, in a headline mode: there is neither. No two
+    /// answers at any depths disagree.
     ///
     /// A goal with inference variables is answered by its candidates at one less of the depth. Those of the
     /// environment come first, then the bounds of its self type, then the rest, each taken for the head form of
@@ -35,7 +37,7 @@ impl EvalCtxt<'_> {
     /// In coherence a refuted goal is `Maybe`. Inference state, added goals and storage are as before; the answer
     /// can be applied. At depth 0 it takes no memory.
     pub fn compute_trait_goal(&mut self, goal: &Goal<TraitPredicate>) -> Result<Response, Fault>
-        ensures sound { (m : TypingMode) → IsOwed self.new m → AreClosed goal.now.predicate.trait_ref.args.items goal.now.param_env.items → IsTraitAnswer (level_over self.old m goal.now.param_env.items) goal.now.predicate.trait_ref.def_id (erased_args goal.now.predicate.trait_ref.args.items) result }
+        ensures sound { (m : TypingMode) → StandsFor self.old.typing_mode m → AreClosed goal.now.predicate.trait_ref.args.items goal.now.param_env.items → IsTraitAnswer (level_over self.old m goal.now.param_env.items) goal.now.predicate.trait_ref.def_id (erased_args goal.now.predicate.trait_ref.args.items) result }
         ensures decided { (m : TypingMode) → IsOwed self.new m → AreClosed goal.now.predicate.trait_ref.args.items goal.now.param_env.items → IsMaybe result → IsOpen (level_over self.old m goal.now.param_env.items) goal.now.predicate.trait_ref.def_id (erased_args goal.now.predicate.trait_ref.args.items) }
         ensures agrees { (m : TypingMode) (n k : ℕ) (a b : Answer) → decides a ≡ true → decides b ≡ true → IsAnswer (level (setting_of self.old.tables m goal.now.param_env.items) n) (whether (holds goal.now.predicate.trait_ref.def_id (erased_args goal.now.predicate.trait_ref.args.items))) a → IsAnswer (level (setting_of self.old.tables m goal.now.param_env.items) k) (whether (holds goal.now.predicate.trait_ref.def_id (erased_args goal.now.predicate.trait_ref.args.items))) b → a ≡ b }
         ensures unchanged { self.new ≡ restored self.old self.new }
@@ -66,7 +68,7 @@ impl EvalCtxt<'_> {
         environment: &[Clause],
         depth: u32,
     ) -> Result<Response, Fault>
-        ensures sound { (m : TypingMode) → IsOwed self.new m → IsTraitAnswer (level (setting_of self.old.tables m environment.now) depth) trait_id (erased_args args.now) result }
+        ensures sound { (m : TypingMode) → StandsFor self.old.typing_mode m → IsTraitAnswer (level (setting_of self.old.tables m environment.now) depth) trait_id (erased_args args.now) result }
         ensures decided { (m : TypingMode) → IsOwed self.new m → IsMaybe result → IsOpen (level (setting_of self.old.tables m environment.now) depth) trait_id (erased_args args.now) }
         ensures unchanged { self.new ≡ restored self.old self.new }
         ensures goes_back { GoesBack self.old self.new }

@@ -1,17 +1,18 @@
 //! What contexts are given and answer: fresh variables, hidden types, goals and responses.
-use crate::names::{BOX, HID, OWN, PAIR, TR, VEC};
+use crate::names::{BOX, FREE_A, HID, OWN, PAIR, PAIR_A, TR, VEC};
 use crate::tests::entries::ResponseSketch;
 use crate::tests::equations::Equation;
 use crate::tests::expected::{MAYBE, NO, YES};
 use crate::tests::given::Given;
-use crate::tests::goal_steps::GoalStep;
+use crate::tests::goal_steps::{GoalStep, Projected};
 use crate::tests::sketches::{
-    Asked, BOOL, STRUCT_P, STRUCT_Z, TR_A, TermSketch, TypeSketch, U8, U16, V0,
+    Asked, BOOL, STRUCT_P, STRUCT_Z, TR_A, TermSketch, TypeSketch, U8, U16, V0, V1,
 };
-use crate::tests::steps::{AT_ONCE, Scene, Step, assert_scene, assert_scenes};
+use crate::tests::steps::{AT_ONCE, Scene, Step, TWO_VARIABLES, assert_scene, assert_scenes};
 use goal_solver::goals::GoalFault;
-use goal_terms::answers::{ParamKind, VarKind};
+use goal_terms::answers::{ParamKind, TraitGoalProvenVia, VarKind};
 use goal_terms::ids::TraitId;
+use goal_terms::terms::AliasTermKind;
 use std::test::Fail;
 
 /// `Z: Tr`.
@@ -173,4 +174,106 @@ const OPEN_GOALS: &[Scene] = &[
 #[test]
 fn trait_goals_with_variables(rt: HostRuntime) -> Result<(), Fail> {
     assert_scenes(&rt, rt.alloc(), OPEN_GOALS)
+}
+
+const BOX_OF_U8: TypeSketch = TypeSketch::Adt(BOX, &[U8]);
+
+/// The item `A` of `Pair<U>`.
+const A_OF_PAIR: AliasTermKind = AliasTermKind::ProjectionTy(PAIR_A);
+
+/// `<Vec<v0> as Pair<u8>>::A`, the variable 0 being `v0`.
+const VEC_PAIRED: Projected = Projected {
+    class: None,
+    kind: A_OF_PAIR,
+    parts: &[VEC_OF_V0, U8],
+};
+
+/// Projections with the unbound variable 0. The one impl of `Pair` says that `A` is `Box<T>`.
+const OPEN_PROJECTIONS: &[Scene] = &[
+    Scene {
+        limit: 2,
+        variables: TWO_VARIABLES,
+        turns: &[&[
+            Step::Goal(GoalStep::Project(VEC_PAIRED, YES, &[(1, BOX_OF_U8), (0, U8)])),
+            Step::Goal(GoalStep::Project(
+                Projected {
+                    parts: &[BOX_OF_V0, U8],
+                    ..VEC_PAIRED
+                },
+                NO,
+                &[],
+            )),
+            Step::Goal(GoalStep::Project(
+                Projected {
+                    parts: &[V0, U8],
+                    ..VEC_PAIRED
+                },
+                MAYBE,
+                &[],
+            )),
+            Step::Goal(GoalStep::Project(
+                Projected {
+                    kind: AliasTermKind::FreeTy(FREE_A),
+                    parts: &[V0],
+                    ..VEC_PAIRED
+                },
+                MAYBE,
+                &[],
+            )),
+        ]],
+        ..AT_ONCE
+    },
+    Scene {
+        limit: 1,
+        variables: TWO_VARIABLES,
+        turns: &[&[Step::Goal(GoalStep::Project(VEC_PAIRED, MAYBE, &[]))]],
+        ..AT_ONCE
+    },
+];
+
+#[test]
+fn projections_with_variables(rt: HostRuntime) -> Result<(), Fail> {
+    assert_scenes(&rt, rt.alloc(), OPEN_PROJECTIONS)
+}
+
+/// `<Vec<v0> as Pair<u8>>::A` as it stands.
+const VEC_PAIRED_ITSELF: TypeSketch = TypeSketch::Alias(A_OF_PAIR, &[VEC_OF_V0, U8]);
+
+/// Where its trait goal holds by the rest, the impl gives the term, and else the alias is rigid.
+const BY_CLASS: &Scene = &Scene {
+    limit: 1,
+    variables: TWO_VARIABLES,
+    turns: &[&[
+        Step::Goal(GoalStep::Project(
+            Projected {
+                class: Some(TraitGoalProvenVia::Misc),
+                ..VEC_PAIRED
+            },
+            YES,
+            &[(1, BOX_OF_U8), (0, U8)],
+        )),
+        Step::Goal(GoalStep::Project(
+            Projected {
+                class: Some(TraitGoalProvenVia::AliasBound),
+                ..VEC_PAIRED
+            },
+            YES,
+            &[(1, VEC_PAIRED_ITSELF)],
+        )),
+        Step::Goal(GoalStep::Project(
+            Projected {
+                class: Some(TraitGoalProvenVia::Misc),
+                parts: &[BOX_OF_V0, U8],
+                ..VEC_PAIRED
+            },
+            NO,
+            &[],
+        )),
+    ]],
+    ..AT_ONCE
+};
+
+#[test]
+fn projections_with_variables_by_their_class(rt: HostRuntime) -> Result<(), Fail> {
+    assert_scene(&rt, rt.alloc(), BY_CLASS)
 }

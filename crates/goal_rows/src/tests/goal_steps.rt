@@ -1,13 +1,15 @@
 //! Goals that a context is asked, and goals that are added to it.
 use crate::tests::entries::{ResponseSketch, response_of};
 use crate::tests::expected::Expected;
-use crate::tests::sketches::{Asked, TypeSketch, goal_of, trait_goal_of};
+use crate::tests::sketches::{Asked, TypeSketch, V1, alias_goal_of, goal_of, trait_goal_of, ty_of};
 use goal_solver::context::EvalCtxt;
+use goal_solver::faults::Fault;
 use goal_solver::goals::{GoalFault, check_goal};
 use goal_tables::checked::CheckedTables;
-use goal_terms::answers::{Certainty, GoalSource};
+use goal_terms::answers::{Certainty, GoalSource, Response, TraitGoalProvenVia};
 use goal_terms::ids::TraitId;
-use goal_terms::predicates::{Goal, TraitPredicate};
+use goal_terms::predicates::{Goal, NormalizesTo, TraitPredicate};
+use goal_terms::terms::{AliasTermKind, Term};
 use std::alloc::Global;
 use std::process::Abort;
 use std::test::Fail;
@@ -26,6 +28,15 @@ pub enum GoalStep {
     Merge(TraitId, &'static [TypeSketch], Expected),
     /// A trait goal is asked, and its response is applied.
     Apply(TraitId, &'static [TypeSketch], Expected),
+    /// The term of an alias is asked for the variable 1, and the response lists values of variables.
+    Project(Projected, Expected, &'static [(u32, TypeSketch)]),
+}
+
+/// An alias. With a class its candidates are merged as those of a projection whose trait goal holds through it.
+pub struct Projected {
+    pub class: Option<TraitGoalProvenVia>,
+    pub kind: AliasTermKind,
+    pub parts: &'static [TypeSketch],
 }
 
 /// Asserts what a context answers.
@@ -46,6 +57,9 @@ pub fn assert_goal_step(
         }
         GoalStep::Apply(id, parts, expected) => {
             assert_applied(rt, alloc, context, (*id, parts), *expected)
+        }
+        GoalStep::Project(asked, expected, values) => {
+            assert_projected(rt, alloc, context, asked, (*expected, values))
         }
     }
 }
@@ -133,4 +147,66 @@ fn assert_applied(
     let goal = trait_goal_of(alloc, asked.0, asked.1)?;
     assert_eq!(rt; applied(context, &goal), expected);
     Ok(())
+}
+
+/// What a context answers to the goal of an alias's term.
+fn answer_to(
+    context: &mut EvalCtxt<'_>,
+    class: Option<TraitGoalProvenVia>,
+    goal: &Goal<NormalizesTo>,
+) -> Result<Response, Fault> {
+    if class.is_some() {
+        context.assemble_and_merge_candidates(class, goal)
+    } else {
+        context.compute_normalizes_to_goal(goal)
+    }
+}
+
+/// How certain an answer is.
+fn certainty_of(answer: &Result<Response, Fault>) -> Expected {
+    match answer {
+        Ok(response) => Ok(response.certainty),
+        Err(fault) => Err(*fault),
+    }
+}
+
+/// Whether a response lists a term as the value of a variable.
+fn lists(response: &Response, number: u32, term: &Term) -> bool {
+    for (listed, value) in &response.var_values {
+        if *listed == number {
+            return value == term;
+        }
+    }
+    false
+}
+
+/// Asserts which values of variables a response lists.
+fn assert_values(
+    rt: &impl Abort,
+    alloc: Global,
+    response: &Response,
+    values: &[(u32, TypeSketch)],
+) -> Result<(), Fail> {
+    for (number, ty) in values {
+        let term = Term::Ty(ty_of(alloc, ty)?);
+        assert_eq!(rt; lists(response, *number, &term), true, "{number} {term:?}");
+    }
+    Ok(())
+}
+
+/// Asserts how certain the term of an alias is, and which values the response lists.
+fn assert_projected(
+    rt: &impl Abort,
+    alloc: Global,
+    context: &mut EvalCtxt<'_>,
+    asked: &Projected,
+    expected: (Expected, &[(u32, TypeSketch)]),
+) -> Result<(), Fail> {
+    let goal = alias_goal_of(alloc, asked.kind, asked.parts, &V1)?;
+    let answer = answer_to(context, asked.class, &goal);
+    assert_eq!(rt; certainty_of(&answer), expected.0);
+    match &answer {
+        Ok(response) => assert_values(rt, alloc, response, expected.1),
+        Err(_) => Ok(()),
+    }
 }

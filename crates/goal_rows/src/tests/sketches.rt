@@ -243,17 +243,18 @@ pub fn trait_goal_of(
     })
 }
 
-/// The goal that an alias has the variable 0 for its term, in an empty environment.
+/// The goal that an alias has a type for its term, in an empty environment.
 pub fn alias_goal_of(
     alloc: Global,
     kind: AliasTermKind,
     parts: &[TypeSketch],
+    expected: &TypeSketch,
 ) -> Result<Goal<NormalizesTo>, AllocError> {
     Ok(Goal {
         param_env: Vec::new(alloc),
         predicate: NormalizesTo {
             alias: alias_of(alloc, kind, parts)?,
-            term: Term::Ty(ty_of(alloc, &V0)?),
+            term: Term::Ty(ty_of(alloc, expected)?),
         },
     })
 }

@@ -1,6 +1,6 @@
 //! The arguments that a definition takes, by where it stands, as constant data.
 use crate::names::TRAIT;
-use crate::tests::sketches::{ASSOC, TypeSketch, U32, U64, alias_goal_of, args_of, ref_of};
+use crate::tests::sketches::{ASSOC, TypeSketch, U32, U64, V0, alias_goal_of, args_of, ref_of};
 use goal_solver::context::EvalCtxt;
 use goal_solver::faults::Fault;
 use goal_tables::rows::Container;
@@ -54,7 +54,7 @@ pub fn assert_translated(
     context: &mut EvalCtxt<'_>,
     asked: &Translation,
 ) -> Result<(), Fail> {
-    let goal = alias_goal_of(alloc, ASSOC, &[asked.self_type, asked.other, U64])?;
+    let goal = alias_goal_of(alloc, ASSOC, &[asked.self_type, asked.other, U64], &V0)?;
     let trait_ref = ref_of(alloc, TRAIT, &[asked.self_type, asked.other])?;
     let found = translate(alloc, context, asked, &goal, &trait_ref)?;
     assert_eq!(rt; found, answer_of(alloc, &asked.answer)?);

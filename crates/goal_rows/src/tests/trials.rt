@@ -121,7 +121,7 @@ fn try_in_vain(context: &mut EvalCtxt<'_>, goal: &Goal<NormalizesTo>) -> Expecte
 
 /// Asserts that what a failed trial of a goal of the opaque type `Hid` records stays recorded.
 fn assert_recorded(rt: &impl Abort, alloc: Global, context: &mut EvalCtxt<'_>) -> Result<(), Fail> {
-    let goal = alias_goal_of(alloc, AliasTermKind::OpaqueTy(HID), &[])?;
+    let goal = alias_goal_of(alloc, AliasTermKind::OpaqueTy(HID), &[], &V0)?;
     assert_eq!(rt; try_in_vain(context, &goal), NO);
     let expected = [OpaqueAccess::IfPostAnalysis];
     assert_eq!(rt; context.opaque_accesses(), expected.as_slice());

@@ -1,9 +1,8 @@
-use Rattle.std.proofs.Common.{◌≡◌, ◌∙◌, ◌∷◌, [], map, ap, ap₂, sym}
+use Rattle.std.proofs.Common.{◌∙◌, ◌∷◌, [], map, ap, ap₂, sym}
 use Rattle.goal_terms.specs.Erased.{erased}
 use Rattle.goal_terms.specs.PredicateTrees.{holds, equals}
-use Rattle.goal_terms.specs.Tree.{Tree, alias, forest}
-use Rattle.goal_terms.specs.TreeOf.{tree_of_ty, tree_of_term, trees_of}
-use Rattle.goal_terms.specs.declared.terms.AliasTermKind.TheVariants.{ProjectionTy}
+use Rattle.goal_terms.specs.Tree.{Tree}
+use Rattle.goal_terms.specs.TreeOf.{tree_of_ty, trees_of}
 use Rattle.goal_kinds.specs.Candidates.{assumption}
 use Rattle.goal_solver.proofs.CollectedObjectLemmas.{trait-says, item-says, object-alias}
 use Rattle.goal_solver.proofs.collecting.kind_of_object.Goals as goal

@@ -1,4 +1,4 @@
-use Rattle.std.proofs.Common.{◌++◌, ◌∙◌, inl, inr, refl, sym, ap, subst}
+use Rattle.std.proofs.Common.{◌++◌, ◌∙◌, inl, sym, ap, subst}
 use Rattle.goal_kinds.specs.Answers.{setting_of}
 use Rattle.goal_kinds.specs.Candidates.{bounds_under}
 use Rattle.goal_solver.specs.Collecting.{words_over, args_and_itself, bounds_of_kind, Speaks, Lacks, Collects}

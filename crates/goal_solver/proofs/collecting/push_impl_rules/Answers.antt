@@ -2,7 +2,7 @@ use Rattle.std.proofs.Common.{◌≡◌, ◌<◌, ◌==◌, ◌+◌, length, get
 use Rattle.std.specs.Prelude.{filter}
 use Rattle.std.specs.List.{All}
 use Rattle.goal_kinds.specs.Answers.{setting_of}
-use Rattle.goal_kinds.specs.Candidates.{by_impl, impls_for}
+use Rattle.goal_kinds.specs.Candidates.{by_impl}
 use Rattle.goal_kinds.specs.RuleWords.{TermsAreFor}
 use Rattle.goal_solver.specs.Collecting.{words_over, Speaks, Lacks, Collects}
 use Rattle.goal_solver.proofs.CollectingLemmas.{collects-impl, collects-no_impl, collects-impls, impl-found, same_trait}

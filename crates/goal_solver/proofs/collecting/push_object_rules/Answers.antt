@@ -3,7 +3,7 @@ use Rattle.goal_terms.specs.Erased.{erased}
 use Rattle.goal_terms.specs.TreeOf.{tree_of_ty}
 use Rattle.goal_kinds.specs.Answers.{setting_of}
 use Rattle.goal_kinds.specs.CandidateRules.{said_by}
-use Rattle.goal_solver.specs.Collecting.{words_over, Speaks, Lacks, Adds, Collects}
+use Rattle.goal_solver.specs.Collecting.{words_over, Speaks, Lacks, Collects}
 use Rattle.goal_solver.proofs.CollectingLemmas.{adds-weaker, collects-nothing}
 use Rattle.goal_solver.proofs.CollectedObjectLemmas.{said_before, said-none, collects-object, objects-say, objects-none}
 use Rattle.goal_solver.proofs.collecting.push_object_rules.Goals as goal

@@ -1,4 +1,4 @@
-use Rattle.std.proofs.Common.{◌∙◌, ◌++◌, ◌∷◌, drop, map, ap, ap₂}
+use Rattle.std.proofs.Common.{◌∙◌, ◌++◌, ◌∷◌, drop, map, ap}
 use Rattle.goal_terms.specs.Erased.{erased}
 use Rattle.goal_terms.specs.TreeOf.{trees_of}
 use Rattle.goal_terms.proofs.TreeLemmas.{tree_of_arg-Ty}

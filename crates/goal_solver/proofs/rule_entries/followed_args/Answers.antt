@@ -1,5 +1,5 @@
 use Rattle.std.proofs.Common.{Some, ap, ◌∙◌, subst, sym}
-use Rattle.goal_kinds.specs.Interned.{AreIn, IsIn, erased_all}
+use Rattle.goal_kinds.specs.Interned.{AreIn, erased_all}
 use Rattle.goal_kinds.specs.Rules.{given}
 use Rattle.goal_kinds.proofs.InternedLemmas.{are_in-grown}
 use Rattle.goal_solver.specs.Outcomes.{setting_in, level_in, header_terms}

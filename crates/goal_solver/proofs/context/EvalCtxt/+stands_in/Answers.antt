@@ -1,4 +1,4 @@
-use Rattle.std.proofs.Common.{sym, ◌∙◌, arith}
+use Rattle.std.proofs.Common.{arith}
 use Rattle.goal_terms.specs.View.{tree_of_ref, trees_seen}
 use Rattle.goal_solver.specs.FreeVariables.{reaches}
 use Rattle.goal_solver.proofs.FreeVariableLemmas.{walk-top, walk-part, walk-more, walk-end}

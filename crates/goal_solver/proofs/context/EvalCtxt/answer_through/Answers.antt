@@ -10,7 +10,7 @@ use Rattle.goal_solver.specs.State.{State, kinds_of}
 use Rattle.goal_solver.proofs.ApplicableLemmas.{nothing-applies, nothing-applies-later, nothing-listed, found-applies, evaluated-restored}
 use Rattle.goal_solver.specs.Assembled.{level_through}
 use Rattle.goal_solver.specs.Outcomes.{FoundIn, SaysWhich}
-use Rattle.goal_solver.proofs.AnswerLemmas.{owed-evaluated}
+use Rattle.goal_solver.proofs.AnswerLemmas.{alias-unsure, owed-evaluated}
 use Rattle.goal_solver.proofs.AssembledLemmas.{class-one, class-given, above-same}
 use Rattle.goal_solver.proofs.FoundAnswers.{found-sound, found-open_of_one}
 use Rattle.goal_solver.proofs.GoingBackLemmas.{goes_back-same}
@@ -32,14 +32,14 @@ pub returns-in-Ok-Undecided-clause-goes_back : goal.returns-in-Ok-Undecided-clau
 returns-in-Ok-Undecided-clause-goes_back c = c.class_outcome.ensures.goes_back
 
 pub returns-in-Ok-Is-clause-sound : goal.returns-in-Ok-Is-clause-sound
-returns-in-Ok-Is-clause-sound c = λ m owed.
+returns-in-Ok-Is-clause-sound c = λ m stands.
     found-sound (level_through (setting_of c.args.self.now.tables m c.args.environment.now) (level_over c.args.self.now m c.args.environment.now) c.args.class)
     c.args.asked.now.alias.kind (erased_args c.args.asked.now.alias.args.items) c.args.asked.now.term
     c.class_outcome.new.self.terms c.in-Ok-Is.id c.in-Some.expected
     (sym (c.in-Some.ensures ∙ ap general_variable_at (c.node.ensures ∙ ap node_of c.view.ensures)))
     (subst (FoundIn c.class_outcome.new.self.terms) c.in-Ok-Is.field-0-is c.in-Ok-Is.ensures.within).0
     (subst (SaysWhich ((level_through (setting_of c.args.self.now.tables m c.args.environment.now) (level_over c.args.self.now m c.args.environment.now) c.args.class).gives c.args.asked.now.alias.kind (erased_args c.args.asked.now.alias.args.items)) ((level_through (setting_of c.args.self.now.tables m c.args.environment.now) (level_over c.args.self.now m c.args.environment.now) c.args.class).gives_refuted c.args.asked.now.alias.kind (erased_args c.args.asked.now.alias.args.items)) c.class_outcome.new.self.terms) c.in-Ok-Is.field-0-is
-    (c.in-Ok-Is.ensures.says m (owed-evaluated c.args.self.now c.class_outcome.new.self m c.class_outcome.ensures.unchanged owed)))
+    (c.in-Ok-Is.ensures.says m stands))
     c.respond_found.result (c.respond_found.ensures.yes, c.respond_found.ensures.maybe, c.respond_found.ensures.only_memory)
 
 pub returns-in-Ok-Is-clause-decided : goal.returns-in-Ok-Is-clause-decided
@@ -87,3 +87,13 @@ returns-in-Ok-Is-clause-applies c = λ m s ok holds.
     (subst (SaysWhich ((level_through (setting_of c.args.self.now.tables m c.args.environment.now) (level_over c.args.self.now m c.args.environment.now) c.args.class).gives c.args.asked.now.alias.kind (erased_args c.args.asked.now.alias.args.items)) ((level_through (setting_of c.args.self.now.tables m c.args.environment.now) (level_over c.args.self.now m c.args.environment.now) c.args.class).gives_refuted c.args.asked.now.alias.kind (erased_args c.args.asked.now.alias.args.items)) c.class_outcome.new.self.terms) c.in-Ok-Is.field-0-is (c.in-Ok-Is.ensures.says m s)))
     (sym (c.in-Some.ensures ∙ ap general_variable_at (c.node.ensures ∙ ap node_of c.view.ensures)))
     c.respond_found.ensures.yes
+
+pub returns-in-Ok-Refuted-clause-sound : goal.returns-in-Ok-Refuted-clause-sound
+returns-in-Ok-Refuted-clause-sound c = λ m stands.
+    alias-unsure (level_through (setting_of c.args.self.now.tables m c.args.environment.now) (level_over c.args.self.now m c.args.environment.now) c.args.class) c.args.asked.now.alias.kind (erased_args c.args.asked.now.alias.args.items) c.args.asked.now.term c.refuted.result c.refuted.ensures.unsure
+    (λ e. subst (SaysWhich ((level_through (setting_of c.args.self.now.tables m c.args.environment.now) (level_over c.args.self.now m c.args.environment.now) c.args.class).gives c.args.asked.now.alias.kind (erased_args c.args.asked.now.alias.args.items)) ((level_through (setting_of c.args.self.now.tables m c.args.environment.now) (level_over c.args.self.now m c.args.environment.now) c.args.class).gives_refuted c.args.asked.now.alias.kind (erased_args c.args.asked.now.alias.args.items)) c.class_outcome.new.self.terms) c.in-Ok-Refuted.field-0-is
+    (c.in-Ok-Refuted.ensures.says m stands))
+
+pub returns-in-Err-clause-sound : goal.returns-in-Err-clause-sound
+returns-in-Err-clause-sound c = λ m stands.
+    alias-unsure (level_through (setting_of c.args.self.now.tables m c.args.environment.now) (level_over c.args.self.now m c.args.environment.now) c.args.class) c.args.asked.now.alias.kind (erased_args c.args.asked.now.alias.args.items) c.args.asked.now.term c.stopped.result c.stopped.ensures.unsure (λ e. absurd (c.stopped.ensures.never e))

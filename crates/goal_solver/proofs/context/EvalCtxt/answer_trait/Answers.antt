@@ -1,4 +1,9 @@
-use Rattle.std.proofs.Common.{refl}
+use Rattle.std.proofs.Common.{refl, subst}
+use Rattle.goal_kinds.specs.Answers.{setting_of}
+use Rattle.goal_kinds.specs.Levels.{level}
+use Rattle.goal_solver.specs.Answers.{erased_args}
+use Rattle.goal_solver.specs.Outcomes.{SaysThrough}
+use Rattle.goal_solver.proofs.AnswerLemmas.{trait-unsure}
 use Rattle.goal_solver.proofs.ApplicableLemmas.{nothing-applies-later, nothing-listed}
 use Rattle.std.specs.Prelude.{Ok}
 use Rattle.goal_solver.proofs.context.EvalCtxt.answer_trait.Goals as goal
@@ -31,3 +36,13 @@ pub returns-in-Err-clause-applies : goal.returns-in-Err-clause-applies
 returns-in-Err-clause-applies c =
     nothing-applies-later c.args.self.now c.trait_outcome_at.new.self c.stopped.new.self c.stopped.result c.trait_outcome_at.ensures.unchanged c.stopped.ensures.unchanged
     c.is_well_formed.ensures.storage c.stopped.ensures.quiet (nothing-listed c.stopped.result c.stopped.ensures.nothing)
+
+pub returns-in-Ok-Refuted-clause-sound : goal.returns-in-Ok-Refuted-clause-sound
+returns-in-Ok-Refuted-clause-sound c = λ m stands.
+    trait-unsure (level (setting_of c.args.self.now.tables m c.args.environment.now) c.args.depth) c.args.trait_id (erased_args c.args.args.now) c.refuted.result c.refuted.ensures.unsure
+    (λ e. subst (SaysThrough (λ k. (level (setting_of c.args.self.now.tables m c.args.environment.now) c.args.depth).through k c.args.trait_id (erased_args c.args.args.now)) ((level (setting_of c.args.self.now.tables m c.args.environment.now) c.args.depth).trait_refuted c.args.trait_id (erased_args c.args.args.now))) c.in-Ok-Refuted.field-0-is
+    (c.in-Ok-Refuted.ensures.says m stands))
+
+pub returns-in-Err-clause-sound : goal.returns-in-Err-clause-sound
+returns-in-Err-clause-sound c = λ m stands.
+    trait-unsure (level (setting_of c.args.self.now.tables m c.args.environment.now) c.args.depth) c.args.trait_id (erased_args c.args.args.now) c.stopped.result c.stopped.ensures.unsure (λ e. absurd (c.stopped.ensures.never e))

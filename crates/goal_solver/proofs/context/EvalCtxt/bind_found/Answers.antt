@@ -1,5 +1,4 @@
 use Rattle.std.proofs.Common.{sym, ◌∙◌}
-use Rattle.goal_solver.proofs.AddedGoalLemmas.{goes_back-bound}
 use Rattle.goal_solver.proofs.context.EvalCtxt.bind_found.Goals as goal
 
 pub invariant_of-self : goal.invariant_of-self

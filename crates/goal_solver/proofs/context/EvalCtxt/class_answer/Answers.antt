@@ -1,9 +1,7 @@
-use Rattle.std.proofs.Common.{subst, length, refl, None, Some, ap, sym, ◌∙◌, ◌≡◌, Option}
+use Rattle.std.proofs.Common.{subst, length, refl, None, Some, ap}
 use Rattle.goal_terms.specs.declared.answers.Response.{Response}
 use Rattle.goal_solver.specs.Answers.{IsQuiet}
 use Rattle.goal_solver.specs.Collecting.{kind_words, CollectsFor}
-use Rattle.goal_solver.specs.MergedRules.{MergesRules}
-use Rattle.goal_solver.specs.OpenGoals.{IsClassAnswer}
 use Rattle.goal_solver.specs.State.{State, kinds_of}
 use Rattle.goal_solver.specs.declared.merged_rules.Merged.TheVariants as merged
 use Rattle.goal_solver.proofs.ApplicableLemmas.{nothing-applies-after}

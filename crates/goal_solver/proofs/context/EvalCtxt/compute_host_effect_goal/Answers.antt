@@ -20,11 +20,11 @@ returns-then-has_variable-clause-goes_back c = goes_back-same c.args.self.now
 
 pub returns-clause-sound : goal.returns-clause-sound
 returns-clause-sound c =
-    predicate-sound c.args.self.now c.host_effect_goal_outcome-outcome.new.self c.conclude.new.self c.args.goal.now.param_env.items
+    predicate-sound c.args.self.now c.args.goal.now.param_env.items
     (holds_const c.args.goal.now.predicate.constness c.args.goal.now.predicate.trait_ref.def_id (erased_args c.args.goal.now.predicate.trait_ref.args.items))
-    c.host_effect_goal_outcome-outcome.result c.conclude.result c.host_effect_goal_outcome-outcome.ensures.unchanged c.conclude.ensures.unchanged
+    c.host_effect_goal_outcome-outcome.result c.conclude.result
     (const-says_of c.args.self.now c.args.goal.now.param_env.items c.args.goal.now.predicate.constness c.args.goal.now.predicate.trait_ref.def_id (erased_args c.args.goal.now.predicate.trait_ref.args.items) c.host_effect_goal_outcome-outcome.result c.host_effect_goal_outcome-outcome.ensures.says)
-    c.host_effect_goal_outcome-outcome.ensures.stops c.conclude.ensures.owed
+    c.conclude.ensures.yes c.conclude.ensures.no
 
 pub returns-clause-decided : goal.returns-clause-decided
 returns-clause-decided c = λ m owed closed undecided.

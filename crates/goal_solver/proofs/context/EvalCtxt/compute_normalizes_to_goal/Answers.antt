@@ -4,7 +4,7 @@ use Rattle.goal_terms.specs.Tree.{node_of}
 use Rattle.goal_kinds.specs.Answers.{setting_of}
 use Rattle.goal_solver.specs.Outcomes.{FoundIn, SaysWhich}
 use Rattle.goal_solver.specs.Answers.{erased_args, level_over}
-use Rattle.goal_solver.proofs.AnswerLemmas.{alias_open-ground, owed-evaluated}
+use Rattle.goal_solver.proofs.AnswerLemmas.{alias-unsure, alias_open-ground, owed-evaluated}
 use Rattle.goal_solver.proofs.FoundAnswers.{found-sound, found-open}
 use Rattle.goal_kinds.proofs.ConsistentLemmas.{each_level_is_consistent}
 use Rattle.goal_solver.proofs.GoingBackLemmas.{goes_back-same}
@@ -31,7 +31,7 @@ pub returns-then-remaining_depth-eq0-clause-goes_back : goal.returns-then-remain
 returns-then-remaining_depth-eq0-clause-goes_back c = goes_back-same c.args.self.now
 
 pub returns-then-not-is_closed_alias-clause-goes_back : goal.returns-then-not-is_closed_alias-clause-goes_back
-returns-then-not-is_closed_alias-clause-goes_back c = goes_back-same c.args.self.now
+returns-then-not-is_closed_alias-clause-goes_back c = c.project_below.ensures.goes_back
 
 pub returns-in-Ok-Is-clause-goes_back : goal.returns-in-Ok-Is-clause-goes_back
 returns-in-Ok-Is-clause-goes_back c = c.alias_outcome.ensures.goes_back
@@ -43,14 +43,14 @@ pub returns-in-Ok-Undecided-clause-goes_back : goal.returns-in-Ok-Undecided-clau
 returns-in-Ok-Undecided-clause-goes_back c = c.alias_outcome.ensures.goes_back
 
 pub returns-in-Ok-Is-clause-sound : goal.returns-in-Ok-Is-clause-sound
-returns-in-Ok-Is-clause-sound c = λ m owed.
+returns-in-Ok-Is-clause-sound c = λ m stands closed.
     found-sound (level_over c.args.self.now m c.args.goal.now.param_env.items)
     c.args.goal.now.predicate.alias.kind (erased_args c.args.goal.now.predicate.alias.args.items) c.args.goal.now.predicate.term
     c.alias_outcome.new.self.terms c.in-Ok-Is.id c.in-Some.expected
     (sym (c.in-Some.ensures ∙ ap general_variable_at (c.node.ensures ∙ ap node_of c.view.ensures)))
     (subst (FoundIn c.alias_outcome.new.self.terms) c.in-Ok-Is.field-0-is c.in-Ok-Is.ensures.within).0
     (subst (SaysWhich ((level_over c.args.self.now m c.args.goal.now.param_env.items).gives c.args.goal.now.predicate.alias.kind (erased_args c.args.goal.now.predicate.alias.args.items)) ((level_over c.args.self.now m c.args.goal.now.param_env.items).gives_refuted c.args.goal.now.predicate.alias.kind (erased_args c.args.goal.now.predicate.alias.args.items)) c.alias_outcome.new.self.terms) c.in-Ok-Is.field-0-is
-    (c.in-Ok-Is.ensures.says m (owed-evaluated c.args.self.now c.alias_outcome.new.self m c.alias_outcome.ensures.unchanged owed)))
+    (c.in-Ok-Is.ensures.says m stands))
     c.respond_found.result (c.respond_found.ensures.yes, c.respond_found.ensures.maybe, c.respond_found.ensures.only_memory)
 
 pub returns-in-Ok-Is-clause-decided : goal.returns-in-Ok-Is-clause-decided
@@ -72,8 +72,7 @@ returns-then-remaining_depth-eq0-clause-applies c = λ ok.
     nothing-applies c.args.self.now c.respond-then-remaining_depth-eq0.result c.is_well_formed.ensures.storage c.respond-then-remaining_depth-eq0.ensures.quiet c.respond-then-remaining_depth-eq0.ensures.values
 
 pub returns-then-not-is_closed_alias-clause-applies : goal.returns-then-not-is_closed_alias-clause-applies
-returns-then-not-is_closed_alias-clause-applies c = λ ok.
-    nothing-applies c.args.self.now c.respond-then-not-is_closed_alias.result c.is_well_formed.ensures.storage c.respond-then-not-is_closed_alias.ensures.quiet c.respond-then-not-is_closed_alias.ensures.values
+returns-then-not-is_closed_alias-clause-applies c = λ ok. c.project_below.ensures.applies
 
 pub returns-in-Ok-Undecided-clause-applies : goal.returns-in-Ok-Undecided-clause-applies
 returns-in-Ok-Undecided-clause-applies c = λ ok.
@@ -118,3 +117,13 @@ returns-in-Ok-Is-clause-applies c = λ ok.
     (c.in-Ok-Is.ensures.says some.0 some.1))
     (sym (c.in-Some.ensures ∙ ap general_variable_at (c.node.ensures ∙ ap node_of c.view.ensures)))
     c.respond_found.ensures.yes
+
+pub returns-in-Ok-Refuted-clause-sound : goal.returns-in-Ok-Refuted-clause-sound
+returns-in-Ok-Refuted-clause-sound c = λ m stands closed.
+    alias-unsure (level_over c.args.self.now m c.args.goal.now.param_env.items) c.args.goal.now.predicate.alias.kind (erased_args c.args.goal.now.predicate.alias.args.items) c.args.goal.now.predicate.term c.refuted.result c.refuted.ensures.unsure
+    (λ e. subst (SaysWhich ((level_over c.args.self.now m c.args.goal.now.param_env.items).gives c.args.goal.now.predicate.alias.kind (erased_args c.args.goal.now.predicate.alias.args.items)) ((level_over c.args.self.now m c.args.goal.now.param_env.items).gives_refuted c.args.goal.now.predicate.alias.kind (erased_args c.args.goal.now.predicate.alias.args.items)) c.alias_outcome.new.self.terms) c.in-Ok-Refuted.field-0-is
+    (c.in-Ok-Refuted.ensures.says m stands))
+
+pub returns-in-Err-clause-sound : goal.returns-in-Err-clause-sound
+returns-in-Err-clause-sound c = λ m stands closed.
+    alias-unsure (level_over c.args.self.now m c.args.goal.now.param_env.items) c.args.goal.now.predicate.alias.kind (erased_args c.args.goal.now.predicate.alias.args.items) c.args.goal.now.predicate.term c.stopped.result c.stopped.ensures.unsure (λ e. absurd (c.stopped.ensures.never e))

@@ -21,11 +21,11 @@ returns-then-has_variable-clause-goes_back c = goes_back-same c.args.self.now
 
 pub returns-clause-sound : goal.returns-clause-sound
 returns-clause-sound c =
-    predicate-sound c.args.self.now c.projection_goal_outcome-outcome.new.self c.conclude.new.self c.args.goal.now.param_env.items
+    predicate-sound c.args.self.now c.args.goal.now.param_env.items
     (equals (erased (tree_of_alias c.args.goal.now.predicate.projection_term)) (erased (tree_of_term c.args.goal.now.predicate.term)))
-    c.projection_goal_outcome-outcome.result c.conclude.result c.projection_goal_outcome-outcome.ensures.unchanged c.conclude.ensures.unchanged
+    c.projection_goal_outcome-outcome.result c.conclude.result
     (equation-says_of c.args.self.now c.args.goal.now.param_env.items (erased (tree_of_alias c.args.goal.now.predicate.projection_term)) (erased (tree_of_term c.args.goal.now.predicate.term)) c.projection_goal_outcome-outcome.result c.projection_goal_outcome-outcome.ensures.says)
-    c.projection_goal_outcome-outcome.ensures.stops c.conclude.ensures.owed
+    c.conclude.ensures.yes c.conclude.ensures.no
 
 pub returns-clause-decided : goal.returns-clause-decided
 returns-clause-decided c = λ m owed closed undecided.

@@ -1,4 +1,4 @@
-use Rattle.std.proofs.Common.{◌≡◌, true, sym, ap, ◌∙◌}
+use Rattle.std.proofs.Common.{sym, ap, ◌∙◌}
 use Rattle.goal_kinds.specs.Settings.{is_headline}
 use Rattle.goal_solver.specs.Answers.{IsOwed}
 use Rattle.goal_solver.specs.State.{State}

@@ -1,4 +1,4 @@
-use Rattle.std.proofs.Common.{◌≡◌, Result, Ok, Err, Some, None, [], ◌∷◌, refl, ap, sym, subst, ◌∙◌, length}
+use Rattle.std.proofs.Common.{Result, Ok, Err, Some, None, [], ◌∷◌, refl, ap, sym, subst, ◌∙◌, length}
 use Rattle.goal_terms.specs.declared.answers.TraitGoalProvenVia.TheVariants as class
 use Rattle.goal_solver.specs.Answers.{IsQuiet}
 use Rattle.goal_solver.specs.Collecting.{kind_words, CollectsFor}

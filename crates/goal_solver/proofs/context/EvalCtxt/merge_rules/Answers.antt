@@ -2,7 +2,7 @@ use Rattle.std.proofs.Common.{arith, refl, ap, ◌∙◌}
 use Rattle.goal_solver.specs.GoingBack.{restored}
 use Rattle.goal_solver.specs.State.{State}
 use Rattle.goal_solver.proofs.GoingBackLemmas.{goes_back-same, goes_back-through}
-use Rattle.goal_solver.proofs.MergedLemmas.{runs-none, merged-next, merged-all}
+use Rattle.goal_solver.proofs.MergedLemmas.{runs-none, merged-next}
 use Rattle.goal_solver.proofs.context.EvalCtxt.merge_rules.Goals as goal
 
 pub loop-rule-init : goal.loop-rule-init

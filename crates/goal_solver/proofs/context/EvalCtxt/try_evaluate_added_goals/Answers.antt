@@ -1,5 +1,5 @@
-use Rattle.std.proofs.Common.{◌≡◌, refl, sym, ap, ◌∙◌, subst}
-use Rattle.goal_solver.specs.GoingBack.{GoesBack, restored}
+use Rattle.std.proofs.Common.{sym, ap, subst}
+use Rattle.goal_solver.specs.GoingBack.{GoesBack}
 use Rattle.goal_solver.specs.State.{State}
 use Rattle.goal_solver.proofs.AddedGoalLemmas.{restored-owed, restored-alone, restored-fault, restored-itself}
 use Rattle.goal_solver.proofs.GoingBackLemmas.{goes_back-restored}

@@ -1,0 +1,292 @@
+-- Projections with inference variables.
+use Rattle.std.proofs.Common.{◌≡◌, ℕ, ◌+◌, ◌<◌, Bool, true, false, ◌&&◌, List, [], ◌∷◌, ◌++◌, length, take, drop, get_or, Option, Some, None, Result, Ok, Err, inl, inr, refl, sym, ap, ◌∙◌, subst, append_assoc}
+use Rattle.std.specs.Prelude.{IfOk, MatchOption}
+use Rattle.std.proofs.lemmas.List.{take-append-drop}
+use Rattle.goal_terms.specs.Tree.{Tree}
+use Rattle.goal_terms.specs.declared.answers.Certainty as certainties
+use Rattle.goal_terms.specs.declared.answers.Certainty.TheVariants as certainty
+use Rattle.goal_terms.specs.declared.answers.Response.{Response}
+use Rattle.goal_terms.specs.declared.answers.TraitGoalProvenVia.{TraitGoalProvenVia}
+use Rattle.goal_terms.specs.declared.answers.TraitGoalProvenVia.TheVariants as class
+use Rattle.goal_terms.specs.declared.modes.TypingMode.{TypingMode}
+use Rattle.goal_terms.specs.declared.predicates.Clause.{Clause}
+use Rattle.goal_terms.specs.declared.predicates.Goal.{Goal}
+use Rattle.goal_terms.specs.declared.predicates.NormalizesTo.{NormalizesTo}
+use Rattle.goal_terms.specs.declared.predicates.TraitPredicate.{TraitPredicate}
+use Rattle.goal_terms.specs.declared.terms.GenericArg.{GenericArg}
+use Rattle.goal_terms.specs.declared.terms.Term.{Term}
+use Rattle.goal_tables.specs.declared.rows.Tables.{Tables}
+use Rattle.goal_kinds.specs.ProjectionKind.{projected_trait}
+use Rattle.goal_kinds.specs.declared.faults.Fault.{Fault}
+use Rattle.goal_kinds.specs.declared.faults.Fault.TheVariants as fault
+use Rattle.goal_kinds.specs.declared.rules.Rule.{Rule}
+use Rattle.goal_kinds.specs.declared.rules.RuleEntry.{RuleEntry}
+use Rattle.goal_infer.specs.Resolution.{IsSolved}
+use Rattle.goal_solver.specs.Binding.{IsApplicable}
+use Rattle.goal_solver.specs.GoingBack.{GoesBack, restored}
+use Rattle.goal_solver.specs.Collecting.{KindWords, CollectsFor}
+use Rattle.goal_solver.specs.MergedRules.{MergesRules}
+use Rattle.goal_solver.specs.OpenGoals.{AsksForm, Considers, FormsGoal, IsFormless, IsLeft, IsRefusedIn, WhenAnswered, has_kind_fault}
+use Rattle.goal_solver.specs.OpenProjections.{CollectsAll, tree_in, is_formed, Forms, FormsAll, RefusesForm, LacksForm, WithForms, IsRigidList, IsRigid, own_args, proven_class, MergesGroup, ByBounds, ByRest, ByLater, ByGroups, alias_words, ByClass, MergesThrough, MergesProjection, AsksItsTrait, AnswersTrait}
+use Rattle.goal_solver.specs.OpenRuns.{RunsOpen}
+use Rattle.goal_solver.specs.Refusals.{WhenRefused, IsRefusedOpen}
+use Rattle.goal_solver.specs.Relating.{IsFaultFor}
+use Rattle.goal_solver.specs.State.{State}
+use Rattle.goal_solver.specs.declared.merged_rules.Merged.{Merged}
+use Rattle.goal_solver.specs.declared.merged_rules.Merged.TheVariants as merged
+use Rattle.goal_solver.proofs.LaterLemmas.{applies-later}
+use Rattle.goal_solver.proofs.OpenClassLemmas.{when-refused}
+use Rattle.goal_solver.proofs.VariableLemmas.{take-more}
+
+-- what a call left as it was, and then another one, is as it was
+pub restored-through : (s z u : State) → z ≡ restored s z → u ≡ restored z u → u ≡ restored s u
+restored-through s z u e f = f ∙ ap (λ (x : State). restored x u) e
+
+-- a fault of a later call is one of both
+pub fault-through : {T : Type 0} (s z u : State) (r : Result T Fault) → z ≡ restored s z → IsFaultFor z u r → IsFaultFor s u r
+fault-through s z u (Ok x) e h = tt
+fault-through s z u (Err fault.NoSolution) e h = tt
+fault-through s z u (Err fault.RerunNonErased) e h = (sym (ap (λ (x : State). x.typing_mode) e) ∙ h.0, h.1)
+fault-through s z u (Err fault.OutOfMemory) e h = tt
+fault-through s z u (Err fault.NotForThisKind) e h = h
+
+-- of want of memory nothing is claimed
+pub memory-unsaid : (A : Type 0) (f : Fault) → f ≡ fault.OutOfMemory → WhenAnswered (Err f) A
+memory-unsaid A f e = subst (λ x. WhenAnswered (Err x) A) (sym e) tt
+
+pub memory-unrefused : (T A : Type 0) (f : Fault) → f ≡ fault.OutOfMemory → WhenRefused {T = T} (Err f) A
+memory-unrefused T A f e = λ h. let d : fault.OutOfMemory ≡ fault.NoSolution = sym e ∙ h in absurd (cc)
+
+none-behind : {A : Type 0} (xs : List A) → xs ++ [] ≡ xs
+none-behind [] = refl
+none-behind (x ∷ xs) = ap (λ ys. x ∷ ys) (none-behind xs)
+
+-- the rules of no class
+pub collects-none : (C : TraitGoalProvenVia → List Rule → Type 0) → CollectsAll C [] []
+unfolding CollectsAll
+collects-none C = refl
+
+-- those of one more class
+pub collects-last : (C : TraitGoalProvenVia → List Rule → Type 0) (cs : List TraitGoalProvenVia) (c : TraitGoalProvenVia) (rs qs : List Rule) →
+    CollectsAll C cs rs → C c qs → CollectsAll C (cs ++ c ∷ []) (rs ++ qs)
+unfolding CollectsAll
+collects-last C [] c rs qs h k = (qs, [], k, refl, ap (λ xs. xs ++ qs) h ∙ sym (none-behind qs))
+collects-last C (d ∷ cs) c rs qs h k =
+    (h.0, h.1 ++ qs, h.2, collects-last C cs c h.1 qs h.3 k, ap (λ xs. xs ++ qs) h.4 ∙ append_assoc h.0 h.1 qs)
+
+pub collects-next : (C : TraitGoalProvenVia → List Rule → Type 0) (cs : List TraitGoalProvenVia) (i : ℕ) (d : TraitGoalProvenVia) (rs qs ts : List Rule) →
+    i < length cs → CollectsAll C (take i cs) rs → C (get_or cs i d) qs → ts ≡ rs ++ qs → CollectsAll C (take (i + 1) cs) ts
+collects-next C cs i d rs qs ts l h k e =
+    subst (λ xs. CollectsAll C xs ts) (sym (take-more cs i d l))
+    (subst (CollectsAll C (take i cs ++ get_or cs i d ∷ [])) (sym e) (collects-last C (take i cs) (get_or cs i d) rs qs h k))
+
+-- no argument is asked for
+pub forms-none : (env : List Clause) (s : State) → FormsAll env [] s true s
+unfolding FormsAll
+forms-none env s = (refl, refl)
+
+and-assoc : (a b c : Bool) → (a && b) && c ≡ a && (b && c)
+and-assoc true b c = refl
+and-assoc false b c = refl
+
+and-true : (a : Bool) → a ≡ a && true
+and-true true = refl
+and-true false = refl
+
+-- one more argument is
+pub forms-last : (env : List Clause) (xs : List GenericArg) (x : GenericArg) (s z u : State) (a b : Bool) →
+    FormsAll env xs s a z → Forms env (tree_in x) z b u → FormsAll env (xs ++ x ∷ []) s (a && b) u
+unfolding FormsAll
+forms-last env [] x s z u a b h k =
+    (u, b, true, subst (λ (y : State). Forms env (tree_in x) y b u) h.1 k, (refl, refl), ap (λ c. c && b) h.0 ∙ and-true b)
+forms-last env (y ∷ xs) x s z u a b h k =
+    (h.0, h.1, h.2 && b, h.3, forms-last env xs x h.0 z u h.2 b h.4 k, ap (λ c. c && b) h.5 ∙ and-assoc h.1 h.2 b)
+
+pub forms-next : (env : List Clause) (xs : List GenericArg) (i : ℕ) (x : GenericArg) (s z u : State) (a b : Bool) →
+    i < length xs → x ≡ get_or xs i x → FormsAll env (take i xs) s a z → Forms env (tree_in x) z b u → FormsAll env (take (i + 1) xs) s (a && b) u
+forms-next env xs i x s z u a b l at h k =
+    subst (λ ys. FormsAll env ys s (a && b) u) (sym (take-more xs i x l ∙ ap (λ y. take i xs ++ y ∷ []) (sym at)))
+    (forms-last env (take i xs) x s z u a b h k)
+
+-- or it is refused
+pub lacks-at : (env : List Clause) (xs : List GenericArg) (i : ℕ) (x : GenericArg) (s z u : State) (a : Bool) →
+    i < length xs → x ≡ get_or xs i x → FormsAll env (take i xs) s a z → RefusesForm env (tree_in x) z u → LacksForm env xs s u
+lacks-at env xs i x s z u a l at h k = record {
+  before = take i xs;
+  at = x;
+  behind = drop (i + 1) xs;
+  split = sym (take-append-drop (i + 1) xs) ∙ ap (λ ys. ys ++ drop (i + 1) xs) (take-more xs i x l ∙ ap (λ y. take i xs ++ y ∷ []) (sym at)) ∙ append_assoc (take i xs) (x ∷ []) (drop (i + 1) xs);
+  last = z;
+  formed = a;
+  forms = h;
+  refused = k;
+}
+
+-- a list that makes an alias rigid is run, and what comes of it is answered
+pub rigid-run : (env : List Clause) (p : NormalizesTo) (es : List RuleEntry) (s u : State) (r : Result Response Fault) → IsRigidList p es →
+    IfOk r (RunsOpen env es s u) → WhenRefused r (IsRefusedOpen env es s u) → WhenAnswered r (IsRigid env p s r u)
+rigid-run env p es s u (Ok q) l h k = (es, l, h)
+rigid-run env p es s u (Err f) l h k = when-refused (IsRigid env p s (Err f) u) f (λ e. (es, l, k e))
+
+-- a lifetime has no head form to be asked for
+pub forms-lifetime : (env : List Clause) (o : Option Tree) (s : State) → None ≡ o → Forms env o s true s
+forms-lifetime env o s e = subst (λ x. Forms env x s true s) e (refl, refl)
+
+-- what is answered for a head form
+pub forms-found : (env : List Clause) (o : Option Tree) (t : Tree) (s u : State) (a : Option Term) (b : Bool) → Some t ≡ o → AsksForm env t s u (Ok a) → b ≡ is_formed a → Forms env o s b u
+forms-found env o t s u a b e h f = subst (λ x. Forms env x s b u) e (a, h, f)
+
+pub refuses-form : (env : List Clause) (o : Option Tree) (t : Tree) (s u : State) (f : Fault) → Some t ≡ o → AsksForm env t s u (Err f) → f ≡ fault.NoSolution → RefusesForm env o s u
+refuses-form env o t s u f e h g = (t, sym e, subst (λ x. AsksForm env t s u (Err x)) g h)
+
+-- the response of a group is the answer, or not, by the head forms of own arguments
+pub unsure-given : (env : List Clause) (own : List GenericArg) (q : Response) (s : State) → q.certainty ≡ certainty.Maybe → WithForms env own q s (Ok q) s
+unsure-given env own q s e = inl (e, refl, refl)
+
+pub formed-given : (env : List Clause) (own : List GenericArg) (q : Response) (s u : State) → q.certainty ≡ certainty.Yes → FormsAll env own s true u → WithForms env own q s (Ok q) u
+formed-given env own q s u e h = inr (inl (e, h, refl))
+
+pub unformed-left : (env : List Clause) (own : List GenericArg) (q r : Response) (s u : State) → q.certainty ≡ certainty.Yes → FormsAll env own s false u → r.certainty ≡ certainty.Maybe → WithForms env own q s (Ok r) u
+unformed-left env own q r s u e h f = inr (inr (inl (e, h, f)))
+
+pub formless-refused : (env : List Clause) (own : List GenericArg) (q : Response) (s u : State) (f : Fault) → q.certainty ≡ certainty.Yes → (f ≡ fault.NoSolution → LacksForm env own s u) →
+    WhenAnswered (Err f) (WithForms env own q s (Err f) u)
+formless-refused env own q s u f e h = when-refused (WithForms env own q s (Err f) u) f (λ g. inr (inr (inr (e, h g, ap Err g))))
+
+pub not-maybe : (x : certainties.Certainty) → (x ≡ certainty.Maybe → ⊥) → x ≡ certainty.Yes
+not-maybe certainty.Yes h = refl
+not-maybe certainty.Maybe h = absurd (h refl)
+
+-- what can be applied still can after a call that left things as they were
+pub applies-through : (s z : State) (q : Response) → z ≡ restored s z → GoesBack s z → IsSolved s.terms s.inference → IsApplicable s q → IsApplicable z q
+applies-through s z q e goes solved h =
+    applies-later s z q (ap (λ (x : State). x.inference) e) (ap (λ (x : State). x.storage) e) goes.terms solved h
+
+-- what is claimed of an answer claims what follows from it
+pub when-map : (A B : Type 0) (r : Result Response Fault) → (A → B) → WhenAnswered r A → WhenAnswered r B
+when-map A B (Ok x) f h = f h
+when-map A B (Err fault.NoSolution) f h = f h
+when-map A B (Err fault.RerunNonErased) f h = tt
+when-map A B (Err fault.OutOfMemory) f h = tt
+when-map A B (Err fault.NotForThisKind) f h = tt
+
+-- how the rules of classes are collected
+abbrev CollectsBy : Type 1
+CollectsBy = TypingMode → TraitGoalProvenVia → List Rule → Type 0
+
+tables-kept : (s z : State) → z ≡ restored s z → z.tables ≡ s.tables
+tables-kept s z e = ap (λ (x : State). x.tables) e
+
+-- the rules of a group are run and merged, by what a context shows of it
+pub group-merges : {P : Type 0} (K : KindWords P) (x a u : State) (g : Goal P) (env es : List Clause) (cs : List TraitGoalProvenVia) (rules qs : List Rule) (r : Result Merged Fault) → x ≡ a → es ≡ env → qs ≡ rules →
+    CollectsAll (CollectsFor K x.tables g x.typing_mode) cs rules → IfOk r (λ m. MergesRules es qs a m u) → IfOk r (λ m. MergesGroup (CollectsFor K a.tables g) env cs a m u)
+group-merges K x a u g env es cs rules qs (Ok m) e f h collects merges = (
+  rules,
+  subst (λ (s : State). CollectsAll (CollectsFor K s.tables g s.typing_mode) cs rules) e collects,
+  subst (λ xs. MergesRules env xs a m u) h (subst (λ xs. MergesRules xs qs a m u) f merges),
+)
+group-merges K x a u g env es cs rules qs (Err f) e f' h collects merges = tt
+
+-- the environment answers
+pub environment-answers : (C : CollectsBy) (c : TraitGoalProvenVia) (env : List Clause) (p : NormalizesTo) (s z u : State) (q : Response) (r : Result Response Fault) → z ≡ restored s z →
+    MergesGroup C env (class.ParamEnv ∷ []) s (merged.Answered q) z → WhenAnswered r (WithForms env (own_args z.tables p.alias) q z r u) →
+    WhenAnswered r (ByGroups C c env (own_args s.tables p.alias) p s r u)
+environment-answers C c env p s z u q r e m h =
+    when-map (WithForms env (own_args z.tables p.alias) q z r u) (ByGroups C c env (own_args s.tables p.alias) p s r u) r
+    (λ k. inl (merged.Answered q, z, m, subst (λ t. WithForms env (own_args t p.alias) q z r u) (tables-kept s z e) k)) h
+
+pub environment-splits : (C : CollectsBy) (c : TraitGoalProvenVia) (env : List Clause) (own : List GenericArg) (p : NormalizesTo) (s z : State) (r : Response) →
+    MergesGroup C env (class.ParamEnv ∷ []) s merged.Split z → r.certainty ≡ certainty.Maybe → ByGroups C c env own p s (Ok r) z
+environment-splits C c env own p s z r m h = inl (merged.Split, z, m, (h, refl))
+
+-- or the groups after it
+pub later-answers : (C : Tables → CollectsBy) (c : TraitGoalProvenVia) (env : List Clause) (p : NormalizesTo) (s z u : State) (r : Result Response Fault) → z ≡ restored s z →
+    MergesGroup (C s.tables) env (class.ParamEnv ∷ []) s merged.Refuted z → WhenAnswered r (ByLater c (C z.tables) env (own_args z.tables p.alias) p z r u) →
+    WhenAnswered r (ByGroups (C s.tables) c env (own_args s.tables p.alias) p s r u)
+later-answers C c env p s z u r e m h =
+    when-map (ByLater c (C z.tables) env (own_args z.tables p.alias) p z r u) (ByGroups (C s.tables) c env (own_args s.tables p.alias) p s r u) r
+    (λ k. inr (z, m, subst (λ t. ByLater c (C t) env (own_args t p.alias) p z r u) (tables-kept s z e) k)) h
+
+-- the bounds answer
+pub bounds-answer : (C : CollectsBy) (env : List Clause) (p : NormalizesTo) (s z u : State) (q : Response) (r : Result Response Fault) → z ≡ restored s z →
+    MergesGroup C env (class.AliasBound ∷ []) s (merged.Answered q) z → WhenAnswered r (WithForms env (own_args z.tables p.alias) q z r u) →
+    WhenAnswered r (ByBounds C env (own_args s.tables p.alias) p s r u)
+bounds-answer C env p s z u q r e m h =
+    when-map (WithForms env (own_args z.tables p.alias) q z r u) (ByBounds C env (own_args s.tables p.alias) p s r u) r
+    (λ k. (merged.Answered q, z, m, subst (λ t. WithForms env (own_args t p.alias) q z r u) (tables-kept s z e) k)) h
+
+pub bounds-split : (C : CollectsBy) (env : List Clause) (own : List GenericArg) (p : NormalizesTo) (s z : State) (r : Response) →
+    MergesGroup C env (class.AliasBound ∷ []) s merged.Split z → r.certainty ≡ certainty.Maybe → ByBounds C env own p s (Ok r) z
+bounds-split C env own p s z r m h = (merged.Split, z, m, (h, refl))
+
+-- or the alias is rigid
+pub bounds-rigid : (C : CollectsBy) (env : List Clause) (own : List GenericArg) (p : NormalizesTo) (s z u : State) (r : Result Response Fault) →
+    MergesGroup C env (class.AliasBound ∷ []) s merged.Refuted z → WhenAnswered r (IsRigid env p z r u) → WhenAnswered r (ByBounds C env own p s r u)
+bounds-rigid C env own p s z u r m h = when-map (IsRigid env p z r u) (ByBounds C env own p s r u) r (λ k. (merged.Refuted, z, m, k)) h
+
+-- the bounds and the rest answer
+pub rest-answers : (C : CollectsBy) (env : List Clause) (s z : State) (q : Response) →
+    MergesGroup C env (class.AliasBound ∷ class.Misc ∷ []) s (merged.Answered q) z → ByRest C env s (Ok q) z
+rest-answers C env s z q m = (merged.Answered q, z, m, (refl, refl))
+
+pub rest-splits : (C : CollectsBy) (env : List Clause) (s z : State) (r : Response) →
+    MergesGroup C env (class.AliasBound ∷ class.Misc ∷ []) s merged.Split z → r.certainty ≡ certainty.Maybe → ByRest C env s (Ok r) z
+rest-splits C env s z r m h = (merged.Split, z, m, (h, refl))
+
+pub rest-refuses : (C : CollectsBy) (env : List Clause) (s z : State) (r : Result Response Fault) →
+    MergesGroup C env (class.AliasBound ∷ class.Misc ∷ []) s merged.Refuted z → IsRefusedIn z.typing_mode r → ByRest C env s r z
+rest-refuses C env s z r m h = (merged.Refuted, z, m, (h, refl))
+
+-- the classes after the environment are those of the class through which the trait goal holds
+pub by-later-bounds : (c : TraitGoalProvenVia) (C : CollectsBy) (env : List Clause) (own : List GenericArg) (p : NormalizesTo) (s u : State) (r : Result Response Fault) →
+    (c ≡ class.Misc → ⊥) → ByBounds C env own p s r u → ByLater c C env own p s r u
+by-later-bounds class.ParamEnv C env own p s u r n h = h
+by-later-bounds class.AliasBound C env own p s u r n h = h
+by-later-bounds class.Misc C env own p s u r n h = absurd (n refl)
+
+-- a goal is answered through a class
+pub through-left : {P : Type 0} (K : KindWords P) (p : NormalizesTo) (c : TraitGoalProvenVia) (g : Goal P) (s u : State) (r : Response) →
+    IsLeft K.self_type K.is_with_self (has_kind_fault K.has_fault s.tables) g s u → r.certainty ≡ certainty.Maybe → MergesThrough K p c g s (Ok r) u
+through-left K p c g s u r h e = inl (h, e)
+
+pub through-formless : {P : Type 0} (K : KindWords P) (p : NormalizesTo) (c : TraitGoalProvenVia) (g : Goal P) (s u : State) (f : Fault) →
+    (f ≡ fault.NoSolution → IsFormless K.self_type g s u) → WhenAnswered (Err f) (MergesThrough K p c g s (Err f) u)
+through-formless K p c g s u f h = when-refused (MergesThrough K p c g s (Err f) u) f (λ e. inr (inl (h e, ap Err e)))
+
+pub through-groups : {P : Type 0} (K : KindWords P) (p : NormalizesTo) (c : TraitGoalProvenVia) (g h : Goal P) (s z u : State) (r : Result Response Fault) → z ≡ restored s z →
+    Considers K.self_type K.is_with_self g h s z → has_kind_fault K.has_fault s.tables h ≡ false →
+    WhenAnswered r (ByGroups (CollectsFor K z.tables h) c h.param_env.items (own_args z.tables p.alias) p z r u) → WhenAnswered r (MergesThrough K p c g s r u)
+through-groups K p c g h s z u r e considers none m =
+    when-map (ByGroups (CollectsFor K z.tables h) c h.param_env.items (own_args z.tables p.alias) p z r u) (MergesThrough K p c g s r u) r
+    (λ k. inr (inr (h, z, considers, none, subst (λ t. ByGroups (CollectsFor K t h) c h.param_env.items (own_args t p.alias) p z r u) (tables-kept s z e) k))) m
+
+-- so it is where its self type has a head form
+pub through-formed : {P : Type 0} (K : KindWords P) (p : NormalizesTo) (c : TraitGoalProvenVia) (g h : Goal P) (s z u : State) (r : Result Response Fault) (o : Option (Goal P)) →
+    FormsGoal K.self_type K.is_with_self (has_kind_fault K.has_fault s.tables) g s z o → o ≡ Some h → z ≡ restored s z →
+    WhenAnswered r (ByGroups (CollectsFor K z.tables h) c h.param_env.items (own_args z.tables p.alias) p z r u) → WhenAnswered r (MergesThrough K p c g s r u)
+through-formed K p c g h s z u r o forms is e m =
+    let f = subst (λ x. FormsGoal K.self_type K.is_with_self (has_kind_fault K.has_fault s.tables) g s z x) is forms in through-groups K p c g h s z u r e f.0 f.1 m
+
+-- the trait goal of a projection is asked for, by what a context shows of its tables
+pub asks-its-trait : (s a : State) (g : Goal NormalizesTo) (o : Option (Goal TraitPredicate)) (q : Goal TraitPredicate) → s ≡ a → o ≡ Some q →
+    MatchOption o (projected_trait s.tables g.predicate.alias ≡ None) (AsksItsTrait s.tables g) → AsksItsTrait a.tables g q
+asks-its-trait s a g o q e is h =
+    subst (λ (x : State). AsksItsTrait x.tables g q) e (subst (λ x. MatchOption x (projected_trait s.tables g.predicate.alias ≡ None) (AsksItsTrait s.tables g)) is h)
+
+-- a projection is answered by its trait goal
+pub projects-nothing : (g : Goal NormalizesTo) (s : State) (r : Response) → projected_trait s.tables g.predicate.alias ≡ None → r.certainty ≡ certainty.Maybe → MergesProjection g s (Ok r) s
+projects-nothing g s r e h = inl (e, h, refl)
+
+pub projects-refused : (g : Goal NormalizesTo) (q : Goal TraitPredicate) (s z : State) (f : Fault) → AsksItsTrait s.tables g q → (f ≡ fault.NoSolution → AnswersTrait q s z (Err f)) →
+    WhenAnswered (Err f) (MergesProjection g s (Err f) z)
+projects-refused g q s z f asks h = when-refused (MergesProjection g s (Err f) z) f (λ e. inr (q, Err f, z, asks, h e, (refl, refl)))
+
+pub projects-unproven : (g : Goal NormalizesTo) (q : Goal TraitPredicate) (s z : State) (a r : Response) → AsksItsTrait s.tables g q → AnswersTrait q s z (Ok a) →
+    None ≡ proven_class a → r.certainty ≡ certainty.Maybe → MergesProjection g s (Ok r) z
+projects-unproven g q s z a r asks h e maybe = inr (q, Ok a, z, asks, h, subst (λ o. ByClass o g z (Ok r) z) e (maybe, refl))
+
+pub projects-through : (g : Goal NormalizesTo) (q : Goal TraitPredicate) (c : TraitGoalProvenVia) (s z u : State) (a : Response) (r : Result Response Fault) → AsksItsTrait s.tables g q → AnswersTrait q s z (Ok a) →
+    Some c ≡ proven_class a → WhenAnswered r (MergesThrough alias_words g.predicate c g z r u) → WhenAnswered r (MergesProjection g s r u)
+projects-through g q c s z u a r asks h e m =
+    when-map (MergesThrough alias_words g.predicate c g z r u) (MergesProjection g s r u) r
+    (λ k. inr (q, Ok a, z, asks, h, subst (λ o. ByClass o g z r u) e k)) m

@@ -1,0 +1,32 @@
+use Rattle.std.proofs.Common.{◌∷◌, [], List, subst, length}
+use Rattle.goal_terms.specs.declared.answers.TraitGoalProvenVia.TheVariants as class
+use Rattle.goal_terms.specs.declared.predicates.Clause.{Clause}
+use Rattle.goal_solver.specs.Answers.{IsQuiet}
+use Rattle.goal_solver.specs.Collecting.{kind_words, CollectsFor}
+use Rattle.goal_solver.specs.OpenGoals.{WhenAnswered}
+use Rattle.goal_solver.specs.OpenProjections.{MergesGroup, WithForms, own_args}
+use Rattle.goal_solver.specs.State.{State, kinds_of}
+use Rattle.goal_solver.proofs.ApplicableLemmas.{nothing-applies-after}
+use Rattle.goal_solver.proofs.OpenProjectionLemmas.{environment-answers, environment-splits, later-answers}
+use Rattle.goal_solver.proofs.context.EvalCtxt.merge_groups.Goals as goal
+
+pub returns-in-Refuted-clause-decides : goal.returns-in-Refuted-clause-decides
+returns-in-Refuted-clause-decides g c =
+    later-answers (λ t. CollectsFor (kind_words g.G.GoalKind.merging g.G.GoalKind.has_term g.G.GoalKind.self_type g.G.GoalKind.is_with_self g.G.PredicateTerms.has_fault g.G.GoalKind.trait_asked g.G.GoalKind.passes g.G.GoalKind.is_impl_for g.G.GoalKind.candidate_gives g.G.GoalKind.candidate_refuted g.G.GoalKind.is_for g.G.GoalKind.additional) t c.args.goal.now) c.args.class c.args.goal.now.param_env.items c.args.asked.now c.args.self.now c.merge_group.new.self c.merge_later.new.self c.merge_later.result c.merge_group.ensures.unchanged
+    (subst (λ m. MergesGroup (CollectsFor (kind_words g.G.GoalKind.merging g.G.GoalKind.has_term g.G.GoalKind.self_type g.G.GoalKind.is_with_self g.G.PredicateTerms.has_fault g.G.GoalKind.trait_asked g.G.GoalKind.passes g.G.GoalKind.is_impl_for g.G.GoalKind.candidate_gives g.G.GoalKind.candidate_refuted g.G.GoalKind.is_for g.G.GoalKind.additional) c.args.self.now.tables c.args.goal.now) c.args.goal.now.param_env.items (class.ParamEnv ∷ []) c.args.self.now m c.merge_group.new.self) c.in-Refuted.is c.in_ok-merge_group.ensures.merges) c.merge_later.ensures.decides
+
+pub returns-in-Answered-clause-decides : goal.returns-in-Answered-clause-decides
+returns-in-Answered-clause-decides g c =
+    environment-answers (CollectsFor (kind_words g.G.GoalKind.merging g.G.GoalKind.has_term g.G.GoalKind.self_type g.G.GoalKind.is_with_self g.G.PredicateTerms.has_fault g.G.GoalKind.trait_asked g.G.GoalKind.passes g.G.GoalKind.is_impl_for g.G.GoalKind.candidate_gives g.G.GoalKind.candidate_refuted g.G.GoalKind.is_for g.G.GoalKind.additional) c.args.self.now.tables c.args.goal.now) c.args.class c.args.goal.now.param_env.items c.args.asked.now c.args.self.now c.merge_group.new.self c.with_forms.new.self c.in-Answered.response c.with_forms.result c.merge_group.ensures.unchanged
+    (subst (λ m. MergesGroup (CollectsFor (kind_words g.G.GoalKind.merging g.G.GoalKind.has_term g.G.GoalKind.self_type g.G.GoalKind.is_with_self g.G.PredicateTerms.has_fault g.G.GoalKind.trait_asked g.G.GoalKind.passes g.G.GoalKind.is_impl_for g.G.GoalKind.candidate_gives g.G.GoalKind.candidate_refuted g.G.GoalKind.is_for g.G.GoalKind.additional) c.args.self.now.tables c.args.goal.now) c.args.goal.now.param_env.items (class.ParamEnv ∷ []) c.args.self.now m c.merge_group.new.self) c.in-Answered.is c.in_ok-merge_group.ensures.merges)
+    (subst (λ (xs : List Clause). WhenAnswered c.with_forms.result (WithForms xs (own_args c.merge_group.new.self.tables c.args.asked.now.alias) c.in-Answered.response c.merge_group.new.self c.with_forms.result c.with_forms.new.self)) c.deref.ensures.value c.with_forms.ensures.forms)
+
+pub returns-in-Split-clause-decides : goal.returns-in-Split-clause-decides
+returns-in-Split-clause-decides g c =
+    environment-splits (CollectsFor (kind_words g.G.GoalKind.merging g.G.GoalKind.has_term g.G.GoalKind.self_type g.G.GoalKind.is_with_self g.G.PredicateTerms.has_fault g.G.GoalKind.trait_asked g.G.GoalKind.passes g.G.GoalKind.is_impl_for g.G.GoalKind.candidate_gives g.G.GoalKind.candidate_refuted g.G.GoalKind.is_for g.G.GoalKind.additional) c.args.self.now.tables c.args.goal.now) c.args.class c.args.goal.now.param_env.items (own_args c.args.self.now.tables c.args.asked.now.alias) c.args.asked.now c.args.self.now c.merge_group.new.self c.respond.result
+    (subst (λ m. MergesGroup (CollectsFor (kind_words g.G.GoalKind.merging g.G.GoalKind.has_term g.G.GoalKind.self_type g.G.GoalKind.is_with_self g.G.PredicateTerms.has_fault g.G.GoalKind.trait_asked g.G.GoalKind.passes g.G.GoalKind.is_impl_for g.G.GoalKind.candidate_gives g.G.GoalKind.candidate_refuted g.G.GoalKind.is_for g.G.GoalKind.additional) c.args.self.now.tables c.args.goal.now) c.args.goal.now.param_env.items (class.ParamEnv ∷ []) c.args.self.now m c.merge_group.new.self) c.in-Split.is c.in_ok-merge_group.ensures.merges) c.respond.ensures.certainty
+
+pub returns-in-Split-clause-applies : goal.returns-in-Split-clause-applies
+returns-in-Split-clause-applies g c =
+    nothing-applies-after c.args.self.now c.merge_group.new.self c.respond.result c.merge_group.ensures.unchanged c.is_well_formed.ensures.storage
+    (subst (λ (s : State). IsQuiet (length (kinds_of s)) c.respond.result) c.merge_group.ensures.unchanged c.respond.ensures.quiet) c.respond.ensures.values

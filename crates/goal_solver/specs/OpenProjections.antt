@@ -1,0 +1,217 @@
+-- How the goal of a projection with inference variables is answered: by its trait goal, and then by its candidates, group by group.
+use Rattle.std.specs.Prelude.{◌≡◌, ◌⊎◌, ℕ, suc, Bool, true, false, ◌&&◌, is_none, List, [], ◌∷◌, ◌++◌, length, drop, Option, Some, None, Result, Ok, Err}
+use Rattle.goal_terms.specs.NodeTests.{general_variable_at}
+use Rattle.goal_terms.specs.Tree.{Tree, node_of}
+use Rattle.goal_terms.specs.TreeOf.{tree_of_alias, tree_of_const, tree_of_term, tree_of_ty}
+use Rattle.goal_terms.specs.declared.answers.Certainty.{Certainty}
+use Rattle.goal_terms.specs.declared.answers.Certainty.TheVariants as certainty
+use Rattle.goal_terms.specs.declared.answers.Response.{Response}
+use Rattle.goal_terms.specs.declared.answers.TraitGoalProvenVia.{TraitGoalProvenVia}
+use Rattle.goal_terms.specs.declared.answers.TraitGoalProvenVia.TheVariants as class
+use Rattle.goal_terms.specs.declared.modes.TypingMode.{TypingMode}
+use Rattle.goal_terms.specs.declared.predicates.Clause.{Clause}
+use Rattle.goal_terms.specs.declared.predicates.Goal.{Goal}
+use Rattle.goal_terms.specs.declared.predicates.NormalizesTo.{NormalizesTo}
+use Rattle.goal_terms.specs.declared.predicates.TraitPredicate.{TraitPredicate}
+use Rattle.goal_terms.specs.declared.terms.AliasTerm.{AliasTerm}
+use Rattle.goal_terms.specs.declared.terms.GenericArg.{GenericArg}
+use Rattle.goal_terms.specs.declared.terms.GenericArg.TheVariants as argument
+use Rattle.goal_terms.specs.declared.terms.Term.{Term}
+use Rattle.goal_tables.specs.Clauses.{lies_in_equation}
+use Rattle.goal_tables.specs.declared.rows.Tables.{Tables}
+use Rattle.goal_kinds.specs.CandidateRules.{first_type}
+use Rattle.goal_kinds.specs.Premises.{TraitTree}
+use Rattle.goal_kinds.specs.ProjectionEntries.{may_match_term}
+use Rattle.goal_kinds.specs.ProjectionKind.{ProjectionCandidateGives, ProjectionCandidateRefuted, IsImplForItem, projected_trait, lang_of_alias, is_for_alias, IsAliasWithSelf}
+use Rattle.goal_kinds.specs.declared.goal_kind.MergeRule.TheVariants as merge
+use Rattle.goal_kinds.specs.declared.faults.Fault.{Fault}
+use Rattle.goal_kinds.specs.declared.faults.Fault.TheVariants as fault
+use Rattle.goal_kinds.specs.declared.rules.Rule.{Rule}
+use Rattle.goal_kinds.specs.declared.rules.RuleEntry.{RuleEntry}
+use Rattle.goal_kinds.specs.declared.rules.RuleEntry.TheVariants as entry
+use Rattle.goal_kinds.specs.declared.rules.RuleTerm.TheVariants as given
+use Rattle.goal_solver.specs.Answers.{IsOwed, level_over, erased_args, AreClosed, IsTraitAnswer, IsOpen, IsMaybe}
+use Rattle.goal_solver.specs.Collecting.{KindWords, kind_words, CollectsFor}
+use Rattle.goal_solver.specs.GoingBack.{restored}
+use Rattle.goal_solver.specs.MergedRules.{MergesRules}
+use Rattle.goal_solver.specs.OpenGoals.{AsksForm, Considers, IsLeft, IsFormless, IsRefusedIn, WhenAnswered, MergesTrait, at_depth, has_kind_fault}
+use Rattle.goal_solver.specs.OpenRuns.{RunsOpen}
+use Rattle.goal_solver.specs.Refusals.{IsRefusedOpen}
+use Rattle.goal_solver.specs.Outcomes.{StandsFor}
+use Rattle.goal_solver.specs.State.{State}
+use Rattle.goal_solver.specs.TranslatedArgs.{IsSameEnvironment}
+use Rattle.goal_solver.specs.declared.merged_rules.Merged.{Merged}
+use Rattle.goal_solver.specs.declared.merged_rules.Merged.TheVariants as merged
+
+-- a class, if something is certain
+abbrev pub class_if : Certainty → Option TraitGoalProvenVia → Option TraitGoalProvenVia
+class_if certainty.Yes c = c
+class_if certainty.Maybe c = None
+
+-- the class through which a response says that a trait goal holds
+abbrev pub proven_class : Response → Option TraitGoalProvenVia
+proven_class r = class_if r.certainty r.proven_via
+
+-- a trait goal is answered, as `compute_trait_goal` does it
+pub record AnswersTrait (q : Goal TraitPredicate) (old new : State) (r : Result Response Fault) : Type 0 where
+  pub sound : (m : TypingMode) → StandsFor old.typing_mode m → AreClosed q.predicate.trait_ref.args.items q.param_env.items →
+      IsTraitAnswer (level_over old m q.param_env.items) q.predicate.trait_ref.def_id (erased_args q.predicate.trait_ref.args.items) r
+  pub decided : (m : TypingMode) → IsOwed new m → AreClosed q.predicate.trait_ref.args.items q.param_env.items → IsMaybe r →
+      IsOpen (level_over old m q.param_env.items) q.predicate.trait_ref.def_id (erased_args q.predicate.trait_ref.args.items)
+  pub merges : (n : ℕ) → (AreClosed q.predicate.trait_ref.args.items q.param_env.items → ⊥) → old.remaining_depth ≡ suc n →
+      WhenAnswered r (MergesTrait q (at_depth n old) r (at_depth n new))
+  pub back : new ≡ restored old new
+
+-- a goal asks for the trait of the item that an alias projects, with the alias's first arguments, in the same environment
+pub record AsksItsTrait (t : Tables) (g : Goal NormalizesTo) (q : Goal TraitPredicate) : Type 0 where
+  pub asked : projected_trait t g.predicate.alias ≡ Some (record { def_id = q.predicate.trait_ref.def_id; args = erased_args q.predicate.trait_ref.args.items })
+  pub environment : IsSameEnvironment g.param_env.items q.param_env.items
+
+-- the arguments behind those of a trait; none where there is no trait
+abbrev pub args_behind : Option TraitTree → List GenericArg → List GenericArg
+args_behind None args = []
+args_behind (Some q) args = drop (length q.args) args
+
+-- the own arguments of a projection
+abbrev pub own_args : Tables → AliasTerm → List GenericArg
+own_args t a = args_behind (projected_trait t a) a.args.items
+
+-- the rules of some classes, one after the other
+unfoldable pub CollectsAll : (TraitGoalProvenVia → List Rule → Type 0) → List TraitGoalProvenVia → List Rule → Type 0
+CollectsAll Collects [] rs = rs ≡ []
+CollectsAll Collects (c ∷ cs) rs = (ps : List Rule) × (qs : List Rule) × Collects c ps × CollectsAll Collects cs qs × (rs ≡ ps ++ qs)
+
+-- they are run and merged
+abbrev pub MergesGroup : (TypingMode → TraitGoalProvenVia → List Rule → Type 0) → List Clause → List TraitGoalProvenVia → State → Merged → State → Type 0
+MergesGroup Collects env cs s m u = (rules : List Rule) × CollectsAll (Collects s.typing_mode) cs rules × MergesRules env rules s m u
+
+-- the type or the constant that an argument is
+abbrev pub tree_in : GenericArg → Option Tree
+tree_in (argument.Ty t) = Some (tree_of_ty t)
+tree_in (argument.Const c) = Some (tree_of_const c)
+tree_in (argument.Lifetime r) = None
+
+-- whether a head form is there, and no general variable
+abbrev pub is_formed : Option Term → Bool
+is_formed None = false
+is_formed (Some t) = is_none (general_variable_at (node_of (tree_of_term t)))
+
+-- whether a term has a head form, as it is asked for; there is none to ask for in a lifetime
+abbrev pub Forms : List Clause → Option Tree → State → Bool → State → Type 0
+Forms env None s b u = (b ≡ true) × (u ≡ s)
+Forms env (Some t) s b u = (a : Option Term) × AsksForm env t s u (Ok a) × (b ≡ is_formed a)
+
+-- whether all of some arguments have one, asked in order
+unfoldable pub FormsAll : List Clause → List GenericArg → State → Bool → State → Type 0
+FormsAll env [] s b u = (b ≡ true) × (u ≡ s)
+FormsAll env (x ∷ xs) s b u = (z : State) × (c : Bool) × (d : Bool) × Forms env (tree_in x) s c z × FormsAll env xs z d u × (b ≡ (c && d))
+
+-- it is refuted that a term has one
+abbrev pub RefusesForm : List Clause → Option Tree → State → State → Type 0
+RefusesForm env o s u = (t : Tree) × (o ≡ Some t) × AsksForm env t s u (Err fault.NoSolution)
+
+-- so it is of one of some arguments, and not of those before it
+pub record LacksForm (env : List Clause) (xs : List GenericArg) (old new : State) : Type 0 where
+  pub before : List GenericArg
+  pub at : GenericArg
+  pub behind : List GenericArg
+  pub split : xs ≡ before ++ at ∷ behind
+  pub last : State
+  pub formed : Bool
+  pub forms : FormsAll env before old formed last
+  pub refused : RefusesForm env (tree_in at) last new
+
+-- a response that is sure is the answer where all own arguments have a head form; else the goal is undecided, or refused where one of them is
+abbrev pub WithForms : List Clause → List GenericArg → Response → State → Result Response Fault → State → Type 0
+WithForms env own q s r u =
+    ((q.certainty ≡ certainty.Maybe) × (r ≡ Ok q) × (u ≡ s))
+    ⊎ ((q.certainty ≡ certainty.Yes) × FormsAll env own s true u × (r ≡ Ok q))
+    ⊎ ((q.certainty ≡ certainty.Yes) × FormsAll env own s false u × IsMaybe r)
+    ⊎ ((q.certainty ≡ certainty.Yes) × LacksForm env own s u × (r ≡ Err fault.NoSolution))
+
+-- the list of the one entry that gives an expected term its alias as it stands
+pub record IsRigidList (p : NormalizesTo) (es : List RuleEntry) : Type 0 where
+  pub expected : Term
+  pub itself : Term
+  pub is : es ≡ entry.Term expected (given.AsItStands itself) ∷ []
+  pub same_term : tree_of_term expected ≡ tree_of_term p.term
+  pub same_alias : tree_of_term itself ≡ tree_of_alias p.alias
+
+-- a list is run, and what comes of it is answered
+abbrev pub AnswersRun : List Clause → List RuleEntry → State → Result Response Fault → State → Type 0
+AnswersRun env es s (Ok q) u = RunsOpen env es s u q
+AnswersRun env es s (Err f) u = IsRefusedOpen env es s u
+
+-- an alias is rigid: its expected term is given the alias as it stands
+abbrev pub IsRigid : List Clause → NormalizesTo → State → Result Response Fault → State → Type 0
+IsRigid env p s r u = (es : List RuleEntry) × IsRigidList p es × AnswersRun env es s r u
+
+-- what a class is answered whose rules are merged, and aren't all refused, where it gives a term only with the head forms of own arguments
+abbrev pub IsGiven : List Clause → List GenericArg → Merged → State → Result Response Fault → State → Type 0
+IsGiven env own merged.Refuted s r u = ⊥
+IsGiven env own (merged.Answered q) s r u = WithForms env own q s r u
+IsGiven env own merged.Split s r u = IsMaybe r × (u ≡ s)
+
+-- the bounds decide, or the alias is rigid
+abbrev pub IsGivenByBounds : List Clause → List GenericArg → NormalizesTo → Merged → State → Result Response Fault → State → Type 0
+IsGivenByBounds env own p merged.Refuted s r u = IsRigid env p s r u
+IsGivenByBounds env own p (merged.Answered q) s r u = WithForms env own q s r u
+IsGivenByBounds env own p merged.Split s r u = IsMaybe r × (u ≡ s)
+
+-- the bounds and the rest decide together, or the goal is refused
+abbrev pub IsGivenByRest : Merged → State → Result Response Fault → State → Type 0
+IsGivenByRest merged.Refuted s r u = IsRefusedIn s.typing_mode r × (u ≡ s)
+IsGivenByRest (merged.Answered q) s r u = (r ≡ Ok q) × (u ≡ s)
+IsGivenByRest merged.Split s r u = IsMaybe r × (u ≡ s)
+
+-- the groups after the environment are looked at, by the class through which the trait goal holds
+abbrev pub ByBounds : (TypingMode → TraitGoalProvenVia → List Rule → Type 0) → List Clause → List GenericArg → NormalizesTo → State → Result Response Fault → State → Type 0
+ByBounds Collects env own p s r u = (m : Merged) × (z : State) × MergesGroup Collects env (class.AliasBound ∷ []) s m z × IsGivenByBounds env own p m z r u
+
+abbrev pub ByRest : (TypingMode → TraitGoalProvenVia → List Rule → Type 0) → List Clause → State → Result Response Fault → State → Type 0
+ByRest Collects env s r u = (m : Merged) × (z : State) × MergesGroup Collects env (class.AliasBound ∷ class.Misc ∷ []) s m z × IsGivenByRest m z r u
+
+abbrev pub ByLater : TraitGoalProvenVia → (TypingMode → TraitGoalProvenVia → List Rule → Type 0) → List Clause → List GenericArg → NormalizesTo → State → Result Response Fault → State → Type 0
+ByLater class.ParamEnv Collects env own p s r u = ByBounds Collects env own p s r u
+ByLater class.AliasBound Collects env own p s r u = ByBounds Collects env own p s r u
+ByLater class.Misc Collects env own p s r u = ByRest Collects env s r u
+
+-- the environment decides, or the groups after it
+abbrev pub ByGroups : (TypingMode → TraitGoalProvenVia → List Rule → Type 0) → TraitGoalProvenVia → List Clause → List GenericArg → NormalizesTo → State → Result Response Fault → State → Type 0
+ByGroups Collects c env own p s r u =
+    ((m : Merged) × (z : State) × MergesGroup Collects env (class.ParamEnv ∷ []) s m z × IsGiven env own m z r u)
+    ⊎ ((z : State) × MergesGroup Collects env (class.ParamEnv ∷ []) s merged.Refuted z × ByLater c Collects env own p z r u)
+
+-- a projection whose trait goal holds through a class is answered by its candidates: undecided where it isn't considered, refused where it is refuted that its self type has a head form, and else by its groups
+abbrev pub MergesThrough : {P : Type 0} → KindWords P → NormalizesTo → TraitGoalProvenVia → Goal P → State → Result Response Fault → State → Type 0
+MergesThrough {P} K p c g s r u =
+    (IsLeft K.self_type K.is_with_self (has_kind_fault K.has_fault s.tables) g s u × IsMaybe r)
+    ⊎ (IsFormless K.self_type g s u × (r ≡ Err fault.NoSolution))
+    ⊎ ((h : Goal P)
+    × (z : State)
+    × Considers K.self_type K.is_with_self g h s z
+    × (has_kind_fault K.has_fault s.tables h ≡ false)
+    × ByGroups (CollectsFor K s.tables h) c h.param_env.items (own_args s.tables p.alias) p z r u)
+
+-- goals of the terms of aliases, as a kind of goals
+abbrev pub alias_words : KindWords NormalizesTo
+alias_words =
+    kind_words merge.Projections true (λ p. first_type p.alias.args.items) IsAliasWithSelf (λ p t f. lies_in_equation t [] f p.alias p.term) (λ p t. projected_trait t p.alias)
+    (λ p k. may_match_term p.alias k) (λ p t r. IsImplForItem t p.alias r) (λ p S n c t. ProjectionCandidateGives p.alias S n c t) (λ p S n c. ProjectionCandidateRefuted p.alias S n c)
+    (λ p t k. is_for_alias k (lang_of_alias t p.alias.kind)) (λ p S a. [])
+
+-- by the class of the trait goal's answer, if it is sure; else the goal is undecided
+abbrev pub ByClass : Option TraitGoalProvenVia → Goal NormalizesTo → State → Result Response Fault → State → Type 0
+ByClass None g s r u = IsMaybe r × (u ≡ s)
+ByClass (Some c) g s r u = MergesThrough alias_words g.predicate c g s r u
+
+-- by the trait goal's answer; its refusal is the answer
+abbrev pub ByTrait : Result Response Fault → Goal NormalizesTo → State → Result Response Fault → State → Type 0
+ByTrait (Ok a) g s r u = ByClass (proven_class a) g s r u
+ByTrait (Err f) g s r u = (r ≡ Err f) × (u ≡ s)
+
+-- the goal of a projection's term is answered: by the trait goal, and then by its candidates. That of another alias is undecided
+abbrev pub MergesProjection : Goal NormalizesTo → State → Result Response Fault → State → Type 0
+MergesProjection g s r u =
+    ((projected_trait s.tables g.predicate.alias ≡ None) × IsMaybe r × (u ≡ s))
+    ⊎ ((q : Goal TraitPredicate) × (a : Result Response Fault) × (z : State) × AsksItsTrait s.tables g q × AnswersTrait q s z a × ByTrait a g z r u)
