@@ -14,18 +14,16 @@ use std::alloc::Global;
 
 /// A rule that asks for clauses beside what it asks for already. Want of memory is the only refusal.
 pub(crate) fn with_requirements(
-    rule: Rule,
+    mut rule: Rule,
     requirements: Vec<(GoalSource, ClauseKind)>,
 ) -> Result<Rule, OutOfMemory>
     ensures source { IfOk result (λ r. r.source ≡ rule.source) }
     ensures entries { IfOk result (λ r. r.entries.items ≡ rule.entries.items ++ entries_for requirements.items) }
 {
-    let source = rule.source;
-    let mut entries = rule.entries;
     for (asked_for, kind) in requirements {
-        entries.push(RuleEntry::Clause(asked_for, kind))?;
+        rule.entries.push(RuleEntry::Clause(asked_for, kind))?;
     }
-    Ok(Rule { source, entries })
+    Ok(rule)
 }
 
 /// The rule of an auto trait: it records the fault, and doesn't stand. Want of memory is the only refusal.

@@ -13,15 +13,24 @@ pub struct Candidate {
 
 /// The rule of a candidate: where it comes from, and what it asks for, in order. It holds where all of
 /// its entries do, and is refuted where one is, all arguments that were named before it being known.
-#[derive(Debug, Drop)]
+#[derive(Debug)]
 pub struct Rule {
     pub source: CandidateSource,
     pub entries: Vec<RuleEntry>,
 }
 
+impl Drop for Rule {
+    fn drop(self) {
+        let Rule {
+            source: _,
+            entries: _,
+        } = self;
+    }
+}
+
 /// One thing that a rule asks for. Entries that name arguments are counted from 0: a later entry says by
 /// this number whose arguments it takes.
-#[derive(Debug, Drop)]
+#[derive(Debug)]
 pub enum RuleEntry {
     /// Arguments are named.
     Arguments(RuleArguments),
@@ -45,8 +54,25 @@ pub enum RuleEntry {
     Refused,
 }
 
+impl Drop for RuleEntry {
+    fn drop(self) {
+        match self {
+            RuleEntry::Arguments(_) => {}
+            RuleEntry::Equation(_, _) => {}
+            RuleEntry::Clause(_, _) => {}
+            RuleEntry::RowClauses(_, _) => {}
+            RuleEntry::Term(_, _) => {}
+            RuleEntry::Access(_) => {}
+            RuleEntry::DelayedFault(_) => {}
+            RuleEntry::Evaluation => {}
+            RuleEntry::Undecided => {}
+            RuleEntry::Refused => {}
+        }
+    }
+}
+
 /// Arguments that later entries take.
-#[derive(Debug, Drop)]
+#[derive(Debug)]
 pub enum RuleArguments {
     /// These, as they stand.
     Given(Vec<GenericArg>),
@@ -56,6 +82,17 @@ pub enum RuleArguments {
     OtherImpl(ImplId, ImplId, u32),
     /// Those of a number, and these behind them.
     Followed(u32, Vec<GenericArg>),
+}
+
+impl Drop for RuleArguments {
+    fn drop(self) {
+        match self {
+            RuleArguments::Given(_) => {}
+            RuleArguments::Header(_, _) => {}
+            RuleArguments::OtherImpl(_, _, _) => {}
+            RuleArguments::Followed(_, _) => {}
+        }
+    }
 }
 
 /// A row whose header is matched.
@@ -76,7 +113,7 @@ pub enum RowClauses {
 }
 
 /// What the expected variable stands for.
-#[derive(Debug, Drop)]
+#[derive(Debug)]
 pub enum RuleTerm {
     /// This term, as it stands.
     AsItStands(Term),
@@ -84,6 +121,16 @@ pub enum RuleTerm {
     Normalized(Term),
     /// The head form of a row's value, under the arguments of a number.
     Value(RowValue, u32),
+}
+
+impl Drop for RuleTerm {
+    fn drop(self) {
+        match self {
+            RuleTerm::AsItStands(_) => {}
+            RuleTerm::Normalized(_) => {}
+            RuleTerm::Value(_, _) => {}
+        }
+    }
 }
 
 /// A row whose value is taken.

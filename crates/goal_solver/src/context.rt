@@ -26,7 +26,6 @@ pub const GREATEST_LIMIT: u32 = 128;
 
 /// What an evaluation goes over: the tables, which it borrows, and what was made, added, entered and
 /// recorded so far.
-#[derive(Drop)]
 pub struct EvalCtxt<'t> {
     pub(crate) tables: &'t CheckedTables,
     pub(crate) typing_mode: TypingMode,
@@ -43,6 +42,26 @@ pub struct EvalCtxt<'t> {
     pub(crate) accesses: Vec<OpaqueAccess>,
     pub(crate) delayed_faults: Vec<DelayedFault>,
     pub(crate) mark: Mark,
+}
+
+impl Drop for EvalCtxt<'_> {
+    fn drop(self) {
+        let EvalCtxt {
+            tables: _,
+            typing_mode: _,
+            remaining_depth: _,
+            stop_on_rerun: _,
+            terms: _,
+            inference: _,
+            kinds: _,
+            goals: _,
+            taken: _,
+            storage: _,
+            accesses: _,
+            delayed_faults: _,
+            mark: _,
+        } = self;
+    }
 }
 
 impl<'t> Model for EvalCtxt<'t> {

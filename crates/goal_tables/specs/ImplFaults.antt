@@ -1,8 +1,9 @@
 -- Faults of impls.
-use Rattle.std.specs.Prelude.{Bool, true, false, ◌==◌, ◌&&◌, ◌||◌, not, length, is_none}
+use Rattle.std.specs.Prelude.{Bool, true, false, ◌==◌, ◌&&◌, ◌||◌, not, length, is_none, is_some}
 use Rattle.std.specs.List.{list_any}
 use Rattle.goal_terms.specs.declared.ids.TraitId.{TraitId}
 use Rattle.goal_tables.specs.FixedParams.{impl_has_unfixed, inherent_has_unfixed}
+use Rattle.goal_tables.specs.LangFaults.{params_of_lang}
 use Rattle.goal_tables.specs.Options.{option_holds}
 use Rattle.goal_tables.specs.Rows.{trait_of, items_of, lang_naming}
 use Rattle.goal_tables.specs.declared.lang.LangItem.{LangItem}
@@ -33,9 +34,13 @@ allows_impls item.Copy = true
 allows_impls item.Clone = true
 allows_impls _ = false
 
+-- whether a lang item names a trait, and that trait may not have impls
+abbrev pub bars_impls : LangItem → Bool
+bars_impls i = is_some (params_of_lang i) && not (allows_impls i)
+
 -- whether built-in rules alone say which types have a trait
 abbrev pub is_builtin_trait : Tables → TraitId → Bool
-is_builtin_trait t i = option_holds (λ r. not (allows_impls r.item)) (lang_naming t (target.Trait i))
+is_builtin_trait t i = option_holds (λ r. bars_impls r.item) (lang_naming t (target.Trait i))
 
 -- whether a trait is an alias
 abbrev pub is_trait_alias : Tables → TraitId → Bool

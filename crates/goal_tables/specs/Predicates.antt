@@ -1,5 +1,5 @@
 -- What stands in predicates and in environments.
-use Rattle.std.specs.Prelude.{Bool, true, false, ◌||◌, List, [], Option, Some, None}
+use Rattle.std.specs.Prelude.{Bool, false, ◌||◌, List, [], Option, Some, None}
 use Rattle.std.specs.List.{list_any}
 use Rattle.goal_terms.specs.NodeTests.{some_node}
 use Rattle.goal_terms.specs.TreeOf.{tree_of_arg, tree_of_term, tree_of_alias}

@@ -91,6 +91,7 @@ params_of t (nodes.Head (FnDef i n)) = function_params t i
 params_of t (nodes.Head (Closure i n)) = closure_params t i
 params_of t (nodes.Head (DynTrait i n)) = trait_clause_params t i
 params_of t (nodes.Head (DynProjection i n)) = clause_params t i
+params_of t (nodes.Head (Misplaced k)) = params_of_alias t k
 params_of t (nodes.Alias k) = params_of_alias t k
 params_of t _ = None
 

@@ -8,9 +8,14 @@ use crate::rows::Tables;
 use std::marker::Model;
 
 /// Tables that the check accepted. Only the check makes them.
-#[derive(Drop)]
 pub struct CheckedTables {
     indexed: IndexedTables,
+}
+
+impl Drop for CheckedTables {
+    fn drop(self) {
+        let CheckedTables { indexed: _ } = self;
+    }
 }
 
 impl Model for CheckedTables {

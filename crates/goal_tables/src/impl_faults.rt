@@ -1,6 +1,6 @@
 //! Faults of impls.
 ghost use Rattle.std.specs.Prelude.{◌≡◌};
-ghost use Rattle.goal_tables.specs.ImplFaults.{is_reservation, reserves_items, reservation_with_items, allows_impls, is_builtin_trait, is_trait_alias, impl_of_builtin_trait, inherent_const_without_value};
+ghost use Rattle.goal_tables.specs.ImplFaults.{is_reservation, reserves_items, reservation_with_items, allows_impls, bars_impls, is_builtin_trait, is_trait_alias, impl_of_builtin_trait, inherent_const_without_value};
 
 use crate::lang::{LangItem, LangTarget};
 use crate::lookup::IndexedTables;
@@ -25,6 +25,13 @@ impl LangItem {
         ensures { result ≡ allows_impls self }
     {
         matches!(self, LangItem::Copy | LangItem::Clone)
+    }
+
+    /// Whether the lang item names a trait, and that trait may not have impls.
+    fn bars_impls(self) -> bool
+        ensures { result ≡ bars_impls self }
+    {
+        self.trait_params().is_some() && !self.allows_impls()
     }
 }
 
@@ -53,7 +60,7 @@ impl IndexedTables {
     {
         match self.lang_naming(LangTarget::Trait(id)) {
             None => false,
-            Some(row) => !row.item.allows_impls(),
+            Some(row) => row.item.bars_impls(),
         }
     }
 

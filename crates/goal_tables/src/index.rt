@@ -34,10 +34,18 @@ fn numbers_of<R: Row>(alloc: Global, rows: &[R]) -> Result<Vec<u32>, AllocError>
 }
 
 /// Where the row of each id stands in a list, and whether two rows have one id.
-#[derive(Drop)]
 pub struct RowIndex {
     pub places: IndexMap<u32, usize>,
     pub doubled: bool,
+}
+
+impl Drop for RowIndex {
+    fn drop(self) {
+        let RowIndex {
+            places: _,
+            doubled: _,
+        } = self;
+    }
 }
 
 impl RowIndex {

@@ -26,10 +26,18 @@ use std::alloc::{AllocError, Global};
 use std::marker::Model;
 
 /// Tables with an index, so that the row of an id is found without a scan.
-#[derive(Drop)]
 pub struct IndexedTables {
     tables: Tables,
     index: Index,
+}
+
+impl Drop for IndexedTables {
+    fn drop(self) {
+        let IndexedTables {
+            tables: _,
+            index: _,
+        } = self;
+    }
 }
 
 impl Model for IndexedTables {

@@ -297,7 +297,7 @@ impl IndexedTables {
             Node::Head(Head::Closure(id, _)) => self.closure_params(id),
             Node::Head(Head::DynTrait(id, _)) => self.trait_clause_params(id),
             Node::Head(Head::DynProjection(item, _)) => self.clause_params(item),
-            Node::Alias(kind) => self.params_of_alias(kind),
+            Node::Alias(kind) | Node::Head(Head::Misplaced(kind)) => self.params_of_alias(kind),
             _ => None,
         }
     }

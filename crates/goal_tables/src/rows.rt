@@ -9,7 +9,7 @@ use goal_terms::terms::{FnSig, GenericArg, Term, Ty};
 
 /// A trait. Parameter 0 is the self type. `predicates` and `const_conditions` are those of a trait
 /// alias, and are under the trait's parameters.
-#[derive(Debug, Drop)]
+#[derive(Debug)]
 pub struct TraitRow {
     pub id: TraitId,
     pub params: Vec<ParamKind>,
@@ -21,17 +21,41 @@ pub struct TraitRow {
     pub items: Vec<ItemId>,
 }
 
+impl Drop for TraitRow {
+    fn drop(self) {
+        let TraitRow {
+            id: _,
+            params: _,
+            allows_const: _,
+            is_auto: _,
+            is_alias: _,
+            predicates: _,
+            const_conditions: _,
+            items: _,
+        } = self;
+    }
+}
+
 /// The const bounds of an alias that has const conditions. One more type parameter after the last
 /// stands for the alias itself.
-#[derive(Debug, Drop)]
+#[derive(Debug)]
 pub struct ConstBounds {
     pub implied: Vec<TraitRef>,
     pub conditions: Vec<TraitRef>,
 }
 
+impl Drop for ConstBounds {
+    fn drop(self) {
+        let ConstBounds {
+            implied: _,
+            conditions: _,
+        } = self;
+    }
+}
+
 /// An item of a trait. A projection's arguments are the trait's parameters, then the item's own. In
 /// `bounds` and `const_bounds` one more type parameter after the last stands for the alias itself.
-#[derive(Debug, Drop)]
+#[derive(Debug)]
 pub struct ItemRow {
     pub id: ItemId,
     pub trait_id: TraitId,
@@ -40,6 +64,20 @@ pub struct ItemRow {
     pub own_predicates: Vec<Clause>,
     pub bounds: Vec<Clause>,
     pub const_bounds: Option<ConstBounds>,
+}
+
+impl Drop for ItemRow {
+    fn drop(self) {
+        let ItemRow {
+            id: _,
+            trait_id: _,
+            is_const: _,
+            own_params: _,
+            own_predicates: _,
+            bounds: _,
+            const_bounds: _,
+        } = self;
+    }
 }
 
 /// Whether an impl says that its trait holds. A reservation impl only bars a refutation, in coherence.
@@ -51,7 +89,7 @@ pub enum ImplPolarity {
 }
 
 /// An impl of a trait, for the arguments of its header, the self type included.
-#[derive(Debug, Drop)]
+#[derive(Debug)]
 pub struct ImplRow {
     pub id: ImplId,
     pub trait_id: TraitId,
@@ -62,6 +100,22 @@ pub struct ImplRow {
     pub guaranteed_unsized: bool,
     pub predicates: Vec<Clause>,
     pub const_conditions: Vec<TraitRef>,
+}
+
+impl Drop for ImplRow {
+    fn drop(self) {
+        let ImplRow {
+            id: _,
+            trait_id: _,
+            params: _,
+            trait_args: _,
+            polarity: _,
+            is_const: _,
+            guaranteed_unsized: _,
+            predicates: _,
+            const_conditions: _,
+        } = self;
+    }
 }
 
 /// Where a definition stands.
@@ -81,13 +135,25 @@ pub enum DefValue {
 }
 
 /// A definition of an item. Its parameters are its container's, then its own.
-#[derive(Debug, Drop)]
+#[derive(Debug)]
 pub struct DefRow {
     pub id: DefId,
     pub container: Container,
     pub item: ItemId,
     pub own_params: Vec<ParamKind>,
     pub value: DefValue,
+}
+
+impl Drop for DefRow {
+    fn drop(self) {
+        let DefRow {
+            id: _,
+            container: _,
+            item: _,
+            own_params: _,
+            value: _,
+        } = self;
+    }
 }
 
 /// What an impl uses for an item. `Broken` has the number of the error that stands for the value.
@@ -98,15 +164,25 @@ pub enum Source {
 }
 
 /// Which definition an impl uses for an item of its trait.
-#[derive(Debug, Drop)]
+#[derive(Debug)]
 pub struct SourceRow {
     pub impl_id: ImplId,
     pub item_id: ItemId,
     pub source: Source,
 }
 
+impl Drop for SourceRow {
+    fn drop(self) {
+        let SourceRow {
+            impl_id: _,
+            item_id: _,
+            source: _,
+        } = self;
+    }
+}
+
 /// A free type alias or constant. Only a constant may lack its value.
-#[derive(Debug, Drop)]
+#[derive(Debug)]
 pub struct FreeRow {
     pub id: FreeId,
     pub params: Vec<ParamKind>,
@@ -115,17 +191,39 @@ pub struct FreeRow {
     pub value: Option<Term>,
 }
 
+impl Drop for FreeRow {
+    fn drop(self) {
+        let FreeRow {
+            id: _,
+            params: _,
+            is_const: _,
+            predicates: _,
+            value: _,
+        } = self;
+    }
+}
+
 /// An impl of no trait.
-#[derive(Debug, Drop)]
+#[derive(Debug)]
 pub struct InherentImplRow {
     pub id: InherentImplId,
     pub params: Vec<ParamKind>,
     pub self_ty: Ty,
 }
 
+impl Drop for InherentImplRow {
+    fn drop(self) {
+        let InherentImplRow {
+            id: _,
+            params: _,
+            self_ty: _,
+        } = self;
+    }
+}
+
 /// An item of an inherent impl. Its parameters are the impl's, then its own; an alias of it has the
 /// self type and then the item's own arguments. `predicates` are the impl's and its own.
-#[derive(Debug, Drop)]
+#[derive(Debug)]
 pub struct InherentRow {
     pub id: InherentId,
     pub impl_id: InherentImplId,
@@ -135,9 +233,22 @@ pub struct InherentRow {
     pub value: Option<Term>,
 }
 
+impl Drop for InherentRow {
+    fn drop(self) {
+        let InherentRow {
+            id: _,
+            impl_id: _,
+            is_const: _,
+            own_params: _,
+            predicates: _,
+            value: _,
+        } = self;
+    }
+}
+
 /// An opaque type. In `bounds` and `const_bounds` one more type parameter after the last stands for
 /// the type itself.
-#[derive(Debug, Drop)]
+#[derive(Debug)]
 pub struct OpaqueRow {
     pub id: OpaqueId,
     pub params: Vec<ParamKind>,
@@ -146,6 +257,20 @@ pub struct OpaqueRow {
     pub typeck_hidden: Ty,
     pub bounds: Vec<Clause>,
     pub const_bounds: Option<ConstBounds>,
+}
+
+impl Drop for OpaqueRow {
+    fn drop(self) {
+        let OpaqueRow {
+            id: _,
+            params: _,
+            is_local: _,
+            hidden: _,
+            typeck_hidden: _,
+            bounds: _,
+            const_bounds: _,
+        } = self;
+    }
 }
 
 /// What sort of type a declaration makes.
@@ -157,14 +282,20 @@ pub enum AdtKind {
 }
 
 /// What a field representing type says of its field.
-#[derive(Debug, Drop)]
+#[derive(Debug)]
 pub struct FieldInfo {
     pub base: Ty,
     pub ty: Ty,
 }
 
+impl Drop for FieldInfo {
+    fn drop(self) {
+        let FieldInfo { base: _, ty: _ } = self;
+    }
+}
+
 /// A struct, an enum or a union. The tail is read for structs alone.
-#[derive(Debug, Drop)]
+#[derive(Debug)]
 pub struct AdtRow {
     pub id: AdtId,
     pub params: Vec<ParamKind>,
@@ -176,14 +307,41 @@ pub struct AdtRow {
     pub field_info: Option<FieldInfo>,
 }
 
+impl Drop for AdtRow {
+    fn drop(self) {
+        let AdtRow {
+            id: _,
+            params: _,
+            kind: _,
+            tail: _,
+            sized_constraint: _,
+            discriminant: _,
+            destruct_conditions: _,
+            field_info: _,
+        } = self;
+    }
+}
+
 /// A function item.
-#[derive(Debug, Drop)]
+#[derive(Debug)]
 pub struct FnRow {
     pub id: FnId,
     pub params: Vec<ParamKind>,
     pub sig: FnSig,
     pub is_const: bool,
     pub const_conditions: Vec<TraitRef>,
+}
+
+impl Drop for FnRow {
+    fn drop(self) {
+        let FnRow {
+            id: _,
+            params: _,
+            sig: _,
+            is_const: _,
+            const_conditions: _,
+        } = self;
+    }
 }
 
 /// How a closure may be called.
@@ -195,7 +353,7 @@ pub enum ClosureKind {
 }
 
 /// A closure.
-#[derive(Debug, Drop)]
+#[derive(Debug)]
 pub struct ClosureRow {
     pub id: ClosureId,
     pub params: Vec<ParamKind>,
@@ -206,8 +364,22 @@ pub struct ClosureRow {
     pub const_conditions: Vec<TraitRef>,
 }
 
+impl Drop for ClosureRow {
+    fn drop(self) {
+        let ClosureRow {
+            id: _,
+            params: _,
+            kind: _,
+            sig: _,
+            upvars: _,
+            is_const: _,
+            const_conditions: _,
+        } = self;
+    }
+}
+
 /// All rows, in lists. The first row of an id is the row of that id.
-#[derive(Debug, Drop)]
+#[derive(Debug)]
 pub struct Tables {
     pub traits: Vec<TraitRow>,
     pub items: Vec<ItemRow>,
@@ -222,4 +394,24 @@ pub struct Tables {
     pub functions: Vec<FnRow>,
     pub closures: Vec<ClosureRow>,
     pub lang_items: Vec<LangRow>,
+}
+
+impl Drop for Tables {
+    fn drop(self) {
+        let Tables {
+            traits: _,
+            items: _,
+            impls: _,
+            definitions: _,
+            sources: _,
+            free_aliases: _,
+            inherent_impls: _,
+            inherent_items: _,
+            opaque_types: _,
+            adts: _,
+            functions: _,
+            closures: _,
+            lang_items: _,
+        } = self;
+    }
 }

@@ -15,23 +15,39 @@ use indexmap::IndexMap;
 use std::alloc::{AllocError, Global};
 
 /// Where the rows of traits and of their items stand, and where each trait lists its items.
-#[derive(Drop)]
 pub struct TraitIndex {
     pub traits: RowIndex,
     pub items: RowIndex,
     pub listings: Vec<RowIndex>,
 }
 
+impl Drop for TraitIndex {
+    fn drop(self) {
+        let TraitIndex {
+            traits: _,
+            items: _,
+            listings: _,
+        } = self;
+    }
+}
+
 /// Where the source of an impl and an item stands, and whether an impl has two for one item.
-#[derive(Drop)]
 pub struct SourceIndex {
     pub places: IndexMap<(u32, u32), usize>,
     pub doubled: bool,
 }
 
+impl Drop for SourceIndex {
+    fn drop(self) {
+        let SourceIndex {
+            places: _,
+            doubled: _,
+        } = self;
+    }
+}
+
 /// Where the rows of impls and definitions stand, which impls each trait has, and whether a
 /// parameter of an impl doesn't stand in its header.
-#[derive(Drop)]
 pub struct ImplIndex {
     pub impls: RowIndex,
     pub definitions: RowIndex,
@@ -39,60 +55,133 @@ pub struct ImplIndex {
     pub unfixed: bool,
 }
 
+impl Drop for ImplIndex {
+    fn drop(self) {
+        let ImplIndex {
+            impls: _,
+            definitions: _,
+            by_trait: _,
+            unfixed: _,
+        } = self;
+    }
+}
+
 /// Where the rows of aliases that are no projections stand.
-#[derive(Drop)]
 pub struct AliasIndex {
     pub free_aliases: RowIndex,
     pub opaque_types: RowIndex,
 }
 
+impl Drop for AliasIndex {
+    fn drop(self) {
+        let AliasIndex {
+            free_aliases: _,
+            opaque_types: _,
+        } = self;
+    }
+}
+
 /// Where the rows of inherent impls and their items stand, and whether a parameter of an inherent
 /// impl doesn't stand in its self type.
-#[derive(Drop)]
 pub struct InherentIndex {
     pub impls: RowIndex,
     pub items: RowIndex,
     pub unfixed: bool,
 }
 
+impl Drop for InherentIndex {
+    fn drop(self) {
+        let InherentIndex {
+            impls: _,
+            items: _,
+            unfixed: _,
+        } = self;
+    }
+}
+
 /// Where the rows of types stand.
-#[derive(Drop)]
 pub struct TypeIndex {
     pub adts: RowIndex,
     pub functions: RowIndex,
     pub closures: RowIndex,
 }
 
+impl Drop for TypeIndex {
+    fn drop(self) {
+        let TypeIndex {
+            adts: _,
+            functions: _,
+            closures: _,
+        } = self;
+    }
+}
+
 /// Where lang items and what they name stand, and whether one stands twice.
-#[derive(Drop)]
 pub struct LangIndex {
     pub items: IndexMap<LangItem, usize>,
     pub targets: IndexMap<LangTarget, usize>,
     pub doubled: bool,
 }
 
+impl Drop for LangIndex {
+    fn drop(self) {
+        let LangIndex {
+            items: _,
+            targets: _,
+            doubled: _,
+        } = self;
+    }
+}
+
 /// Where the rows of what terms name stand.
-#[derive(Drop)]
 pub struct TermIndex {
     pub of_aliases: AliasIndex,
     pub of_inherent: InherentIndex,
     pub of_types: TypeIndex,
 }
 
+impl Drop for TermIndex {
+    fn drop(self) {
+        let TermIndex {
+            of_aliases: _,
+            of_inherent: _,
+            of_types: _,
+        } = self;
+    }
+}
+
 /// Where the rows stand that say which traits hold.
-#[derive(Drop)]
 pub struct HoldIndex {
     pub of_traits: TraitIndex,
     pub of_impls: ImplIndex,
     pub of_sources: SourceIndex,
 }
 
+impl Drop for HoldIndex {
+    fn drop(self) {
+        let HoldIndex {
+            of_traits: _,
+            of_impls: _,
+            of_sources: _,
+        } = self;
+    }
+}
+
 /// Where the row of each id stands.
-#[derive(Drop)]
 pub struct Index {
     pub holds: HoldIndex,
     pub terms: TermIndex,
     pub lang: LangIndex,
+}
+
+impl Drop for Index {
+    fn drop(self) {
+        let Index {
+            holds: _,
+            terms: _,
+            lang: _,
+        } = self;
+    }
 }
 
 impl TraitIndex {

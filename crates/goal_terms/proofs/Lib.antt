@@ -12,6 +12,7 @@ pub mod TableLemmas
 pub mod InternLemmas
 pub mod SizeLemmas
 pub mod SameTermLemmas
+mod ShiftLemmas
 pub mod RebuildLemmas
 pub mod UnderLemmas
 pub mod GrowthLemmas

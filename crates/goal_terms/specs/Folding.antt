@@ -19,9 +19,9 @@ pub record Folding : Type 0 where
   pub ty_param : ℕ → ℕ → Tree
   pub const_param : ℕ → ℕ → Tree
 
--- a number of binders, raised; at the largest `u32` it stays
+-- a number of binders, raised; at the largest `u32` it stays. Raised by nothing it is itself
 abbrev pub raised : ℕ → ℕ → ℕ
-raised n by = min (n + by) 4294967295
+raised n by = if by == 0 then n else min (n + by) 4294967295
 
 -- whether a constructor is a binder, so that its parts stand below it: pointers to functions, and clauses of `dyn` types
 abbrev pub binds : Head → Bool

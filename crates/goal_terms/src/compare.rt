@@ -8,7 +8,7 @@ use crate::terms::Region;
 use crate::view::TermRef;
 
 /// Whether lifetimes and numbers of bound lifetimes count in a comparison.
-#[derive(Clone, Copy, Debug, PartialEq, Eq, Hash)]
+#[derive(Clone, Copy)]
 pub enum Regions {
     Compared,
     Forgotten,

@@ -33,7 +33,7 @@ pub fn shift_region(by: u32, binders: u32, region: Region) -> Region
     ensures { result ≡ shifted_region by binders region }
 {
     match region {
-        Region::Bound(binder, number) if binder >= binders => {
+        Region::Bound(binder, number) if by != 0 && binder >= binders => {
             Region::Bound(binder.saturating_add(by), number)
         }
         other => other,

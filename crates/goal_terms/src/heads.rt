@@ -5,7 +5,7 @@ use crate::terms::{AliasTermKind, InferTy, Region};
 /// The constructor of a term that is neither an alias nor a variable, with all that it says beside
 /// its parts. A count is the number of parts. Regions and numbers of bound lifetimes are the only
 /// things in it that erasing forgets.
-#[derive(Clone, Copy, Debug, PartialEq, Eq, Hash)]
+#[derive(Clone, Copy, PartialEq, Eq, Hash)]
 pub enum Head {
     Bool,
     Char,
@@ -46,14 +46,14 @@ pub enum Head {
 }
 
 /// An inference variable that a term holds.
-#[derive(Clone, Copy, Debug, PartialEq, Eq, Hash)]
+#[derive(Clone, Copy, PartialEq, Eq, Hash)]
 pub enum Variable {
     Ty(InferTy),
     Const(u32),
 }
 
 /// What stands at a place of a term.
-#[derive(Clone, Copy, Debug, PartialEq, Eq, Hash)]
+#[derive(Clone, Copy, PartialEq, Eq, Hash)]
 pub enum Node {
     Head(Head),
     Alias(AliasTermKind),

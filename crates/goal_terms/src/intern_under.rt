@@ -21,7 +21,7 @@ use crate::view::TermRef;
 impl Node {
     #[tactic(auto, unfolding(crate::specs::Folding::depth_below))]
     /// How many binders stand above the parts, where so many stand above the whole.
-    fn binders_below(self, binders: u32) -> u32
+    pub(crate) fn binders_below(self, binders: u32) -> u32
         ensures { result ≡ depth_of_parts self binders }
     {
         match self {
@@ -92,7 +92,7 @@ impl TermTable {
     {
         let node = term.node();
         if let Some(arg) = self.argument_for(args, node) {
-            return self.shift_number(arg, binders, 0);
+            return self.shift_whole(arg, binders);
         }
         let below = node.binders_below(binders);
         let parts = term.parts();
@@ -103,6 +103,22 @@ impl TermTable {
         }
         let top = self.node_under(args, node, binders);
         self.intern_node(top, numbers)
+    }
+
+    /// The number of a term below `by` more binders. Below none it is its own, and nothing is gone over.
+    fn shift_whole(&mut self, id: TermId, by: u32) -> Result<TermId, OutOfMemory>
+        requires { id.0 < length self.old }
+        ensures within { IfOk result (λ new. new.0 < length self.new) }
+        ensures tree { IfOk result (λ new. tree_at self.new new ≡ shifted by 0 (tree_at self.old id)) }
+        ensures only { IfOk result (λ new. IsOnly self.new new (shifted by 0 (tree_at self.old id))) }
+        ensures kept { Keeps self.old self.new }
+        ensures grown { length self.new ≤ length self.old + tree_size (shifted by 0 (tree_at self.old id)) }
+    {
+        if by == 0 {
+            self.below_no_binder(id);
+            return Ok(id);
+        }
+        self.shift_number(id, by, 0)
     }
 
     /// The number of a term below `by` more binders, as a part that stands below binders of the whole.

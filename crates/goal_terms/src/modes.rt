@@ -1,7 +1,7 @@
 use crate::ids::OpaqueId;
 
 /// The phase of checking on whose behalf a goal is asked.
-#[derive(Clone, Debug, PartialEq, Eq, Hash, Drop)]
+#[derive(Clone, PartialEq, Eq, Hash, Drop)]
 pub enum TypingMode {
     Coherence,
     Analysis {

@@ -8,7 +8,7 @@ use crate::ids::{
 use std::fmt;
 
 /// A name that is given, or a word and a number for what has none.
-#[derive(Clone, Copy, Debug, PartialEq, Eq)]
+#[derive(Clone, Copy)]
 pub enum Name<'a> {
     Given(&'a str),
     Numbered(&'static str, u32),
@@ -84,10 +84,20 @@ pub trait TermNames {
     fn foreign_name(&self, id: ForeignId) -> Name<'_> {
         Name::Numbered("Foreign", id.0)
     }
+
+    /// The name of a parameter that stands for a type or a constant.
+    fn parameter_name(&self, index: u32) -> Name<'_> {
+        parameter_name(index)
+    }
+
+    /// The name of a parameter that stands for a lifetime, without its quote.
+    fn region_parameter_name(&self, index: u32) -> Name<'_> {
+        Name::Numbered("p", index)
+    }
 }
 
 /// Names nothing: everything is shown by a word and its number, as `Adt3`.
-#[derive(Clone, Copy, Debug, PartialEq, Eq)]
+#[derive(Clone, Copy)]
 pub struct Numbered;
 
 impl TermNames for Numbered {}

@@ -25,7 +25,7 @@ pub enum NodeTest<'a> {
 }
 
 /// Where a test looks.
-#[derive(Clone, Copy, Debug, PartialEq, Eq, Hash)]
+#[derive(Clone, Copy)]
 pub enum Within {
     Everything,
     /// Neither at an alias nor in its arguments.

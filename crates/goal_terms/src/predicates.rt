@@ -69,7 +69,7 @@ pub enum Predicate {
 }
 
 /// A predicate, asked under an environment of clauses.
-#[derive(Clone, Debug, PartialEq, Eq, Hash, Drop)]
+#[derive(Clone, PartialEq, Eq, Hash, Drop)]
 pub struct Goal<P> {
     pub param_env: Vec<Clause>,
     pub predicate: P,

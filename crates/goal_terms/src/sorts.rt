@@ -4,7 +4,7 @@ ghost use Rattle.goal_terms.specs.Sorts.{sort_of, sort_of_head};
 use crate::heads::{Head, Node, Variable};
 
 /// What a part of a term is.
-#[derive(Clone, Copy, Debug, PartialEq, Eq, Hash)]
+#[derive(Clone, Copy)]
 pub enum Sort {
     Ty,
     Const,

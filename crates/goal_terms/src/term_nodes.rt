@@ -8,7 +8,7 @@ use thiserror::Error;
 pub struct TermId(pub u32);
 
 /// What stands at the top of a term, with the numbers of its parts.
-#[derive(Debug, Drop, PartialEq, Eq, Hash)]
+#[derive(Drop, PartialEq, Eq, Hash)]
 pub struct TermNode {
     pub node: Node,
     pub parts: Vec<TermId>,

@@ -1,5 +1,6 @@
 //! A table in which each distinct term stands once, and has a number.
 ghost use Rattle.std.specs.Prelude.{◌≡◌, ◌<◌, ◌≤◌, ◌+◌, ◌^◌, List, [], length, map, IfOk, OnErr, IsTrue, ◌↔◌};
+ghost use Rattle.goal_terms.specs.Folding.{shifted};
 ghost use Rattle.goal_terms.specs.Tree.{node_of, parts_of};
 ghost use Rattle.goal_terms.specs.Sorts.{Fits, part_at};
 ghost use Rattle.goal_terms.specs.TreeWith.{tree_with};
@@ -84,6 +85,15 @@ impl TermTable {
         ensures earlier { result.0 < id.0 }
     {
         self.parts(id)[place]
+    }
+
+    /// A law: below no binder a term is itself, and no other number has it.
+    pub fn below_no_binder(&self, id: TermId)
+        requires { id.0 < length self.now }
+        ensures itself { shifted 0 0 (tree_at self.now id) ≡ tree_at self.now id }
+        ensures only { IsOnly self.now id (tree_at self.now id) }
+    {
+        let _nodes = &self.nodes;
     }
 
     /// The number of the term with this node and these parts, which fit it and are in the table. It

@@ -1,5 +1,5 @@
 //! What a context is given: fresh variables and hidden types.
-use crate::tests::asking::fresh;
+use crate::tests::scenes::fresh;
 use crate::tests::sketches::{TypeSketch, ty_of};
 use goal_solver::context::EvalCtxt;
 use goal_terms::answers::{OpaqueTypeKey, ParamKind, VarKind};

@@ -39,7 +39,6 @@ pub enum TermSketch {
 #[derive(Clone, Copy)]
 pub enum ClauseSketch {
     Holds(TraitId, &'static [TypeSketch]),
-    Equals(AliasTermKind, &'static [TypeSketch], TypeSketch),
 }
 
 /// What a goal asks.
@@ -177,13 +176,9 @@ pub fn ref_of(
 
 /// The clause of a sketch.
 pub fn clause_of(alloc: Global, sketch: &ClauseSketch) -> Result<Clause, AllocError> {
-    Ok(match sketch {
-        ClauseSketch::Holds(id, parts) => trait_clause(ref_of(alloc, *id, parts)?),
-        ClauseSketch::Equals(kind, parts, ty) => {
-            let alias = alias_of(alloc, *kind, parts)?;
-            equation_clause(alias, Term::Ty(ty_of(alloc, ty)?))
-        }
-    })
+    match sketch {
+        ClauseSketch::Holds(id, parts) => Ok(trait_clause(ref_of(alloc, *id, parts)?)),
+    }
 }
 
 /// The clauses of sketches.

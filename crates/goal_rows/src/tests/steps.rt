@@ -1,9 +1,10 @@
 //! What a context is handed step by step, as constant data.
-use crate::tests::asking::{Mode, checked_after, context_in};
+use crate::tests::bindings::{Binding, assert_bound};
 use crate::tests::equations::{Equation, assert_equation};
 use crate::tests::given::{Given, assert_given};
 use crate::tests::goal_steps::{GoalStep, assert_goal_step};
 use crate::tests::runs::{Run, assert_run};
+use crate::tests::scenes::{Mode, checked_after, context_in};
 use crate::tests::translations::{Translation, assert_translated};
 use goal_solver::context::EvalCtxt;
 use goal_tables::checked::CheckedTables;
@@ -19,6 +20,7 @@ pub enum Step {
     Equation(Equation),
     Run(Run),
     Translation(Translation),
+    Binding(Binding),
 }
 
 /// Turns of steps, each in a context of its own with these variables.
@@ -108,5 +110,6 @@ fn assert_step(
         Step::Equation(equation) => assert_equation(rt, alloc, context, equation),
         Step::Run(run) => assert_run(rt, alloc, context, run),
         Step::Translation(asked) => assert_translated(rt, alloc, context, asked),
+        Step::Binding(binding) => assert_bound(rt, alloc, tables, context, binding),
     }
 }

@@ -1,12 +1,12 @@
 //! Arguments that are translated for a definition elsewhere.
 use crate::names::{FREE_A, HID, TR, TRAIT, VEC};
-use crate::tests::asking::{Mode, checked_after};
 use crate::tests::changes::Change;
 use crate::tests::equations::Equation;
 use crate::tests::expected::{NO, YES};
 use crate::tests::given::Given;
 use crate::tests::goal_steps::GoalStep;
 use crate::tests::runs::Run;
+use crate::tests::scenes::{Mode, checked_after};
 use crate::tests::sketches::{
     ClauseSketch, I32, STRUCT_Z, T, TypeSketch, U8, U32, U64, V1, VEC_OF_U32,
 };
@@ -197,7 +197,7 @@ fn open_translations(rt: HostRuntime) -> Result<(), Fail> {
 }
 
 /// The impl of `Trait<U>` for `Vec<T>` has the where clause `T: Tr`.
-const BOUND: &[Change] = &[Change::AddClause(AT_ANY, ClauseSketch::Holds(TR, &[T]))];
+const BOUND: &[Change] = &[Change(AT_ANY, ClauseSketch::Holds(TR, &[T]))];
 
 const CLAUSES: &Scene = &Scene {
     limit: 1,

@@ -2,12 +2,12 @@
 ghost use Rattle.goal_solver.specs.GoingBack.{GoesBack};
 
 use crate::names::{HID, TR};
-use crate::tests::asking::{Mode, checked_after, context_in};
 use crate::tests::equated::equate;
 use crate::tests::equations::Equation;
 use crate::tests::expected::{Expected, NO, YES};
 use crate::tests::given::Given;
 use crate::tests::goal_steps::GoalStep;
+use crate::tests::scenes::{Mode, checked_after, context_in};
 use crate::tests::sketches::{Asked, STR, STRUCT_Z, V0, alias_goal_of};
 use crate::tests::steps::{Step, assert_steps};
 use goal_solver::context::EvalCtxt;

@@ -4,5 +4,5 @@ use Rattle.goal_kinds.proofs.rule_lists.with_requirements.Given as goal
 
 abbrev pub invariant-loop-asked_for : goal.invariant-loop-asked_for
 invariant-loop-asked_for l =
-    (l.source ≡ l.initial.source)
-    × (l.entries.items ++ entries_for l.asked_for-iterator.rest.items ≡ l.fn.rule.entries.items ++ entries_for l.fn.requirements.items)
+    (l.rule.source ≡ l.fn.rule.source)
+    × (l.rule.entries.items ++ entries_for l.asked_for-iterator.rest.items ≡ l.fn.rule.entries.items ++ entries_for l.fn.requirements.items)

@@ -17,7 +17,7 @@ use Rattle.goal_terms.proofs.UnderLemmas.{instantiating-sorts, made-fits, instan
 use Rattle.goal_terms.proofs.term_table.TermTable.+intern_below.Goals as goal
 
 -- an argument in place of a parameter
-param_here : (t : _) (c : goal.After-shift_number t) →
+param_here : (t : _) (c : goal.After-shift_whole t) →
     shifted c.args.binders 0 (tree_at c.args.self.now c.in-Some.arg)
     ≡ folded (instantiating (map (tree_at c.args.self.now) c.args.args.now)) c.args.binders (tree_of_ref c.args.term)
 param_here t c =
@@ -26,11 +26,11 @@ param_here t c =
 
 pub returns-in-Some-clause-tree : goal.returns-in-Some-clause-tree
 returns-in-Some-clause-tree t c =
-    subst (λ u. IfOk c.shift_number.result (λ id. tree_at c.shift_number.new.self id ≡ u)) (param_here t c) c.shift_number.ensures.tree
+    subst (λ u. IfOk c.shift_whole.result (λ id. tree_at c.shift_whole.new.self id ≡ u)) (param_here t c) c.shift_whole.ensures.tree
 
 pub returns-in-Some-clause-only : goal.returns-in-Some-clause-only
 returns-in-Some-clause-only t c =
-    subst (λ u. IfOk c.shift_number.result (λ id. IsOnly c.shift_number.new.self id u)) (param_here t c) c.shift_number.ensures.only
+    subst (λ u. IfOk c.shift_whole.result (λ id. IsOnly c.shift_whole.new.self id u)) (param_here t c) c.shift_whole.ensures.only
 
 pub intern_below-requires : goal.intern_below-requires
 intern_below-requires t c =
@@ -46,7 +46,7 @@ intern_below-requires t c =
 
 pub returns-in-Some-clause-grown : goal.returns-in-Some-clause-grown
 returns-in-Some-clause-grown t c =
-    subst (λ u. length c.shift_number.new.self ≤ length c.args.self.now + tree_size u) (param_here t c) c.shift_number.ensures.grown
+    subst (λ u. length c.shift_whole.new.self ≤ length c.args.self.now + tree_size u) (param_here t c) c.shift_whole.ensures.grown
 
 pub loop-i-preserved : goal.loop-i-preserved
 loop-i-preserved t c = record {

@@ -1,0 +1,60 @@
+//! Reads the text.
+ghost use Rattle.std.specs.Prelude.{◌≤◌};
+
+use crate::endings::Ending;
+use std::alloc::Global;
+use std::io::{BufReader, ErrorKind, Read};
+use vurloske_syntax::ast::Position;
+use vurloske_syntax::mistake::{Found, Mistake};
+
+/// The text that a reader has, to its end. A mistake where it is no UTF-8.
+pub fn read_text<R: Read + Drop>(alloc: Global, reader: R) -> Result<String, Ending> {
+    let bytes = read_bytes(alloc, reader)?;
+    match String::from_utf8(bytes) {
+        Ok(text) => Ok(text),
+        Err(error) => {
+            let good = error.utf8_error().valid_up_to();
+            Err(no_text(error.as_bytes(), good))
+        }
+    }
+}
+
+/// What a reader has, to its end.
+fn read_bytes<R: Read + Drop>(alloc: Global, reader: R) -> Result<Vec<u8>, Ending> {
+    let mut reader = match BufReader::new(alloc, reader) {
+        Ok(reader) => reader,
+        Err(_) => return Err(Ending::OutOfMemory),
+    };
+    let mut bytes = Vec::new(alloc);
+    match reader.read_to_end(&mut bytes) {
+        Ok(_) => Ok(bytes),
+        Err(error) if matches!(error.kind(), ErrorKind::OutOfMemory) => Err(Ending::OutOfMemory),
+        Err(_) => Err(Ending::Input),
+    }
+}
+
+/// That only so many bytes are UTF-8.
+fn no_text(bytes: &[u8], good: usize) -> Ending {
+    Ending::Mistake(Mistake {
+        at: position(bytes.get(..good).unwrap_or(&[])),
+        expected: "UTF-8",
+        found: Found::Word("other bytes"),
+    })
+}
+
+/// The place behind some bytes.
+fn position(before: &[u8]) -> Position
+    ensures line { 1 ≤ result.line }
+    ensures column { 1 ≤ result.column }
+{
+    let mut at = Position { line: 1, column: 1 };
+    for byte in before {
+        if *byte == b'\n' {
+            at.line = at.line.saturating_add(1);
+            at.column = 1;
+        } else {
+            at.column = at.column.saturating_add(1);
+        }
+    }
+    at
+}

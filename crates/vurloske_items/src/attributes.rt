@@ -1,0 +1,96 @@
+//! What attributes say of items.
+use crate::faults::{ItemFault, wrong_name};
+use vurloske_syntax::ast::{Args, Ast, Attr, AttrArg, AttrValue, Ident, Run, TermId, TermKind};
+
+/// The attribute of a name.
+pub(crate) fn attr_named(ast: &Ast, attrs: Run, name: &str) -> Option<Attr> {
+    for attr in ast.attrs(attrs) {
+        if ast.name(attr.ident.name) == name {
+            return Some(*attr);
+        }
+    }
+    None
+}
+
+/// Whether there is an attribute of a name.
+pub(crate) fn has_attr(ast: &Ast, attrs: Run, name: &str) -> bool {
+    attr_named(ast, attrs, name).is_some()
+}
+
+/// A mistake where an attribute is none of some names, or stands twice.
+pub(crate) fn expect_attrs(ast: &Ast, attrs: Run, names: &[&str]) -> Result<(), ItemFault> {
+    let attrs = ast.attrs(attrs);
+    for (place, attr) in attrs.iter().enumerate() {
+        if !is_among(ast.name(attr.ident.name), names) {
+            return Err(wrong_name(attr.ident, "an attribute of such an item"));
+        }
+        if first_of_name(attrs, attr.ident) != Some(place) {
+            return Err(wrong_name(attr.ident, "an attribute that is new here"));
+        }
+    }
+    Ok(())
+}
+
+fn is_among(name: &str, names: &[&str]) -> bool {
+    names.iter().any(|other| *other == name)
+}
+
+/// The place of the first attribute with a name.
+fn first_of_name(attrs: &[Attr], ident: Ident) -> Option<usize> {
+    attrs.iter().position(|attr| attr.ident.name == ident.name)
+}
+
+/// The arguments of an attribute. None where it has no parentheses.
+pub(crate) fn args_in_attr<'a>(ast: &'a Ast, attr: &Attr) -> &'a [AttrArg] {
+    match attr.value {
+        AttrValue::Args(run) => ast.attr_args(run),
+        _ => &[],
+    }
+}
+
+/// The one term in an attribute's parentheses, as in `#[tail(str)]`.
+pub(crate) fn term_in_attr(ast: &Ast, attr: &Attr) -> Result<TermId, ItemFault> {
+    match args_in_attr(ast, attr) {
+        [AttrArg::Term(id)] => Ok(*id),
+        _ => Err(wrong_name(attr.ident, "an attribute with one term")),
+    }
+}
+
+/// The one name in an attribute's parentheses, as in `#[name(one)]`.
+pub(crate) fn name_in_attr(ast: &Ast, attr: &Attr) -> Result<Ident, ItemFault> {
+    let term = ast.term(term_in_attr(ast, attr)?);
+    match plain_name(term.map(|term| term.kind)) {
+        Some(ident) => Ok(ident),
+        None => Err(wrong_name(attr.ident, "an attribute with one name")),
+    }
+}
+
+/// The name that a term is.
+fn plain_name(kind: Option<TermKind>) -> Option<Ident> {
+    match kind {
+        Some(TermKind::Path(segment)) => match segment.args {
+            Args::Absent => Some(segment.ident),
+            _ => None,
+        },
+        _ => None,
+    }
+}
+
+/// The one number in an attribute's parentheses, as in `#[broken(7)]`.
+pub(crate) fn number_in_attr(ast: &Ast, attr: &Attr) -> Result<u32, ItemFault> {
+    let term = ast.term(term_in_attr(ast, attr)?);
+    if let Some(TermKind::Literal(value)) = term.map(|term| term.kind) {
+        if let Ok(number) = u32::try_from(value) {
+            return Ok(number);
+        }
+    }
+    Err(wrong_name(attr.ident, "an attribute with one number"))
+}
+
+/// The one term of the attribute of a name, where there is this attribute.
+pub(crate) fn term_of_attr(ast: &Ast, attrs: Run, name: &str) -> Result<Option<TermId>, ItemFault> {
+    match attr_named(ast, attrs, name) {
+        Some(attr) => Ok(Some(term_in_attr(ast, &attr)?)),
+        None => Ok(None),
+    }
+}

@@ -1,0 +1,344 @@
+//! Bounds and where clauses as clauses.
+use crate::faults::{ItemFault, wrong, wrong_name};
+use crate::scope::{Binder, ParamName};
+use crate::terms::parts::wanted_of;
+use crate::terms::{DEPTH, Lowering};
+use goal_terms::answers::ParamKind;
+use goal_terms::predicates::{
+    BoundConstness, Clause, ClauseKind, HostEffectPredicate, ProjectionPredicate, TraitPredicate,
+    TraitRef,
+};
+use goal_terms::terms::Ty;
+use std::alloc::Global;
+use vurloske_syntax::ast::{
+    self, Bound, Constness, Generics, Ident, Position, Run, TermId, TermKind, WhereClause,
+    WhereKind,
+};
+
+/// What a `[const]` bound is beside its plain form.
+#[derive(Clone, Copy)]
+pub enum MaybeConst {
+    /// A const condition, as on an impl.
+    Condition,
+    /// A host effect clause, as in an environment.
+    Clause,
+}
+
+/// What bounds and where clauses say, in order.
+pub struct Conditions {
+    pub predicates: Vec<Clause>,
+    /// Of `[const]` bounds, if they are conditions.
+    pub const_conditions: Vec<TraitRef>,
+    pub maybe_const: MaybeConst,
+}
+
+impl Drop for Conditions {
+    fn drop(self) {
+        let Conditions {
+            predicates: _,
+            const_conditions: _,
+            maybe_const: _,
+        } = self;
+    }
+}
+
+impl Conditions {
+    /// Nothing is said.
+    pub fn new(alloc: Global, maybe_const: MaybeConst) -> Conditions {
+        Conditions {
+            predicates: Vec::new(alloc),
+            const_conditions: Vec::new(alloc),
+            maybe_const,
+        }
+    }
+
+    /// The clauses alone.
+    pub fn into_predicates(self) -> Vec<Clause> {
+        let Conditions {
+            predicates,
+            const_conditions: _,
+            maybe_const: _,
+        } = self;
+        predicates
+    }
+
+    /// The clauses and the const conditions.
+    pub fn into_parts(self) -> (Vec<Clause>, Vec<TraitRef>) {
+        let Conditions {
+            predicates,
+            const_conditions,
+            maybe_const: _,
+        } = self;
+        (predicates, const_conditions)
+    }
+
+    /// Adds what a bound says of its trait. A mistake where a const condition would bind lifetimes.
+    pub(crate) fn push_bound(
+        &mut self,
+        trait_ref: TraitRef,
+        constness: Constness,
+        bound_regions: u32,
+        at: Position,
+    ) -> Result<(), ItemFault> {
+        match constness {
+            Constness::Plain => self.push_trait(trait_ref, bound_regions),
+            Constness::Const => {
+                self.push_new_trait(trait_ref.clone()?, bound_regions)?;
+                self.push_host_effect(trait_ref, BoundConstness::Const, bound_regions)
+            }
+            Constness::Maybe => {
+                self.push_new_trait(trait_ref.clone()?, bound_regions)?;
+                self.push_maybe_const(trait_ref, bound_regions, at)
+            }
+        }
+    }
+
+    fn push_maybe_const(
+        &mut self,
+        trait_ref: TraitRef,
+        bound_regions: u32,
+        at: Position,
+    ) -> Result<(), ItemFault> {
+        if self.maybe_const == MaybeConst::Clause {
+            return self.push_host_effect(trait_ref, BoundConstness::Maybe, bound_regions);
+        }
+        if bound_regions > 0 {
+            return Err(wrong(
+                at,
+                "a const condition without `for`",
+                "one that binds lifetimes",
+            ));
+        }
+        self.const_conditions.push(trait_ref)?;
+        Ok(())
+    }
+
+    fn push_trait(&mut self, trait_ref: TraitRef, bound_regions: u32) -> Result<(), ItemFault> {
+        self.predicates.push(Clause {
+            bound_regions,
+            kind: ClauseKind::Trait(TraitPredicate { trait_ref }),
+        })?;
+        Ok(())
+    }
+
+    /// Adds that a trait holds, where that was not said before.
+    fn push_new_trait(&mut self, trait_ref: TraitRef, bound_regions: u32) -> Result<(), ItemFault> {
+        let clause = Clause {
+            bound_regions,
+            kind: ClauseKind::Trait(TraitPredicate { trait_ref }),
+        };
+        if !self.predicates.contains(&clause) {
+            self.predicates.push(clause)?;
+        }
+        Ok(())
+    }
+
+    fn push_host_effect(
+        &mut self,
+        trait_ref: TraitRef,
+        constness: BoundConstness,
+        bound_regions: u32,
+    ) -> Result<(), ItemFault> {
+        self.predicates.push(Clause {
+            bound_regions,
+            kind: ClauseKind::HostEffect(HostEffectPredicate {
+                trait_ref,
+                constness,
+            }),
+        })?;
+        Ok(())
+    }
+
+    pub(crate) fn push_equations(
+        &mut self,
+        equations: Vec<ProjectionPredicate>,
+        bound_regions: u32,
+    ) -> Result<(), ItemFault> {
+        for equation in equations {
+            self.predicates.push(Clause {
+                bound_regions,
+                kind: ClauseKind::Projection(equation),
+            })?;
+        }
+        Ok(())
+    }
+}
+
+impl Lowering<'_> {
+    /// Adds what parameters' bounds and where clauses say.
+    pub fn generics(
+        &mut self,
+        generics: Generics,
+        conditions: &mut Conditions,
+    ) -> Result<(), ItemFault> {
+        let ast = self.ast;
+        for param in ast.params(generics.params) {
+            self.param_bounds(param, conditions)?;
+        }
+        self.where_clauses(generics.where_clauses, conditions)
+    }
+
+    fn param_bounds(
+        &mut self,
+        param: &ast::Param,
+        conditions: &mut Conditions,
+    ) -> Result<(), ItemFault> {
+        match self.scope.param(ParamName::Named(param.ident.name)) {
+            Some(found) if found.kind == ParamKind::Ty => {
+                self.bounds(&Ty::Param(found.number), param.bounds, conditions)
+            }
+            _ => Ok(()),
+        }
+    }
+
+    /// Adds what bounds of a type say: a run of `Ast::bounds`.
+    pub fn bounds(
+        &mut self,
+        self_ty: &Ty,
+        bounds: Run,
+        conditions: &mut Conditions,
+    ) -> Result<(), ItemFault> {
+        let ast = self.ast;
+        for bound in ast.bounds(bounds) {
+            self.scope.enter(Binder::new(bound.binder))?;
+            self.bound_within(self_ty.clone()?, *bound, conditions, DEPTH)?;
+            self.scope.leave();
+        }
+        Ok(())
+    }
+
+    /// Adds what where clauses say: a run of `Ast::where_clauses`.
+    pub fn where_clauses(
+        &mut self,
+        clauses: Run,
+        conditions: &mut Conditions,
+    ) -> Result<(), ItemFault> {
+        let ast = self.ast;
+        for clause in ast.where_clauses(clauses) {
+            self.where_clause(clause, conditions)?;
+        }
+        Ok(())
+    }
+
+    /// Adds what the where clauses say that speak of `Self`.
+    pub fn self_clauses(
+        &mut self,
+        clauses: Run,
+        conditions: &mut Conditions,
+    ) -> Result<(), ItemFault> {
+        let ast = self.ast;
+        for clause in ast.where_clauses(clauses) {
+            if let WhereKind::Bounds(subject, _) = clause.kind {
+                let name = self.plain_name(subject);
+                if name.is_some() && name == self.definitions.self_name {
+                    self.where_clause(clause, conditions)?;
+                }
+            }
+        }
+        Ok(())
+    }
+
+    fn where_clause(
+        &mut self,
+        clause: &WhereClause,
+        conditions: &mut Conditions,
+    ) -> Result<(), ItemFault> {
+        match clause.kind {
+            WhereKind::Bounds(subject, bounds) => {
+                self.subject_bounds(clause.binder, subject, bounds, conditions)
+            }
+            WhereKind::Equal(alias, term) => {
+                self.scope.enter(Binder::new(clause.binder))?;
+                let equation = self.equality(alias, term)?;
+                let bound_regions = self.scope.bound_regions(self.ast);
+                self.scope.leave();
+                conditions.predicates.push(Clause {
+                    bound_regions,
+                    kind: ClauseKind::Projection(equation),
+                })?;
+                Ok(())
+            }
+            WhereKind::DeclareTy(id) => self.declare_ty(id),
+            WhereKind::DeclareConst(ident) => {
+                let name = ParamName::Named(ident.name);
+                self.declare_new(name, ParamKind::Const, ident)
+            }
+            WhereKind::DeclareLifetime(ident) => {
+                let name = ParamName::Lifetime(ident.name);
+                self.declare_new(name, ParamKind::Lifetime, ident)
+            }
+        }
+    }
+
+    /// `for<'a> &'a T: for<'b> Tr<'a, 'b>`: one binder for both.
+    fn subject_bounds(
+        &mut self,
+        binder: Run,
+        subject: TermId,
+        bounds: Run,
+        conditions: &mut Conditions,
+    ) -> Result<(), ItemFault> {
+        let ast = self.ast;
+        for bound in ast.bounds(bounds) {
+            self.subject_bound(binder, subject, *bound, conditions)?;
+        }
+        Ok(())
+    }
+
+    fn subject_bound(
+        &mut self,
+        binder: Run,
+        subject: TermId,
+        bound: Bound,
+        conditions: &mut Conditions,
+    ) -> Result<(), ItemFault> {
+        self.scope.enter(Binder {
+            outer: binder,
+            inner: bound.binder,
+        })?;
+        let self_ty = self.ty(subject)?;
+        self.bound_within(self_ty, bound, conditions, DEPTH)?;
+        self.scope.leave();
+        Ok(())
+    }
+
+    /// `<T as Tr>::A == u8`. A mistake where the first is no alias.
+    pub fn equality(
+        &mut self,
+        alias: TermId,
+        term: TermId,
+    ) -> Result<ProjectionPredicate, ItemFault> {
+        let projection_term = self.alias(alias)?;
+        let term = self.term(term, wanted_of(projection_term.kind))?;
+        Ok(ProjectionPredicate {
+            projection_term,
+            term,
+        })
+    }
+
+    /// `T`, by itself in the head of a block.
+    fn declare_ty(&mut self, id: TermId) -> Result<(), ItemFault> {
+        let node = self.ast.term(id).map(|term| term.kind);
+        match (node, self.plain_name(id)) {
+            (Some(TermKind::Path(segment)), Some(name)) => {
+                self.declare_new(ParamName::Named(name), ParamKind::Ty, segment.ident)
+            }
+            _ => Err(wrong(self.at(id), "the name of a parameter", "another term")),
+        }
+    }
+
+    /// Declares a parameter whose name no item has.
+    fn declare_new(
+        &mut self,
+        name: ParamName,
+        kind: ParamKind,
+        ident: Ident,
+    ) -> Result<(), ItemFault> {
+        match name {
+            ParamName::Named(symbol) if self.definitions.named(symbol).is_some() => {
+                Err(wrong_name(ident, "a name that no item has"))
+            }
+            _ => self.scope.declare(name, kind, ident.at),
+        }
+    }
+}

@@ -1,0 +1,236 @@
+//! Which item a name is, and which name an item has.
+ghost use Rattle.std.specs.Prelude.{◌≡◌, [], slice_get};
+ghost use Rattle.std.specs.HashMap.{get};
+ghost use Rattle.std.specs.Option.{option_map_or};
+
+mod collect;
+mod nodes;
+mod supertraits;
+
+use crate::builtins::Builtin;
+use crate::faults::ItemFault;
+use goal_tables::lang::LangRow;
+use goal_terms::ids::{
+    AdtId, ClosureId, FnId, ForeignId, FreeId, ImplId, InherentId, InherentImplId, ItemId,
+    OpaqueId, TraitId,
+};
+use goal_terms::predicates::Clause;
+use indexmap::IndexMap;
+use std::alloc::Global;
+use vurloske_syntax::ast::{Ast, Generics, Symbol, TermId};
+
+/// What a name is.
+#[derive(Clone, Copy)]
+pub enum Definition {
+    Builtin(Builtin),
+    Trait(TraitId),
+    Adt(AdtId),
+    FreeTy(FreeId),
+    FreeConst(FreeId),
+    Opaque(OpaqueId),
+    Fn(FnId),
+    Closure(ClosureId),
+    Foreign(ForeignId),
+}
+
+/// What a name is, and what it declares.
+#[derive(Clone, Copy)]
+pub struct Named {
+    pub definition: Definition,
+    pub generics: Generics,
+}
+
+/// Where an item of a trait stands.
+#[derive(Clone, Copy)]
+pub struct ItemEntry {
+    pub name: Symbol,
+    pub trait_id: TraitId,
+    pub is_const: bool,
+    /// Its place in `Ast::assoc_items`.
+    pub place: usize,
+}
+
+/// Where an item of an inherent impl stands.
+#[derive(Clone, Copy)]
+pub struct InherentEntry {
+    pub name: Symbol,
+    pub impl_id: InherentImplId,
+    /// What the impl is for.
+    pub self_ty: TermId,
+    pub is_const: bool,
+    /// Its place in `Ast::assoc_items`.
+    pub place: usize,
+}
+
+/// An item of a trait by its name.
+#[derive(Clone, Copy, PartialEq, Eq, Hash)]
+struct ItemKey {
+    trait_id: TraitId,
+    name: Symbol,
+}
+
+/// The traits that have an item of some name.
+#[derive(Clone, Copy)]
+enum Owners {
+    One(ItemId),
+    Several,
+}
+
+/// What the names of a text are. The lists of places are by id, and lead into `Ast::items`.
+pub struct Definitions {
+    named: IndexMap<Symbol, Named>,
+    pub traits: Vec<usize>,
+    pub impls: Vec<usize>,
+    pub inherent_impls: Vec<usize>,
+    pub free_aliases: Vec<usize>,
+    pub opaque_types: Vec<usize>,
+    pub adts: Vec<usize>,
+    pub functions: Vec<usize>,
+    pub closures: Vec<usize>,
+    pub foreign_types: Vec<usize>,
+    pub items: Vec<ItemEntry>,
+    item_ids: IndexMap<ItemKey, ItemId>,
+    owners: IndexMap<Symbol, Owners>,
+    pub inherent_items: Vec<InherentEntry>,
+    inherent_ids: IndexMap<Symbol, Vec<InherentId>>,
+    impl_names: IndexMap<Symbol, ImplId>,
+    pub lang_items: Vec<LangRow>,
+    /// The item `FnOnce::Output`.
+    pub fn_once_output: Option<ItemId>,
+    /// What each trait says of its self type, by id.
+    supertraits: Vec<Vec<Clause>>,
+    /// The items of supertraits, by the traits below.
+    inherited: IndexMap<ItemKey, ItemId>,
+    /// The name `Self`, where the text has it.
+    pub self_name: Option<Symbol>,
+}
+
+impl Drop for Definitions {
+    fn drop(self) {
+        let Definitions {
+            named: _,
+            traits: _,
+            impls: _,
+            inherent_impls: _,
+            free_aliases: _,
+            opaque_types: _,
+            adts: _,
+            functions: _,
+            closures: _,
+            foreign_types: _,
+            items: _,
+            item_ids: _,
+            owners: _,
+            inherent_items: _,
+            inherent_ids: _,
+            impl_names: _,
+            lang_items: _,
+            fn_once_output: _,
+            supertraits: _,
+            inherited: _,
+            self_name: _,
+        } = self;
+    }
+}
+
+impl Definitions {
+    /// The names of a text's items, in order of the text. A mistake where a name is doubled, or where
+    /// what a trait says of its self type is none.
+    pub fn new(alloc: Global, ast: &Ast) -> Result<Definitions, ItemFault> {
+        let mut definitions = Definitions::empty(alloc);
+        definitions.add_builtins(ast)?;
+        definitions.add_items(alloc, ast)?;
+        definitions.add_supertraits(alloc, ast)?;
+        definitions.add_inherited(alloc, ast)?;
+        Ok(definitions)
+    }
+
+    fn empty(alloc: Global) -> Definitions {
+        Definitions {
+            named: IndexMap::new(alloc),
+            traits: Vec::new(alloc),
+            impls: Vec::new(alloc),
+            inherent_impls: Vec::new(alloc),
+            free_aliases: Vec::new(alloc),
+            opaque_types: Vec::new(alloc),
+            adts: Vec::new(alloc),
+            functions: Vec::new(alloc),
+            closures: Vec::new(alloc),
+            foreign_types: Vec::new(alloc),
+            items: Vec::new(alloc),
+            item_ids: IndexMap::new(alloc),
+            owners: IndexMap::new(alloc),
+            inherent_items: Vec::new(alloc),
+            inherent_ids: IndexMap::new(alloc),
+            impl_names: IndexMap::new(alloc),
+            lang_items: Vec::new(alloc),
+            fn_once_output: None,
+            supertraits: Vec::new(alloc),
+            inherited: IndexMap::new(alloc),
+            self_name: None,
+        }
+    }
+
+    /// What a name is.
+    pub fn named(&self, name: Symbol) -> Option<Named>
+        ensures { result ≡ get ⟦<Symbol as PartialEq>⟧.eq self.now.named name }
+    {
+        self.named.get(&name).copied()
+    }
+
+    /// The item of a trait that has a name.
+    pub fn item(&self, trait_id: TraitId, name: Symbol) -> Option<ItemId>
+        ensures { result ≡ get ⟦<ItemKey as PartialEq>⟧.eq self.now.item_ids (record { trait_id = trait_id; name = name }) }
+    {
+        self.item_ids.get(&ItemKey { trait_id, name }).copied()
+    }
+
+    /// The trait of a name.
+    pub fn trait_id(&self, name: Symbol) -> Option<TraitId> {
+        match self.named(name)?.definition {
+            Definition::Trait(id) => Some(id),
+            _ => None,
+        }
+    }
+
+    /// The item of this name that a trait has, by itself or through a supertrait.
+    pub fn item_through(&self, trait_id: TraitId, name: Symbol) -> Option<ItemId> {
+        match self.item(trait_id, name) {
+            Some(id) => Some(id),
+            None => self.inherited.get(&ItemKey { trait_id, name }).copied(),
+        }
+    }
+
+    /// The item of this name, if only one trait has such an item.
+    pub fn only_item(&self, name: Symbol) -> Option<ItemId> {
+        match self.owners.get(&name) {
+            Some(Owners::One(id)) => Some(*id),
+            _ => None,
+        }
+    }
+
+    /// The items of this name in impls of no trait.
+    pub fn inherent_items_named(&self, name: Symbol) -> &[InherentId] {
+        match self.inherent_ids.get(&name) {
+            Some(ids) => ids.as_slice(),
+            None => &[],
+        }
+    }
+
+    /// The impl with `#[name(..)]`.
+    pub fn impl_named(&self, name: Symbol) -> Option<ImplId>
+        ensures { result ≡ get ⟦<Symbol as PartialEq>⟧.eq self.now.impl_names name }
+    {
+        self.impl_names.get(&name).copied()
+    }
+
+    /// What a trait says of its self type, under the trait's parameters.
+    pub fn supertraits(&self, id: TraitId) -> &[Clause]
+        ensures { result.now ≡ option_map_or (λ clauses. clauses.items) (slice_get self.now.supertraits.items id.0) [] }
+    {
+        match self.supertraits.get(id.0 as usize) {
+            Some(clauses) => clauses.as_slice(),
+            None => &[],
+        }
+    }
+}

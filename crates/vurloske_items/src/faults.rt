@@ -1,0 +1,49 @@
+ghost use Rattle.std.specs.Prelude.{◌≡◌};
+
+use std::alloc::{AllocError, AllocFailed};
+use thiserror::Error;
+use vurloske_syntax::ast::{Ident, Position};
+use vurloske_syntax::mistake::{Found, Mistake};
+
+/// Why a text was not understood.
+#[derive(Clone, Copy, Debug, Error)]
+pub enum ItemFault {
+    #[error("out of memory")]
+    OutOfMemory,
+    #[error(transparent)]
+    Mistake(Mistake),
+}
+
+impl From<AllocError> for ItemFault {
+    fn from(_: AllocError) -> ItemFault {
+        ItemFault::OutOfMemory
+    }
+}
+
+impl<T: Drop> From<AllocFailed<T>> for ItemFault {
+    fn from(_: AllocFailed<T>) -> ItemFault {
+        ItemFault::OutOfMemory
+    }
+}
+
+/// That something else than this name was expected.
+pub fn wrong_name(ident: Ident, expected: &'static str) -> ItemFault
+    ensures { result ≡ ItemFault.Mistake (record { at = ident.at; expected = expected.entry; found = Found.Name }) }
+{
+    ItemFault::Mistake(Mistake {
+        at: ident.at,
+        expected,
+        found: Found::Name,
+    })
+}
+
+/// That something else was expected than what a word says.
+pub fn wrong(at: Position, expected: &'static str, found: &'static str) -> ItemFault
+    ensures { result ≡ ItemFault.Mistake (record { at = at; expected = expected.entry; found = Found.Word found.entry }) }
+{
+    ItemFault::Mistake(Mistake {
+        at,
+        expected,
+        found: Found::Word(found),
+    })
+}

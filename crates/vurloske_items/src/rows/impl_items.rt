@@ -1,0 +1,66 @@
+//! What impls say of the items of their traits.
+use crate::attributes::{attr_named, expect_attrs, has_attr, name_in_attr, number_in_attr};
+use crate::faults::{ItemFault, wrong_name};
+use crate::rows::Text;
+use goal_terms::ids::{ItemId, TraitId};
+use vurloske_syntax::ast::{AssocItem, Ident, Run};
+
+/// Where an item that an impl writes gets its value.
+#[derive(Clone, Copy)]
+pub(super) enum Written {
+    /// It is given here.
+    Here,
+    /// In the impl of this name.
+    From(Ident),
+    /// Nowhere: an error with this number stands for it.
+    Broken(u32),
+}
+
+impl Text<'_> {
+    /// The item of a name among those of a trait or an impl.
+    pub(super) fn assoc_item(self, items: Run, item: ItemId) -> Option<AssocItem> {
+        let name = self.definitions.item_entry(item)?.name;
+        for node in self.ast.assoc_items(items) {
+            if node.ident.name == name {
+                return Some(*node);
+            }
+        }
+        None
+    }
+
+    /// Whether a trait or an impl gives an item that it writes a value.
+    pub(super) fn gives_value(self, node: &AssocItem) -> bool {
+        node.value.is_some() || has_attr(self.ast, node.attrs, "evaluated")
+    }
+
+    /// The item of a trait that one of an impl is for. A mistake where the trait has none of this name,
+    /// or one of another kind.
+    pub(super) fn item_for(self, trait_id: TraitId, node: &AssocItem) -> Result<ItemId, ItemFault> {
+        let Some(id) = self.definitions.item(trait_id, node.ident.name) else {
+            return Err(wrong_name(node.ident, "an item of the trait"));
+        };
+        match self.definitions.item_entry(id) {
+            Some(entry) if entry.is_const && !node.is_const => {
+                Err(wrong_name(node.ident, "a constant of the trait"))
+            }
+            Some(entry) if !entry.is_const && node.is_const => {
+                Err(wrong_name(node.ident, "a type of the trait"))
+            }
+            _ => Ok(id),
+        }
+    }
+
+    /// Where an item that an impl writes gets its value. A mistake where it has none, or where it has one
+    /// beside that of another impl.
+    pub(super) fn written(self, node: &AssocItem) -> Result<Written, ItemFault> {
+        expect_attrs(self.ast, node.attrs, &["from", "broken", "evaluated"])?;
+        let from = attr_named(self.ast, node.attrs, "from");
+        let broken = attr_named(self.ast, node.attrs, "broken");
+        match (self.gives_value(node), from, broken) {
+            (true, None, None) => Ok(Written::Here),
+            (false, Some(attr), None) => Ok(Written::From(name_in_attr(self.ast, &attr)?)),
+            (false, None, Some(attr)) => Ok(Written::Broken(number_in_attr(self.ast, &attr)?)),
+            _ => Err(wrong_name(node.ident, "an item with one value")),
+        }
+    }
+}

@@ -1,0 +1,12 @@
+//! Which rows lang items name.
+use crate::faults::ItemFault;
+use crate::rows::Text;
+use goal_tables::lang::LangRow;
+
+impl Text<'_> {
+    /// Adds what the text says of lang items.
+    pub(super) fn push_lang_rows(self, rows: &mut Vec<LangRow>) -> Result<(), ItemFault> {
+        rows.extend_from_slice(self.definitions.lang_items.as_slice())?;
+        Ok(())
+    }
+}

@@ -1,0 +1,199 @@
+//! What a text is cut into.
+ghost use Rattle.std.specs.Prelude.{◌≡◌, ◌++◌, [], ◌∷◌, codes, IfSome};
+
+use crate::ast::{LifetimeKind, Position, Span, Symbol};
+
+/// A word, a number or a sign, with the place where it stands.
+#[derive(Clone, Copy)]
+pub struct Token {
+    pub kind: TokenKind,
+    pub span: Span,
+    pub at: Position,
+}
+
+#[derive(Clone, Copy)]
+pub enum TokenKind {
+    Name(Symbol),
+    Keyword(Keyword),
+    Lifetime(LifetimeKind),
+    Number(u128),
+    /// What stands between quotes.
+    Text(Symbol),
+    Sign(Sign),
+    /// Behind the last token.
+    End,
+}
+
+/// A word that is never a name.
+#[derive(Clone, Copy, PartialEq, Eq)]
+pub enum Keyword {
+    As,
+    Const,
+    Dyn,
+    Enum,
+    Extern,
+    False,
+    Fn,
+    For,
+    Impl,
+    Mut,
+    Struct,
+    Trait,
+    True,
+    Type,
+    Unsafe,
+    Where,
+}
+
+/// A sign, under the name that rustc gives it.
+#[derive(Clone, Copy, PartialEq, Eq)]
+pub enum Sign {
+    And,
+    CloseBrace,
+    CloseBracket,
+    CloseParen,
+    Colon,
+    Comma,
+    Eq,
+    EqEq,
+    Gt,
+    Lt,
+    Not,
+    OpenBrace,
+    OpenBracket,
+    OpenParen,
+    PathSep,
+    Plus,
+    Pound,
+    Question,
+    RArrow,
+    Semi,
+    Star,
+    Underscore,
+}
+
+impl Keyword {
+    ghost use Rattle.vurloske_syntax.specs.Spelling.{keyword_text};
+
+    /// The keyword that is written so.
+    pub fn of(text: &str) -> Option<Keyword>
+        ensures { IfSome result (λ k. keyword_text k ≡ text.now) }
+    {
+        match text {
+            "as" => Some(Keyword::As),
+            "const" => Some(Keyword::Const),
+            "dyn" => Some(Keyword::Dyn),
+            "enum" => Some(Keyword::Enum),
+            "extern" => Some(Keyword::Extern),
+            "false" => Some(Keyword::False),
+            "fn" => Some(Keyword::Fn),
+            "for" => Some(Keyword::For),
+            "impl" => Some(Keyword::Impl),
+            "mut" => Some(Keyword::Mut),
+            "struct" => Some(Keyword::Struct),
+            "trait" => Some(Keyword::Trait),
+            "true" => Some(Keyword::True),
+            "type" => Some(Keyword::Type),
+            "unsafe" => Some(Keyword::Unsafe),
+            "where" => Some(Keyword::Where),
+            _ => None,
+        }
+    }
+
+    /// As a mistake names it.
+    pub fn quoted(self) -> &'static str
+        ensures { result.now ≡ codes "`" ++ keyword_text self ++ codes "`" }
+    {
+        match self {
+            Keyword::As => "`as`",
+            Keyword::Const => "`const`",
+            Keyword::Dyn => "`dyn`",
+            Keyword::Enum => "`enum`",
+            Keyword::Extern => "`extern`",
+            Keyword::False => "`false`",
+            Keyword::Fn => "`fn`",
+            Keyword::For => "`for`",
+            Keyword::Impl => "`impl`",
+            Keyword::Mut => "`mut`",
+            Keyword::Struct => "`struct`",
+            Keyword::Trait => "`trait`",
+            Keyword::True => "`true`",
+            Keyword::Type => "`type`",
+            Keyword::Unsafe => "`unsafe`",
+            Keyword::Where => "`where`",
+        }
+    }
+}
+
+impl Sign {
+    ghost use Rattle.vurloske_syntax.specs.Spelling.{sign_text};
+
+    /// The sign of two bytes that a text begins with.
+    pub fn of_two(first: u8, second: u8) -> Option<Sign>
+        ensures { IfSome result (λ s. sign_text s ≡ first ∷ second ∷ []) }
+    {
+        match (first, second) {
+            (b':', b':') => Some(Sign::PathSep),
+            (b'=', b'=') => Some(Sign::EqEq),
+            (b'-', b'>') => Some(Sign::RArrow),
+            _ => None,
+        }
+    }
+
+    /// The sign of one byte.
+    pub fn of_one(byte: u8) -> Option<Sign>
+        ensures { IfSome result (λ s. sign_text s ≡ byte ∷ []) }
+    {
+        match byte {
+            b'&' => Some(Sign::And),
+            b'}' => Some(Sign::CloseBrace),
+            b']' => Some(Sign::CloseBracket),
+            b')' => Some(Sign::CloseParen),
+            b':' => Some(Sign::Colon),
+            b',' => Some(Sign::Comma),
+            b'=' => Some(Sign::Eq),
+            b'>' => Some(Sign::Gt),
+            b'<' => Some(Sign::Lt),
+            b'!' => Some(Sign::Not),
+            b'{' => Some(Sign::OpenBrace),
+            b'[' => Some(Sign::OpenBracket),
+            b'(' => Some(Sign::OpenParen),
+            b'+' => Some(Sign::Plus),
+            b'#' => Some(Sign::Pound),
+            b'?' => Some(Sign::Question),
+            b';' => Some(Sign::Semi),
+            b'*' => Some(Sign::Star),
+            _ => None,
+        }
+    }
+
+    /// As a mistake names it.
+    pub fn quoted(self) -> &'static str
+        ensures { result.now ≡ codes "`" ++ sign_text self ++ codes "`" }
+    {
+        match self {
+            Sign::And => "`&`",
+            Sign::CloseBrace => "`}`",
+            Sign::CloseBracket => "`]`",
+            Sign::CloseParen => "`)`",
+            Sign::Colon => "`:`",
+            Sign::Comma => "`,`",
+            Sign::Eq => "`=`",
+            Sign::EqEq => "`==`",
+            Sign::Gt => "`>`",
+            Sign::Lt => "`<`",
+            Sign::Not => "`!`",
+            Sign::OpenBrace => "`{`",
+            Sign::OpenBracket => "`[`",
+            Sign::OpenParen => "`(`",
+            Sign::PathSep => "`::`",
+            Sign::Plus => "`+`",
+            Sign::Pound => "`#`",
+            Sign::Question => "`?`",
+            Sign::RArrow => "`->`",
+            Sign::Semi => "`;`",
+            Sign::Star => "`*`",
+            Sign::Underscore => "`_`",
+        }
+    }
+}
