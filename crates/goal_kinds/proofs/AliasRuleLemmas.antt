@@ -18,8 +18,8 @@ use Rattle.goal_terms.specs.declared.terms.AliasTermKind.TheVariants.{FreeTy, Fr
 use Rattle.goal_terms.specs.declared.terms.Term.{Term}
 use Rattle.goal_terms.proofs.TreeLemmas.{tree_of_alias-record}
 use Rattle.goal_tables.specs.declared.rows.OpaqueRow.{OpaqueRow}
-use Rattle.goal_kinds.specs.declared.alias_rules.OpaqueUse.{OpaqueUse}
-use Rattle.goal_kinds.specs.declared.alias_rules.OpaqueUse.TheVariants as uses
+use Rattle.goal_kinds.specs.declared.rules.aliases.OpaqueUse.{OpaqueUse}
+use Rattle.goal_kinds.specs.declared.rules.aliases.OpaqueUse.TheVariants as uses
 use Rattle.goal_kinds.specs.declared.rules.RuleTerm.TheVariants as term
 use Rattle.goal_kinds.proofs.CandidateTerms.{forest-erased}
 use Rattle.goal_terms.specs.declared.terms.GenericArg.{GenericArg}

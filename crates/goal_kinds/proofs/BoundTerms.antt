@@ -8,7 +8,7 @@ use Rattle.goal_terms.specs.declared.term_nodes.TermId.{TermId}
 use Rattle.goal_kinds.specs.Candidates.{Candidate, implied_bound, bounds_under}
 use Rattle.goal_kinds.specs.Interned.{AreIn, erased_all, trait_at, TraitIn}
 use Rattle.goal_kinds.specs.Premises.{trait_under, traits_under}
-use Rattle.goal_kinds.specs.declared.interned.InternedTrait.{InternedTrait}
+use Rattle.goal_kinds.specs.declared.candidates.interned.InternedTrait.{InternedTrait}
 use Rattle.goal_kinds.proofs.InternedLemmas.{all_same-grown, trait_same-grown}
 
 -- an implied bound and then its conditions

@@ -1,8 +1,6 @@
 -- Lists of candidates, put together.
-use Rattle.std.proofs.Common.{◌≡◌, ◌≢◌, ◌<◌, ◌≤◌, ◌+◌, ◌==◌, ℕ, Bool, false, cond, List, [], ◌∷◌, ◌++◌, length, map, get_or, take, refl, sym, ap, ◌∙◌, append_assoc, append-nil, eq-eqb, inl, inr}
-use Rattle.std.specs.Prelude.{filter}
-use Rattle.std.proofs.lemmas.Bool.Decides.{eqb_tells}
-use Rattle.std.proofs.lemmas.List.{take_all}
+use Rattle.std.proofs.Common.{◌≡◌, ◌≢◌, ◌<◌, ◌≤◌, ◌+◌, ℕ, List, [], ◌∷◌, ◌++◌, length, map, get_or, take, Some, refl, sym, ap, ◌∙◌, append_assoc, arith}
+use Rattle.std.specs.Prelude.{slice_get}
 use Rattle.goal_terms.specs.Tree.{Tree}
 use Rattle.goal_terms.specs.declared.answers.TraitGoalProvenVia.{TraitGoalProvenVia}
 use Rattle.goal_terms.specs.declared.answers.TraitGoalProvenVia.TheVariants as class
@@ -12,36 +10,24 @@ use Rattle.goal_tables.specs.declared.rows.Tables.{Tables}
 use Rattle.goal_kinds.specs.Candidates.{Candidate, by_impl, built_in, error, impls_for, environment, alias_bounds, object_bounds, rest, class_of, second_group}
 use Rattle.goal_kinds.specs.Interned.{candidate_at}
 use Rattle.goal_kinds.specs.Settings.{Setting}
-use Rattle.goal_kinds.specs.declared.interned.InternedCandidate.{InternedCandidate}
-use Rattle.goal_kinds.proofs.GrowingLists.{next-tested}
+use Rattle.goal_kinds.specs.declared.candidates.interned.InternedCandidate.{InternedCandidate}
+use Rattle.goal_kinds.proofs.GrowingLists.{one-more, all-come}
+use Rattle.goal_kinds.proofs.PlaceLists.{places-length, at-place}
 
--- whether an impl is of a trait
-abbrev is_of : TraitId → ImplRow → Bool
-is_of i r = r.trait_id.0 == i.0
-
--- numbers that aren't equal
-differs : (a b : ℕ) → a ≢ b → a == b ≡ false
-differs a b n = elim (eqb_tells a b) [ inl p ↦ absurd (n p.1) | inr p ↦ p.0 ]
-
--- the next impl, which is of the trait or not
-pub impl-passes : (i : TraitId) (front so_far : List Candidate) (rows : List ImplRow) (r : ImplRow) (n : ℕ) → n < length rows → r ≡ get_or rows n r →
-    r.trait_id.0 ≡ i.0 → so_far ≡ front ++ map by_impl (filter (is_of i) (take n rows)) →
-    so_far ++ by_impl r ∷ [] ≡ front ++ map by_impl (filter (is_of i) (take (n + 1) rows))
-impl-passes i front so_far rows r n within here e so =
-    ap (λ b. so_far ++ map by_impl (cond b (r ∷ []) [])) (sym (eq-eqb r.trait_id.0 i.0 e)) ∙ next-tested (is_of i) by_impl front so_far rows r n within here so
-
-pub impl-fails : (i : TraitId) (front so_far : List Candidate) (rows : List ImplRow) (r : ImplRow) (n : ℕ) → n < length rows → r ≡ get_or rows n r →
-    r.trait_id.0 ≢ i.0 → so_far ≡ front ++ map by_impl (filter (is_of i) (take n rows)) →
-    so_far ≡ front ++ map by_impl (filter (is_of i) (take (n + 1) rows))
-impl-fails i front so_far rows r n within here e so =
-    sym (append-nil so_far) ∙ ap (λ b. so_far ++ map by_impl (cond b (r ∷ []) [])) (sym (differs r.trait_id.0 i.0 e))
-    ∙ next-tested (is_of i) by_impl front so_far rows r n within here so
+-- the impl at the next place of a trait's impls
+pub next-impl : (t : Tables) (i : TraitId) (places : List ℕ) (front so_far : List Candidate) (r : ImplRow) (n : ℕ) →
+    map (slice_get t.impls.items) places ≡ map Some (impls_for t i) → n < length places → slice_get t.impls.items (get_or places n 0) ≡ Some r →
+    so_far ≡ front ++ map by_impl (take n (impls_for t i)) → so_far ++ by_impl r ∷ [] ≡ front ++ map by_impl (take (n + 1) (impls_for t i))
+next-impl t i places front so_far r n h l here so =
+    one-more by_impl front so_far (impls_for t i) r n (by_impl r) (omega (arith, places-length t.impls.items places (impls_for t i) h))
+    (at-place t.impls.items places (impls_for t i) n r h l here) so refl
 
 -- all impls of a trait
-pub impls-all : (t : Tables) (i : TraitId) (front all : List Candidate) (rows : List ImplRow) (n : ℕ) → rows ≡ t.impls.items → length rows ≤ n →
-    all ≡ front ++ map by_impl (filter (is_of i) (take n rows)) → all ≡ front ++ map by_impl (impls_for t i)
-impls-all t i front all rows n same done so =
-    so ∙ ap (λ rs. front ++ map by_impl (filter (is_of i) rs)) (take_all n rows done ∙ same)
+pub all-impls : (t : Tables) (i : TraitId) (places : List ℕ) (front all : List Candidate) (n : ℕ) →
+    map (slice_get t.impls.items) places ≡ map Some (impls_for t i) → length places ≤ n →
+    all ≡ front ++ map by_impl (take n (impls_for t i)) → all ≡ front ++ map by_impl (impls_for t i)
+all-impls t i places front all n h l so =
+    all-come by_impl front all (impls_for t i) n (omega (arith, places-length t.impls.items places (impls_for t i) h)) so
 
 -- the rest, one after the other
 pub rest-made : (S : Setting) (i : TraitId) (s : Tree) (front impls with_rule with_objects all : List Candidate) →

@@ -17,7 +17,7 @@ use Rattle.goal_kinds.specs.ConstRules.{const_call, const_function, const_closur
 use Rattle.goal_kinds.specs.Headers.{under}
 use Rattle.goal_kinds.specs.Interned.{const_rule_at}
 use Rattle.goal_kinds.specs.Premises.{TraitTree, ConstRule, traits_under}
-use Rattle.goal_kinds.specs.declared.interned.InternedConstRule.{InternedConstRule}
+use Rattle.goal_kinds.specs.declared.candidates.interned.InternedConstRule.{InternedConstRule}
 
 -- a rule that is made
 pub rule-is : (T : List Tree) (r : Result (Option InternedConstRule) OutOfMemory) (a b : Option ConstRule) → a ≡ b →

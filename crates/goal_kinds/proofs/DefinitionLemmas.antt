@@ -31,8 +31,8 @@ use Rattle.goal_kinds.specs.RuleWords.{EntriesMean}
 use Rattle.goal_kinds.specs.Settings.{Setting, is_headline, takes_defaults}
 use Rattle.goal_kinds.specs.TraitGoals.{header_of}
 use Rattle.goal_kinds.specs.Words.{OfRow}
-use Rattle.goal_kinds.specs.declared.definition_entries.DefaultUse.{DefaultUse}
-use Rattle.goal_kinds.specs.declared.definition_entries.DefaultUse.TheVariants as uses
+use Rattle.goal_kinds.specs.declared.rules.definitions.DefaultUse.{DefaultUse}
+use Rattle.goal_kinds.specs.declared.rules.definitions.DefaultUse.TheVariants as uses
 use Rattle.goal_kinds.specs.declared.rules.RowClauses.TheVariants as clauses
 use Rattle.goal_kinds.specs.declared.rules.RowValue.TheVariants as of_row
 use Rattle.goal_kinds.specs.declared.rules.RuleArguments.TheVariants as arguments

@@ -26,7 +26,7 @@ struct_arg n = tree_of_arg-Ty _ ∙ struct_type n
 pub param_arg : (n : ℕ) → tree_of_arg (arg.Ty (ty.Param n)) ≡ param n
 param_arg n = tree_of_arg-Ty _ ∙ tree_of_ty-Param n
 
-i32_arg : tree_of_arg (arg.Ty (ty.Int signed.I32)) ≡ i32_ty
+pub i32_arg : tree_of_arg (arg.Ty (ty.Int signed.I32)) ≡ i32_ty
 i32_arg = tree_of_arg-Ty _ ∙ tree_of_ty-Int signed.I32
 
 -- the headers

@@ -1,9 +1,9 @@
 -- Lists that get one more element while a table of terms grows.
-use Rattle.std.proofs.Common.{◌≡◌, ◌<◌, ◌≤◌, ◌+◌, ℕ, Bool, cond, List, [], ◌∷◌, ◌++◌, length, map, get_or, take, sym, ap, ap₂, ◌∙◌, append_assoc}
-use Rattle.std.specs.Prelude.{Result, Ok, Err, IfOk, filter}
+use Rattle.std.proofs.Common.{◌≡◌, ◌<◌, ◌≤◌, ◌+◌, ℕ, List, [], ◌∷◌, ◌++◌, length, map, get_or, take, sym, ap, ap₂, ◌∙◌, append_assoc}
+use Rattle.std.specs.Prelude.{Result, Ok, Err, IfOk}
 use Rattle.std.specs.List.{All}
-use Rattle.std.proofs.lemmas.List.{map_more, map_push, map-append, take_all}
-use Rattle.std.proofs.lemmas.List.Elements.{All-push, filter_more}
+use Rattle.std.proofs.lemmas.List.{map_more, map_push, take_all}
+use Rattle.std.proofs.lemmas.List.Elements.{All-push}
 use Rattle.goal_terms.specs.TableMeaning.{Keeps}
 use Rattle.goal_terms.specs.Tree.{Tree}
 use Rattle.goal_terms.specs.declared.term_nodes.TermId.{TermId}
@@ -27,14 +27,6 @@ one-more f front so_far given g i b within here so one =
 pub all-come : {X B : Type 0} (f : X → B) (front all : List B) (given : List X) (i : ℕ) → length given ≤ i →
     all ≡ front ++ map f (take i given) → all ≡ front ++ map f given
 all-come f front all given i done so = so ∙ ap (λ xs. front ++ map f xs) (take_all i given done)
-
--- the next of the elements that pass a test is pushed if it passes
-pub next-tested : {X B : Type 0} (p : X → Bool) (f : X → B) (front so_far : List B) (given : List X) (g : X) (i : ℕ) → i < length given → g ≡ get_or given i g →
-    so_far ≡ front ++ map f (filter p (take i given)) → so_far ++ map f (cond (p g) (g ∷ []) []) ≡ front ++ map f (filter p (take (i + 1) given))
-next-tested p f front so_far given g i within here so =
-    ap₂ (λ bs x. bs ++ map f (cond (p x) (x ∷ []) [])) so here
-    ∙ append_assoc front (map f (filter p (take i given))) (map f (cond (p (get_or given i g)) (get_or given i g ∷ []) []))
-    ∙ ap (λ bs. front ++ bs) (sym (ap (map f) (filter_more p given i g within) ∙ map-append f (filter p (take i given)) (cond (p (get_or given i g)) (get_or given i g ∷ []) [])))
 
 -- things that are in a table, and what they stand for there, which stays so when it grows
 module _ {A B : Type 0} (P : List Tree → A → Type 0) (at : List Tree → A → B)

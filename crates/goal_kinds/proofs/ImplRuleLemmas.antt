@@ -37,8 +37,8 @@ use Rattle.goal_kinds.specs.Rules.{given, EntriesHold, EntriesRefuted, has_term}
 use Rattle.goal_kinds.specs.RuleWords.{EntriesMean, RuleMeans}
 use Rattle.goal_kinds.specs.Settings.{Setting, is_headline, takes_defaults}
 use Rattle.goal_kinds.specs.TraitGoals.{ImplHoldsUnder, ImplRefuted, header_of}
-use Rattle.goal_kinds.specs.declared.definition_entries.DefaultUse.{DefaultUse}
-use Rattle.goal_kinds.specs.declared.definition_entries.DefaultUse.TheVariants as uses
+use Rattle.goal_kinds.specs.declared.rules.definitions.DefaultUse.{DefaultUse}
+use Rattle.goal_kinds.specs.declared.rules.definitions.DefaultUse.TheVariants as uses
 use Rattle.goal_kinds.specs.declared.rules.Rule.{Rule}
 use Rattle.goal_kinds.specs.declared.rules.RuleHeader.TheVariants as header
 use Rattle.goal_kinds.specs.declared.rules.RowClauses.TheVariants as clauses

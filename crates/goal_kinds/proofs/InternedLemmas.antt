@@ -12,13 +12,13 @@ use Rattle.goal_terms.specs.declared.term_nodes.TermId.{TermId}
 use Rattle.goal_kinds.specs.Candidates.{assumption, implied_bound}
 use Rattle.goal_kinds.specs.Interned.{erased_at, erased_all, IsIn, AreIn, trait_at, TraitIn, predicate_at, PredicateIn, premise_at, PremiseIn, candidate_at, CandidateIn}
 use Rattle.goal_kinds.specs.Premises.{predicate, equation}
-use Rattle.goal_kinds.specs.declared.interned.InternedTrait.{InternedTrait}
-use Rattle.goal_kinds.specs.declared.interned.InternedPredicate.{InternedPredicate}
-use Rattle.goal_kinds.specs.declared.interned.InternedPredicate.TheVariants as predicates
-use Rattle.goal_kinds.specs.declared.interned.InternedPremise.{InternedPremise}
-use Rattle.goal_kinds.specs.declared.interned.InternedPremise.TheVariants as premises
-use Rattle.goal_kinds.specs.declared.interned.InternedCandidate.{InternedCandidate}
-use Rattle.goal_kinds.specs.declared.interned.InternedCandidate.TheVariants as candidates
+use Rattle.goal_kinds.specs.declared.candidates.interned.InternedTrait.{InternedTrait}
+use Rattle.goal_kinds.specs.declared.candidates.interned.InternedPredicate.{InternedPredicate}
+use Rattle.goal_kinds.specs.declared.candidates.interned.InternedPredicate.TheVariants as predicates
+use Rattle.goal_kinds.specs.declared.candidates.interned.InternedPremise.{InternedPremise}
+use Rattle.goal_kinds.specs.declared.candidates.interned.InternedPremise.TheVariants as premises
+use Rattle.goal_kinds.specs.declared.candidates.interned.InternedCandidate.{InternedCandidate}
+use Rattle.goal_kinds.specs.declared.candidates.interned.InternedCandidate.TheVariants as candidates
 
 -- lists whose elements each have a property that grows, or stand for something that stays the same
 pub all-grow : {A : Type 0} (P Q : A → Type 0) → ((x : A) → P x → Q x) → (xs : List A) → All P xs → All Q xs

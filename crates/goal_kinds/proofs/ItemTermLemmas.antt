@@ -31,7 +31,7 @@ use Rattle.goal_kinds.specs.Candidates.{last_of}
 use Rattle.goal_kinds.specs.Headers.{under}
 use Rattle.goal_kinds.specs.Interned.{erased_at, listed_at}
 use Rattle.goal_kinds.specs.Tops.{adt_at}
-use Rattle.goal_kinds.specs.declared.interned.ListedTerm.{ListedTerm}
+use Rattle.goal_kinds.specs.declared.candidates.interned.ListedTerm.{ListedTerm}
 use Rattle.goal_kinds.proofs.MadeLemmas.{parts-erased}
 
 -- the parts of a constructor, without lifetimes, make the term again

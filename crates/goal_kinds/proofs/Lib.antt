@@ -56,6 +56,7 @@ pub mod AcceptedLemmas
 pub mod InternedLemmas
 pub mod UnderLemmas
 pub mod GrowingLists
+pub mod PlaceLists
 pub mod PremiseTerms
 pub mod CandidateTerms
 pub mod BoundTerms
@@ -105,3 +106,13 @@ pub mod RejectedImplTerms
 pub mod DefinitionLemmas
 pub mod ImplRuleLemmas
 pub mod ImplTermKindLemmas
+pub mod ListWords
+pub mod TraitLists
+pub mod EffectLists
+pub mod ListEntries
+pub mod AliasLists
+pub mod SaidLists
+pub mod ProjectionLists
+pub mod ListHeights
+pub mod ListModes
+pub mod ExamplesOfLists

@@ -41,7 +41,7 @@ use Rattle.goal_kinds.specs.ProjectionEntries.{same_kind_of_alias, may_match_ter
 use Rattle.goal_kinds.specs.ProjectionKind.{ProjectionCandidateGives, ProjectionCandidateRefuted, projected_trait}
 use Rattle.goal_kinds.specs.Projections.{projected_item, EquationRefuted, AssumptionTermRefuted, CandidateGives, TermRefuted, asked}
 use Rattle.goal_kinds.specs.RuleWords.{projection_in, asked_by}
-use Rattle.goal_kinds.specs.declared.asked_items.AskedItem.{AskedItem}
+use Rattle.goal_kinds.specs.declared.rules.assoc_items.AskedItem.{AskedItem}
 use Rattle.goal_kinds.specs.Rules.{given}
 use Rattle.goal_kinds.specs.Settings.{Setting}
 use Rattle.goal_kinds.specs.Words.{SomePair}

@@ -26,7 +26,7 @@ use Rattle.goal_kinds.specs.Candidates.{last_of}
 use Rattle.goal_kinds.specs.Headers.{under}
 use Rattle.goal_kinds.specs.Interned.{erased_at, erased_all, IsIn, AreIn, premise_at}
 use Rattle.goal_kinds.specs.Premises.{Premise}
-use Rattle.goal_kinds.specs.declared.interned.InternedPremise.{InternedPremise}
+use Rattle.goal_kinds.specs.declared.candidates.interned.InternedPremise.{InternedPremise}
 use Rattle.goal_kinds.proofs.InternedLemmas.{are_in-grown, all_same-grown}
 use Rattle.goal_kinds.proofs.UnderLemmas.{under-at, instance-argument, are_in-arguments}
 

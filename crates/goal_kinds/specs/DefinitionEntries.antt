@@ -22,8 +22,8 @@ use Rattle.goal_kinds.specs.Rules.{given}
 use Rattle.goal_kinds.specs.RuleWords.{EntriesMean}
 use Rattle.goal_kinds.specs.Settings.{Setting}
 use Rattle.goal_kinds.specs.declared.fast_reject.Parameters.TheVariants.{Inferred}
-use Rattle.goal_kinds.specs.declared.definition_entries.DefaultUse.{DefaultUse}
-use Rattle.goal_kinds.specs.declared.definition_entries.DefaultUse.TheVariants as uses
+use Rattle.goal_kinds.specs.declared.rules.definitions.DefaultUse.{DefaultUse}
+use Rattle.goal_kinds.specs.declared.rules.definitions.DefaultUse.TheVariants as uses
 use Rattle.goal_kinds.specs.declared.rules.RowValue.TheVariants as of_row
 use Rattle.goal_kinds.specs.declared.rules.RuleEntry.{RuleEntry}
 use Rattle.goal_kinds.specs.declared.rules.RuleEntry.TheVariants as entry

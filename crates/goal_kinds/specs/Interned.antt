@@ -10,16 +10,16 @@ use Rattle.goal_terms.specs.declared.term_nodes.TermId.{TermId}
 use Rattle.goal_kinds.specs.Builtins.{Listed, nothing_listed, listed, listed_rigid, listed_by_size}
 use Rattle.goal_kinds.specs.Candidates.{Candidate, assumption, implied_bound, by_impl, built_in, error}
 use Rattle.goal_kinds.specs.Premises.{Premise, predicate, equation, TraitTree, ConstRule}
-use Rattle.goal_kinds.specs.declared.interned.InternedTrait.{InternedTrait}
-use Rattle.goal_kinds.specs.declared.interned.InternedPredicate.{InternedPredicate}
-use Rattle.goal_kinds.specs.declared.interned.InternedPredicate.TheVariants as predicates
-use Rattle.goal_kinds.specs.declared.interned.InternedPremise.{InternedPremise}
-use Rattle.goal_kinds.specs.declared.interned.InternedPremise.TheVariants as premises
-use Rattle.goal_kinds.specs.declared.interned.InternedConstRule.{InternedConstRule}
-use Rattle.goal_kinds.specs.declared.interned.InternedCandidate.{InternedCandidate}
-use Rattle.goal_kinds.specs.declared.interned.InternedCandidate.TheVariants as candidates
-use Rattle.goal_kinds.specs.declared.interned.ListedTerm.{ListedTerm}
-use Rattle.goal_kinds.specs.declared.interned.ListedTerm.TheVariants as terms
+use Rattle.goal_kinds.specs.declared.candidates.interned.InternedTrait.{InternedTrait}
+use Rattle.goal_kinds.specs.declared.candidates.interned.InternedPredicate.{InternedPredicate}
+use Rattle.goal_kinds.specs.declared.candidates.interned.InternedPredicate.TheVariants as predicates
+use Rattle.goal_kinds.specs.declared.candidates.interned.InternedPremise.{InternedPremise}
+use Rattle.goal_kinds.specs.declared.candidates.interned.InternedPremise.TheVariants as premises
+use Rattle.goal_kinds.specs.declared.candidates.interned.InternedConstRule.{InternedConstRule}
+use Rattle.goal_kinds.specs.declared.candidates.interned.InternedCandidate.{InternedCandidate}
+use Rattle.goal_kinds.specs.declared.candidates.interned.InternedCandidate.TheVariants as candidates
+use Rattle.goal_kinds.specs.declared.candidates.interned.ListedTerm.{ListedTerm}
+use Rattle.goal_kinds.specs.declared.candidates.interned.ListedTerm.TheVariants as terms
 
 -- the term of a number, without lifetimes
 abbrev pub erased_at : List Tree → TermId → Tree

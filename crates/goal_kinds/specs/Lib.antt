@@ -33,3 +33,11 @@ pub mod DefinitionEntries
 pub mod CandidateRules
 pub mod TraitEntries
 pub mod ProjectionKind
+pub mod Entries
+pub mod TraitLists
+pub mod EffectLists
+pub mod ProjectionLists
+pub mod AliasLists
+pub mod ListModes
+pub mod ListLaws
+pub mod ExampleLists

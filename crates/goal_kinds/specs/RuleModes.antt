@@ -13,8 +13,8 @@ use Rattle.goal_tables.specs.Rows.{opaque_of}
 use Rattle.goal_tables.specs.declared.rows.OpaqueRow.{OpaqueRow}
 use Rattle.goal_tables.specs.declared.rows.Tables.{Tables}
 use Rattle.goal_kinds.specs.Settings.{is_headline}
-use Rattle.goal_kinds.specs.declared.alias_rules.OpaqueUse.{OpaqueUse}
-use Rattle.goal_kinds.specs.declared.alias_rules.OpaqueUse.TheVariants as uses
+use Rattle.goal_kinds.specs.declared.rules.aliases.OpaqueUse.{OpaqueUse}
+use Rattle.goal_kinds.specs.declared.rules.aliases.OpaqueUse.TheVariants as uses
 use Rattle.goal_kinds.specs.declared.rules.Rule.{Rule}
 use Rattle.goal_kinds.specs.declared.rules.RuleEntry.{RuleEntry}
 use Rattle.goal_kinds.specs.declared.rules.RuleEntry.TheVariants as entry

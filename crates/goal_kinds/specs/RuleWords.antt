@@ -12,7 +12,7 @@ use Rattle.goal_kinds.specs.Level.{Level}
 use Rattle.goal_kinds.specs.Projections.{projected_item, asked}
 use Rattle.goal_kinds.specs.Rules.{given, EntriesHold, EntriesRefuted, has_term, RuleGives, RuleRefuted}
 use Rattle.goal_kinds.specs.Settings.{Setting}
-use Rattle.goal_kinds.specs.declared.asked_items.AskedItem.{AskedItem}
+use Rattle.goal_kinds.specs.declared.rules.assoc_items.AskedItem.{AskedItem}
 use Rattle.goal_kinds.specs.declared.rules.Rule.{Rule}
 use Rattle.goal_kinds.specs.declared.rules.RuleEntry.{RuleEntry}
 use Rattle.goal_kinds.specs.declared.rules.RuleEntry.TheVariants as entry

@@ -25,8 +25,8 @@ ghost use Rattle.goal_kinds.specs.declared.rules.RuleEntry.TheVariants as entry;
 ghost use Rattle.goal_terms.specs.declared.answers.DelayedFault.TheVariants.{AutoTrait};
 
 use crate::faults::Fault;
-use crate::rule_lists::{auto_trait_rule, with_requirements};
 use crate::rules::Rule;
+use crate::rules::lists::{auto_trait_rule, with_requirements};
 use goal_tables::checked::CheckedTables;
 use goal_tables::predicate_terms::PredicateTerms;
 use goal_terms::answers::{BuiltinImplSource, CandidateSource, Certainty, GoalSource};

@@ -30,6 +30,13 @@ ghost use Rattle.goal_kinds.specs.Laws.{HaveSameImpls, ReadsNoMode};
 ghost use Rattle.goal_kinds.specs.Levels.{level};
 ghost use Rattle.goal_kinds.specs.Settings.{Setting, is_headline};
 
+pub mod fast_reject;
+pub mod list_examples;
+pub mod lists;
+pub mod projection_kind;
+pub mod rules;
+pub mod worked_examples;
+
 /// What is proved at a height is proved at every greater one: each decided answer, the class of a
 /// trait goal, equal and unequal terms, headers that fit or clash.
 pub fn more_height_keeps_all()

@@ -1,4 +1,15 @@
 //! Rules as data: what a candidate or an alias asks for, as a list of entries that a solver runs in order.
+pub mod aliases;
+pub(crate) mod assoc_items;
+pub(crate) mod definitions;
+pub mod impl_terms;
+pub(crate) mod lists;
+pub(crate) mod parts;
+pub(crate) mod projection_goal_kind;
+pub mod projections;
+pub(crate) mod trait_goal_kind;
+pub mod traits;
+
 use goal_terms::answers::{CandidateSource, DelayedFault, GoalSource, OpaqueAccess, Response};
 use goal_terms::ids::{DefId, FreeId, ImplId, InherentId, InherentImplId, ItemId, OpaqueId};
 use goal_terms::predicates::ClauseKind;

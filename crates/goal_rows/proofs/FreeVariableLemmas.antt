@@ -28,7 +28,7 @@ use Rattle.goal_solver.specs.Binding.{IsFreeFor, OfVariable, bound_term}
 use Rattle.goal_solver.specs.FreeVariables.{general_variable, reaches, is_bound, stands_in_storage, is_taken, lacks_free_variable}
 use Rattle.goal_solver.specs.Goals.{goal_has, IsAcceptedBy}
 use Rattle.goal_solver.specs.State.{State, kinds_of}
-use Rattle.goal_solver.specs.declared.goals.GoalFault.TheVariants.{UnknownVariable, ExpectedTermNotFree}
+use Rattle.goal_solver.specs.declared.eval.goals.GoalFault.TheVariants.{UnknownVariable, ExpectedTermNotFree}
 use Rattle.goal_solver.proofs.FoundAnswers.{sort-erased}
 use Rattle.goal_solver.proofs.SettledLemmas.{closed-erased, replaced-closed}
 

@@ -1,6 +1,6 @@
 use crate::names::ProgramNames;
+use goal_solver::eval::goals::GoalFault;
 use goal_solver::faults::{DepthTooLarge, Fault};
-use goal_solver::goals::GoalFault;
 use goal_tables::faults::TableFault;
 use goal_terms::terms::Term;
 use goal_terms::text::Shown;

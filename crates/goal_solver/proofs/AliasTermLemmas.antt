@@ -32,11 +32,11 @@ use Rattle.goal_kinds.proofs.PremiseLemmas.{no_premises_refuted}
 use Rattle.goal_kinds.proofs.SubstitutionLemmas.{one_substitution, no_fit_and_clash}
 use Rattle.goal_solver.specs.Combined.{BehindGives, BehindRefuted, found_behind, refuted_only}
 use Rattle.goal_solver.specs.Outcomes.{Says, SaysWhich, StandsFor, FoundIn}
-use Rattle.goal_solver.specs.declared.outcomes.Outcome.{Outcome}
-use Rattle.goal_solver.specs.declared.outcomes.Outcome.TheVariants as outcome
-use Rattle.goal_solver.specs.declared.outcomes.Found.{Found}
-use Rattle.goal_solver.specs.declared.outcomes.Found.TheVariants as found
-use Rattle.goal_solver.specs.declared.outcomes.Stop.{Stop}
+use Rattle.goal_solver.specs.declared.eval.outcomes.Outcome.{Outcome}
+use Rattle.goal_solver.specs.declared.eval.outcomes.Outcome.TheVariants as outcome
+use Rattle.goal_solver.specs.declared.eval.outcomes.Found.{Found}
+use Rattle.goal_solver.specs.declared.eval.outcomes.Found.TheVariants as found
+use Rattle.goal_solver.specs.declared.eval.outcomes.Stop.{Stop}
 use Rattle.goal_solver.proofs.CombinedLemmas.{AreMatches, says-behind, says-fitting, says-known, says-along, Matched, MatchedRefuted}
 
 -- with no depth left nothing is decided

@@ -23,10 +23,10 @@ use Rattle.goal_solver.specs.GoingBack.{GoesBack, evaluated, restored}
 use Rattle.goal_solver.specs.Outcomes.{StandsFor, Says}
 use Rattle.goal_kinds.specs.declared.faults.Fault.{Fault}
 use Rattle.goal_kinds.specs.declared.faults.Fault.TheVariants as fault
-use Rattle.goal_solver.specs.declared.outcomes.Outcome.{Outcome}
-use Rattle.goal_solver.specs.declared.outcomes.Outcome.TheVariants as outcome
-use Rattle.goal_solver.specs.declared.outcomes.Stop.{Stop}
-use Rattle.goal_solver.specs.declared.outcomes.Stop.TheVariants as stop
+use Rattle.goal_solver.specs.declared.eval.outcomes.Outcome.{Outcome}
+use Rattle.goal_solver.specs.declared.eval.outcomes.Outcome.TheVariants as outcome
+use Rattle.goal_solver.specs.declared.eval.outcomes.Stop.{Stop}
+use Rattle.goal_solver.specs.declared.eval.outcomes.Stop.TheVariants as stop
 use Rattle.goal_solver.specs.State.{State}
 use Rattle.goal_solver.proofs.GoingBackLemmas.{goes_back-same}
 

@@ -55,7 +55,7 @@ use Rattle.goal_solver.specs.State.{State, kinds_in, kinds_of}
 use Rattle.goal_solver.specs.Stored.{HasOneTypeAKey}
 use Rattle.goal_solver.specs.Variables.{with_variables}
 use Rattle.goal_solver.proofs.FoundAnswers.{sort-erased}
-use Rattle.goal_solver.specs.declared.goals.GoalFault.TheVariants.{UnknownItem, WrongArgumentCount, WrongArgumentKind, UnknownVariable, ExpectedTermNotFree}
+use Rattle.goal_solver.specs.declared.eval.goals.GoalFault.TheVariants.{UnknownItem, WrongArgumentCount, WrongArgumentKind, UnknownVariable, ExpectedTermNotFree}
 
 -- nothing lies in the alias of an accepted goal, nor in its environment
 no_fault-alias : (t : Tables) (f : TermFault) (a : AliasTerm) (e : Term) (env : List Clause) →

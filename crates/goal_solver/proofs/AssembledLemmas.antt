@@ -37,7 +37,7 @@ use Rattle.goal_solver.specs.Assembled.{level_above, OfItem, HoldsThrough, level
 use Rattle.goal_solver.specs.Outcomes.{SaysWhich, StandsFor}
 use Rattle.goal_solver.specs.ProjectionParts.{ThroughGives, ThroughRefuted, replaced, ReplacedGives, ReplacedRefuted}
 use Rattle.goal_solver.specs.State.{State}
-use Rattle.goal_solver.specs.declared.outcomes.Found as founds
+use Rattle.goal_solver.specs.declared.eval.outcomes.Found as founds
 use Rattle.goal_solver.proofs.MergingLemmas.{ok-map, which-map}
 
 -- an alias that projects no item, or whose item or trait has no row, says nothing
@@ -105,31 +105,31 @@ own-formed : (L : Level) → IsConsistent L → (p : Projection) → OwnFormed L
 unfolding OwnFormed OwnUnformed
 own-formed L laws p h k = Exists-Each _ _ (λ a x y. no_head_form_refuted L laws.no_term_refuted a y.0 y.1 x) (own_args p) k h
 
-groups-one : (S : Setting) (L : Level) → IsConsistent L → (c : TraitGoalProvenVia) (p : Projection) (itself given : Tree) (xs : List Candidate) (t u : Tree) →
-    GroupsGive S L c p itself given xs t → GroupsGive S L c p itself given xs u → t ≡ u
+groups-one : (S : Setting) (L : Level) → IsConsistent L → (c : TraitGoalProvenVia) (p : Projection) (rigid_alias given : Tree) (xs : List Candidate) (t u : Tree) →
+    GroupsGive S L c p rigid_alias given xs t → GroupsGive S L c p rigid_alias given xs u → t ≡ u
 unfolding GroupsGive
-groups-one S L laws c p itself given xs t u (inl x) (inl y) = one_group_term S L laws p itself (environment S) t u x.0 y.0
-groups-one S L laws c p itself given xs t u (inl x) (inr (inl y)) = absurd (no_group_refuted S L laws p itself (environment S) t x.0 y.0)
-groups-one S L laws c p itself given xs t u (inl x) (inr (inr y)) = absurd (no_group_refuted S L laws p itself (environment S) t x.0 y.0)
-groups-one S L laws c p itself given xs t u (inr (inl x)) (inl y) = absurd (no_group_refuted S L laws p itself (environment S) u y.0 x.0)
-groups-one S L laws c p itself given xs t u (inr (inl x)) (inr (inl y)) = one_group_term S L laws p itself xs t u x.1 y.1
-groups-one S L laws c p itself given xs t u (inr (inl x)) (inr (inr y)) = absurd (no_group_refuted S L laws p itself xs t x.1 y.1)
-groups-one S L laws c p itself given xs t u (inr (inr x)) (inl y) = absurd (no_group_refuted S L laws p itself (environment S) u y.0 x.0)
-groups-one S L laws c p itself given xs t u (inr (inr x)) (inr (inl y)) = absurd (no_group_refuted S L laws p itself xs u y.1 x.1)
-groups-one S L laws c p itself given xs t u (inr (inr x)) (inr (inr y)) = x.3 ∙ sym y.3
+groups-one S L laws c p rigid_alias given xs t u (inl x) (inl y) = one_group_term S L laws p rigid_alias (environment S) t u x.0 y.0
+groups-one S L laws c p rigid_alias given xs t u (inl x) (inr (inl y)) = absurd (no_group_refuted S L laws p rigid_alias (environment S) t x.0 y.0)
+groups-one S L laws c p rigid_alias given xs t u (inl x) (inr (inr y)) = absurd (no_group_refuted S L laws p rigid_alias (environment S) t x.0 y.0)
+groups-one S L laws c p rigid_alias given xs t u (inr (inl x)) (inl y) = absurd (no_group_refuted S L laws p rigid_alias (environment S) u y.0 x.0)
+groups-one S L laws c p rigid_alias given xs t u (inr (inl x)) (inr (inl y)) = one_group_term S L laws p rigid_alias xs t u x.1 y.1
+groups-one S L laws c p rigid_alias given xs t u (inr (inl x)) (inr (inr y)) = absurd (no_group_refuted S L laws p rigid_alias xs t x.1 y.1)
+groups-one S L laws c p rigid_alias given xs t u (inr (inr x)) (inl y) = absurd (no_group_refuted S L laws p rigid_alias (environment S) u y.0 x.0)
+groups-one S L laws c p rigid_alias given xs t u (inr (inr x)) (inr (inl y)) = absurd (no_group_refuted S L laws p rigid_alias xs u y.1 x.1)
+groups-one S L laws c p rigid_alias given xs t u (inr (inr x)) (inr (inr y)) = x.3 ∙ sym y.3
 
-groups-given : (S : Setting) (L : Level) → IsConsistent L → (c : TraitGoalProvenVia) (p : Projection) (itself given : Tree) (xs : List Candidate) (t : Tree) →
-    GroupsGive S L c p itself given xs t → GroupsRefuted S L c p itself xs → ⊥
+groups-given : (S : Setting) (L : Level) → IsConsistent L → (c : TraitGoalProvenVia) (p : Projection) (rigid_alias given : Tree) (xs : List Candidate) (t : Tree) →
+    GroupsGive S L c p rigid_alias given xs t → GroupsRefuted S L c p rigid_alias xs → ⊥
 unfolding GroupsGive GroupsRefuted
-groups-given S L laws c p itself given xs t (inl x) (inl y) = no_group_refuted S L laws p itself (environment S) t x.0 y.0
-groups-given S L laws c p itself given xs t (inl x) (inr (inl y)) = own-formed L laws p x.1 y.1
-groups-given S L laws c p itself given xs t (inl x) (inr (inr y)) = no_group_refuted S L laws p itself (environment S) t x.0 y.0
-groups-given S L laws c p itself given xs t (inr (inl x)) (inl y) = no_group_refuted S L laws p itself xs t x.1 y.1
-groups-given S L laws c p itself given xs t (inr (inl x)) (inr (inl y)) = no_group_refuted S L laws p itself (environment S) y.0.0 y.0.1 x.0
-groups-given S L laws c p itself given xs t (inr (inl x)) (inr (inr y)) = ⊎_elim (λ m. y.2 m) (λ o. own-formed L laws p o y.3) x.2
-groups-given S L laws c p itself given xs t (inr (inr x)) (inl y) = x.2 y.2
-groups-given S L laws c p itself given xs t (inr (inr x)) (inr (inl y)) = no_group_refuted S L laws p itself (environment S) y.0.0 y.0.1 x.0
-groups-given S L laws c p itself given xs t (inr (inr x)) (inr (inr y)) = no_group_refuted S L laws p itself xs y.1.0 y.1.1 x.1
+groups-given S L laws c p rigid_alias given xs t (inl x) (inl y) = no_group_refuted S L laws p rigid_alias (environment S) t x.0 y.0
+groups-given S L laws c p rigid_alias given xs t (inl x) (inr (inl y)) = own-formed L laws p x.1 y.1
+groups-given S L laws c p rigid_alias given xs t (inl x) (inr (inr y)) = no_group_refuted S L laws p rigid_alias (environment S) t x.0 y.0
+groups-given S L laws c p rigid_alias given xs t (inr (inl x)) (inl y) = no_group_refuted S L laws p rigid_alias xs t x.1 y.1
+groups-given S L laws c p rigid_alias given xs t (inr (inl x)) (inr (inl y)) = no_group_refuted S L laws p rigid_alias (environment S) y.0.0 y.0.1 x.0
+groups-given S L laws c p rigid_alias given xs t (inr (inl x)) (inr (inr y)) = ⊎_elim (λ m. y.2 m) (λ o. own-formed L laws p o y.3) x.2
+groups-given S L laws c p rigid_alias given xs t (inr (inr x)) (inl y) = x.2 y.2
+groups-given S L laws c p rigid_alias given xs t (inr (inr x)) (inr (inl y)) = no_group_refuted S L laws p rigid_alias (environment S) y.0.0 y.0.1 x.0
+groups-given S L laws c p rigid_alias given xs t (inr (inr x)) (inr (inr y)) = no_group_refuted S L laws p rigid_alias xs y.1.0 y.1.1 x.1
 
 -- so a projection has one term through a class, and then isn't refuted through it
 through-one : (S : Setting) (L : Level) → IsConsistent L → (k : AliasTermKind) (q : ItemRow) (n : ℕ) (c : TraitGoalProvenVia) (ts : List Tree) (t u : Tree) →

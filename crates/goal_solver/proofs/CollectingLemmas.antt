@@ -1,9 +1,11 @@
 -- Lists of rules that are collected from candidates.
-use Rattle.std.proofs.Common.{◌≡◌, ◌≢◌, ◌⊎◌, ◌==◌, inl, inr, ℕ, zero, suc, ◌+◌, ◌<◌, ◌≤◌, Bool, true, false, cond, Option, Some, None, is_some, List, [], ◌∷◌, ◌++◌, length, map, take, get_or, refl, sym, ap, subst, ◌∙◌, append_assoc, append-nil, eq-eqb, arith}
-use Rattle.std.specs.Prelude.{filter, find, if◌then◌else◌}
+use Rattle.std.proofs.Common.{◌≡◌, ◌⊎◌, ◌==◌, inl, inr, ℕ, zero, suc, ◌+◌, ◌<◌, ◌≤◌, Bool, true, false, cond, Option, Some, None, is_some, List, [], ◌∷◌, ◌++◌, length, map, take, get_or, refl, sym, ap, subst, ◌∙◌, append_assoc, append-nil, eq-eqb, arith}
+use Rattle.std.specs.Prelude.{find, slice_get, if◌then◌else◌}
 use Rattle.std.specs.Option.{option_map}
 use Rattle.std.proofs.lemmas.Bool.Decides.{eqb_tells}
 use Rattle.std.proofs.lemmas.List.{take_all}
+use Rattle.std.proofs.lemmas.List.Elements.{All-get_or, filter_passes}
+use Rattle.std.proofs.lemmas.Option.{get_or_from_slice_get}
 use Rattle.goal_terms.specs.declared.ids.TraitId.{TraitId}
 use Rattle.goal_tables.specs.Faults.{IsChecked}
 use Rattle.goal_tables.specs.Places.{first_place, has_double}
@@ -13,8 +15,9 @@ use Rattle.goal_tables.specs.declared.rows.Tables.{Tables}
 use Rattle.goal_kinds.specs.Candidates.{Candidate, by_impl, impls_for}
 use Rattle.goal_kinds.specs.declared.rules.Rule.{Rule}
 use Rattle.goal_kinds.proofs.AnswerLaws.{impls-not_doubled}
-use Rattle.goal_kinds.proofs.CandidateClasses.{impl-passes, impl-fails}
+use Rattle.goal_kinds.proofs.CandidateClasses.{next-impl}
 use Rattle.goal_kinds.proofs.GrowingLists.{one-more}
+use Rattle.goal_kinds.proofs.PlaceLists.{places-length, place-within, at-place}
 use Rattle.goal_kinds.proofs.TableKindLemmas.{both_fail}
 use Rattle.goal_solver.specs.Collecting.{Adds, AreCollected, Collects}
 
@@ -95,21 +98,13 @@ pub collects-all : {X : Type 0} (P : Rule → Candidate → Type 0) (L : Candida
     length xs ≤ i → Collects P L (map f (take i xs)) before after → Collects P L (map f xs) before after
 collects-all P L f xs i before after l h = subst (λ ys. Collects P L (map f ys) before after) (take_all i xs l) h
 
--- the next impl, which is of the trait or not
-pub collects-impl : (P : Rule → Candidate → Type 0) (L : Candidate → Type 0) (i : TraitId) (rows : List ImplRow) (n : ℕ) (r : ImplRow) (before rs after : List Rule) →
-    n < length rows → r ≡ get_or rows n r → r.trait_id.0 ≡ i.0 → Adds P L (by_impl r) rs after →
-    Collects P L (map by_impl (filter (λ q. q.trait_id.0 == i.0) (take n rows))) before rs →
-    Collects P L (map by_impl (filter (λ q. q.trait_id.0 == i.0) (take (n + 1) rows))) before after
-collects-impl P L i rows n r before rs after l at e a h es collected =
-    subst (AreCollected P L after) (impl-passes i es (es ++ map by_impl (filter (λ q. q.trait_id.0 == i.0) (take n rows))) rows r n l at e refl)
-    (collected-adds P L rs after (es ++ map by_impl (filter (λ q. q.trait_id.0 == i.0) (take n rows))) (by_impl r) a (h es collected))
-
-pub collects-no_impl : (P : Rule → Candidate → Type 0) (L : Candidate → Type 0) (i : TraitId) (rows : List ImplRow) (n : ℕ) (r : ImplRow) (before rs : List Rule) →
-    n < length rows → r ≡ get_or rows n r → r.trait_id.0 ≢ i.0 →
-    Collects P L (map by_impl (filter (λ q. q.trait_id.0 == i.0) (take n rows))) before rs →
-    Collects P L (map by_impl (filter (λ q. q.trait_id.0 == i.0) (take (n + 1) rows))) before rs
-collects-no_impl P L i rows n r before rs l at e h es collected =
-    subst (AreCollected P L rs) (impl-fails i es (es ++ map by_impl (filter (λ q. q.trait_id.0 == i.0) (take n rows))) rows r n l at e refl) (h es collected)
+-- the impl at the next place of a trait's impls
+pub collects-impl : (P : Rule → Candidate → Type 0) (L : Candidate → Type 0) (t : Tables) (i : TraitId) (places : List ℕ) (n : ℕ) (r : ImplRow) (before rs after : List Rule) →
+    map (slice_get t.impls.items) places ≡ map Some (impls_for t i) → n < length places → slice_get t.impls.items (get_or places n 0) ≡ Some r → Adds P L (by_impl r) rs after →
+    Collects P L (map by_impl (take n (impls_for t i))) before rs → Collects P L (map by_impl (take (n + 1) (impls_for t i))) before after
+collects-impl P L t i places n r before rs after h l here a so es collected =
+    subst (AreCollected P L after) (next-impl t i places es (es ++ map by_impl (take n (impls_for t i))) r n h l here refl)
+    (collected-adds P L rs after (es ++ map by_impl (take n (impls_for t i))) (by_impl r) a (so es collected))
 
 -- a key that stands in a list has a place there
 placed : (b : Bool) (o : Option ℕ) → (b ≡ true) ⊎ (is_some o ≡ true) → is_some (if b then Some 0 else option_map suc o) ≡ true
@@ -140,18 +135,39 @@ found-by_number f (y ∷ xs) (suc n) x d l at = elim (eqb_tells (f y) (f x)) [
 ]
 
 -- the row of an impl's id, over accepted tables
-pub impl-found : (t : Tables) → IsChecked t → (n : ℕ) (r : ImplRow) → n < length t.impls.items → r ≡ get_or t.impls.items n r → impl_of t r.id ≡ Some r
+impl-found : (t : Tables) → IsChecked t → (n : ℕ) (r : ImplRow) → n < length t.impls.items → r ≡ get_or t.impls.items n r → impl_of t r.id ≡ Some r
 impl-found t checked n r l at = found-by_number (λ q. q.id.0) t.impls.items n r (impls-not_doubled t checked) l at
 
 -- all impls of a trait
-pub collects-impls : (P : Rule → Candidate → Type 0) (L : Candidate → Type 0) (t : Tables) (i : TraitId) (rows : List ImplRow) (n : ℕ) (before after : List Rule) →
-    rows ≡ t.impls.items → length rows ≤ n → Collects P L (map by_impl (filter (λ q. q.trait_id.0 == i.0) (take n rows))) before after →
-    Collects P L (map by_impl (impls_for t i)) before after
-collects-impls P L t i rows n before after same l h =
-    subst (λ rs. Collects P L (map by_impl (filter (λ q. q.trait_id.0 == i.0) rs)) before after) (take_all n rows l ∙ same) h
+pub collects-impls : (P : Rule → Candidate → Type 0) (L : Candidate → Type 0) (t : Tables) (i : TraitId) (places : List ℕ) (n : ℕ) (before after : List Rule) →
+    map (slice_get t.impls.items) places ≡ map Some (impls_for t i) → length places ≤ n →
+    Collects P L (map by_impl (take n (impls_for t i))) before after → Collects P L (map by_impl (impls_for t i)) before after
+collects-impls P L t i places n before after h l so =
+    collects-all P L by_impl (impls_for t i) n before after (omega (arith, places-length t.impls.items places (impls_for t i) h)) so
 
 -- traits of one number are one
-pub same_trait : (i j : TraitId) → i.0 ≡ j.0 → i ≡ j
+same_trait : (i j : TraitId) → i.0 ≡ j.0 → i ≡ j
 same_trait i j e = ap (λ (n : ℕ). numbered n) e where
   numbered : ℕ → TraitId
   numbered n = record { 0 = n }
+
+-- numbers that test equal are equal
+tells-same : (a b : ℕ) → a == b ≡ true → a ≡ b
+tells-same a b e = elim (eqb_tells a b) [ inl p ↦ p.1 | inr p ↦ absurd (cc) ]
+
+-- an impl at a place of a trait's impls is of that trait
+pub impl-of_trait : (t : Tables) (i : TraitId) (places : List ℕ) (n : ℕ) (r : ImplRow) →
+    map (slice_get t.impls.items) places ≡ map Some (impls_for t i) → n < length places → slice_get t.impls.items (get_or places n 0) ≡ Some r → r.trait_id ≡ i
+impl-of_trait t i places n r h l here =
+    let within : n < length (impls_for t i) = omega (arith, places-length t.impls.items places (impls_for t i) h) in
+    same_trait r.trait_id i
+    (tells-same r.trait_id.0 i.0
+    (ap (λ (q : ImplRow). q.trait_id.0 == i.0) (at-place t.impls.items places (impls_for t i) n r h l here)
+    ∙ All-get_or (λ q. (q.trait_id.0 == i.0) ≡ true) (impls_for t i) n r within (filter_passes (λ q. q.trait_id.0 == i.0) t.impls.items)))
+
+-- and over accepted tables it is the row of its id
+pub impl-at_place : (t : Tables) → IsChecked t → (i : TraitId) (places : List ℕ) (n : ℕ) (r : ImplRow) →
+    map (slice_get t.impls.items) places ≡ map Some (impls_for t i) → n < length places → slice_get t.impls.items (get_or places n 0) ≡ Some r → impl_of t r.id ≡ Some r
+impl-at_place t checked i places n r h l here =
+    impl-found t checked (get_or places n 0) r (place-within t.impls.items places (impls_for t i) n h l)
+    (sym (get_or_from_slice_get t.impls.items (get_or places n 0) r r here))

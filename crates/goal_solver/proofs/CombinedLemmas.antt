@@ -3,10 +3,10 @@ use Rattle.std.proofs.Common.{◌≡◌, ◌⊎◌, List, inl, inr, subst, ⊎_e
 use Rattle.goal_terms.specs.Tree.{Tree}
 use Rattle.goal_solver.specs.Combined.{found_behind, refuted_only}
 use Rattle.goal_solver.specs.Outcomes.{Says, SaysWhich}
-use Rattle.goal_solver.specs.declared.outcomes.Outcome.{Outcome}
-use Rattle.goal_solver.specs.declared.outcomes.Outcome.TheVariants as outcome
-use Rattle.goal_solver.specs.declared.outcomes.Found.{Found}
-use Rattle.goal_solver.specs.declared.outcomes.Found.TheVariants as found
+use Rattle.goal_solver.specs.declared.eval.outcomes.Outcome.{Outcome}
+use Rattle.goal_solver.specs.declared.eval.outcomes.Outcome.TheVariants as outcome
+use Rattle.goal_solver.specs.declared.eval.outcomes.Found.{Found}
+use Rattle.goal_solver.specs.declared.eval.outcomes.Found.TheVariants as found
 
 -- a claim that has to hold as well: the term is given where both hold, and there is none where one is refuted
 pub says-behind : (P R : Type 0) (Q : Tree → Type 0) (N : Type 0) (T : List Tree) (o : Outcome) (f : Found) → (P → R → ⊥) → ((u : Tree) → Q u → N → ⊥) →

@@ -27,13 +27,13 @@ use Rattle.goal_kinds.specs.Premises.{Premise, TraitTree, ConstRule, PremisesHol
 use Rattle.goal_kinds.specs.Settings.{Setting}
 use Rattle.goal_kinds.specs.TraitGoals.{ImplHoldsUnder, header_of, any_error}
 use Rattle.goal_kinds.specs.Words.{Each, Pairs, SomePair}
-use Rattle.goal_kinds.specs.declared.interned.InternedCandidate.{InternedCandidate}
-use Rattle.goal_kinds.specs.declared.interned.InternedCandidate.TheVariants as candidates
-use Rattle.goal_kinds.specs.declared.interned.InternedConstRule.{InternedConstRule}
-use Rattle.goal_kinds.specs.declared.interned.InternedPredicate.{InternedPredicate}
-use Rattle.goal_kinds.specs.declared.interned.InternedPredicate.TheVariants as predicates
-use Rattle.goal_kinds.specs.declared.interned.InternedPremise.{InternedPremise}
-use Rattle.goal_kinds.specs.declared.interned.InternedTrait.{InternedTrait}
+use Rattle.goal_kinds.specs.declared.candidates.interned.InternedCandidate.{InternedCandidate}
+use Rattle.goal_kinds.specs.declared.candidates.interned.InternedCandidate.TheVariants as candidates
+use Rattle.goal_kinds.specs.declared.candidates.interned.InternedConstRule.{InternedConstRule}
+use Rattle.goal_kinds.specs.declared.candidates.interned.InternedPredicate.{InternedPredicate}
+use Rattle.goal_kinds.specs.declared.candidates.interned.InternedPredicate.TheVariants as predicates
+use Rattle.goal_kinds.specs.declared.candidates.interned.InternedPremise.{InternedPremise}
+use Rattle.goal_kinds.specs.declared.candidates.interned.InternedTrait.{InternedTrait}
 use Rattle.goal_kinds.proofs.CandidateLemmas.{no_pair_unequal, one_impl_substitution, no_impl_refuted}
 use Rattle.goal_kinds.proofs.ConsistentLemmas.{each_level_is_consistent}
 use Rattle.goal_kinds.proofs.ConstLemmas.{no_const_candidate_refuted}
@@ -45,15 +45,15 @@ use Rattle.goal_kinds.proofs.SubstitutionLemmas.{one_substitution}
 use Rattle.goal_solver.specs.ConstParts.{SomeShows, AllRefuted, GroupsShow, GroupsRefuted, ClassShows, ClassRefuted}
 use Rattle.goal_solver.specs.Joined.{both, one_of}
 use Rattle.goal_solver.specs.Outcomes.{Says, SaysThrough, SaysWhich, SaysImpl}
-use Rattle.goal_solver.specs.declared.outcomes.Found.{Found}
-use Rattle.goal_solver.specs.declared.outcomes.Found.TheVariants as found
-use Rattle.goal_solver.specs.declared.outcomes.HeaderMatch.{HeaderMatch}
-use Rattle.goal_solver.specs.declared.outcomes.HeaderMatch.TheVariants as match
-use Rattle.goal_solver.specs.declared.outcomes.Outcome.{Outcome}
-use Rattle.goal_solver.specs.declared.outcomes.Outcome.TheVariants as outcome
-use Rattle.goal_solver.specs.declared.outcomes.Stop.{Stop}
-use Rattle.goal_solver.specs.declared.outcomes.TraitOutcome.{TraitOutcome}
-use Rattle.goal_solver.specs.declared.outcomes.TraitOutcome.TheVariants as trait_outcome
+use Rattle.goal_solver.specs.declared.eval.outcomes.Found.{Found}
+use Rattle.goal_solver.specs.declared.eval.outcomes.Found.TheVariants as found
+use Rattle.goal_solver.specs.declared.eval.outcomes.HeaderMatch.{HeaderMatch}
+use Rattle.goal_solver.specs.declared.eval.outcomes.HeaderMatch.TheVariants as match
+use Rattle.goal_solver.specs.declared.eval.outcomes.Outcome.{Outcome}
+use Rattle.goal_solver.specs.declared.eval.outcomes.Outcome.TheVariants as outcome
+use Rattle.goal_solver.specs.declared.eval.outcomes.Stop.{Stop}
+use Rattle.goal_solver.specs.declared.eval.outcomes.TraitOutcome.{TraitOutcome}
+use Rattle.goal_solver.specs.declared.eval.outcomes.TraitOutcome.TheVariants as trait_outcome
 use Rattle.goal_solver.proofs.OutcomeLists.{says-same, some-more, take-push, take-whole, Exists-taken, All-at}
 
 -- a constness satisfies itself

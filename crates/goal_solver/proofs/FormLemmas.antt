@@ -17,13 +17,13 @@ use Rattle.goal_kinds.proofs.InternedLemmas.{in-grown, same-grown}
 use Rattle.goal_solver.specs.Outcomes.{Says, SaysWhich, FoundIn}
 use Rattle.goal_solver.specs.Joined.{both}
 use Rattle.goal_solver.specs.Pending.{Stands, Fails, forms_of, AllEqual, SomeUnequal, Relates, NeedForms, IsOpen, Adds}
-use Rattle.goal_solver.specs.declared.outcomes.Found.{Found}
-use Rattle.goal_solver.specs.declared.outcomes.Found.TheVariants as found
-use Rattle.goal_solver.specs.declared.outcomes.Outcome.{Outcome}
-use Rattle.goal_solver.specs.declared.outcomes.Outcome.TheVariants.{Holds, Refuted, Undecided}
-use Rattle.goal_solver.specs.declared.pairs.Forms.TheVariants as form
-use Rattle.goal_solver.specs.declared.pairs.Pending.{Pending}
-use Rattle.goal_solver.specs.declared.pairs.TermPair.{TermPair}
+use Rattle.goal_solver.specs.declared.eval.outcomes.Found.{Found}
+use Rattle.goal_solver.specs.declared.eval.outcomes.Found.TheVariants as found
+use Rattle.goal_solver.specs.declared.eval.outcomes.Outcome.{Outcome}
+use Rattle.goal_solver.specs.declared.eval.outcomes.Outcome.TheVariants.{Holds, Refuted, Undecided}
+use Rattle.goal_solver.specs.declared.relate.pairs.Forms.TheVariants as form
+use Rattle.goal_solver.specs.declared.relate.pairs.Pending.{Pending}
+use Rattle.goal_solver.specs.declared.relate.pairs.TermPair.{TermPair}
 use Rattle.goal_solver.proofs.PendingLemmas.{all-met, some-met, parts-at}
 use Rattle.goal_solver.proofs.TopLemmas.{compares}
 

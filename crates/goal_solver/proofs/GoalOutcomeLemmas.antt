@@ -18,14 +18,14 @@ use Rattle.goal_kinds.specs.Interned.{IsIn, AreIn, predicate_at}
 use Rattle.goal_kinds.specs.Levels.{level}
 use Rattle.goal_kinds.specs.Premises.{ClauseHolds, ClauseRefuted, PremiseHolds, PremiseRefuted, predicate}
 use Rattle.goal_kinds.specs.Settings.{is_headline}
-use Rattle.goal_kinds.specs.declared.interned.InternedPredicate.{InternedPredicate}
+use Rattle.goal_kinds.specs.declared.candidates.interned.InternedPredicate.{InternedPredicate}
 use Rattle.goal_solver.specs.Answers.{level_over}
 use Rattle.goal_solver.specs.GoingBack.{GoesBack}
 use Rattle.goal_solver.specs.Outcomes.{StandsFor, Says}
 use Rattle.goal_solver.specs.Relating.{ChangesInference}
 use Rattle.goal_solver.specs.State.{State}
-use Rattle.goal_solver.specs.declared.outcomes.Outcome.{Outcome}
-use Rattle.goal_solver.specs.declared.outcomes.Stop.{Stop}
+use Rattle.goal_solver.specs.declared.eval.outcomes.Outcome.{Outcome}
+use Rattle.goal_solver.specs.declared.eval.outcomes.Stop.{Stop}
 use Rattle.goal_solver.proofs.AddedGoalLemmas.{inference-through}
 use Rattle.goal_solver.proofs.AnswerLemmas.{goes_back-grown}
 use Rattle.goal_solver.proofs.GoingBackLemmas.{goes_back-through}

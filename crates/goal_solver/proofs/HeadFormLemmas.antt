@@ -14,8 +14,8 @@ use Rattle.goal_kinds.specs.Headers.{under}
 use Rattle.goal_kinds.specs.Interned.{erased_at, erased_all, IsIn, AreIn}
 use Rattle.goal_kinds.specs.Level.{Level, HasHeadForm, HeadFormRefuted}
 use Rattle.goal_solver.specs.Outcomes.{SaysWhich}
-use Rattle.goal_solver.specs.declared.outcomes.Found.{Found}
-use Rattle.goal_solver.specs.declared.outcomes.Stop.{Stop}
+use Rattle.goal_solver.specs.declared.eval.outcomes.Found.{Found}
+use Rattle.goal_solver.specs.declared.eval.outcomes.Stop.{Stop}
 
 -- the parts of a term without lifetimes
 list_of-erased : (ts : Trees) → list_of (erased_row ts) ≡ map erased (list_of ts)

@@ -26,12 +26,12 @@ use Rattle.goal_kinds.proofs.WithinLevels.{within-level_itself}
 use Rattle.goal_kinds.proofs.WithinWords.{some_pair-map}
 use Rattle.goal_solver.specs.HeaderWords.{IsKnown, known_trees, KnownIn, fill_with, AreFilled, Fills, is_complete, SaysPart, KnownFrom, Answers, TestOutcome, KnownOutcome, MatchOutcome}
 use Rattle.goal_solver.specs.Outcomes.{StandsFor, Says, SaysMatch, setting_in, level_in}
-use Rattle.goal_solver.specs.declared.outcomes.HeaderMatch.{HeaderMatch}
-use Rattle.goal_solver.specs.declared.outcomes.HeaderMatch.TheVariants as match
-use Rattle.goal_solver.specs.declared.outcomes.Outcome.{Outcome}
-use Rattle.goal_solver.specs.declared.outcomes.Outcome.TheVariants as outcome
-use Rattle.goal_solver.specs.declared.outcomes.Setting as over
-use Rattle.goal_solver.specs.declared.outcomes.Stop.{Stop}
+use Rattle.goal_solver.specs.declared.eval.outcomes.HeaderMatch.{HeaderMatch}
+use Rattle.goal_solver.specs.declared.eval.outcomes.HeaderMatch.TheVariants as match
+use Rattle.goal_solver.specs.declared.eval.outcomes.Outcome.{Outcome}
+use Rattle.goal_solver.specs.declared.eval.outcomes.Outcome.TheVariants as outcome
+use Rattle.goal_solver.specs.declared.eval.outcomes.Setting as over
+use Rattle.goal_solver.specs.declared.eval.outcomes.Stop.{Stop}
 use Rattle.goal_solver.proofs.HeaderArgLemmas.{known_same-grown}
 
 -- a filled list has the known terms at their places

@@ -31,12 +31,12 @@ use Rattle.goal_kinds.proofs.InstanceLemmas.{under_the_same}
 use Rattle.goal_kinds.proofs.InternedLemmas.{in-grown, same-grown}
 use Rattle.goal_solver.specs.HeaderWords.{erased_ref, is_any, is_whole, parameter_at, IsBehind, IsKnown, KnownIn, known_trees, is_unfilled, is_missing, is_unknown, Fills, ClashAt, QuestionIn, Answers, TestOutcome}
 use Rattle.goal_solver.specs.Outcomes.{StandsFor, Says, setting_in, level_in}
-use Rattle.goal_solver.specs.declared.header_questions.Question.{Question}
-use Rattle.goal_solver.specs.declared.header_questions.Question.TheVariants as question
-use Rattle.goal_solver.specs.declared.outcomes.Outcome.{Outcome}
-use Rattle.goal_solver.specs.declared.outcomes.Outcome.TheVariants as outcome
-use Rattle.goal_solver.specs.declared.outcomes.Setting as over
-use Rattle.goal_solver.specs.declared.outcomes.Stop.{Stop}
+use Rattle.goal_solver.specs.declared.relate.header_questions.Question.{Question}
+use Rattle.goal_solver.specs.declared.relate.header_questions.Question.TheVariants as question
+use Rattle.goal_solver.specs.declared.eval.outcomes.Outcome.{Outcome}
+use Rattle.goal_solver.specs.declared.eval.outcomes.Outcome.TheVariants as outcome
+use Rattle.goal_solver.specs.declared.eval.outcomes.Setting as over
+use Rattle.goal_solver.specs.declared.eval.outcomes.Stop.{Stop}
 use Rattle.goal_solver.proofs.HeaderPlaceLemmas.{IsAbove, below, level-above, parameter-erased}
 use Rattle.goal_solver.proofs.HeaderClashLemmas.{clash-whole, clash-step, exists-push}
 use Rattle.goal_solver.proofs.HeaderArgLemmas.{known_same-grown, take_one}

@@ -25,12 +25,12 @@ use Rattle.goal_kinds.specs.Settings.{Setting}
 use Rattle.goal_kinds.proofs.ConsistentLemmas.{each_level_is_consistent}
 use Rattle.goal_kinds.proofs.EqualLemmas.{one_head_form, no_head_form_refuted}
 use Rattle.goal_solver.specs.HeaderWords.{erased_ref, is_this, IsBehind, GivesPart, SaysPart, SaysKnown, KnownFrom, KnownIn, known_trees, PartOutcome, KnownOutcome}
-use Rattle.goal_solver.specs.declared.outcomes.Found.{Found}
-use Rattle.goal_solver.specs.declared.outcomes.Found.TheVariants as found
+use Rattle.goal_solver.specs.declared.eval.outcomes.Found.{Found}
+use Rattle.goal_solver.specs.declared.eval.outcomes.Found.TheVariants as found
 use Rattle.goal_solver.specs.Outcomes.{StandsFor, SaysWhich, setting_in, level_in, header_terms}
-use Rattle.goal_solver.specs.declared.header_places.Place.{Place}
-use Rattle.goal_solver.specs.declared.outcomes.Setting as over
-use Rattle.goal_solver.specs.declared.outcomes.Stop.{Stop}
+use Rattle.goal_solver.specs.declared.relate.header_places.Place.{Place}
+use Rattle.goal_solver.specs.declared.eval.outcomes.Setting as over
+use Rattle.goal_solver.specs.declared.eval.outcomes.Stop.{Stop}
 use Rattle.goal_solver.proofs.HeaderPlaceLemmas.{IsAbove, level-above, part-step, number_erased, both_ways}
 use Rattle.goal_solver.proofs.HeaderArgLemmas.{known_same-grown, map_push}
 

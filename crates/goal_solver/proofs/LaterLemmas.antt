@@ -25,8 +25,8 @@ use Rattle.goal_solver.specs.Relating.{AgreesWith}
 use Rattle.goal_solver.specs.State.{State, kinds_in}
 use Rattle.goal_solver.specs.Stored.{HasOneTypeAKey}
 use Rattle.goal_solver.specs.Variables.{with_kinds, with_variables}
-use Rattle.goal_solver.specs.declared.merged_rules.Merged.{Merged}
-use Rattle.goal_solver.specs.declared.merged_rules.Merged.TheVariants as merged
+use Rattle.goal_solver.specs.declared.assembly.merged_rules.Merged.{Merged}
+use Rattle.goal_solver.specs.declared.assembly.merged_rules.Merged.TheVariants as merged
 use Rattle.goal_solver.proofs.ListedLemmas.{solved-with_kinds}
 use Rattle.goal_solver.proofs.SinceMarkLemmas.{resolution-kept}
 

@@ -44,7 +44,6 @@ pub mod EquatedLemmas
 pub mod LifetimeLemmas
 pub mod FreeVariableLemmas
 pub mod ApplicableLemmas
-pub mod OpenTermLemmas
 pub mod PlaceLemmas
 pub mod AddedGoalLemmas
 pub mod RoundLemmas
@@ -73,3 +72,4 @@ pub mod CollectingLemmas
 pub mod CollectedTermLemmas
 pub mod CollectedObjectLemmas
 mod OpenProjectionLemmas
+pub mod PromiseLemmas

@@ -7,8 +7,8 @@ use Rattle.goal_terms.specs.declared.predicates.Clause.{Clause}
 use Rattle.goal_kinds.specs.declared.rules.Rule.{Rule}
 use Rattle.goal_solver.specs.MergedRules.{RunsTo, with_answer, RunsEach, AreSame, IsOther, MergesTo, JoinsTo, MergesRules}
 use Rattle.goal_solver.specs.State.{State}
-use Rattle.goal_solver.specs.declared.merged_rules.Merged.{Merged}
-use Rattle.goal_solver.specs.declared.merged_rules.Merged.TheVariants as merged
+use Rattle.goal_solver.specs.declared.assembly.merged_rules.Merged.{Merged}
+use Rattle.goal_solver.specs.declared.assembly.merged_rules.Merged.TheVariants as merged
 use Rattle.goal_solver.proofs.OutcomeLists.{Exists-front, Exists-last}
 use Rattle.goal_solver.proofs.VariableLemmas.{take-more}
 

@@ -11,10 +11,10 @@ use Rattle.goal_solver.specs.Outcomes.{Says, SaysWhich, FoundIn}
 use Rattle.goal_solver.specs.Combined.{found_behind as behind}
 use Rattle.goal_solver.specs.Joined.{both}
 use Rattle.goal_solver.specs.ProjectionParts.{MergesTo}
-use Rattle.goal_solver.specs.declared.outcomes.Found as founds
-use Rattle.goal_solver.specs.declared.outcomes.Found.TheVariants as found
-use Rattle.goal_solver.specs.declared.outcomes.Outcome as outcomes
-use Rattle.goal_solver.specs.declared.outcomes.Outcome.TheVariants as outcome
+use Rattle.goal_solver.specs.declared.eval.outcomes.Found as founds
+use Rattle.goal_solver.specs.declared.eval.outcomes.Found.TheVariants as found
+use Rattle.goal_solver.specs.declared.eval.outcomes.Outcome as outcomes
+use Rattle.goal_solver.specs.declared.eval.outcomes.Outcome.TheVariants as outcome
 use Rattle.goal_solver.proofs.BeforeLemmas.{EachBefore, SomeBefore, each_before-more, some_before-more, some_before-here, some_before-apart, each_before-end, some_before-whole, some_before-end, each-at, some_before-each_before, each_before-map, each-mapped, mapped-each, exists-mapped, mapped-exists}
 
 -- what holds of a value, by what implies it

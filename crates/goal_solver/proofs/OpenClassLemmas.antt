@@ -43,7 +43,7 @@ use Rattle.goal_solver.specs.OpenRuns.{refusal_in}
 use Rattle.goal_solver.specs.Pending.{is_alias}
 use Rattle.goal_solver.specs.State.{State}
 use Rattle.goal_solver.specs.TranslatedArgs.{IsSameEnvironment}
-use Rattle.goal_solver.specs.declared.merged_rules.Merged.{Merged}
+use Rattle.goal_solver.specs.declared.assembly.merged_rules.Merged.{Merged}
 
 -- of an error only a refusal is claimed something
 pub when-refused : (A : Type 0) (f : Fault) → (f ≡ fault.NoSolution → A) → WhenAnswered (Err f) A

@@ -17,10 +17,10 @@ use Rattle.goal_kinds.specs.Words.{Each, Exists, Pairs, SomePair}
 use Rattle.goal_solver.specs.Outcomes.{Says}
 use Rattle.goal_solver.specs.Joined.{both}
 use Rattle.goal_solver.specs.Pending.{Stands, Fails, AllEqual, SomeUnequal, Relates, HaveOneHead, NeedForms, AreOfOneKind, IsOpen, Adds}
-use Rattle.goal_solver.specs.declared.outcomes.Outcome.{Outcome}
-use Rattle.goal_solver.specs.declared.outcomes.Outcome.TheVariants.{Holds, Refuted, Undecided}
-use Rattle.goal_solver.specs.declared.pairs.Pending.{Pending}
-use Rattle.goal_solver.specs.declared.pairs.TermPair.{TermPair}
+use Rattle.goal_solver.specs.declared.eval.outcomes.Outcome.{Outcome}
+use Rattle.goal_solver.specs.declared.eval.outcomes.Outcome.TheVariants.{Holds, Refuted, Undecided}
+use Rattle.goal_solver.specs.declared.relate.pairs.Pending.{Pending}
+use Rattle.goal_solver.specs.declared.relate.pairs.TermPair.{TermPair}
 use Rattle.goal_solver.proofs.TopLemmas.{compares}
 use Rattle.goal_solver.proofs.PartKinds.{alias-sort}
 

@@ -11,11 +11,11 @@ use Rattle.goal_terms.specs.declared.modes.TypingMode.{TypingMode}
 use Rattle.goal_terms.specs.declared.predicates.BoundConstness.{BoundConstness}
 use Rattle.goal_terms.specs.declared.term_nodes.TermId.{TermId}
 use Rattle.goal_kinds.specs.Interned.{PremiseIn, TraitIn, trait_at, erased_at, erased_all, predicate_at, premise_at}
-use Rattle.goal_kinds.specs.declared.interned.InternedPredicate.{InternedPredicate}
-use Rattle.goal_kinds.specs.declared.interned.InternedPredicate.TheVariants as predicates
-use Rattle.goal_kinds.specs.declared.interned.InternedPremise.{InternedPremise}
-use Rattle.goal_kinds.specs.declared.interned.InternedPremise.TheVariants as premises
-use Rattle.goal_kinds.specs.declared.interned.InternedTrait.{InternedTrait}
+use Rattle.goal_kinds.specs.declared.candidates.interned.InternedPredicate.{InternedPredicate}
+use Rattle.goal_kinds.specs.declared.candidates.interned.InternedPredicate.TheVariants as predicates
+use Rattle.goal_kinds.specs.declared.candidates.interned.InternedPremise.{InternedPremise}
+use Rattle.goal_kinds.specs.declared.candidates.interned.InternedPremise.TheVariants as premises
+use Rattle.goal_kinds.specs.declared.candidates.interned.InternedTrait.{InternedTrait}
 use Rattle.goal_kinds.specs.Level.{Level}
 use Rattle.goal_kinds.specs.Levels.{level}
 use Rattle.goal_kinds.specs.Premises.{Premise, predicate, equation, TraitTree, ClauseHolds, ClauseRefuted, PremiseHolds, PremiseRefuted, PremisesHold, PremisesRefuted, conditions_as}
@@ -26,12 +26,12 @@ use Rattle.goal_kinds.proofs.InternedLemmas.{premise_in-grown, premise_same-grow
 use Rattle.goal_kinds.proofs.PremiseLemmas.{no_premise_refuted}
 use Rattle.goal_solver.specs.Joined.{both, held}
 use Rattle.goal_solver.specs.Outcomes.{StandsFor, setting_in, level_in, Says, SaysThrough}
-use Rattle.goal_solver.specs.declared.outcomes.Setting as over
-use Rattle.goal_solver.specs.declared.outcomes.Outcome.{Outcome}
-use Rattle.goal_solver.specs.declared.outcomes.Outcome.TheVariants as outcome
-use Rattle.goal_solver.specs.declared.outcomes.Stop.{Stop}
-use Rattle.goal_solver.specs.declared.outcomes.TraitOutcome.{TraitOutcome}
-use Rattle.goal_solver.specs.declared.outcomes.TraitOutcome.TheVariants as trait_outcome
+use Rattle.goal_solver.specs.declared.eval.outcomes.Setting as over
+use Rattle.goal_solver.specs.declared.eval.outcomes.Outcome.{Outcome}
+use Rattle.goal_solver.specs.declared.eval.outcomes.Outcome.TheVariants as outcome
+use Rattle.goal_solver.specs.declared.eval.outcomes.Stop.{Stop}
+use Rattle.goal_solver.specs.declared.eval.outcomes.TraitOutcome.{TraitOutcome}
+use Rattle.goal_solver.specs.declared.eval.outcomes.TraitOutcome.TheVariants as trait_outcome
 use Rattle.goal_solver.proofs.OutcomeLists.{all-more, take-push, take-whole, Exists-taken, All-at}
 
 -- what an outcome says of a premise

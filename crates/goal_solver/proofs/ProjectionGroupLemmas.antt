@@ -29,8 +29,8 @@ use Rattle.goal_kinds.proofs.InternedLemmas.{same-grown, are_in-grown, all_same-
 use Rattle.goal_kinds.proofs.ProjectionLemmas.{one_group_term, no_group_refuted}
 use Rattle.goal_solver.specs.Outcomes.{SaysWhich, ProjectionIn, projection_at}
 use Rattle.goal_solver.specs.ProjectionParts.{rest_of, FormedGives, LaterGives, LaterRefuted, replaced, ReplacedGives, ReplacedRefuted, ThroughGives, ThroughRefuted}
-use Rattle.goal_solver.specs.declared.outcomes.Found as founds
-use Rattle.goal_solver.specs.declared.outcomes.Projection as projections
+use Rattle.goal_solver.specs.declared.eval.outcomes.Found as founds
+use Rattle.goal_solver.specs.declared.eval.outcomes.Projection as projections
 use Rattle.goal_solver.proofs.MergingLemmas.{ok-map, which-map}
 use Rattle.goal_solver.proofs.ProjectionArgLemmas.{rest-erased}
 use Rattle.goal_solver.proofs.ProjectionTermLemmas.{projection_same-grown}
@@ -41,61 +41,61 @@ unfolding class_of
 environment-class S i s = refl
 
 -- where the environment's term is undecided, all is
-pub groups-undecided : (S : Setting) (L : Level) (c : TraitGoalProvenVia) (p : Projection) (itself given : Tree) (second : List Candidate) →
-    ((u : Tree) → GroupGives S L p itself (environment S) u → ⊥) × (GroupRefuted S L p (environment S) → ⊥) →
-    ((u : Tree) → GroupsGive S L c p itself given second u → ⊥) × (GroupsRefuted S L c p itself second → ⊥)
+pub groups-undecided : (S : Setting) (L : Level) (c : TraitGoalProvenVia) (p : Projection) (rigid_alias given : Tree) (second : List Candidate) →
+    ((u : Tree) → GroupGives S L p rigid_alias (environment S) u → ⊥) × (GroupRefuted S L p (environment S) → ⊥) →
+    ((u : Tree) → GroupsGive S L c p rigid_alias given second u → ⊥) × (GroupsRefuted S L c p rigid_alias second → ⊥)
 unfolding GroupsGive GroupsRefuted
-groups-undecided S L c p itself given second h = (
+groups-undecided S L c p rigid_alias given second h = (
   λ u x. ⊎_elim (λ y. h.0 u y.0) (λ z. ⊎_elim (λ y. h.1 y.0) (λ y. h.1 y.0) z) x,
   λ x. ⊎_elim (λ y. h.1 y.0) (λ z. ⊎_elim (λ y. h.0 y.0.0 y.0.1) (λ y. h.1 y.0) z) x,
 )
 
 -- where the environment gives a term
-groups-formed : (S : Setting) (L : Level) → IsConsistent L → (c : TraitGoalProvenVia) (p : Projection) (itself given : Tree) (second : List Candidate) (t : Tree) →
-    GroupGives S L p itself (environment S) t → (T : List Tree) (f : founds.Found) → SaysWhich (FormedGives L p t) (OwnUnformed L p) T f →
-    SaysWhich (GroupsGive S L c p itself given second) (GroupsRefuted S L c p itself second) T f
+groups-formed : (S : Setting) (L : Level) → IsConsistent L → (c : TraitGoalProvenVia) (p : Projection) (rigid_alias given : Tree) (second : List Candidate) (t : Tree) →
+    GroupGives S L p rigid_alias (environment S) t → (T : List Tree) (f : founds.Found) → SaysWhich (FormedGives L p t) (OwnUnformed L p) T f →
+    SaysWhich (GroupsGive S L c p rigid_alias given second) (GroupsRefuted S L c p rigid_alias second) T f
 unfolding GroupsGive GroupsRefuted
-groups-formed S L k c p itself given second t g T f w =
-    which-map (FormedGives L p t) (GroupsGive S L c p itself given second) (OwnUnformed L p) (GroupsRefuted S L c p itself second) T
-    (λ u x. inl (subst (GroupGives S L p itself (environment S)) (sym x.0) g, x.1))
+groups-formed S L k c p rigid_alias given second t g T f w =
+    which-map (FormedGives L p t) (GroupsGive S L c p rigid_alias given second) (OwnUnformed L p) (GroupsRefuted S L c p rigid_alias second) T
+    (λ u x. inl (subst (GroupGives S L p rigid_alias (environment S)) (sym x.0) g, x.1))
     (λ u x.
-    ⊎_elim (λ y. (one_group_term S L k p itself (environment S) u t y.0 g, y.1))
-    (λ z. ⊎_elim (λ y. absurd (no_group_refuted S L k p itself (environment S) t g y.0)) (λ y. absurd (no_group_refuted S L k p itself (environment S) t g y.0)) z) x)
+    ⊎_elim (λ y. (one_group_term S L k p rigid_alias (environment S) u t y.0 g, y.1))
+    (λ z. ⊎_elim (λ y. absurd (no_group_refuted S L k p rigid_alias (environment S) t g y.0)) (λ y. absurd (no_group_refuted S L k p rigid_alias (environment S) t g y.0)) z) x)
     (λ x. inr (inl ((t, g), x)))
     (λ x.
-    ⊎_elim (λ y. absurd (no_group_refuted S L k p itself (environment S) t g y.0))
-    (λ z. ⊎_elim (λ y. y.1) (λ y. absurd (no_group_refuted S L k p itself (environment S) t g y.0)) z) x)
+    ⊎_elim (λ y. absurd (no_group_refuted S L k p rigid_alias (environment S) t g y.0))
+    (λ z. ⊎_elim (λ y. y.1) (λ y. absurd (no_group_refuted S L k p rigid_alias (environment S) t g y.0)) z) x)
     f w
 
 -- where it gives none
-groups-later : (S : Setting) (L : Level) → IsConsistent L → (c : TraitGoalProvenVia) (p : Projection) (itself given : Tree) (second : List Candidate) →
-    GroupRefuted S L p (environment S) → (T : List Tree) (f : founds.Found) → SaysWhich (LaterGives S L c p itself given second) (LaterRefuted S L c p itself second) T f →
-    SaysWhich (GroupsGive S L c p itself given second) (GroupsRefuted S L c p itself second) T f
+groups-later : (S : Setting) (L : Level) → IsConsistent L → (c : TraitGoalProvenVia) (p : Projection) (rigid_alias given : Tree) (second : List Candidate) →
+    GroupRefuted S L p (environment S) → (T : List Tree) (f : founds.Found) → SaysWhich (LaterGives S L c p rigid_alias given second) (LaterRefuted S L c p rigid_alias second) T f →
+    SaysWhich (GroupsGive S L c p rigid_alias given second) (GroupsRefuted S L c p rigid_alias second) T f
 unfolding GroupsGive GroupsRefuted
-groups-later S L k c p itself given second r T f w =
-    which-map (LaterGives S L c p itself given second) (GroupsGive S L c p itself given second) (LaterRefuted S L c p itself second) (GroupsRefuted S L c p itself second) T
+groups-later S L k c p rigid_alias given second r T f w =
+    which-map (LaterGives S L c p rigid_alias given second) (GroupsGive S L c p rigid_alias given second) (LaterRefuted S L c p rigid_alias second) (GroupsRefuted S L c p rigid_alias second) T
     (λ u x. inr (⊎_elim (λ y. inl (r, y.0, y.1)) (λ y. inr (r, y.0, y.1, y.2)) x))
     (λ u x.
-    ⊎_elim (λ y. absurd (no_group_refuted S L k p itself (environment S) u y.0 r))
+    ⊎_elim (λ y. absurd (no_group_refuted S L k p rigid_alias (environment S) u y.0 r))
     (λ z. ⊎_elim (λ y. inl (y.1, y.2)) (λ y. inr (y.1, y.2, y.3)) z) x)
     (λ x. ⊎_elim (λ y. inl (r, y.0, y.1)) (λ y. inr (inr (r, y.0, y.1, y.2))) x)
     (λ x.
     ⊎_elim (λ y. inl (y.1, y.2))
-    (λ z. ⊎_elim (λ y. absurd (no_group_refuted S L k p itself (environment S) y.0.0 y.0.1 r)) (λ y. inr (y.1, y.2, y.3)) z) x)
+    (λ z. ⊎_elim (λ y. absurd (no_group_refuted S L k p rigid_alias (environment S) y.0.0 y.0.1 r)) (λ y. inr (y.1, y.2, y.3)) z) x)
     f w
 
 -- where the candidates after the environment give a term, and these are the bounds alone
-later-formed : (S : Setting) (L : Level) → IsConsistent L → (c : TraitGoalProvenVia) (p : Projection) (itself given : Tree) (second : List Candidate) (t : Tree) →
-    c ≢ class.Misc → GroupGives S L p itself second t → (T : List Tree) (f : founds.Found) → SaysWhich (FormedGives L p t) (OwnUnformed L p) T f →
-    SaysWhich (LaterGives S L c p itself given second) (LaterRefuted S L c p itself second) T f
-later-formed S L k c p itself given second t n g T f w =
-    which-map (FormedGives L p t) (LaterGives S L c p itself given second) (OwnUnformed L p) (LaterRefuted S L c p itself second) T
-    (λ u x. inl (subst (GroupGives S L p itself second) (sym x.0) g, inr x.1))
+later-formed : (S : Setting) (L : Level) → IsConsistent L → (c : TraitGoalProvenVia) (p : Projection) (rigid_alias given : Tree) (second : List Candidate) (t : Tree) →
+    c ≢ class.Misc → GroupGives S L p rigid_alias second t → (T : List Tree) (f : founds.Found) → SaysWhich (FormedGives L p t) (OwnUnformed L p) T f →
+    SaysWhich (LaterGives S L c p rigid_alias given second) (LaterRefuted S L c p rigid_alias second) T f
+later-formed S L k c p rigid_alias given second t n g T f w =
+    which-map (FormedGives L p t) (LaterGives S L c p rigid_alias given second) (OwnUnformed L p) (LaterRefuted S L c p rigid_alias second) T
+    (λ u x. inl (subst (GroupGives S L p rigid_alias second) (sym x.0) g, inr x.1))
     (λ u x.
-    ⊎_elim (λ y. (one_group_term S L k p itself second u t y.0 g, ⊎_elim (λ m. absurd (n m)) (λ o. o) y.1))
-    (λ y. absurd (no_group_refuted S L k p itself second t g y.0)) x)
+    ⊎_elim (λ y. (one_group_term S L k p rigid_alias second u t y.0 g, ⊎_elim (λ m. absurd (n m)) (λ o. o) y.1))
+    (λ y. absurd (no_group_refuted S L k p rigid_alias second t g y.0)) x)
     (λ x. inr ((t, g), n, x))
-    (λ x. ⊎_elim (λ y. absurd (no_group_refuted S L k p itself second t g y.0)) (λ y. y.2) x)
+    (λ x. ⊎_elim (λ y. absurd (no_group_refuted S L k p rigid_alias second t g y.0)) (λ y. y.2) x)
     f w
 
 -- the own arguments, from an earlier table
@@ -104,46 +104,46 @@ formed-back : (L : Level) (T U V : List Tree) → Keeps T U → (p : projections
 formed-back L T U V k p i t f w = subst (λ q. SaysWhich (FormedGives L q t) (OwnUnformed L q) V f) (projection_same-grown T U k p i) w
 
 pub groups-by_environment : {E : Type 0} (S : Setting) (L : Level) → IsConsistent L → (c : TraitGoalProvenVia) (T U V : List Tree) → Keeps T U → (p : projections.Projection) → ProjectionIn T p →
-    (given : Tree) (second : List Candidate) (t : Tree) → GroupGives S L (projection_at T p) (erased_at T p.itself) (environment S) t → (r : Result founds.Found E) →
+    (given : Tree) (second : List Candidate) (t : Tree) → GroupGives S L (projection_at T p) (erased_at T p.rigid_alias) (environment S) t → (r : Result founds.Found E) →
     IfOk r (SaysWhich (FormedGives L (projection_at U p) t) (OwnUnformed L (projection_at U p)) V) →
-    IfOk r (SaysWhich (GroupsGive S L c (projection_at T p) (erased_at T p.itself) given second) (GroupsRefuted S L c (projection_at T p) (erased_at T p.itself) second) V)
+    IfOk r (SaysWhich (GroupsGive S L c (projection_at T p) (erased_at T p.rigid_alias) given second) (GroupsRefuted S L c (projection_at T p) (erased_at T p.rigid_alias) second) V)
 groups-by_environment S L k c T U V l p i given second t g r h =
     ok-map (SaysWhich (FormedGives L (projection_at U p) t) (OwnUnformed L (projection_at U p)) V)
-    (SaysWhich (GroupsGive S L c (projection_at T p) (erased_at T p.itself) given second) (GroupsRefuted S L c (projection_at T p) (erased_at T p.itself) second) V) r
-    (λ f w. groups-formed S L k c (projection_at T p) (erased_at T p.itself) given second t g V f (formed-back L T U V l p i t f w)) h
+    (SaysWhich (GroupsGive S L c (projection_at T p) (erased_at T p.rigid_alias) given second) (GroupsRefuted S L c (projection_at T p) (erased_at T p.rigid_alias) second) V) r
+    (λ f w. groups-formed S L k c (projection_at T p) (erased_at T p.rigid_alias) given second t g V f (formed-back L T U V l p i t f w)) h
 
 pub later-by_second : {E : Type 0} (S : Setting) (L : Level) → IsConsistent L → (c : TraitGoalProvenVia) (T U V : List Tree) → Keeps T U → (p : projections.Projection) → ProjectionIn T p →
-    (given : Tree) (second : List Candidate) (t : Tree) → c ≢ class.Misc → GroupGives S L (projection_at T p) (erased_at T p.itself) second t → (r : Result founds.Found E) →
+    (given : Tree) (second : List Candidate) (t : Tree) → c ≢ class.Misc → GroupGives S L (projection_at T p) (erased_at T p.rigid_alias) second t → (r : Result founds.Found E) →
     IfOk r (SaysWhich (FormedGives L (projection_at U p) t) (OwnUnformed L (projection_at U p)) V) →
-    IfOk r (SaysWhich (LaterGives S L c (projection_at T p) (erased_at T p.itself) given second) (LaterRefuted S L c (projection_at T p) (erased_at T p.itself) second) V)
+    IfOk r (SaysWhich (LaterGives S L c (projection_at T p) (erased_at T p.rigid_alias) given second) (LaterRefuted S L c (projection_at T p) (erased_at T p.rigid_alias) second) V)
 later-by_second S L k c T U V l p i given second t n g r h =
     ok-map (SaysWhich (FormedGives L (projection_at U p) t) (OwnUnformed L (projection_at U p)) V)
-    (SaysWhich (LaterGives S L c (projection_at T p) (erased_at T p.itself) given second) (LaterRefuted S L c (projection_at T p) (erased_at T p.itself) second) V) r
-    (λ f w. later-formed S L k c (projection_at T p) (erased_at T p.itself) given second t n g V f (formed-back L T U V l p i t f w)) h
+    (SaysWhich (LaterGives S L c (projection_at T p) (erased_at T p.rigid_alias) given second) (LaterRefuted S L c (projection_at T p) (erased_at T p.rigid_alias) second) V) r
+    (λ f w. later-formed S L k c (projection_at T p) (erased_at T p.rigid_alias) given second t n g V f (formed-back L T U V l p i t f w)) h
 
 -- what the later candidates say, over trees
 abbrev SaysLater : Setting → Level → TraitGoalProvenVia → TraitId → List Tree → Projection → Tree → Tree → Tree → founds.Found → Type 0
-SaysLater S L c i V p itself given self f =
-    SaysWhich (LaterGives S L c p itself given (second_group S i self c)) (LaterRefuted S L c p itself (second_group S i self c)) V f
+SaysLater S L c i V p rigid_alias given self f =
+    SaysWhich (LaterGives S L c p rigid_alias given (second_group S i self c)) (LaterRefuted S L c p rigid_alias (second_group S i self c)) V f
 
 later-back : (S : Setting) (L : Level) (c : TraitGoalProvenVia) (i : TraitId) (T U V : List Tree) → Keeps T U → (p : projections.Projection) → ProjectionIn T p →
     (given self : TermId) → IsIn T given → IsIn T self → (f : founds.Found) →
-    SaysLater S L c i V (projection_at U p) (erased_at U p.itself) (erased_at U given) (erased_at U self) f →
-    SaysLater S L c i V (projection_at T p) (erased_at T p.itself) (erased_at T given) (erased_at T self) f
+    SaysLater S L c i V (projection_at U p) (erased_at U p.rigid_alias) (erased_at U given) (erased_at U self) f →
+    SaysLater S L c i V (projection_at T p) (erased_at T p.rigid_alias) (erased_at T given) (erased_at T self) f
 later-back S L c i T U V l p j given self g s f w =
-    subst (λ q. SaysLater S L c i V q (erased_at T p.itself) (erased_at T given) (erased_at T self) f) (projection_same-grown T U l p j)
-    (subst (λ t. SaysLater S L c i V (projection_at U p) t (erased_at T given) (erased_at T self) f) (same-grown T U l p.itself j.1)
-    (subst (λ t. SaysLater S L c i V (projection_at U p) (erased_at U p.itself) t (erased_at T self) f) (same-grown T U l given g)
-    (subst (λ t. SaysLater S L c i V (projection_at U p) (erased_at U p.itself) (erased_at U given) t f) (same-grown T U l self s) w)))
+    subst (λ q. SaysLater S L c i V q (erased_at T p.rigid_alias) (erased_at T given) (erased_at T self) f) (projection_same-grown T U l p j)
+    (subst (λ t. SaysLater S L c i V (projection_at U p) t (erased_at T given) (erased_at T self) f) (same-grown T U l p.rigid_alias j.1)
+    (subst (λ t. SaysLater S L c i V (projection_at U p) (erased_at U p.rigid_alias) t (erased_at T self) f) (same-grown T U l given g)
+    (subst (λ t. SaysLater S L c i V (projection_at U p) (erased_at U p.rigid_alias) (erased_at U given) t f) (same-grown T U l self s) w)))
 
 pub groups-by_later : {E : Type 0} (S : Setting) (L : Level) → IsConsistent L → (c : TraitGoalProvenVia) (i : TraitId) (T U V : List Tree) → Keeps T U → (p : projections.Projection) → ProjectionIn T p →
     (given self : TermId) → IsIn T given → IsIn T self → GroupRefuted S L (projection_at T p) (environment S) → (r : Result founds.Found E) →
-    IfOk r (SaysWhich (LaterGives S L c (projection_at U p) (erased_at U p.itself) (erased_at U given) (second_group S i (erased_at U self) c)) (LaterRefuted S L c (projection_at U p) (erased_at U p.itself) (second_group S i (erased_at U self) c)) V) →
-    IfOk r (SaysWhich (GroupsGive S L c (projection_at T p) (erased_at T p.itself) (erased_at T given) (second_group S i (erased_at T self) c)) (GroupsRefuted S L c (projection_at T p) (erased_at T p.itself) (second_group S i (erased_at T self) c)) V)
+    IfOk r (SaysWhich (LaterGives S L c (projection_at U p) (erased_at U p.rigid_alias) (erased_at U given) (second_group S i (erased_at U self) c)) (LaterRefuted S L c (projection_at U p) (erased_at U p.rigid_alias) (second_group S i (erased_at U self) c)) V) →
+    IfOk r (SaysWhich (GroupsGive S L c (projection_at T p) (erased_at T p.rigid_alias) (erased_at T given) (second_group S i (erased_at T self) c)) (GroupsRefuted S L c (projection_at T p) (erased_at T p.rigid_alias) (second_group S i (erased_at T self) c)) V)
 groups-by_later S L k c i T U V l p j given self g s n r h =
-    ok-map (SaysLater S L c i V (projection_at U p) (erased_at U p.itself) (erased_at U given) (erased_at U self))
-    (SaysWhich (GroupsGive S L c (projection_at T p) (erased_at T p.itself) (erased_at T given) (second_group S i (erased_at T self) c)) (GroupsRefuted S L c (projection_at T p) (erased_at T p.itself) (second_group S i (erased_at T self) c)) V) r
-    (λ f w. groups-later S L k c (projection_at T p) (erased_at T p.itself) (erased_at T given) (second_group S i (erased_at T self) c) n V f (later-back S L c i T U V l p j given self g s f w)) h
+    ok-map (SaysLater S L c i V (projection_at U p) (erased_at U p.rigid_alias) (erased_at U given) (erased_at U self))
+    (SaysWhich (GroupsGive S L c (projection_at T p) (erased_at T p.rigid_alias) (erased_at T given) (second_group S i (erased_at T self) c)) (GroupsRefuted S L c (projection_at T p) (erased_at T p.rigid_alias) (second_group S i (erased_at T self) c)) V) r
+    (λ f w. groups-later S L k c (projection_at T p) (erased_at T p.rigid_alias) (erased_at T given) (second_group S i (erased_at T self) c) n V f (later-back S L c i T U V l p j given self g s f w)) h
 
 -- the arguments with the head form of the self type are in the table
 pub self_args_in : (T : List Tree) (self : TermId) (ids : List TermId) → IsIn T self → AreIn T ids → AreIn T (self ∷ rest_of ids)
@@ -162,28 +162,28 @@ self_args-grown T U k self ids others i h e = subst (AreIn U) (sym e) (are_in-gr
 
 -- what the groups say, over trees
 abbrev SaysGroups : Setting → Level → TraitGoalProvenVia → TraitId → List Tree → Projection → Tree → Tree → Tree → founds.Found → Type 0
-SaysGroups S L c i V p itself given self f =
-    SaysWhich (GroupsGive S L c p itself given (second_group S i self c)) (GroupsRefuted S L c p itself (second_group S i self c)) V f
+SaysGroups S L c i V p rigid_alias given self f =
+    SaysWhich (GroupsGive S L c p rigid_alias given (second_group S i self c)) (GroupsRefuted S L c p rigid_alias (second_group S i self c)) V f
 
 -- the term of a projection, for the head form of its self type
-replaced-by : (S : Setting) (L : Level) (c : TraitGoalProvenVia) (i : TraitId) (W : List Tree) (p q : Projection) (itself t given g self s : Tree) → p ≡ q → itself ≡ t → given ≡ g → self ≡ s →
-    (f : founds.Found) → SaysGroups S L c i W p itself given self f → SaysGroups S L c i W q t g s f
-replaced-by S L c i W p q itself t given g self s a b d e f w =
+replaced-by : (S : Setting) (L : Level) (c : TraitGoalProvenVia) (i : TraitId) (W : List Tree) (p q : Projection) (rigid_alias t given g self s : Tree) → p ≡ q → rigid_alias ≡ t → given ≡ g → self ≡ s →
+    (f : founds.Found) → SaysGroups S L c i W p rigid_alias given self f → SaysGroups S L c i W q t g s f
+replaced-by S L c i W p q rigid_alias t given g self s a b d e f w =
     subst (λ x. SaysGroups S L c i W x t g s f) a
     (subst (λ x. SaysGroups S L c i W p x g s f) b
-    (subst (λ x. SaysGroups S L c i W p itself x s f) d (subst (λ x. SaysGroups S L c i W p itself given x f) e w)))
+    (subst (λ x. SaysGroups S L c i W p rigid_alias x s f) d (subst (λ x. SaysGroups S L c i W p rigid_alias given x f) e w)))
 
 pub replaced-says : {E : Type 0} (S : Setting) (L : Level) (k : AliasTermKind) (c : TraitGoalProvenVia) (T U V W : List Tree) → Keeps T U → Keeps U V → Keeps T V → (p : projections.Projection)
     (args others : List TermId) (given self : TermId) → AreIn T args → IsIn T self → IsIn U given → p.args.now ≡ self ∷ rest_of args → others ≡ self ∷ rest_of args →
-    erased_at U given ≡ alias k (forest (erased_all T args)) → erased_at V p.itself ≡ alias k (forest (erased_all U others)) → (r : Result founds.Found E) →
-    IfOk r (SaysWhich (GroupsGive S L c (projection_at V p) (erased_at V p.itself) (erased_at V given) (second_group S p.item.now.trait_id (erased_at V self) c)) (GroupsRefuted S L c (projection_at V p) (erased_at V p.itself) (second_group S p.item.now.trait_id (erased_at V self) c)) W) →
+    erased_at U given ≡ alias k (forest (erased_all T args)) → erased_at V p.rigid_alias ≡ alias k (forest (erased_all U others)) → (r : Result founds.Found E) →
+    IfOk r (SaysWhich (GroupsGive S L c (projection_at V p) (erased_at V p.rigid_alias) (erased_at V given) (second_group S p.item.now.trait_id (erased_at V self) c)) (GroupsRefuted S L c (projection_at V p) (erased_at V p.rigid_alias) (second_group S p.item.now.trait_id (erased_at V self) c)) W) →
     IfOk r (SaysWhich (ReplacedGives S L k p.item.now p.trait_params c (erased_all T args) (erased_at T self)) (ReplacedRefuted S L k p.item.now p.trait_params c (erased_all T args) (erased_at T self)) W)
 replaced-says S L k c T U V W l m n p args others given self i s g e o a b r h =
-    ok-map (SaysGroups S L c p.item.now.trait_id W (projection_at V p) (erased_at V p.itself) (erased_at V given) (erased_at V self))
+    ok-map (SaysGroups S L c p.item.now.trait_id W (projection_at V p) (erased_at V p.rigid_alias) (erased_at V given) (erased_at V self))
     (SaysWhich (ReplacedGives S L k p.item.now p.trait_params c (erased_all T args) (erased_at T self)) (ReplacedRefuted S L k p.item.now p.trait_params c (erased_all T args) (erased_at T self)) W) r
     (λ f w.
     replaced-by S L c p.item.now.trait_id W (projection_at V p) (replaced p.item.now p.trait_params (erased_at T self) (erased_all T args))
-    (erased_at V p.itself) (alias k (forest (erased_at T self ∷ rest_of (erased_all T args)))) (erased_at V given) (alias k (forest (erased_all T args))) (erased_at V self) (erased_at T self)
+    (erased_at V p.rigid_alias) (alias k (forest (erased_at T self ∷ rest_of (erased_all T args)))) (erased_at V given) (alias k (forest (erased_all T args))) (erased_at V self) (erased_at T self)
     (ap (λ ts. record { item = p.item.now; trait_params = p.trait_params; args = ts }) (self_args-same T V n self args p.args.now s i e))
     (b ∙ ap (λ ts. alias k (forest ts)) (self_args-same T U l self args others s i o)) (same-grown U V m given g ∙ a) (same-grown T V n self s) f w)
     h

@@ -24,14 +24,14 @@ use Rattle.goal_kinds.specs.Premises.{ClauseHolds, PremisesHold, PremisesRefuted
 use Rattle.goal_kinds.specs.Projections.{EquationGives, EquationRefuted, AssumptionGives, AssumptionTermRefuted, self_of, ListedGives, ListedRefuted, CandidateGives, TermRefuted, GroupGives, GroupRefuted, OwnFormed, OwnUnformed}
 use Rattle.goal_kinds.specs.Settings.{Setting}
 use Rattle.goal_kinds.specs.Words.{Pairs, SomePair}
-use Rattle.goal_kinds.specs.declared.interned.InternedTrait.{InternedTrait}
-use Rattle.goal_kinds.specs.declared.interned.InternedPremise.{InternedPremise}
-use Rattle.goal_kinds.specs.declared.interned.InternedPredicate.{InternedPredicate}
-use Rattle.goal_kinds.specs.declared.interned.InternedPredicate.TheVariants as predicates
-use Rattle.goal_kinds.specs.declared.interned.InternedCandidate.{InternedCandidate}
-use Rattle.goal_kinds.specs.declared.interned.InternedCandidate.TheVariants as candidates
-use Rattle.goal_kinds.specs.declared.interned.ListedTerm.{ListedTerm}
-use Rattle.goal_kinds.specs.declared.interned.ListedTerm.TheVariants as terms
+use Rattle.goal_kinds.specs.declared.candidates.interned.InternedTrait.{InternedTrait}
+use Rattle.goal_kinds.specs.declared.candidates.interned.InternedPremise.{InternedPremise}
+use Rattle.goal_kinds.specs.declared.candidates.interned.InternedPredicate.{InternedPredicate}
+use Rattle.goal_kinds.specs.declared.candidates.interned.InternedPredicate.TheVariants as predicates
+use Rattle.goal_kinds.specs.declared.candidates.interned.InternedCandidate.{InternedCandidate}
+use Rattle.goal_kinds.specs.declared.candidates.interned.InternedCandidate.TheVariants as candidates
+use Rattle.goal_kinds.specs.declared.candidates.interned.ListedTerm.{ListedTerm}
+use Rattle.goal_kinds.specs.declared.candidates.interned.ListedTerm.TheVariants as terms
 use Rattle.goal_kinds.proofs.CandidateLemmas.{no_pair_unequal}
 use Rattle.goal_kinds.proofs.ConsistentLemmas.{each_level_is_consistent}
 use Rattle.goal_kinds.proofs.EqualLemmas.{no_head_form_refuted}
@@ -42,13 +42,13 @@ use Rattle.goal_solver.specs.Outcomes.{Says, SaysThrough, SaysWhich, FoundIn, Pr
 use Rattle.goal_solver.specs.Combined.{found_behind as behind}
 use Rattle.goal_solver.specs.Joined.{both}
 use Rattle.goal_solver.specs.ProjectionParts.{MergesTo, ProjectsItem, EqualArgsGive, EqualArgsRefuted, IsFormed, HaveHeadForms, SomeUnformed, FormedGives}
-use Rattle.goal_solver.specs.declared.outcomes.Setting as over
-use Rattle.goal_solver.specs.declared.outcomes.Found as founds
-use Rattle.goal_solver.specs.declared.outcomes.Found.TheVariants as found
-use Rattle.goal_solver.specs.declared.outcomes.Outcome as outcomes
-use Rattle.goal_solver.specs.declared.outcomes.Outcome.TheVariants as outcome
-use Rattle.goal_solver.specs.declared.outcomes.Projection as projections
-use Rattle.goal_solver.specs.declared.outcomes.TraitOutcome as trait_outcomes
+use Rattle.goal_solver.specs.declared.eval.outcomes.Setting as over
+use Rattle.goal_solver.specs.declared.eval.outcomes.Found as founds
+use Rattle.goal_solver.specs.declared.eval.outcomes.Found.TheVariants as found
+use Rattle.goal_solver.specs.declared.eval.outcomes.Outcome as outcomes
+use Rattle.goal_solver.specs.declared.eval.outcomes.Outcome.TheVariants as outcome
+use Rattle.goal_solver.specs.declared.eval.outcomes.Projection as projections
+use Rattle.goal_solver.specs.declared.eval.outcomes.TraitOutcome as trait_outcomes
 use Rattle.goal_solver.proofs.BeforeLemmas.{some_before-here, some_before-whole, exists-mapped}
 use Rattle.goal_solver.proofs.MergingLemmas.{ok-map, which-map, HeldBefore, held-more, held-undecided, held-end, says-mapped, both-says, behind-says, behind-in, AgreeBefore, agree-grown, agree-more, agree-end, which-mapped}
 
@@ -170,58 +170,58 @@ self-first T [] = refl
 self-first T (id ∷ ids) = refl
 
 -- by whether the self type is `Sized`
-pub sized-says : (L : Level) (p : Projection) (itself : Tree) (i : TraitId) (T : List Tree) (ids others : List TermId) → p.args ≡ erased_all T ids → others ≡ take 1 ids →
+pub sized-says : (L : Level) (p : Projection) (rigid_alias : Tree) (i : TraitId) (T : List Tree) (ids others : List TermId) → p.args ≡ erased_all T ids → others ≡ take 1 ids →
     (o : trait_outcomes.TraitOutcome) → SaysThrough (λ c. L.through c i (erased_all T others)) (L.trait_refuted i (erased_all T others)) o →
     SaysThrough (λ c. L.through c i (self_of p.args)) (L.trait_refuted i (self_of p.args)) o
-sized-says L p itself i T ids others e f o h =
+sized-says L p rigid_alias i T ids others e f o h =
     subst (λ ts. SaysThrough (λ c. L.through c i ts) (L.trait_refuted i ts) o) (ap (erased_all T) f ∙ self-first T ids ∙ ap self_of (sym e)) h
 
-pub sized-holds : (L : Level) (p : Projection) (itself : Tree) (i : TraitId) (c : TraitGoalProvenVia) (u : Tree) → L.through c i (self_of p.args) → u ≡ unit_ty →
-    ListedGives L p itself (listed_by_size i) u
+pub sized-holds : (L : Level) (p : Projection) (rigid_alias : Tree) (i : TraitId) (c : TraitGoalProvenVia) (u : Tree) → L.through c i (self_of p.args) → u ≡ unit_ty →
+    ListedGives L p rigid_alias (listed_by_size i) u
 unfolding ListedGives ClauseHolds
-sized-holds L p itself i c u h e = inl ((c, h), e)
+sized-holds L p rigid_alias i c u h e = inl ((c, h), e)
 
-pub sized-refuted : (L : Level) (p : Projection) (itself : Tree) (i : TraitId) (u : Tree) → L.trait_refuted i (self_of p.args) → u ≡ itself →
-    ListedGives L p itself (listed_by_size i) u
+pub sized-refuted : (L : Level) (p : Projection) (rigid_alias : Tree) (i : TraitId) (u : Tree) → L.trait_refuted i (self_of p.args) → u ≡ rigid_alias →
+    ListedGives L p rigid_alias (listed_by_size i) u
 unfolding ListedGives
-sized-refuted L p itself i u h e = inr (h, e)
+sized-refuted L p rigid_alias i u h e = inr (h, e)
 
-pub sized-undecided : (L : Level) (p : Projection) (itself : Tree) (i : TraitId) →
+pub sized-undecided : (L : Level) (p : Projection) (rigid_alias : Tree) (i : TraitId) →
     ((c : TraitGoalProvenVia) → L.through c i (self_of p.args) → ⊥) × (L.trait_refuted i (self_of p.args) → ⊥) →
-    ((u : Tree) → ListedGives L p itself (listed_by_size i) u → ⊥) × (ListedRefuted L (listed_by_size i) → ⊥)
+    ((u : Tree) → ListedGives L p rigid_alias (listed_by_size i) u → ⊥) × (ListedRefuted L (listed_by_size i) → ⊥)
 unfolding ListedGives ListedRefuted ClauseHolds
-sized-undecided L p itself i h = (λ u x. ⊎_elim (λ y. h.0 y.0.0 y.0.1) (λ y. h.1 y.0) x, λ x. x)
+sized-undecided L p rigid_alias i h = (λ u x. ⊎_elim (λ y. h.0 y.0.0 y.0.1) (λ y. h.1 y.0) x, λ x. x)
 
 -- what a built-in rule lists, by its kind
 pub listed-nothing : (L : Level) (T : List Tree) (l : ListedTerm) → l ≡ terms.Nothing → ListedRefuted L (listed_at T l)
 unfolding ListedRefuted
 listed-nothing L T l e = subst (λ x. ListedRefuted L (listed_at T x)) (sym e) tt
 
-pub listed-rigid : (L : Level) (p : Projection) (itself : Tree) (T : List Tree) (l : ListedTerm) → l ≡ terms.Rigid → ListedGives L p itself (listed_at T l) itself
+pub listed-rigid : (L : Level) (p : Projection) (rigid_alias : Tree) (T : List Tree) (l : ListedTerm) → l ≡ terms.Rigid → ListedGives L p rigid_alias (listed_at T l) rigid_alias
 unfolding ListedGives
-listed-rigid L p itself T l e = subst (λ x. ListedGives L p itself (listed_at T x) itself) (sym e) refl
+listed-rigid L p rigid_alias T l e = subst (λ x. ListedGives L p rigid_alias (listed_at T x) rigid_alias) (sym e) refl
 
-pub listed-behind : {E : Type 0} (L : Level) (p : Projection) (itself : Tree) (T U : List Tree) (l : ListedTerm) (ps : Vec InternedPremise Global) (v : TermId) → l ≡ terms.Behind ps v →
+pub listed-behind : {E : Type 0} (L : Level) (p : Projection) (rigid_alias : Tree) (T U : List Tree) (l : ListedTerm) (ps : Vec InternedPremise Global) (v : TermId) → l ≡ terms.Behind ps v →
     (xs : List InternedPremise) → xs ≡ ps.items → (r : Result founds.Found E) →
     IfOk r (SaysWhich (λ u. PremisesHold L (map (premise_at T) xs) × HasHeadForm L (erased_at T v) u) (PremisesRefuted L (map (premise_at T) xs) ⊎ HeadFormRefuted L (erased_at T v)) U) →
-    IfOk r (SaysWhich (ListedGives L p itself (listed_at T l)) (ListedRefuted L (listed_at T l)) U)
+    IfOk r (SaysWhich (ListedGives L p rigid_alias (listed_at T l)) (ListedRefuted L (listed_at T l)) U)
 unfolding ListedGives ListedRefuted
-listed-behind L p itself T U l ps v e xs o r h =
-    subst (λ x. IfOk r (SaysWhich (ListedGives L p itself (listed_at T x)) (ListedRefuted L (listed_at T x)) U)) (sym e)
+listed-behind L p rigid_alias T U l ps v e xs o r h =
+    subst (λ x. IfOk r (SaysWhich (ListedGives L p rigid_alias (listed_at T x)) (ListedRefuted L (listed_at T x)) U)) (sym e)
     (subst (λ ys. IfOk r (SaysWhich (λ u. PremisesHold L (map (premise_at T) ys) × HasHeadForm L (erased_at T v) u) (PremisesRefuted L (map (premise_at T) ys) ⊎ HeadFormRefuted L (erased_at T v)) U)) o h)
 
 -- a built-in rule's term, from an earlier table
 pub listed-back : {E : Type 0} (L : Level) (T U V : List Tree) → Keeps T U → (p : projections.Projection) → ProjectionIn T p → (x y : Listed) → x ≡ y → (r : Result founds.Found E) →
-    IfOk r (SaysWhich (ListedGives L (projection_at U p) (erased_at U p.itself) x) (ListedRefuted L x) V) →
-    IfOk r (SaysWhich (ListedGives L (projection_at T p) (erased_at T p.itself) y) (ListedRefuted L y) V)
+    IfOk r (SaysWhich (ListedGives L (projection_at U p) (erased_at U p.rigid_alias) x) (ListedRefuted L x) V) →
+    IfOk r (SaysWhich (ListedGives L (projection_at T p) (erased_at T p.rigid_alias) y) (ListedRefuted L y) V)
 listed-back L T U V k p i x y e r h =
-    subst (λ q. IfOk r (SaysWhich (ListedGives L q (erased_at T p.itself) y) (ListedRefuted L y) V)) (projection_same-grown T U k p i)
-    (subst (λ t. IfOk r (SaysWhich (ListedGives L (projection_at U p) t y) (ListedRefuted L y) V)) (same-grown T U k p.itself i.1)
-    (subst (λ z. IfOk r (SaysWhich (ListedGives L (projection_at U p) (erased_at U p.itself) z) (ListedRefuted L z) V)) e h))
+    subst (λ q. IfOk r (SaysWhich (ListedGives L q (erased_at T p.rigid_alias) y) (ListedRefuted L y) V)) (projection_same-grown T U k p i)
+    (subst (λ t. IfOk r (SaysWhich (ListedGives L (projection_at U p) t y) (ListedRefuted L y) V)) (same-grown T U k p.rigid_alias i.1)
+    (subst (λ z. IfOk r (SaysWhich (ListedGives L (projection_at U p) (erased_at U p.rigid_alias) z) (ListedRefuted L z) V)) e h))
 
 -- what a candidate of a table says of a projection
 abbrev pub GivesOf : Setting → Level → List Tree → projections.Projection → Tree → InternedCandidate → Type 0
-GivesOf S L T p u x = CandidateGives S L (projection_at T p) (erased_at T p.itself) u (candidate_at T x)
+GivesOf S L T p u x = CandidateGives S L (projection_at T p) (erased_at T p.rigid_alias) u (candidate_at T x)
 
 abbrev pub NoneOf : Setting → Level → List Tree → projections.Projection → InternedCandidate → Type 0
 NoneOf S L T p x = TermRefuted S L (projection_at T p) (candidate_at T x)
@@ -235,13 +235,13 @@ candidate-assumption S L T U p x q e r h = subst (λ y. IfOk r (SaysWhich (λ u.
 
 pub candidate-impl : {E : Type 0} (S : Setting) (L : Level) (T U : List Tree) (p : projections.Projection) (x : InternedCandidate) (row : Bor ImplRow) → x ≡ candidates.Impl row →
     (r : Result founds.Found E) →
-    IfOk r (SaysWhich (ImplGives S L (projection_at T p) (erased_at T p.itself) row.now) (ImplTermRefuted S L (projection_at T p) row.now) U) →
+    IfOk r (SaysWhich (ImplGives S L (projection_at T p) (erased_at T p.rigid_alias) row.now) (ImplTermRefuted S L (projection_at T p) row.now) U) →
     IfOk r (SaysWhich (λ u. GivesOf S L T p u x) (NoneOf S L T p x) U)
 unfolding CandidateGives TermRefuted
 candidate-impl S L T U p x row e r h = subst (λ y. IfOk r (SaysWhich (λ u. GivesOf S L T p u y) (NoneOf S L T p y) U)) (sym e) h
 
 pub candidate-built_in : {E : Type 0} (S : Setting) (L : Level) (T U : List Tree) (p : projections.Projection) (x : InternedCandidate) → x ≡ candidates.BuiltIn → (r : Result founds.Found E) →
-    IfOk r (SaysWhich (ListedGives L (projection_at T p) (erased_at T p.itself) (term_rule S.tables p.item.now.id (erased_all T p.args.now))) (ListedRefuted L (term_rule S.tables p.item.now.id (erased_all T p.args.now))) U) →
+    IfOk r (SaysWhich (ListedGives L (projection_at T p) (erased_at T p.rigid_alias) (term_rule S.tables p.item.now.id (erased_all T p.args.now))) (ListedRefuted L (term_rule S.tables p.item.now.id (erased_all T p.args.now))) U) →
     IfOk r (SaysWhich (λ u. GivesOf S L T p u x) (NoneOf S L T p x) U)
 unfolding CandidateGives TermRefuted
 candidate-built_in S L T U p x e r h = subst (λ y. IfOk r (SaysWhich (λ u. GivesOf S L T p u y) (NoneOf S L T p y) U)) (sym e) h
@@ -259,9 +259,9 @@ candidate-error S L T p x e = subst (NoneOf S L T p) (sym e) tt
 candidate-back : (S : Setting) (L : Level) (T U V : List Tree) → Keeps T U → (p : projections.Projection) → ProjectionIn T p → (x : InternedCandidate) → CandidateIn T x → (f : founds.Found) →
     SaysWhich (λ u. GivesOf S L U p u x) (NoneOf S L U p x) V f → SaysWhich (λ u. GivesOf S L T p u x) (NoneOf S L T p x) V f
 candidate-back S L T U V k p i x j f h =
-    subst (λ q. SaysWhich (λ u. CandidateGives S L q (erased_at T p.itself) u (candidate_at T x)) (TermRefuted S L q (candidate_at T x)) V f) (projection_same-grown T U k p i)
-    (subst (λ t. SaysWhich (λ u. CandidateGives S L (projection_at U p) t u (candidate_at T x)) (TermRefuted S L (projection_at U p) (candidate_at T x)) V f) (same-grown T U k p.itself i.1)
-    (subst (λ y. SaysWhich (λ u. CandidateGives S L (projection_at U p) (erased_at U p.itself) u y) (TermRefuted S L (projection_at U p) y) V f) (candidate_same-grown T U k x j) h))
+    subst (λ q. SaysWhich (λ u. CandidateGives S L q (erased_at T p.rigid_alias) u (candidate_at T x)) (TermRefuted S L q (candidate_at T x)) V f) (projection_same-grown T U k p i)
+    (subst (λ t. SaysWhich (λ u. CandidateGives S L (projection_at U p) t u (candidate_at T x)) (TermRefuted S L (projection_at U p) (candidate_at T x)) V f) (same-grown T U k p.rigid_alias i.1)
+    (subst (λ y. SaysWhich (λ u. CandidateGives S L (projection_at U p) (erased_at U p.rigid_alias) u y) (TermRefuted S L (projection_at U p) y) V f) (candidate_same-grown T U k x j) h))
 
 -- one more candidate of a group
 pub group-more : (S : Setting) (L : Level) → IsConsistent L → (T U V : List Tree) → Keeps T U → Keeps U V → (p : projections.Projection) → ProjectionIn T p →
@@ -270,37 +270,37 @@ pub group-more : (S : Setting) (L : Level) → IsConsistent L → (T U V : List 
     AgreeBefore (GivesOf S L T p) (NoneOf S L T p) V h xs (n + 1)
 group-more S L c T U V k l p i xs n x lt e all f g h j m b w =
     agree-more (GivesOf S L T p) (NoneOf S L T p)
-    (λ y t u q r. one_candidate_term S L c (projection_at T p) (erased_at T p.itself) t u (candidate_at T y) q r)
-    (λ y t q r. no_candidate_term_refuted S L c (projection_at T p) (erased_at T p.itself) t (candidate_at T y) q r)
+    (λ y t u q r. one_candidate_term S L c (projection_at T p) (erased_at T p.rigid_alias) t u (candidate_at T y) q r)
+    (λ y t q r. no_candidate_term_refuted S L c (projection_at T p) (erased_at T p.rigid_alias) t (candidate_at T y) q r)
     V f g h xs n x lt e m (agree-grown (GivesOf S L T p) (NoneOf S L T p) U V l f j xs n b)
     (candidate-back S L T U V k p i x (subst (CandidateIn T) (sym e) (all n x lt)) g w)
 
 -- all candidates of a group
 pub group-end : (S : Setting) (L : Level) (T U : List Tree) (p : projections.Projection) (xs : List InternedCandidate) (n : ℕ) (f : founds.Found) → length xs ≤ n →
     AgreeBefore (GivesOf S L T p) (NoneOf S L T p) U f xs n →
-    SaysWhich (GroupGives S L (projection_at T p) (erased_at T p.itself) (map (candidate_at T) xs)) (GroupRefuted S L (projection_at T p) (map (candidate_at T) xs)) U f
+    SaysWhich (GroupGives S L (projection_at T p) (erased_at T p.rigid_alias) (map (candidate_at T) xs)) (GroupRefuted S L (projection_at T p) (map (candidate_at T) xs)) U f
 unfolding GroupGives GroupRefuted
 group-end S L T U p xs n f l b =
-    which-mapped (candidate_at T) (λ u y. CandidateGives S L (projection_at T p) (erased_at T p.itself) u y) (TermRefuted S L (projection_at T p)) U xs f
+    which-mapped (candidate_at T) (λ u y. CandidateGives S L (projection_at T p) (erased_at T p.rigid_alias) u y) (TermRefuted S L (projection_at T p)) U xs f
     (agree-end (GivesOf S L T p) (NoneOf S L T p) U f xs n l b)
 
 -- a group that is found undecided
 pub group-stop : (S : Setting) (L : Level) (T U V : List Tree) (p : projections.Projection) (xs : List InternedCandidate) (n : ℕ) (f : founds.Found) → f ≡ found.Undecided →
     AgreeBefore (GivesOf S L T p) (NoneOf S L T p) U f xs n →
-    SaysWhich (GroupGives S L (projection_at T p) (erased_at T p.itself) (map (candidate_at T) xs)) (GroupRefuted S L (projection_at T p) (map (candidate_at T) xs)) V found.Undecided
+    SaysWhich (GroupGives S L (projection_at T p) (erased_at T p.rigid_alias) (map (candidate_at T) xs)) (GroupRefuted S L (projection_at T p) (map (candidate_at T) xs)) V found.Undecided
 unfolding GroupGives GroupRefuted
 group-stop S L T U V p xs n f e b =
-    which-mapped (candidate_at T) (λ u y. CandidateGives S L (projection_at T p) (erased_at T p.itself) u y) (TermRefuted S L (projection_at T p)) V xs found.Undecided
+    which-mapped (candidate_at T) (λ u y. CandidateGives S L (projection_at T p) (erased_at T p.rigid_alias) u y) (TermRefuted S L (projection_at T p)) V xs found.Undecided
     (subst (λ g. AgreeBefore (GivesOf S L T p) (NoneOf S L T p) U g xs n) e b)
 
 -- a group's term, from an earlier table
 pub group-back : {E : Type 0} (S : Setting) (L : Level) (T U V : List Tree) → Keeps T U → (p : projections.Projection) → ProjectionIn T p → (xs ys : List Candidate) → xs ≡ ys → (r : Result founds.Found E) →
-    IfOk r (SaysWhich (GroupGives S L (projection_at U p) (erased_at U p.itself) xs) (GroupRefuted S L (projection_at U p) xs) V) →
-    IfOk r (SaysWhich (GroupGives S L (projection_at T p) (erased_at T p.itself) ys) (GroupRefuted S L (projection_at T p) ys) V)
+    IfOk r (SaysWhich (GroupGives S L (projection_at U p) (erased_at U p.rigid_alias) xs) (GroupRefuted S L (projection_at U p) xs) V) →
+    IfOk r (SaysWhich (GroupGives S L (projection_at T p) (erased_at T p.rigid_alias) ys) (GroupRefuted S L (projection_at T p) ys) V)
 group-back S L T U V k p i xs ys e r h =
-    subst (λ q. IfOk r (SaysWhich (GroupGives S L q (erased_at T p.itself) ys) (GroupRefuted S L q ys) V)) (projection_same-grown T U k p i)
-    (subst (λ t. IfOk r (SaysWhich (GroupGives S L (projection_at U p) t ys) (GroupRefuted S L (projection_at U p) ys) V)) (same-grown T U k p.itself i.1)
-    (subst (λ zs. IfOk r (SaysWhich (GroupGives S L (projection_at U p) (erased_at U p.itself) zs) (GroupRefuted S L (projection_at U p) zs) V)) e h))
+    subst (λ q. IfOk r (SaysWhich (GroupGives S L q (erased_at T p.rigid_alias) ys) (GroupRefuted S L q ys) V)) (projection_same-grown T U k p i)
+    (subst (λ t. IfOk r (SaysWhich (GroupGives S L (projection_at U p) t ys) (GroupRefuted S L (projection_at U p) ys) V)) (same-grown T U k p.rigid_alias i.1)
+    (subst (λ zs. IfOk r (SaysWhich (GroupGives S L (projection_at U p) (erased_at U p.rigid_alias) zs) (GroupRefuted S L (projection_at U p) zs) V)) e h))
 
 -- what is found of a term once it is known whether the own arguments have head forms
 abbrev pub formed_of : TermId → outcomes.Outcome → founds.Found

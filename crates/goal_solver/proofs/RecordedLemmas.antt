@@ -12,8 +12,10 @@ use Rattle.goal_kinds.specs.declared.rules.RuleEntry.{RuleEntry}
 use Rattle.goal_kinds.specs.declared.rules.RuleEntry.TheVariants as entry
 use Rattle.goal_solver.specs.Added.{Enters}
 use Rattle.goal_solver.specs.GoingBack.{BeginsWith, GoesBack}
-use Rattle.goal_solver.specs.RunRules.{IsRecorded, AreRecorded, IsRecordedAnswer, AreListed}
+use Rattle.goal_solver.specs.RunRules.{to_record, IsRecorded, AreRecorded, IsRecordedAnswer, AreListed}
 use Rattle.goal_solver.specs.State.{State}
+use Rattle.goal_solver.specs.declared.eval.run_rule.recorded.ToRecord.{ToRecord}
+use Rattle.goal_solver.specs.declared.eval.run_rule.recorded.ToRecord.TheVariants as recorded
 use Rattle.goal_solver.specs.Stored.{IsSet}
 use Rattle.goal_solver.proofs.StoredLemmas.{set-pushed}
 use Rattle.std.proofs.Math.Seq.{take-append_seam}
@@ -79,6 +81,25 @@ recorded-end a es i l h = subst (AreRecorded a) (take_all i es l) h
 -- a fault that one entry names
 pub one-listed : (a b : State) (e : RuleEntry) (g : DelayedFault) → e ≡ entry.DelayedFault g → ((f : DelayedFault) → Contains b.delayed_faults f → Contains a.delayed_faults f ⊎ (g ≡ f)) → AreListed (e ∷ []) a b
 one-listed a b e g is h f p = ⊎_elim inl (λ q. inr (subst (Contains (e ∷ [])) (is ∙ ap entry.DelayedFault q) (Contains-push [] e))) (h f p)
+
+-- only one entry says to record a fault
+only-fault : (e : RuleEntry) (f : DelayedFault) → to_record e ≡ recorded.DelayedFault f → e ≡ entry.DelayedFault f
+only-fault (entry.Access y) f h = cc
+only-fault (entry.DelayedFault y) f h = cc
+only-fault (entry.Arguments y) f h = cc
+only-fault (entry.Equation y z) f h = cc
+only-fault (entry.Clause y z) f h = cc
+only-fault (entry.RowClauses y z) f h = cc
+only-fault (entry.Term y z) f h = cc
+only-fault entry.Evaluation f h = cc
+only-fault entry.Undecided f h = cc
+only-fault entry.Refused f h = cc
+
+-- the faults that one entry names
+pub entry-listed : (a b : State) (e : RuleEntry) (x : ToRecord) → x ≡ to_record e →
+    ((f : DelayedFault) → Contains b.delayed_faults f → Contains a.delayed_faults f ⊎ (x ≡ recorded.DelayedFault f)) → AreListed (e ∷ []) a b
+entry-listed a b e x is h f p =
+    ⊎_elim inl (λ q. inr (subst (Contains (e ∷ [])) (only-fault e f (sym is ∙ q)) (Contains-push [] e))) (h f p)
 
 -- no fault has come
 pub none-listed : (a b : State) (es : List RuleEntry) → b.delayed_faults ≡ a.delayed_faults → AreListed es a b

@@ -47,10 +47,10 @@ use Rattle.goal_solver.specs.Pending.{IsOfKind, AreListsOfOneKind}
 use Rattle.goal_solver.specs.Relating.{IsRelated, ChangesInference, AgreesWith, Identifies, all_replaced, all_bound, SaysEqual, IsFinalIn}
 use Rattle.goal_solver.specs.Settled.{AreSettled, AreSettledIn, outcome_in, IsPlainOrSame}
 use Rattle.goal_solver.specs.State.{State, IsValid, kinds_of}
-use Rattle.goal_solver.specs.declared.outcomes.Setting as over
-use Rattle.goal_solver.specs.declared.outcomes.Outcome.{Outcome}
-use Rattle.goal_solver.specs.declared.outcomes.Outcome.TheVariants as outcome
-use Rattle.goal_solver.specs.declared.outcomes.Stop.{Stop}
+use Rattle.goal_solver.specs.declared.eval.outcomes.Setting as over
+use Rattle.goal_solver.specs.declared.eval.outcomes.Outcome.{Outcome}
+use Rattle.goal_solver.specs.declared.eval.outcomes.Outcome.TheVariants as outcome
+use Rattle.goal_solver.specs.declared.eval.outcomes.Stop.{Stop}
 use Rattle.goal_solver.proofs.GoingBackLemmas.{goes_back-same, goes_back-through}
 use Rattle.goal_solver.proofs.SettledLemmas.{replaced-closed}
 

@@ -26,11 +26,11 @@ use Rattle.goal_solver.specs.GoingBack.{GoesBack, restored}
 use Rattle.goal_solver.specs.Outcomes.{StandsFor}
 use Rattle.goal_solver.specs.RunRules.{setting_over, asked_of, IsAskedOnce, Progress, progress_at, named_at, term_at, IsRunning, IsUnsettled, Leads, LeadsOn, SaysRule, ListsTerm, IsRuleResponse, IsRuleAnswer, IsRuleOpen}
 use Rattle.goal_solver.specs.State.{State}
-use Rattle.goal_solver.specs.declared.rule_runs.RuleRun.{RuleRun}
-use Rattle.goal_solver.specs.declared.rule_runs.Reached.{Reached}
-use Rattle.goal_solver.specs.declared.rule_runs.Reached.TheVariants as reached
-use Rattle.goal_solver.specs.declared.rule_runs.RuleOutcome.{RuleOutcome}
-use Rattle.goal_solver.specs.declared.rule_runs.RuleOutcome.TheVariants as ruled
+use Rattle.goal_solver.specs.declared.eval.run_rule.progress.RuleRun.{RuleRun}
+use Rattle.goal_solver.specs.declared.eval.run_rule.progress.Reached.{Reached}
+use Rattle.goal_solver.specs.declared.eval.run_rule.progress.Reached.TheVariants as reached
+use Rattle.goal_solver.specs.declared.eval.run_rule.progress.RuleOutcome.{RuleOutcome}
+use Rattle.goal_solver.specs.declared.eval.run_rule.progress.RuleOutcome.TheVariants as ruled
 use Rattle.goal_solver.proofs.AnswerLemmas.{goes_back-grown}
 use Rattle.goal_solver.proofs.GoingBackLemmas.{goes_back-through}
 use Rattle.goal_solver.proofs.FoundAnswers.{AnswersFound, is_term, sort-erased}

@@ -51,12 +51,12 @@ use Rattle.goal_kinds.proofs.SubstitutionLemmas.{one_substitution}
 use Rattle.goal_solver.specs.Combined.{SaysMatched}
 use Rattle.goal_solver.specs.Outcomes.{Says, SaysWhich, SaysMatch, header_terms}
 use Rattle.goal_solver.specs.RunRules.{named_at, NamedIn, SaysNamed, SaysHeader}
-use Rattle.goal_solver.specs.declared.outcomes.Outcome.{Outcome}
-use Rattle.goal_solver.specs.declared.outcomes.Found.{Found}
-use Rattle.goal_solver.specs.declared.outcomes.Found.TheVariants as found
-use Rattle.goal_solver.specs.declared.outcomes.HeaderMatch.{HeaderMatch}
-use Rattle.goal_solver.specs.declared.outcomes.HeaderMatch.TheVariants as match
-use Rattle.goal_solver.specs.declared.outcomes.Stop.{Stop}
+use Rattle.goal_solver.specs.declared.eval.outcomes.Outcome.{Outcome}
+use Rattle.goal_solver.specs.declared.eval.outcomes.Found.{Found}
+use Rattle.goal_solver.specs.declared.eval.outcomes.Found.TheVariants as found
+use Rattle.goal_solver.specs.declared.eval.outcomes.HeaderMatch.{HeaderMatch}
+use Rattle.goal_solver.specs.declared.eval.outcomes.HeaderMatch.TheVariants as match
+use Rattle.goal_solver.specs.declared.eval.outcomes.Stop.{Stop}
 use Rattle.goal_solver.proofs.RowTermLemmas.{type-argument, term-argument}
 use Rattle.goal_solver.proofs.SaidLemmas.{match-as}
 

@@ -36,17 +36,17 @@ use Rattle.goal_kinds.proofs.RuleLemmas.{entries_hold-said, one_known, one_list_
 use Rattle.goal_solver.specs.Answers.{expected_variable}
 use Rattle.goal_solver.specs.Outcomes.{Says, SaysWhich, FoundIn, MatchIn}
 use Rattle.goal_solver.specs.RunRules.{asked_of, IsAskedOnce, Progress, named_at, NamedIn, term_at, TermIn, progress_at, RunIn, at_start, found_for, IsRunning, LeadsOn, SaysRule, RuledIn, SaysNamed, run_asking, reached_asking, run_taking, run_giving, reached_giving, NamesOn}
-use Rattle.goal_solver.specs.declared.outcomes.Outcome.{Outcome}
-use Rattle.goal_solver.specs.declared.outcomes.Outcome.TheVariants as outcome
-use Rattle.goal_solver.specs.declared.outcomes.Found.{Found}
-use Rattle.goal_solver.specs.declared.outcomes.Found.TheVariants as found
-use Rattle.goal_solver.specs.declared.outcomes.HeaderMatch.{HeaderMatch}
-use Rattle.goal_solver.specs.declared.outcomes.HeaderMatch.TheVariants as match
-use Rattle.goal_solver.specs.declared.rule_runs.RuleRun.{RuleRun}
-use Rattle.goal_solver.specs.declared.rule_runs.Reached.{Reached}
-use Rattle.goal_solver.specs.declared.rule_runs.Reached.TheVariants as reached
-use Rattle.goal_solver.specs.declared.rule_runs.RuleOutcome.{RuleOutcome}
-use Rattle.goal_solver.specs.declared.rule_runs.RuleOutcome.TheVariants as ruled
+use Rattle.goal_solver.specs.declared.eval.outcomes.Outcome.{Outcome}
+use Rattle.goal_solver.specs.declared.eval.outcomes.Outcome.TheVariants as outcome
+use Rattle.goal_solver.specs.declared.eval.outcomes.Found.{Found}
+use Rattle.goal_solver.specs.declared.eval.outcomes.Found.TheVariants as found
+use Rattle.goal_solver.specs.declared.eval.outcomes.HeaderMatch.{HeaderMatch}
+use Rattle.goal_solver.specs.declared.eval.outcomes.HeaderMatch.TheVariants as match
+use Rattle.goal_solver.specs.declared.eval.run_rule.progress.RuleRun.{RuleRun}
+use Rattle.goal_solver.specs.declared.eval.run_rule.progress.Reached.{Reached}
+use Rattle.goal_solver.specs.declared.eval.run_rule.progress.Reached.TheVariants as reached
+use Rattle.goal_solver.specs.declared.eval.run_rule.progress.RuleOutcome.{RuleOutcome}
+use Rattle.goal_solver.specs.declared.eval.run_rule.progress.RuleOutcome.TheVariants as ruled
 
 -- lists of arguments stay the same when the table grows
 pub named_same-grown : (T U : List Tree) → Keeps T U → (named : List (Vec TermId Global)) → NamedIn T named → named_at U named ≡ named_at T named

@@ -34,13 +34,13 @@ use Rattle.goal_kinds.proofs.PremiseLemmas.{no_premises_refuted}
 use Rattle.goal_kinds.proofs.SubstitutionLemmas.{one_substitution, no_fit_and_clash}
 use Rattle.goal_solver.specs.Combined.{found_behind, refuted_only, match_behind, known_only, refuted_clash, SaysMatched, SaysBehind, OwnGives, OwnRefuted}
 use Rattle.goal_solver.specs.Outcomes.{Says, SaysWhich, SaysMatch, ProjectionIn, projection_at, header_terms}
-use Rattle.goal_solver.specs.declared.outcomes.Found.{Found}
-use Rattle.goal_solver.specs.declared.outcomes.HeaderMatch.{HeaderMatch}
-use Rattle.goal_solver.specs.declared.outcomes.HeaderMatch.TheVariants as match
-use Rattle.goal_solver.specs.declared.outcomes.Outcome.{Outcome}
-use Rattle.goal_solver.specs.declared.outcomes.Outcome.TheVariants as outcome
-use Rattle.goal_solver.specs.declared.outcomes.Projection as asked
-use Rattle.goal_solver.specs.declared.outcomes.Stop.{Stop}
+use Rattle.goal_solver.specs.declared.eval.outcomes.Found.{Found}
+use Rattle.goal_solver.specs.declared.eval.outcomes.HeaderMatch.{HeaderMatch}
+use Rattle.goal_solver.specs.declared.eval.outcomes.HeaderMatch.TheVariants as match
+use Rattle.goal_solver.specs.declared.eval.outcomes.Outcome.{Outcome}
+use Rattle.goal_solver.specs.declared.eval.outcomes.Outcome.TheVariants as outcome
+use Rattle.goal_solver.specs.declared.eval.outcomes.Projection as asked
+use Rattle.goal_solver.specs.declared.eval.outcomes.Stop.{Stop}
 use Rattle.goal_solver.proofs.CombinedLemmas.{AreMatches, Matched, MatchedRefuted, says-behind, says-fitting, says-known, says-along}
 
 -- what an impl says of an item, by the row of its source
@@ -221,25 +221,25 @@ translation-matches L c r s p t = record {
 }
 
 -- the value of a definition under arguments that fit
-pub value-fits : (S : Setting) (L : Level) → IsConsistent L → (r : ImplRow) (s : List Tree) (p : Projection) (itself : Tree) (place : Container) (v same : Tree) (z other T : List Tree) (f : Result Found Stop) →
+pub value-fits : (S : Setting) (L : Level) → IsConsistent L → (r : ImplRow) (s : List Tree) (p : Projection) (rigid_alias : Tree) (place : Container) (v same : Tree) (z other T : List Tree) (f : Result Found Stop) →
     same ≡ v → other ≡ z → Translated L r s p (taken S r place) z → IfOk f (SaysWhich (HasHeadForm L (under other same)) (HeadFormRefuted L (under other same)) T) →
-    IfOk f (SaysWhich (SaidGives S L r s p itself (a_value place v)) (SaidRefuted S L r s p (a_value place v)) T)
+    IfOk f (SaysWhich (SaidGives S L r s p rigid_alias (a_value place v)) (SaidRefuted S L r s p (a_value place v)) T)
 unfolding SaidGives SaidRefuted
-value-fits S L c r s p itself place v same z other T (Ok x) e g h says =
+value-fits S L c r s p rigid_alias place v same z other T (Ok x) e g h says =
     says-fitting (Translated L r s p (taken S r place)) (KnownTranslated L r s p (taken S r place)) (TranslationRefuted L r s (taken S r place))
     (λ args u. HasHeadForm L (under args v) u) (λ args. HeadFormRefuted L (under args v)) z T x (translation-matches L c r s p (taken S r place)) h
     (subst (λ t. SaysWhich (HasHeadForm L t) (HeadFormRefuted L t) T x) (ap (λ t. under other t) e ∙ ap (λ args. under args v) g) says)
-value-fits S L c r s p itself place v same z other T (Err x) e g h says = tt
+value-fits S L c r s p rigid_alias place v same z other T (Err x) e g h says = tt
 
 -- and under arguments that are only known
-pub value-known : (S : Setting) (L : Level) → IsConsistent L → (r : ImplRow) (s : List Tree) (p : Projection) (itself : Tree) (place : Container) (v same : Tree) (z other T : List Tree) (x y : Found) →
+pub value-known : (S : Setting) (L : Level) → IsConsistent L → (r : ImplRow) (s : List Tree) (p : Projection) (rigid_alias : Tree) (place : Container) (v same : Tree) (z other T : List Tree) (x y : Found) →
     same ≡ v → other ≡ z → y ≡ refuted_only x →
     KnownTranslated L r s p (taken S r place) z × ((w : List Tree) → Translated L r s p (taken S r place) w → ⊥) × (TranslationRefuted L r s (taken S r place) → ⊥) →
     SaysWhich (HasHeadForm L (under other same)) (HeadFormRefuted L (under other same)) T x →
-    SaysWhich (SaidGives S L r s p itself (a_value place v)) (SaidRefuted S L r s p (a_value place v)) T y
+    SaysWhich (SaidGives S L r s p rigid_alias (a_value place v)) (SaidRefuted S L r s p (a_value place v)) T y
 unfolding SaidGives SaidRefuted
-value-known S L c r s p itself place v same z other T x y e g is h says =
-    subst (SaysWhich (SaidGives S L r s p itself (a_value place v)) (SaidRefuted S L r s p (a_value place v)) T) (sym is)
+value-known S L c r s p rigid_alias place v same z other T x y e g is h says =
+    subst (SaysWhich (SaidGives S L r s p rigid_alias (a_value place v)) (SaidRefuted S L r s p (a_value place v)) T) (sym is)
     (says-known (Translated L r s p (taken S r place)) (KnownTranslated L r s p (taken S r place)) (TranslationRefuted L r s (taken S r place))
     (λ args u. HasHeadForm L (under args v) u) (λ args. HeadFormRefuted L (under args v)) z T x (translation-matches L c r s p (taken S r place))
     (λ u a b. no_head_form_refuted L c.no_term_refuted (under z v) u a b) h.0 h.1 h.2
@@ -250,78 +250,78 @@ pub value-clashes : (S : Setting) (L : Level) (r : ImplRow) (s : List Tree) (p :
 unfolding SaidRefuted
 value-clashes S L r s p place v h = inl h
 
-pub value-unknown : (S : Setting) (L : Level) (r : ImplRow) (s : List Tree) (p : Projection) (itself : Tree) (place : Container) (v : Tree) →
+pub value-unknown : (S : Setting) (L : Level) (r : ImplRow) (s : List Tree) (p : Projection) (rigid_alias : Tree) (place : Container) (v : Tree) →
     ((z : List Tree) → KnownTranslated L r s p (taken S r place) z → ⊥) × (TranslationRefuted L r s (taken S r place) → ⊥) →
-    ((u : Tree) → SaidGives S L r s p itself (a_value place v) u → ⊥) × (SaidRefuted S L r s p (a_value place v) → ⊥)
+    ((u : Tree) → SaidGives S L r s p rigid_alias (a_value place v) u → ⊥) × (SaidRefuted S L r s p (a_value place v) → ⊥)
 unfolding SaidGives SaidRefuted
-value-unknown S L r s p itself place v h =
+value-unknown S L r s p rigid_alias place v h =
     (λ u x. h.0 x.0 (translation-known L r s p (taken S r place) x.0 x.1), λ x. ⊎_elim h.1 (λ y. h.0 y.0 y.1) x)
 
 -- a constant that would have to be evaluated
-evaluated-as : (S : Setting) (L : Level) → IsConsistent L → (r : ImplRow) (s : List Tree) (p : Projection) (itself : Tree) (place : Container) (T : List Tree) (m : HeaderMatch) →
+evaluated-as : (S : Setting) (L : Level) → IsConsistent L → (r : ImplRow) (s : List Tree) (p : Projection) (rigid_alias : Tree) (place : Container) (T : List Tree) (m : HeaderMatch) →
     SaysMatched (Translated L r s p (taken S r place)) (KnownTranslated L r s p (taken S r place)) (TranslationRefuted L r s (taken S r place)) T m →
-    SaysWhich (SaidGives S L r s p itself (evaluated place)) (SaidRefuted S L r s p (evaluated place)) T (refuted_clash m)
+    SaysWhich (SaidGives S L r s p rigid_alias (evaluated place)) (SaidRefuted S L r s p (evaluated place)) T (refuted_clash m)
 unfolding SaidGives SaidRefuted
-evaluated-as S L c r s p itself place T (match.Fits a) says = (λ u h. h, λ h. no_translation_refuted L c r s p (taken S r place) _ says h)
-evaluated-as S L c r s p itself place T (match.Known a) says = (λ u h. h, says.2)
-evaluated-as S L c r s p itself place T match.Clashes says = says
-evaluated-as S L c r s p itself place T match.Unknown says = (λ u h. h, says.1)
+evaluated-as S L c r s p rigid_alias place T (match.Fits a) says = (λ u h. h, λ h. no_translation_refuted L c r s p (taken S r place) _ says h)
+evaluated-as S L c r s p rigid_alias place T (match.Known a) says = (λ u h. h, says.2)
+evaluated-as S L c r s p rigid_alias place T match.Clashes says = says
+evaluated-as S L c r s p rigid_alias place T match.Unknown says = (λ u h. h, says.1)
 
-pub evaluated-says : (S : Setting) (L : Level) → IsConsistent L → (r : ImplRow) (s : List Tree) (p : Projection) (itself : Tree) (place : Container) (T : List Tree) (m : HeaderMatch) (y : Found) →
+pub evaluated-says : (S : Setting) (L : Level) → IsConsistent L → (r : ImplRow) (s : List Tree) (p : Projection) (rigid_alias : Tree) (place : Container) (T : List Tree) (m : HeaderMatch) (y : Found) →
     y ≡ refuted_clash m → SaysMatched (Translated L r s p (taken S r place)) (KnownTranslated L r s p (taken S r place)) (TranslationRefuted L r s (taken S r place)) T m →
-    SaysWhich (SaidGives S L r s p itself (evaluated place)) (SaidRefuted S L r s p (evaluated place)) T y
-evaluated-says S L c r s p itself place T m y is says =
-    subst (SaysWhich (SaidGives S L r s p itself (evaluated place)) (SaidRefuted S L r s p (evaluated place)) T) (sym is) (evaluated-as S L c r s p itself place T m says)
+    SaysWhich (SaidGives S L r s p rigid_alias (evaluated place)) (SaidRefuted S L r s p (evaluated place)) T y
+evaluated-says S L c r s p rigid_alias place T m y is says =
+    subst (SaysWhich (SaidGives S L r s p rigid_alias (evaluated place)) (SaidRefuted S L r s p (evaluated place)) T) (sym is) (evaluated-as S L c r s p rigid_alias place T m says)
 
 -- what an impl says of an item, as it is spelled
-said-as : (S : Setting) (L : Level) (r : ImplRow) (s : List Tree) (p : Projection) (itself : Tree) (x : Said) (T : List Tree) (f : Result Found Stop) → x ≡ said S r p.item →
-    IfOk f (SaysWhich (SaidGives S L r s p itself x) (SaidRefuted S L r s p x) T) →
-    IfOk f (SaysWhich (SaidGives S L r s p itself (said S r p.item)) (SaidRefuted S L r s p (said S r p.item)) T)
-said-as S L r s p itself x T f e says = subst (λ y. IfOk f (SaysWhich (SaidGives S L r s p itself y) (SaidRefuted S L r s p y) T)) e says
+said-as : (S : Setting) (L : Level) (r : ImplRow) (s : List Tree) (p : Projection) (rigid_alias : Tree) (x : Said) (T : List Tree) (f : Result Found Stop) → x ≡ said S r p.item →
+    IfOk f (SaysWhich (SaidGives S L r s p rigid_alias x) (SaidRefuted S L r s p x) T) →
+    IfOk f (SaysWhich (SaidGives S L r s p rigid_alias (said S r p.item)) (SaidRefuted S L r s p (said S r p.item)) T)
+said-as S L r s p rigid_alias x T f e says = subst (λ y. IfOk f (SaysWhich (SaidGives S L r s p rigid_alias y) (SaidRefuted S L r s p y) T)) e says
 
-pub said-spelled : (S : Setting) (L : Level) (r : ImplRow) (s : List Tree) (p : Projection) (itself : Tree) (x y : Said) (T : List Tree) (f : Result Found Stop) → x ≡ said S r p.item → x ≡ y →
-    IfOk f (SaysWhich (SaidGives S L r s p itself y) (SaidRefuted S L r s p y) T) →
-    IfOk f (SaysWhich (SaidGives S L r s p itself (said S r p.item)) (SaidRefuted S L r s p (said S r p.item)) T)
-said-spelled S L r s p itself x y T f e g says = said-as S L r s p itself y T f (sym g ∙ e) says
+pub said-spelled : (S : Setting) (L : Level) (r : ImplRow) (s : List Tree) (p : Projection) (rigid_alias : Tree) (x y : Said) (T : List Tree) (f : Result Found Stop) → x ≡ said S r p.item → x ≡ y →
+    IfOk f (SaysWhich (SaidGives S L r s p rigid_alias y) (SaidRefuted S L r s p y) T) →
+    IfOk f (SaysWhich (SaidGives S L r s p rigid_alias (said S r p.item)) (SaidRefuted S L r s p (said S r p.item)) T)
+said-spelled S L r s p rigid_alias x y T f e g says = said-as S L r s p rigid_alias y T f (sym g ∙ e) says
 
-pub said-nothing : (S : Setting) (L : Level) (r : ImplRow) (s : List Tree) (p : Projection) (itself : Tree) (x : Said) → x ≡ said S r p.item → x ≡ not_said →
-    ((u : Tree) → SaidGives S L r s p itself (said S r p.item) u → ⊥) × (SaidRefuted S L r s p (said S r p.item) → ⊥)
+pub said-nothing : (S : Setting) (L : Level) (r : ImplRow) (s : List Tree) (p : Projection) (rigid_alias : Tree) (x : Said) → x ≡ said S r p.item → x ≡ not_said →
+    ((u : Tree) → SaidGives S L r s p rigid_alias (said S r p.item) u → ⊥) × (SaidRefuted S L r s p (said S r p.item) → ⊥)
 unfolding SaidGives SaidRefuted
-said-nothing S L r s p itself x e g =
-    subst (λ y. ((u : Tree) → SaidGives S L r s p itself y u → ⊥) × (SaidRefuted S L r s p y → ⊥)) (sym g ∙ e) (λ u h. h, λ h. h)
+said-nothing S L r s p rigid_alias x e g =
+    subst (λ y. ((u : Tree) → SaidGives S L r s p rigid_alias y u → ⊥) × (SaidRefuted S L r s p y → ⊥)) (sym g ∙ e) (λ u h. h, λ h. h)
 
-pub said-itself : (S : Setting) (L : Level) (r : ImplRow) (s : List Tree) (p : Projection) (itself : Tree) (x : Said) → x ≡ said S r p.item → x ≡ the_alias →
-    SaidGives S L r s p itself (said S r p.item) itself
+pub said-itself : (S : Setting) (L : Level) (r : ImplRow) (s : List Tree) (p : Projection) (rigid_alias : Tree) (x : Said) → x ≡ said S r p.item → x ≡ the_alias →
+    SaidGives S L r s p rigid_alias (said S r p.item) rigid_alias
 unfolding SaidGives
-said-itself S L r s p itself x e g = subst (λ y. SaidGives S L r s p itself y itself) (sym g ∙ e) refl
+said-itself S L r s p rigid_alias x e g = subst (λ y. SaidGives S L r s p rigid_alias y rigid_alias) (sym g ∙ e) refl
 
-pub said-error : (S : Setting) (L : Level) (r : ImplRow) (s : List Tree) (p : Projection) (itself : Tree) (x : Said) (n : ℕ) (u : Tree) → x ≡ said S r p.item → x ≡ an_error n →
-    u ≡ error_term p.item.is_const n → SaidGives S L r s p itself (said S r p.item) u
+pub said-error : (S : Setting) (L : Level) (r : ImplRow) (s : List Tree) (p : Projection) (rigid_alias : Tree) (x : Said) (n : ℕ) (u : Tree) → x ≡ said S r p.item → x ≡ an_error n →
+    u ≡ error_term p.item.is_const n → SaidGives S L r s p rigid_alias (said S r p.item) u
 unfolding SaidGives
-said-error S L r s p itself x n u e g is = subst (λ y. SaidGives S L r s p itself y u) (sym g ∙ e) is
+said-error S L r s p rigid_alias x n u e g is = subst (λ y. SaidGives S L r s p rigid_alias y u) (sym g ∙ e) is
 
 -- a projection, when the table has grown
 pub projection_in-grown : (T U : List Tree) → Keeps T U → (p : asked.Projection) → ProjectionIn T p → ProjectionIn U p
-projection_in-grown T U k p h = (are_in-grown T U k p.args.now h.0, in-grown T U k p.itself h.1)
+projection_in-grown T U k p h = (are_in-grown T U k p.args.now h.0, in-grown T U k p.rigid_alias h.1)
 
 pub projection_same-grown : (T U : List Tree) → Keeps T U → (p : asked.Projection) → ProjectionIn T p → projection_at U p ≡ projection_at T p
 projection_same-grown T U k p h = ap (λ ts. record { item = p.item.now; trait_params = p.trait_params; args = ts }) (all_same-grown T U k p.args.now h.0)
 
 -- what an impl says, behind the item's own where clauses
-pub own-behind : (S : Setting) (L : Level) → IsConsistent L → (r : ImplRow) (p q : Projection) (itself same : Tree) (s z T : List Tree) (o : Outcome) (x y : Found) → q ≡ p → same ≡ itself → z ≡ s →
+pub own-behind : (S : Setting) (L : Level) → IsConsistent L → (r : ImplRow) (p q : Projection) (rigid_alias same : Tree) (s z T : List Tree) (o : Outcome) (x y : Found) → q ≡ p → same ≡ rigid_alias → z ≡ s →
     y ≡ found_behind o x → Says (PremisesHold L (own_clauses p)) (PremisesRefuted L (own_clauses p)) o →
     SaysWhich (SaidGives S L r z q same (said S r q.item)) (SaidRefuted S L r z q (said S r q.item)) T x →
-    SaysWhich (OwnGives S L r p itself s) (OwnRefuted S L r p s) T y
-own-behind S L c r p q itself same s z T o x y e g w is says h =
+    SaysWhich (OwnGives S L r p rigid_alias s) (OwnRefuted S L r p s) T y
+own-behind S L c r p q rigid_alias same s z T o x y e g w is says h =
     let first : SaysWhich (SaidGives S L r z p same (said S r p.item)) (SaidRefuted S L r z p (said S r p.item)) T x =
     subst (λ a. SaysWhich (SaidGives S L r z a same (said S r a.item)) (SaidRefuted S L r z a (said S r a.item)) T x) e h in
-    let second : SaysWhich (SaidGives S L r z p itself (said S r p.item)) (SaidRefuted S L r z p (said S r p.item)) T x =
+    let second : SaysWhich (SaidGives S L r z p rigid_alias (said S r p.item)) (SaidRefuted S L r z p (said S r p.item)) T x =
     subst (λ a. SaysWhich (SaidGives S L r z p a (said S r p.item)) (SaidRefuted S L r z p (said S r p.item)) T x) g first in
-    let third : SaysWhich (SaidGives S L r s p itself (said S r p.item)) (SaidRefuted S L r s p (said S r p.item)) T x =
-    subst (λ a. SaysWhich (SaidGives S L r a p itself (said S r p.item)) (SaidRefuted S L r a p (said S r p.item)) T x) w second in
-    subst (SaysWhich (OwnGives S L r p itself s) (OwnRefuted S L r p s) T) (sym is)
-    (says-behind (PremisesHold L (own_clauses p)) (PremisesRefuted L (own_clauses p)) (SaidGives S L r s p itself (said S r p.item)) (SaidRefuted S L r s p (said S r p.item)) T o x
-    (λ a b. no_premises_refuted L c (own_clauses p) a b) (λ u a b. no_said_refuted S L c r s p itself (said S r p.item) u a b) says third)
+    let third : SaysWhich (SaidGives S L r s p rigid_alias (said S r p.item)) (SaidRefuted S L r s p (said S r p.item)) T x =
+    subst (λ a. SaysWhich (SaidGives S L r a p rigid_alias (said S r p.item)) (SaidRefuted S L r a p (said S r p.item)) T x) w second in
+    subst (SaysWhich (OwnGives S L r p rigid_alias s) (OwnRefuted S L r p s) T) (sym is)
+    (says-behind (PremisesHold L (own_clauses p)) (PremisesRefuted L (own_clauses p)) (SaidGives S L r s p rigid_alias (said S r p.item)) (SaidRefuted S L r s p (said S r p.item)) T o x
+    (λ a b. no_premises_refuted L c (own_clauses p) a b) (λ u a b. no_said_refuted S L c r s p rigid_alias (said S r p.item) u a b) says third)
 
 -- what matches of an impl come to
 pub impl-matches : (L : Level) → IsConsistent L → (r : ImplRow) (gs : List Tree) → AreMatches (ImplHoldsUnder L r gs) (AllKnown L r.params.items (header_of r) gs) (ImplRefuted L gs r)
@@ -333,64 +333,64 @@ impl-matches L c r gs = record {
 }
 
 -- an impl that matches, with what it says under its terms
-impl-matched : (S : Setting) (L : Level) (r : ImplRow) (p : Projection) (itself : Tree) (T : List Tree) (f : Found) →
-    SaysWhich (Matched (ImplHoldsUnder L r (trait_args p)) (λ s u. OwnGives S L r p itself s u))
+impl-matched : (S : Setting) (L : Level) (r : ImplRow) (p : Projection) (rigid_alias : Tree) (T : List Tree) (f : Found) →
+    SaysWhich (Matched (ImplHoldsUnder L r (trait_args p)) (λ s u. OwnGives S L r p rigid_alias s u))
     (MatchedRefuted (AllKnown L r.params.items (header_of r) (trait_args p)) (ImplRefuted L (trait_args p) r) (OwnRefuted S L r p)) T f →
-    SaysWhich (ImplGives S L p itself r) (ImplTermRefuted S L p r) T f
+    SaysWhich (ImplGives S L p rigid_alias r) (ImplTermRefuted S L p r) T f
 unfolding ImplGives ImplTermRefuted
-impl-matched S L r p itself T f says =
-    says-along (Matched (ImplHoldsUnder L r (trait_args p)) (λ s u. OwnGives S L r p itself s u)) (ImplGives S L p itself r)
+impl-matched S L r p rigid_alias T f says =
+    says-along (Matched (ImplHoldsUnder L r (trait_args p)) (λ s u. OwnGives S L r p rigid_alias s u)) (ImplGives S L p rigid_alias r)
     (MatchedRefuted (AllKnown L r.params.items (header_of r) (trait_args p)) (ImplRefuted L (trait_args p) r) (OwnRefuted S L r p)) (ImplTermRefuted S L p r) T f
     (λ u h. (h.0, h.1, h.2.0, h.2.1)) (λ u h. (h.0, h.1, (h.2, h.3))) (λ h. h) (λ h. h) says
 
 -- what the rest says when the table has grown
-own-grown : (S : Setting) (L : Level) (r : ImplRow) (p q : Projection) (itself same : Tree) (s z T : List Tree) (f : Found) → q ≡ p → same ≡ itself → z ≡ s →
-    SaysWhich (OwnGives S L r q same z) (OwnRefuted S L r q z) T f → SaysWhich (OwnGives S L r p itself s) (OwnRefuted S L r p s) T f
-own-grown S L r p q itself same s z T f e g w h =
+own-grown : (S : Setting) (L : Level) (r : ImplRow) (p q : Projection) (rigid_alias same : Tree) (s z T : List Tree) (f : Found) → q ≡ p → same ≡ rigid_alias → z ≡ s →
+    SaysWhich (OwnGives S L r q same z) (OwnRefuted S L r q z) T f → SaysWhich (OwnGives S L r p rigid_alias s) (OwnRefuted S L r p s) T f
+own-grown S L r p q rigid_alias same s z T f e g w h =
     let first : SaysWhich (OwnGives S L r p same z) (OwnRefuted S L r p z) T f = subst (λ a. SaysWhich (OwnGives S L r a same z) (OwnRefuted S L r a z) T f) e h in
-    let second : SaysWhich (OwnGives S L r p itself z) (OwnRefuted S L r p z) T f = subst (λ a. SaysWhich (OwnGives S L r p a z) (OwnRefuted S L r p z) T f) g first in
-    subst (λ a. SaysWhich (OwnGives S L r p itself a) (OwnRefuted S L r p a) T f) w second
+    let second : SaysWhich (OwnGives S L r p rigid_alias z) (OwnRefuted S L r p z) T f = subst (λ a. SaysWhich (OwnGives S L r p a z) (OwnRefuted S L r p z) T f) g first in
+    subst (λ a. SaysWhich (OwnGives S L r p rigid_alias a) (OwnRefuted S L r p a) T f) w second
 
 -- what the rest gives isn't refuted
-own-apart : (S : Setting) (L : Level) → IsConsistent L → (r : ImplRow) (p : Projection) (itself : Tree) (s : List Tree) (u : Tree) → OwnGives S L r p itself s u → OwnRefuted S L r p s → ⊥
-own-apart S L c r p itself s u h k =
-    ⊎_elim (λ x. no_premises_refuted L c (own_clauses p) h.0 x) (λ x. no_said_refuted S L c r s p itself (said S r p.item) u h.1 x) k
+own-apart : (S : Setting) (L : Level) → IsConsistent L → (r : ImplRow) (p : Projection) (rigid_alias : Tree) (s : List Tree) (u : Tree) → OwnGives S L r p rigid_alias s u → OwnRefuted S L r p s → ⊥
+own-apart S L c r p rigid_alias s u h k =
+    ⊎_elim (λ x. no_premises_refuted L c (own_clauses p) h.0 x) (λ x. no_said_refuted S L c r s p rigid_alias (said S r p.item) u h.1 x) k
 
 -- an impl that fits
-pub impl-fits : (S : Setting) (L : Level) → IsConsistent L → (r : ImplRow) (p q : Projection) (itself same : Tree) (gs s z T : List Tree) (f : Result Found Stop) → q ≡ p → same ≡ itself → z ≡ s →
+pub impl-fits : (S : Setting) (L : Level) → IsConsistent L → (r : ImplRow) (p q : Projection) (rigid_alias same : Tree) (gs s z T : List Tree) (f : Result Found Stop) → q ≡ p → same ≡ rigid_alias → z ≡ s →
     gs ≡ trait_args p → ImplHoldsUnder L r gs s → IfOk f (SaysWhich (OwnGives S L r q same z) (OwnRefuted S L r q z) T) →
-    IfOk f (SaysWhich (ImplGives S L p itself r) (ImplTermRefuted S L p r) T)
-impl-fits S L c r p q itself same gs s z T (Ok x) e g w is fit h =
-    impl-matched S L r p itself T x
+    IfOk f (SaysWhich (ImplGives S L p rigid_alias r) (ImplTermRefuted S L p r) T)
+impl-fits S L c r p q rigid_alias same gs s z T (Ok x) e g w is fit h =
+    impl-matched S L r p rigid_alias T x
     (says-fitting (ImplHoldsUnder L r (trait_args p)) (AllKnown L r.params.items (header_of r) (trait_args p)) (ImplRefuted L (trait_args p) r)
-    (λ a u. OwnGives S L r p itself a u) (OwnRefuted S L r p) s T x (impl-matches L c r (trait_args p)) (subst (λ a. ImplHoldsUnder L r a s) is fit)
-    (own-grown S L r p q itself same s z T x e g w h))
-impl-fits S L c r p q itself same gs s z T (Err x) e g w is fit h = tt
+    (λ a u. OwnGives S L r p rigid_alias a u) (OwnRefuted S L r p) s T x (impl-matches L c r (trait_args p)) (subst (λ a. ImplHoldsUnder L r a s) is fit)
+    (own-grown S L r p q rigid_alias same s z T x e g w h))
+impl-fits S L c r p q rigid_alias same gs s z T (Err x) e g w is fit h = tt
 
 -- and one whose parameters are only known
-pub impl_term-known : (S : Setting) (L : Level) → IsConsistent L → (r : ImplRow) (p q : Projection) (itself same : Tree) (gs s z T : List Tree) (x y : Found) → q ≡ p → same ≡ itself → z ≡ s →
+pub consider_projection_impl_candidate-known : (S : Setting) (L : Level) → IsConsistent L → (r : ImplRow) (p q : Projection) (rigid_alias same : Tree) (gs s z T : List Tree) (x y : Found) → q ≡ p → same ≡ rigid_alias → z ≡ s →
     gs ≡ trait_args p → y ≡ refuted_only x →
     AllKnown L r.params.items (header_of r) gs s × ((w : List Tree) → ImplHoldsUnder L r gs w → ⊥) × (ImplRefuted L gs r → ⊥) →
-    SaysWhich (OwnGives S L r q same z) (OwnRefuted S L r q z) T x → SaysWhich (ImplGives S L p itself r) (ImplTermRefuted S L p r) T y
-impl_term-known S L c r p q itself same gs s z T x y e g w is out known h =
+    SaysWhich (OwnGives S L r q same z) (OwnRefuted S L r q z) T x → SaysWhich (ImplGives S L p rigid_alias r) (ImplTermRefuted S L p r) T y
+consider_projection_impl_candidate-known S L c r p q rigid_alias same gs s z T x y e g w is out known h =
     let k : AllKnown L r.params.items (header_of r) (trait_args p) s × ((v : List Tree) → ImplHoldsUnder L r (trait_args p) v → ⊥) × (ImplRefuted L (trait_args p) r → ⊥) =
     subst (λ a. AllKnown L r.params.items (header_of r) a s × ((v : List Tree) → ImplHoldsUnder L r a v → ⊥) × (ImplRefuted L a r → ⊥)) is known in
-    impl-matched S L r p itself T y
-    (subst (SaysWhich (Matched (ImplHoldsUnder L r (trait_args p)) (λ a u. OwnGives S L r p itself a u))
+    impl-matched S L r p rigid_alias T y
+    (subst (SaysWhich (Matched (ImplHoldsUnder L r (trait_args p)) (λ a u. OwnGives S L r p rigid_alias a u))
     (MatchedRefuted (AllKnown L r.params.items (header_of r) (trait_args p)) (ImplRefuted L (trait_args p) r) (OwnRefuted S L r p)) T) (sym out)
     (says-known (ImplHoldsUnder L r (trait_args p)) (AllKnown L r.params.items (header_of r) (trait_args p)) (ImplRefuted L (trait_args p) r)
-    (λ a u. OwnGives S L r p itself a u) (OwnRefuted S L r p) s T x (impl-matches L c r (trait_args p)) (own-apart S L c r p itself s) k.0 k.1 k.2
-    (own-grown S L r p q itself same s z T x e g w h)))
+    (λ a u. OwnGives S L r p rigid_alias a u) (OwnRefuted S L r p) s T x (impl-matches L c r (trait_args p)) (own-apart S L c r p rigid_alias s) k.0 k.1 k.2
+    (own-grown S L r p q rigid_alias same s z T x e g w h)))
 
-pub impl_term-clashes : (S : Setting) (L : Level) (r : ImplRow) (p : Projection) (gs : List Tree) → gs ≡ trait_args p → ImplRefuted L gs r → ImplTermRefuted S L p r
+pub consider_projection_impl_candidate-clashes : (S : Setting) (L : Level) (r : ImplRow) (p : Projection) (gs : List Tree) → gs ≡ trait_args p → ImplRefuted L gs r → ImplTermRefuted S L p r
 unfolding ImplTermRefuted
-impl_term-clashes S L r p gs is h = inl (subst (λ a. ImplRefuted L a r) is h)
+consider_projection_impl_candidate-clashes S L r p gs is h = inl (subst (λ a. ImplRefuted L a r) is h)
 
-pub impl_term-unknown : (S : Setting) (L : Level) (r : ImplRow) (p : Projection) (itself : Tree) (gs : List Tree) → gs ≡ trait_args p →
+pub consider_projection_impl_candidate-unknown : (S : Setting) (L : Level) (r : ImplRow) (p : Projection) (rigid_alias : Tree) (gs : List Tree) → gs ≡ trait_args p →
     ((s : List Tree) → AllKnown L r.params.items (header_of r) gs s → ⊥) × (ImplRefuted L gs r → ⊥) →
-    ((u : Tree) → ImplGives S L p itself r u → ⊥) × (ImplTermRefuted S L p r → ⊥)
+    ((u : Tree) → ImplGives S L p rigid_alias r u → ⊥) × (ImplTermRefuted S L p r → ⊥)
 unfolding ImplGives ImplTermRefuted ImplHoldsUnder Fits
-impl_term-unknown S L r p itself gs is h =
+consider_projection_impl_candidate-unknown S L r p rigid_alias gs is h =
     let k : ((s : List Tree) → AllKnown L r.params.items (header_of r) (trait_args p) s → ⊥) × (ImplRefuted L (trait_args p) r → ⊥) =
     subst (λ a. ((s : List Tree) → AllKnown L r.params.items (header_of r) a s → ⊥) × (ImplRefuted L a r → ⊥)) is h in
     (λ u x. k.0 x.0 x.1.1.0, λ x. ⊎_elim k.1 (λ y. k.0 y.0 y.1) x)

@@ -29,11 +29,11 @@ use Rattle.goal_solver.specs.Pending.{HaveOneHead, IsOfKind}
 use Rattle.goal_terms.specs.Sorts.{sort_of, is_argument_sort}
 use Rattle.goal_solver.specs.Relating.{all_replaced, SaysEqual}
 use Rattle.goal_solver.specs.Settled.{IsSettled, AreSettled, HoldsWithMemory}
-use Rattle.goal_solver.specs.declared.outcomes.Setting as over
-use Rattle.goal_solver.specs.declared.outcomes.Outcome.{Outcome}
-use Rattle.goal_solver.specs.declared.outcomes.Outcome.TheVariants as outcome
-use Rattle.goal_solver.specs.declared.outcomes.Stop.{Stop}
-use Rattle.goal_solver.specs.declared.outcomes.Stop.TheVariants as stop
+use Rattle.goal_solver.specs.declared.eval.outcomes.Setting as over
+use Rattle.goal_solver.specs.declared.eval.outcomes.Outcome.{Outcome}
+use Rattle.goal_solver.specs.declared.eval.outcomes.Outcome.TheVariants as outcome
+use Rattle.goal_solver.specs.declared.eval.outcomes.Stop.{Stop}
+use Rattle.goal_solver.specs.declared.eval.outcomes.Stop.TheVariants as stop
 use Rattle.goal_solver.proofs.MergingLemmas.{both-says, says-map}
 use Rattle.goal_solver.proofs.PendingLemmas.{parts-at}
 use Rattle.goal_solver.proofs.OutcomeLists.{take-whole}

@@ -30,12 +30,12 @@ use Rattle.goal_kinds.specs.Premises.{Premise, PremisesHold, PremisesRefuted, cl
 use Rattle.goal_kinds.specs.Settings.{Setting}
 use Rattle.goal_kinds.specs.TraitGoals.{any_error, header_of, AssumptionHolds, AssumptionRefuted, ImplHoldsUnder, ImplHolds, ImplRefuted, TraitRuleHolds, TraitRuleRefuted, CandidateHolds, CandidateRefuted, TraitHolds, TraitRefuted}
 use Rattle.goal_kinds.specs.Words.{Each, Exists, Pairs, SomePair}
-use Rattle.goal_kinds.specs.declared.interned.InternedCandidate.{InternedCandidate}
-use Rattle.goal_kinds.specs.declared.interned.InternedCandidate.TheVariants as candidates
-use Rattle.goal_kinds.specs.declared.interned.InternedPredicate.{InternedPredicate}
-use Rattle.goal_kinds.specs.declared.interned.InternedPredicate.TheVariants as predicates
-use Rattle.goal_kinds.specs.declared.interned.InternedPremise.{InternedPremise}
-use Rattle.goal_kinds.specs.declared.interned.InternedTrait.{InternedTrait}
+use Rattle.goal_kinds.specs.declared.candidates.interned.InternedCandidate.{InternedCandidate}
+use Rattle.goal_kinds.specs.declared.candidates.interned.InternedCandidate.TheVariants as candidates
+use Rattle.goal_kinds.specs.declared.candidates.interned.InternedPredicate.{InternedPredicate}
+use Rattle.goal_kinds.specs.declared.candidates.interned.InternedPredicate.TheVariants as predicates
+use Rattle.goal_kinds.specs.declared.candidates.interned.InternedPremise.{InternedPremise}
+use Rattle.goal_kinds.specs.declared.candidates.interned.InternedTrait.{InternedTrait}
 use Rattle.goal_kinds.proofs.CandidateLemmas.{no_candidate_refuted}
 use Rattle.goal_kinds.proofs.ConsistentLemmas.{each_level_is_consistent}
 use Rattle.goal_kinds.proofs.ContraryWords.{Exists-Each, Each-left, Each-right}
@@ -46,14 +46,14 @@ use Rattle.goal_kinds.proofs.SubstitutionLemmas.{one_substitution, no_fit_and_cl
 use Rattle.goal_solver.specs.Joined.{one_of, through, fitting, known_only, impl_held}
 use Rattle.goal_solver.specs.Outcomes.{StandsFor, setting_in, level_in, Says, SaysThrough, SaysMatch, SaysImpl, MatchIn, header_terms}
 use Rattle.goal_solver.specs.TraitOutcomes.{SaysClasses}
-use Rattle.goal_solver.specs.declared.outcomes.Setting as over
-use Rattle.goal_solver.specs.declared.outcomes.Outcome.{Outcome}
-use Rattle.goal_solver.specs.declared.outcomes.Outcome.TheVariants as outcome
-use Rattle.goal_solver.specs.declared.outcomes.Stop.{Stop}
-use Rattle.goal_solver.specs.declared.outcomes.TraitOutcome.{TraitOutcome}
-use Rattle.goal_solver.specs.declared.outcomes.TraitOutcome.TheVariants as trait_outcome
-use Rattle.goal_solver.specs.declared.outcomes.HeaderMatch.{HeaderMatch}
-use Rattle.goal_solver.specs.declared.outcomes.HeaderMatch.TheVariants as match
+use Rattle.goal_solver.specs.declared.eval.outcomes.Setting as over
+use Rattle.goal_solver.specs.declared.eval.outcomes.Outcome.{Outcome}
+use Rattle.goal_solver.specs.declared.eval.outcomes.Outcome.TheVariants as outcome
+use Rattle.goal_solver.specs.declared.eval.outcomes.Stop.{Stop}
+use Rattle.goal_solver.specs.declared.eval.outcomes.TraitOutcome.{TraitOutcome}
+use Rattle.goal_solver.specs.declared.eval.outcomes.TraitOutcome.TheVariants as trait_outcome
+use Rattle.goal_solver.specs.declared.eval.outcomes.HeaderMatch.{HeaderMatch}
+use Rattle.goal_solver.specs.declared.eval.outcomes.HeaderMatch.TheVariants as match
 use Rattle.goal_solver.proofs.OutcomeLists.{some-more, take-push, take-whole, Exists-taken, All-at}
 
 -- what each element of two lists has, each of the lists together has

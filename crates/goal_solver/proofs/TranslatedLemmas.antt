@@ -40,8 +40,8 @@ use Rattle.goal_solver.specs.Relating.{AgreesWith}
 use Rattle.goal_solver.specs.State.{State}
 use Rattle.goal_solver.specs.TranslatedArgs.{AnswersJust, IsTranslatedBy, IsTranslation, IsHeaderOpen, MakesVariables}
 use Rattle.goal_solver.specs.Variables.{unbound, with_variables, fresh_args}
-use Rattle.goal_solver.specs.declared.outcomes.HeaderMatch.{HeaderMatch}
-use Rattle.goal_solver.specs.declared.outcomes.HeaderMatch.TheVariants as match
+use Rattle.goal_solver.specs.declared.eval.outcomes.HeaderMatch.{HeaderMatch}
+use Rattle.goal_solver.specs.declared.eval.outcomes.HeaderMatch.TheVariants as match
 use Rattle.goal_solver.specs.GoingBack.{GoesBack}
 use Rattle.goal_solver.proofs.AnswerLemmas.{goes_back-grown, owed-grown}
 use Rattle.goal_solver.proofs.GoingBackLemmas.{goes_back-through}

@@ -1,10 +1,9 @@
 -- What the candidates of a goal answer, one height above the depth that is left.
-use Rattle.std.specs.Prelude.{◌≡◌, suc, List, length, take, Option, Some}
+use Rattle.std.specs.Prelude.{suc, List, length, take}
 use Rattle.goal_terms.specs.Tree.{Tree}
 use Rattle.goal_terms.specs.declared.answers.TraitGoalProvenVia.{TraitGoalProvenVia}
 use Rattle.goal_terms.specs.declared.modes.TypingMode.{TypingMode}
 use Rattle.goal_terms.specs.declared.predicates.Clause.{Clause}
-use Rattle.goal_terms.specs.declared.predicates.NormalizesTo.{NormalizesTo}
 use Rattle.goal_terms.specs.declared.terms.AliasTermKind.{AliasTermKind}
 use Rattle.goal_tables.specs.Rows.{item_of, trait_of}
 use Rattle.goal_tables.specs.declared.rows.ItemRow.{ItemRow}
@@ -12,12 +11,9 @@ use Rattle.goal_tables.specs.declared.rows.TraitRow.{TraitRow}
 use Rattle.goal_kinds.specs.Answers.{setting_of}
 use Rattle.goal_kinds.specs.Level.{Level, nothing}
 use Rattle.goal_kinds.specs.Levels.{level}
-use Rattle.goal_kinds.specs.Premises.{TraitTree}
 use Rattle.goal_kinds.specs.Projections.{projected_item}
 use Rattle.goal_kinds.specs.Settings.{Setting}
 use Rattle.goal_kinds.specs.Words.{OfRow}
-use Rattle.goal_kinds.specs.declared.goal_kind.MergeRule.{MergeRule}
-use Rattle.goal_kinds.specs.declared.goal_kind.MergeRule.TheVariants as merge
 use Rattle.goal_solver.specs.ProjectionParts.{ThroughGives, ThroughRefuted}
 use Rattle.goal_solver.specs.State.{State}
 
@@ -39,11 +35,3 @@ level_through S L c = record nothing {
   gives = λ k args u. OfItem S k (λ q r. ThroughGives S L k q (length r.params.items) c args u);
   gives_refuted = λ k args. OfItem S k (λ q r. ThroughRefuted S L k q (length r.params.items) c args);
 }
-
--- a goal asks whether a trait holds
-abbrev pub AsksTrait : MergeRule → Option TraitTree → TraitTree → Type 0
-AsksTrait r asked q = (r ≡ merge.TraitGoals) × (asked ≡ Some q)
-
--- a goal asks for the term of an alias, and the class is given
-abbrev pub AsksThrough : MergeRule → Option TraitGoalProvenVia → Option NormalizesTo → TraitGoalProvenVia → NormalizesTo → Type 0
-AsksThrough r given asked c p = (r ≡ merge.Projections) × (given ≡ Some c) × (asked ≡ Some p)

@@ -12,12 +12,12 @@ use Rattle.goal_kinds.specs.Settings.{Setting}
 use Rattle.goal_kinds.specs.Level.{Level}
 use Rattle.goal_kinds.specs.Premises.{PremisesHold, PremisesRefuted, clauses_under}
 use Rattle.goal_kinds.specs.Interned.{erased_all}
-use Rattle.goal_solver.specs.declared.outcomes.Outcome.{Outcome}
-use Rattle.goal_solver.specs.declared.outcomes.Outcome.TheVariants as outcome
-use Rattle.goal_solver.specs.declared.outcomes.Found.{Found}
-use Rattle.goal_solver.specs.declared.outcomes.Found.TheVariants as found
-use Rattle.goal_solver.specs.declared.outcomes.HeaderMatch.{HeaderMatch}
-use Rattle.goal_solver.specs.declared.outcomes.HeaderMatch.TheVariants as match
+use Rattle.goal_solver.specs.declared.eval.outcomes.Outcome.{Outcome}
+use Rattle.goal_solver.specs.declared.eval.outcomes.Outcome.TheVariants as outcome
+use Rattle.goal_solver.specs.declared.eval.outcomes.Found.{Found}
+use Rattle.goal_solver.specs.declared.eval.outcomes.Found.TheVariants as found
+use Rattle.goal_solver.specs.declared.eval.outcomes.HeaderMatch.{HeaderMatch}
+use Rattle.goal_solver.specs.declared.eval.outcomes.HeaderMatch.TheVariants as match
 
 -- what is found where something else has to hold as well
 abbrev pub found_behind : Outcome → Found → Found
@@ -74,7 +74,7 @@ SaysBehind P R args T match.Unknown = ⊥
 
 -- what an impl says of an item gives a term behind the item's own where clauses; or one of these is refuted, or what the impl says is
 abbrev pub OwnGives : Setting → Level → ImplRow → Projection → Tree → List Tree → Tree → Type 0
-OwnGives S L r p itself s u = PremisesHold L (own_clauses p) × SaidGives S L r s p itself (said S r p.item) u
+OwnGives S L r p rigid_alias s u = PremisesHold L (own_clauses p) × SaidGives S L r s p rigid_alias (said S r p.item) u
 
 abbrev pub OwnRefuted : Setting → Level → ImplRow → Projection → List Tree → Type 0
 OwnRefuted S L r p s = PremisesRefuted L (own_clauses p) ⊎ SaidRefuted S L r s p (said S r p.item)

@@ -12,8 +12,8 @@ use Rattle.goal_tables.specs.declared.sites.TermFault.TheVariants as lies
 use Rattle.goal_solver.specs.Added.{has_goals}
 use Rattle.goal_solver.specs.FreeVariables.{lacks_free_term}
 use Rattle.goal_solver.specs.State.{State, kinds_of}
-use Rattle.goal_solver.specs.declared.goals.GoalFault.{GoalFault}
-use Rattle.goal_solver.specs.declared.goals.GoalFault.TheVariants.{UnknownItem, WrongArgumentCount, WrongArgumentKind, UnknownVariable, ExpectedTermNotFree, NeverConst, GoalsPending}
+use Rattle.goal_solver.specs.declared.eval.goals.GoalFault.{GoalFault}
+use Rattle.goal_solver.specs.declared.eval.goals.GoalFault.TheVariants.{UnknownItem, WrongArgumentCount, WrongArgumentKind, UnknownVariable, ExpectedTermNotFree, NeverConst, GoalsPending}
 
 -- the number of a fault: of several that apply, the one of the smallest number is answered
 abbrev pub number_of : GoalFault → ℕ

@@ -21,14 +21,14 @@ use Rattle.goal_kinds.specs.Level.{Level}
 use Rattle.goal_kinds.specs.Words.{SomePair}
 use Rattle.goal_terms.specs.declared.modes.TypingMode.{TypingMode}
 use Rattle.goal_solver.specs.Outcomes.{StandsFor, level_in, SaysMatch}
-use Rattle.goal_solver.specs.declared.outcomes.Setting as over
-use Rattle.goal_solver.specs.declared.outcomes.HeaderMatch.{HeaderMatch}
-use Rattle.goal_solver.specs.declared.header_places.Place.{Place}
-use Rattle.goal_solver.specs.declared.header_places.Place.TheVariants as place
-use Rattle.goal_solver.specs.declared.header_questions.Question.{Question}
-use Rattle.goal_solver.specs.declared.header_questions.Question.TheVariants as question
-use Rattle.goal_solver.specs.declared.header_questions.Meeting.{Meeting}
-use Rattle.goal_solver.specs.declared.header_questions.Meeting.TheVariants as meeting
+use Rattle.goal_solver.specs.declared.eval.outcomes.Setting as over
+use Rattle.goal_solver.specs.declared.eval.outcomes.HeaderMatch.{HeaderMatch}
+use Rattle.goal_solver.specs.declared.relate.header_places.Place.{Place}
+use Rattle.goal_solver.specs.declared.relate.header_places.Place.TheVariants as place
+use Rattle.goal_solver.specs.declared.relate.header_questions.Question.{Question}
+use Rattle.goal_solver.specs.declared.relate.header_questions.Question.TheVariants as question
+use Rattle.goal_solver.specs.declared.relate.header_questions.Meeting.{Meeting}
+use Rattle.goal_solver.specs.declared.relate.header_questions.Meeting.TheVariants as meeting
 
 -- a part of a row, without lifetimes
 abbrev pub erased_ref : TermRef → Tree

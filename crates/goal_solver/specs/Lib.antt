@@ -13,7 +13,7 @@ pub mod TraitOutcomes
 pub mod ProjectionParts
 pub mod ConstParts
 pub mod Combined
-pub mod Sayings
+pub mod EligibleItems
 pub mod HeaderWords
 pub mod Relating
 pub mod Binding
@@ -31,3 +31,4 @@ pub mod TranslatedArgs
 pub mod Collecting
 pub mod OpenGoals
 pub mod OpenProjections
+pub mod Promises

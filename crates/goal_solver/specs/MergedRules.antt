@@ -14,8 +14,8 @@ use Rattle.goal_kinds.specs.declared.rules.Rule.{Rule}
 use Rattle.goal_solver.specs.OpenRuns.{RunsOpen}
 use Rattle.goal_solver.specs.Refusals.{IsRefusedOpen}
 use Rattle.goal_solver.specs.State.{State}
-use Rattle.goal_solver.specs.declared.merged_rules.Merged.{Merged}
-use Rattle.goal_solver.specs.declared.merged_rules.Merged.TheVariants as merged
+use Rattle.goal_solver.specs.declared.assembly.merged_rules.Merged.{Merged}
+use Rattle.goal_solver.specs.declared.assembly.merged_rules.Merged.TheVariants as merged
 
 -- a rule is run, by one step for each entry: it answers a response, or none where it is refused
 abbrev pub RunsTo : List Clause → Rule → State → Option Response → State → Type 0

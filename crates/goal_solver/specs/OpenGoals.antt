@@ -32,8 +32,8 @@ use Rattle.goal_solver.specs.OpenRuns.{refusal_in}
 use Rattle.goal_solver.specs.Pending.{is_alias}
 use Rattle.goal_solver.specs.State.{State}
 use Rattle.goal_solver.specs.TranslatedArgs.{IsSameEnvironment}
-use Rattle.goal_solver.specs.declared.merged_rules.Merged.{Merged}
-use Rattle.goal_solver.specs.declared.merged_rules.Merged.TheVariants as merged
+use Rattle.goal_solver.specs.declared.assembly.merged_rules.Merged.{Merged}
+use Rattle.goal_solver.specs.declared.assembly.merged_rules.Merged.TheVariants as merged
 
 -- the head form of a term is asked for, as `structurally_normalize_term` answers it
 pub record AsksForm (env : List Clause) (t : Tree) (old new : State) (r : Result (Option Term) Fault) : Type 0 where

@@ -40,8 +40,8 @@ use Rattle.goal_solver.specs.Refusals.{IsRefusedOpen}
 use Rattle.goal_solver.specs.Outcomes.{StandsFor}
 use Rattle.goal_solver.specs.State.{State}
 use Rattle.goal_solver.specs.TranslatedArgs.{IsSameEnvironment}
-use Rattle.goal_solver.specs.declared.merged_rules.Merged.{Merged}
-use Rattle.goal_solver.specs.declared.merged_rules.Merged.TheVariants as merged
+use Rattle.goal_solver.specs.declared.assembly.merged_rules.Merged.{Merged}
+use Rattle.goal_solver.specs.declared.assembly.merged_rules.Merged.TheVariants as merged
 
 -- a class, if something is certain
 abbrev pub class_if : Certainty → Option TraitGoalProvenVia → Option TraitGoalProvenVia
@@ -132,10 +132,10 @@ WithForms env own q s r u =
 -- the list of the one entry that gives an expected term its alias as it stands
 pub record IsRigidList (p : NormalizesTo) (es : List RuleEntry) : Type 0 where
   pub expected : Term
-  pub itself : Term
-  pub is : es ≡ entry.Term expected (given.AsItStands itself) ∷ []
+  pub rigid_alias : Term
+  pub is : es ≡ entry.Term expected (given.AsItStands rigid_alias) ∷ []
   pub same_term : tree_of_term expected ≡ tree_of_term p.term
-  pub same_alias : tree_of_term itself ≡ tree_of_alias p.alias
+  pub same_alias : tree_of_term rigid_alias ≡ tree_of_alias p.alias
 
 -- a list is run, and what comes of it is answered
 abbrev pub AnswersRun : List Clause → List RuleEntry → State → Result Response Fault → State → Type 0

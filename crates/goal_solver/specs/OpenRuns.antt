@@ -49,7 +49,7 @@ use Rattle.goal_solver.specs.Relating.{ChangesRecords, LeavesOpen, SaysYes}
 use Rattle.goal_solver.specs.Responses.{ListsSinceMark, both_certain}
 use Rattle.goal_solver.specs.State.{State, kinds_of}
 use Rattle.goal_solver.specs.Variables.{with_variables, kind_for, fresh_args}
-use Rattle.goal_solver.specs.declared.open_arguments.OpenRun.{OpenRun}
+use Rattle.goal_solver.specs.declared.eval.run_rule.open_arguments.OpenRun.{OpenRun}
 
 -- how far such a list was run: the arguments that were named, and how sure all entries so far are
 pub record OpenProgress : Type 0 where

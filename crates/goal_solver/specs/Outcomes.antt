@@ -17,16 +17,16 @@ use Rattle.goal_kinds.specs.Levels.{level}
 use Rattle.goal_kinds.specs.Settings.{Setting, is_headline}
 use Rattle.goal_kinds.specs.TraitGoals.{ImplHoldsUnder, ImplRefuted, header_of}
 use Rattle.goal_tables.specs.declared.rows.ImplRow.{ImplRow}
-use Rattle.goal_solver.specs.declared.outcomes.Setting as over
-use Rattle.goal_solver.specs.declared.outcomes.Outcome as outcomes
-use Rattle.goal_solver.specs.declared.outcomes.Outcome.TheVariants as outcome
-use Rattle.goal_solver.specs.declared.outcomes.TraitOutcome as trait_outcomes
-use Rattle.goal_solver.specs.declared.outcomes.TraitOutcome.TheVariants as trait_outcome
-use Rattle.goal_solver.specs.declared.outcomes.Found as founds
-use Rattle.goal_solver.specs.declared.outcomes.Found.TheVariants as found
-use Rattle.goal_solver.specs.declared.outcomes.HeaderMatch as matches
-use Rattle.goal_solver.specs.declared.outcomes.Projection as projections
-use Rattle.goal_solver.specs.declared.outcomes.HeaderMatch.TheVariants as match
+use Rattle.goal_solver.specs.declared.eval.outcomes.Setting as over
+use Rattle.goal_solver.specs.declared.eval.outcomes.Outcome as outcomes
+use Rattle.goal_solver.specs.declared.eval.outcomes.Outcome.TheVariants as outcome
+use Rattle.goal_solver.specs.declared.eval.outcomes.TraitOutcome as trait_outcomes
+use Rattle.goal_solver.specs.declared.eval.outcomes.TraitOutcome.TheVariants as trait_outcome
+use Rattle.goal_solver.specs.declared.eval.outcomes.Found as founds
+use Rattle.goal_solver.specs.declared.eval.outcomes.Found.TheVariants as found
+use Rattle.goal_solver.specs.declared.eval.outcomes.HeaderMatch as matches
+use Rattle.goal_solver.specs.declared.eval.outcomes.Projection as projections
+use Rattle.goal_solver.specs.declared.eval.outcomes.HeaderMatch.TheVariants as match
 
 -- a run stands for a headline mode: it is in that mode, or in one that isn't of the headline and then stops where a rule reads the mode
 abbrev pub StandsFor : TypingMode → TypingMode → Type 0
@@ -105,4 +105,4 @@ projection_at T p = record { item = p.item.now; trait_params = p.trait_params; a
 
 -- its terms are in the table
 abbrev pub ProjectionIn : List Tree → projections.Projection → Type 0
-ProjectionIn T p = AreIn T p.args.now × IsIn T p.itself
+ProjectionIn T p = AreIn T p.args.now × IsIn T p.rigid_alias

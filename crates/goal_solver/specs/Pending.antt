@@ -14,16 +14,16 @@ use Rattle.goal_kinds.specs.Levels.{level}
 use Rattle.goal_kinds.specs.Settings.{Setting}
 use Rattle.goal_kinds.specs.Words.{Each, Exists}
 use Rattle.goal_solver.specs.Outcomes.{Says}
-use Rattle.goal_solver.specs.declared.outcomes.Found.{Found}
-use Rattle.goal_solver.specs.declared.outcomes.Found.TheVariants as found
-use Rattle.goal_solver.specs.declared.outcomes.Outcome.{Outcome}
-use Rattle.goal_solver.specs.declared.outcomes.Outcome.TheVariants.{Holds, Refuted, Undecided}
-use Rattle.goal_solver.specs.declared.pairs.Pending.{Pending}
-use Rattle.goal_solver.specs.declared.pairs.Forms as forms
-use Rattle.goal_solver.specs.declared.pairs.Forms.TheVariants as form
-use Rattle.goal_solver.specs.declared.pairs.TermPair.{TermPair}
-use Rattle.goal_solver.specs.declared.pairs.Tops as tops
-use Rattle.goal_solver.specs.declared.pairs.Tops.TheVariants as top
+use Rattle.goal_solver.specs.declared.eval.outcomes.Found.{Found}
+use Rattle.goal_solver.specs.declared.eval.outcomes.Found.TheVariants as found
+use Rattle.goal_solver.specs.declared.eval.outcomes.Outcome.{Outcome}
+use Rattle.goal_solver.specs.declared.eval.outcomes.Outcome.TheVariants.{Holds, Refuted, Undecided}
+use Rattle.goal_solver.specs.declared.relate.pairs.Pending.{Pending}
+use Rattle.goal_solver.specs.declared.relate.pairs.Forms as forms
+use Rattle.goal_solver.specs.declared.relate.pairs.Forms.TheVariants as form
+use Rattle.goal_solver.specs.declared.relate.pairs.TermPair.{TermPair}
+use Rattle.goal_solver.specs.declared.relate.pairs.Tops as tops
+use Rattle.goal_solver.specs.declared.relate.pairs.Tops.TheVariants as top
 
 -- the head forms of two terms, from what is found of each; else one that is refuted decides
 abbrev pub forms_of : Found → Found → forms.Forms

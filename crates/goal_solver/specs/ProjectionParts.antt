@@ -14,8 +14,8 @@ use Rattle.goal_kinds.specs.Premises.{PremisesHold, PremisesRefuted}
 use Rattle.goal_kinds.specs.Projections.{projected_item, GroupGives, GroupRefuted, GroupsGive, GroupsRefuted, OwnFormed, OwnUnformed}
 use Rattle.goal_kinds.specs.Settings.{Setting}
 use Rattle.goal_kinds.specs.Words.{Each, Exists, Pairs, SomePair}
-use Rattle.goal_solver.specs.declared.outcomes.Found as founds
-use Rattle.goal_solver.specs.declared.outcomes.Found.TheVariants as found
+use Rattle.goal_solver.specs.declared.eval.outcomes.Found as founds
+use Rattle.goal_solver.specs.declared.eval.outcomes.Found.TheVariants as found
 
 -- a list without its first element
 abbrev pub rest_of : {A : Type 0} → List A → List A
@@ -60,14 +60,14 @@ FormedGives L p t u = (u ≡ t) × OwnFormed L p
 
 -- the term of a projection where all candidates of the environment are refuted
 abbrev pub LaterGives : Setting → Level → TraitGoalProvenVia → Projection → Tree → Tree → List Candidate → Tree → Type 0
-LaterGives S L c p itself given second u =
-    (GroupGives S L p itself second u × ((c ≡ class.Misc) ⊎ OwnFormed L p))
+LaterGives S L c p rigid_alias given second u =
+    (GroupGives S L p rigid_alias second u × ((c ≡ class.Misc) ⊎ OwnFormed L p))
     ⊎ (GroupRefuted S L p second × (c ≢ class.Misc) × (u ≡ given))
 
 abbrev pub LaterRefuted : Setting → Level → TraitGoalProvenVia → Projection → Tree → List Candidate → Type 0
-LaterRefuted S L c p itself second =
+LaterRefuted S L c p rigid_alias second =
     (GroupRefuted S L p second × (c ≡ class.Misc))
-    ⊎ (((u : Tree) × GroupGives S L p itself second u) × (c ≢ class.Misc) × OwnUnformed L p)
+    ⊎ (((u : Tree) × GroupGives S L p rigid_alias second u) × (c ≢ class.Misc) × OwnUnformed L p)
 
 -- the term of a projection whose trait goal holds through a class, for the head form of its self type
 abbrev pub replaced : ItemRow → ℕ → Tree → List Tree → Projection

@@ -35,17 +35,19 @@ use Rattle.goal_kinds.specs.declared.rules.RuleTerm.TheVariants as term
 use Rattle.goal_solver.specs.Answers.{expected_variable, GivesTo}
 use Rattle.goal_solver.specs.Combined.{SaysMatched}
 use Rattle.goal_solver.specs.State.{State}
-use Rattle.goal_solver.specs.declared.outcomes.Outcome.{Outcome}
-use Rattle.goal_solver.specs.declared.outcomes.Outcome.TheVariants as outcome
-use Rattle.goal_solver.specs.declared.outcomes.Found.{Found}
-use Rattle.goal_solver.specs.declared.outcomes.Found.TheVariants as found
-use Rattle.goal_solver.specs.declared.outcomes.HeaderMatch.{HeaderMatch}
-use Rattle.goal_solver.specs.declared.outcomes.HeaderMatch.TheVariants as match
-use Rattle.goal_solver.specs.declared.rule_runs.RuleRun.{RuleRun}
-use Rattle.goal_solver.specs.declared.rule_runs.Reached.{Reached}
-use Rattle.goal_solver.specs.declared.rule_runs.Reached.TheVariants as reached
-use Rattle.goal_solver.specs.declared.rule_runs.RuleOutcome.{RuleOutcome}
-use Rattle.goal_solver.specs.declared.rule_runs.RuleOutcome.TheVariants as ruled
+use Rattle.goal_solver.specs.declared.eval.outcomes.Outcome.{Outcome}
+use Rattle.goal_solver.specs.declared.eval.outcomes.Outcome.TheVariants as outcome
+use Rattle.goal_solver.specs.declared.eval.outcomes.Found.{Found}
+use Rattle.goal_solver.specs.declared.eval.outcomes.Found.TheVariants as found
+use Rattle.goal_solver.specs.declared.eval.outcomes.HeaderMatch.{HeaderMatch}
+use Rattle.goal_solver.specs.declared.eval.outcomes.HeaderMatch.TheVariants as match
+use Rattle.goal_solver.specs.declared.eval.run_rule.recorded.ToRecord.{ToRecord}
+use Rattle.goal_solver.specs.declared.eval.run_rule.recorded.ToRecord.TheVariants as recorded
+use Rattle.goal_solver.specs.declared.eval.run_rule.progress.RuleRun.{RuleRun}
+use Rattle.goal_solver.specs.declared.eval.run_rule.progress.Reached.{Reached}
+use Rattle.goal_solver.specs.declared.eval.run_rule.progress.Reached.TheVariants as reached
+use Rattle.goal_solver.specs.declared.eval.run_rule.progress.RuleOutcome.{RuleOutcome}
+use Rattle.goal_solver.specs.declared.eval.run_rule.progress.RuleOutcome.TheVariants as ruled
 
 -- whether something in the arguments that an entry names passes a test
 abbrev pub some_in_arguments : (Node → Bool) → RuleArguments → Bool
@@ -128,18 +130,28 @@ IsRuleAnswer S L r (Err f) = Unit {0}
 abbrev pub IsRuleOpen : Setting → Level → Rule → Type 0
 IsRuleOpen S L r = ((t : Tree) → IsTerm t → RuleGives S L r t → ⊥) × (has_term r.entries.items ≡ false → RuleHolds S L r → ⊥) × (RuleRefuted S L r → ⊥)
 
--- an access or a delayed fault that an entry says to record is among those of a context
+-- what an entry says to record
+abbrev pub to_record : RuleEntry → ToRecord
+to_record (entry.Access a) = recorded.Access a
+to_record (entry.DelayedFault f) = recorded.DelayedFault f
+to_record (entry.Arguments a) = recorded.Nothing
+to_record (entry.Equation ts us) = recorded.Nothing
+to_record (entry.Clause g k) = recorded.Nothing
+to_record (entry.RowClauses c n) = recorded.Nothing
+to_record (entry.Term v e) = recorded.Nothing
+to_record entry.Evaluation = recorded.Nothing
+to_record entry.Undecided = recorded.Nothing
+to_record entry.Refused = recorded.Nothing
+
+-- it is recorded
+abbrev pub IsKept : State → ToRecord → Type 0
+IsKept s (recorded.Access a) = Contains s.accesses a
+IsKept s (recorded.DelayedFault f) = Contains s.delayed_faults f
+IsKept s recorded.Nothing = Unit {0}
+
+-- what an entry says to record is recorded
 abbrev pub IsRecorded : State → RuleEntry → Type 0
-IsRecorded s (entry.Access a) = Contains s.accesses a
-IsRecorded s (entry.DelayedFault f) = Contains s.delayed_faults f
-IsRecorded s (entry.Arguments a) = Unit {0}
-IsRecorded s (entry.Equation ts us) = Unit {0}
-IsRecorded s (entry.Clause g k) = Unit {0}
-IsRecorded s (entry.RowClauses c n) = Unit {0}
-IsRecorded s (entry.Term v e) = Unit {0}
-IsRecorded s entry.Evaluation = Unit {0}
-IsRecorded s entry.Undecided = Unit {0}
-IsRecorded s entry.Refused = Unit {0}
+IsRecorded s e = IsKept s (to_record e)
 
 -- all that a list of entries says to record is recorded
 abbrev pub AreRecorded : State → List RuleEntry → Type 0

@@ -8,7 +8,7 @@ use Rattle.goal_kinds.specs.Settings.{Setting}
 use Rattle.goal_kinds.specs.TraitGoals.{CandidateHolds, CandidateRefuted}
 use Rattle.goal_kinds.specs.Words.{Each, Exists}
 use Rattle.goal_solver.specs.Outcomes.{SaysThrough}
-use Rattle.goal_solver.specs.declared.outcomes.TraitOutcome.{TraitOutcome}
+use Rattle.goal_solver.specs.declared.eval.outcomes.TraitOutcome.{TraitOutcome}
 
 -- through which class candidates for a self type show that a trait holds for arguments: all of the classes before are refuted
 abbrev pub SaysClasses : Setting → Level → TraitId → Tree → List Tree → TraitOutcome → Type 0

@@ -6,6 +6,17 @@ ghost use Rattle.goal_solver.specs.GoingBack.{GoesBack, lengths_of, restored, be
 ghost use Rattle.goal_solver.specs.State.{State, IsValid, kinds_of};
 ghost use Rattle.goal_solver.specs.Stored.{HasOneTypeAKey};
 
+pub mod added_goals;
+pub(crate) mod apply;
+pub(crate) mod instantiate;
+pub mod laws;
+pub mod probe;
+pub(crate) mod rebuilding;
+pub mod records;
+pub(crate) mod respond;
+pub mod storage;
+pub mod variables;
+
 use crate::faults::DepthTooLarge;
 use goal_infer::state;
 use goal_infer::state::InferState;

@@ -1,11 +1,10 @@
 //! Normalization of aliases.
-ghost use Rattle.std.specs.Prelude.{◌≡◌, ℕ, suc, true, false, length, Some, IfOk, IsOkUnless};
+ghost use Rattle.std.specs.Prelude.{◌≡◌, ◌⊎◌, ℕ, suc, true, false, [], length, Some, None, IfOk, IsOkUnless};
 ghost use Rattle.goal_terms.specs.TableMeaning.{HasTerm};
 ghost use Rattle.goal_terms.specs.declared.answers.Certainty.TheVariants as certainty;
 ghost use Rattle.goal_terms.specs.declared.modes.TypingMode.{TypingMode};
-ghost use Rattle.goal_kinds.specs.Answers.{Answer, IsAnswer, decides, setting_of, which_term, maybe};
+ghost use Rattle.goal_kinds.specs.Answers.{IsAnswer, maybe};
 ghost use Rattle.goal_kinds.specs.Interned.{erased_at};
-ghost use Rattle.goal_kinds.specs.Levels.{level};
 ghost use Rattle.goal_solver.specs.Answers.{IsOwed, level_over, erased_args, is_closed_alias, IsAliasAnswer, IsAliasOpen, GivesTo, expected_variable, IsMaybe, AnswersQuietly, IsFaultOf};
 ghost use Rattle.goal_solver.specs.Binding.{IsApplicable};
 ghost use Rattle.goal_solver.specs.Goals.{IsAcceptedNormalization};
@@ -13,25 +12,34 @@ ghost use Rattle.goal_solver.specs.GoingBack.{GoesBack, restored};
 ghost use Rattle.goal_solver.specs.OpenGoals.{WhenAnswered, at_depth};
 ghost use Rattle.goal_solver.specs.OpenProjections.{MergesProjection};
 ghost use Rattle.goal_solver.specs.Outcomes.{StandsFor};
+ghost use Rattle.goal_solver.specs.Promises.{AnswersAlias, IsClosedNormalization, LeavesUndecided, MergesOpenProjection, NoTwoDisagree, term_asked};
 ghost use Rattle.goal_solver.specs.State.{kinds_of};
 
-use crate::closed_goals::is_closed_alias;
+pub mod aliases;
+pub(crate) mod asked_args;
+pub mod assoc_items;
+pub mod impl_terms;
+pub(crate) mod open;
+pub(crate) mod projection_args;
+pub mod projections;
+pub(crate) mod proven_via;
+pub mod translate_args;
+
 use crate::context::EvalCtxt;
+use crate::eval::closed_goals::is_closed_alias;
+use crate::eval::outcomes::Found;
 use crate::faults::Fault;
-use crate::outcomes::Found;
 use goal_terms::answers::{Certainty, Response};
 use goal_terms::node_tests::general_variable;
 use goal_terms::predicates::{Goal, NormalizesTo};
 use goal_terms::term_nodes::TermId;
 
-#[tactic(auto, using(crate::proofs::AnswerLemmas::answering))]
 impl EvalCtxt<'_> {
     /// The term that an alias normalizes to, as the value of the goal's expected variable. For a closed goal, `Yes`:
     /// a derivation no higher than the remaining depth gives the term. `NoSolution`: a refutation no higher shows
-    /// that there is none. In a mode that isn't of the headline both are right in every headline mode. `Maybe`, in a
-    /// headline mode and where the expected term is a general variable: there is neither, at least no type and no
-    /// constant; for a goal that [`crate::goals::check_goal`] accepts, nothing else either. No two answers at any
-    /// depths disagree.
+    /// that there is none. In a mode that isn't of the headline both are right in every headline mode, and they stay
+    /// right at every greater depth. `Maybe`, in a headline mode, for a goal that
+    /// [`crate::eval::goals::check_goal`] accepts: there is neither. No two answers at any depths disagree.
     ///
     /// A projection with other inference variables is answered at one less of the depth. Its trait goal is answered
     /// first, as [`EvalCtxt::compute_trait_goal`] does it: a refusal is the answer, and where it is `Maybe` so is
@@ -45,19 +53,37 @@ impl EvalCtxt<'_> {
     /// alias as it stands. An alias of another kind with such variables is `Maybe`.
     ///
     /// In coherence a refuted goal is `Maybe`. Inference state, added goals and storage are as before: the answer
-    /// says what would change, and it can be applied, if the goal was accepted. At depth 0 it takes no memory.
+    /// says what would change, and it can be applied, if the goal was accepted. The response to a closed goal lists the
+    /// expected variable's value alone, and names no class. At depth 0 it is `Maybe`, which takes no memory, and so it
+    /// is where the expected term is no general variable.
     pub fn compute_normalizes_to_goal(
         &mut self,
         goal: &Goal<NormalizesTo>,
     ) -> Result<Response, Fault>
+        ensures closed { IsClosedNormalization goal.now → AnswersAlias self.old self.new goal.now.param_env.items goal.now.predicate result }
+        ensures merged { (IsClosedNormalization goal.now → ⊥) → MergesOpenProjection self.old self.new goal.now result }
+        ensures at_once { (self.old.remaining_depth ≡ 0) ⊎ (expected_variable goal.now.predicate.term ≡ None) → LeavesUndecided self.old result }
+        ensures agrees { NoTwoDisagree self.old.tables goal.now.param_env.items (term_asked goal.now.predicate) }
+        ensures unchanged { self.new ≡ restored self.old self.new }
+        ensures goes_back { GoesBack self.old self.new }
+        ensures fault { IsFaultOf self.old self.new result }
+        ensures applies { IsAcceptedNormalization self.old goal.now.predicate goal.now.param_env.items → IfOk result (IsApplicable self.new) }
+    {
+        self.normalizes_to_response(goal)
+    }
+
+    /// What `compute_normalizes_to_goal` answers, clause by clause.
+    fn normalizes_to_response(&mut self, goal: &Goal<NormalizesTo>) -> Result<Response, Fault>
         ensures sound { (m : TypingMode) → StandsFor self.old.typing_mode m → is_closed_alias goal.now.predicate.alias goal.now.param_env.items ≡ true → IsAliasAnswer (level_over self.old m goal.now.param_env.items) goal.now.predicate.alias.kind (erased_args goal.now.predicate.alias.args.items) goal.now.predicate.term result }
         ensures decided { (m : TypingMode) (n : ℕ) → IsOwed self.new m → is_closed_alias goal.now.predicate.alias goal.now.param_env.items ≡ true → expected_variable goal.now.predicate.term ≡ Some n → IsMaybe result → IsAliasOpen (level_over self.old m goal.now.param_env.items) goal.now.predicate.alias.kind (erased_args goal.now.predicate.alias.args.items) }
-        ensures agrees { (m : TypingMode) (n k : ℕ) (a b : Answer) → decides a ≡ true → decides b ≡ true → IsAnswer (level (setting_of self.old.tables m goal.now.param_env.items) n) (which_term goal.now.predicate.alias.kind (erased_args goal.now.predicate.alias.args.items)) a → IsAnswer (level (setting_of self.old.tables m goal.now.param_env.items) k) (which_term goal.now.predicate.alias.kind (erased_args goal.now.predicate.alias.args.items)) b → a ≡ b }
         ensures unchanged { self.new ≡ restored self.old self.new }
         ensures goes_back { GoesBack self.old self.new }
         ensures fault { IsFaultOf self.old self.new result }
         ensures quiet { is_closed_alias goal.now.predicate.alias goal.now.param_env.items ≡ true → AnswersQuietly (length (kinds_of self.old)) result }
-        ensures whole { (m : TypingMode) (n : ℕ) → IsOwed self.new m → IsAcceptedNormalization self.old goal.now.predicate goal.now.param_env.items → is_closed_alias goal.now.predicate.alias goal.now.param_env.items ≡ true → expected_variable goal.now.predicate.term ≡ Some n → IsMaybe result → IsAnswer (level_over self.old m goal.now.param_env.items) (which_term goal.now.predicate.alias.kind (erased_args goal.now.predicate.alias.args.items)) maybe }
+        ensures lists { is_closed_alias goal.now.predicate.alias goal.now.param_env.items ≡ true → IfOk result (λ r. r.certainty ≡ certainty.Maybe → r.var_values.items ≡ []) }
+        ensures no_class { is_closed_alias goal.now.predicate.alias goal.now.param_env.items ≡ true → IfOk result (λ r. r.proven_via ≡ None) }
+        ensures at_once { (self.old.remaining_depth ≡ 0) ⊎ (expected_variable goal.now.predicate.term ≡ None) → LeavesUndecided self.old result }
+        ensures whole { (m : TypingMode) (n : ℕ) → IsOwed self.new m → IsAcceptedNormalization self.old goal.now.predicate goal.now.param_env.items → is_closed_alias goal.now.predicate.alias goal.now.param_env.items ≡ true → expected_variable goal.now.predicate.term ≡ Some n → IsMaybe result → IsAnswer (level_over self.old m goal.now.param_env.items) (term_asked goal.now.predicate) maybe }
         ensures applies { IsAcceptedNormalization self.old goal.now.predicate goal.now.param_env.items → IfOk result (IsApplicable self.new) }
         ensures merged { (n k : ℕ) → is_closed_alias goal.now.predicate.alias goal.now.param_env.items ≡ false → expected_variable goal.now.predicate.term ≡ Some k → self.old.remaining_depth ≡ suc n → WhenAnswered result (MergesProjection goal.now (at_depth n self.old) result (at_depth n self.new)) }
     {
@@ -85,6 +111,8 @@ impl EvalCtxt<'_> {
         ensures maybe { (HasTerm self.now.terms id → ⊥) → IfOk result (λ r. r.certainty ≡ certainty.Maybe) }
         ensures only_memory { IsOkUnless result Fault.OutOfMemory }
         ensures quiet { AnswersQuietly (length (kinds_of self.now)) result }
+        ensures lists { IfOk result (λ r. r.certainty ≡ certainty.Maybe → r.var_values.items ≡ []) }
+        ensures no_class { IfOk result (λ r. r.proven_via ≡ None) }
     {
         if self.terms.contains(id) {
             self.respond_with(expected, id)
@@ -100,6 +128,7 @@ impl EvalCtxt<'_> {
         ensures value { IfOk result (GivesTo expected (erased_at self.now.terms id)) }
         ensures only_memory { IsOkUnless result Fault.OutOfMemory }
         ensures quiet { AnswersQuietly (length (kinds_of self.now)) result }
+        ensures no_class { IfOk result (λ r. r.proven_via ≡ None) }
     {
         let Ok(value) = self.terms.to_term(id) else {
             return Err(Fault::OutOfMemory);

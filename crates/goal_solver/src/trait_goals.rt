@@ -1,31 +1,34 @@
 //! Trait goals.
-ghost use Rattle.std.specs.Prelude.{◌≡◌, ℕ, suc, true, length, IfOk};
-ghost use Rattle.goal_terms.specs.PredicateTrees.{holds};
+ghost use Rattle.std.specs.Prelude.{◌≡◌, ℕ, suc, [], None, length, IfOk};
+ghost use Rattle.goal_terms.specs.declared.answers.Certainty.TheVariants as certainty;
 ghost use Rattle.goal_terms.specs.declared.modes.TypingMode.{TypingMode};
-ghost use Rattle.goal_kinds.specs.Answers.{Answer, IsAnswer, decides, setting_of, whether};
+ghost use Rattle.goal_kinds.specs.Answers.{setting_of};
 ghost use Rattle.goal_kinds.specs.Levels.{level};
 ghost use Rattle.goal_solver.specs.Answers.{IsOwed, level_over, erased_args, AreClosed, IsTraitAnswer, IsOpen, IsMaybe, AnswersQuietly, IsFaultOf};
 ghost use Rattle.goal_solver.specs.Binding.{IsApplicable};
 ghost use Rattle.goal_solver.specs.GoingBack.{GoesBack, restored};
 ghost use Rattle.goal_solver.specs.OpenGoals.{MergesTrait, WhenAnswered, at_depth};
 ghost use Rattle.goal_solver.specs.Outcomes.{StandsFor};
+ghost use Rattle.goal_solver.specs.Promises.{AnswersTrait, IsClosedTrait, LeavesUndecided, MergesOpenTrait, NoTwoDisagree, trait_asked, trait_question};
 ghost use Rattle.goal_solver.specs.State.{kinds_of};
 
-use crate::closed_goals::has_variable;
+pub mod candidates;
+pub(crate) mod open;
+
 use crate::context::EvalCtxt;
+use crate::eval::closed_goals::has_variable;
+use crate::eval::outcomes::TraitOutcome;
 use crate::faults::Fault;
-use crate::outcomes::TraitOutcome;
 use goal_terms::answers::{Certainty, Response};
 use goal_terms::ids::TraitId;
 use goal_terms::predicates::{Clause, Goal, TraitPredicate};
 use goal_terms::terms::GenericArg;
 
-#[tactic(auto, using(crate::proofs::AnswerLemmas::answering))]
 impl EvalCtxt<'_> {
     /// Whether a trait goal holds. For a closed goal, `Yes`: a derivation no higher than the remaining depth shows
     /// it, through the class that the answer names. `NoSolution`: a refutation no higher does. In a mode that isn't
-    /// of the headline both are right in every headline mode. `Maybe`, in a headline mode: there is neither. No two
-    /// answers at any depths disagree.
+    /// of the headline both are right in every headline mode, and they stay right at every greater depth. `Maybe`, in
+    /// a headline mode: there is neither. No two answers at any depths disagree.
     ///
     /// A goal with inference variables is answered by its candidates at one less of the depth. Those of the
     /// environment come first, then the bounds of its self type, then the rest, each taken for the head form of
@@ -35,15 +38,34 @@ impl EvalCtxt<'_> {
     /// term isn't known.
     ///
     /// In coherence a refuted goal is `Maybe`. Inference state, added goals and storage are as before; the answer
-    /// can be applied. At depth 0 it takes no memory.
+    /// can be applied. The response to a closed goal lists nothing. At depth 0 it is `Maybe`, which takes no memory.
     pub fn compute_trait_goal(&mut self, goal: &Goal<TraitPredicate>) -> Result<Response, Fault>
+        ensures closed { IsClosedTrait goal.now → AnswersTrait self.old self.new goal.now.param_env.items (trait_asked goal.now.predicate) result }
+        ensures merged { (IsClosedTrait goal.now → ⊥) → MergesOpenTrait self.old self.new goal.now result }
+        ensures at_once { self.old.remaining_depth ≡ 0 → LeavesUndecided self.old result }
+        ensures agrees { NoTwoDisagree self.old.tables goal.now.param_env.items (trait_question (trait_asked goal.now.predicate)) }
+        ensures unchanged { self.new ≡ restored self.old self.new }
+        ensures goes_back { GoesBack self.old self.new }
+        ensures fault { IsFaultOf self.old self.new result }
+        ensures applies { IfOk result (IsApplicable self.new) }
+    {
+        self.trait_goal_response(goal)
+    }
+
+    /// What `compute_trait_goal` answers, clause by clause.
+    pub(crate) fn trait_goal_response(
+        &mut self,
+        goal: &Goal<TraitPredicate>,
+    ) -> Result<Response, Fault>
         ensures sound { (m : TypingMode) → StandsFor self.old.typing_mode m → AreClosed goal.now.predicate.trait_ref.args.items goal.now.param_env.items → IsTraitAnswer (level_over self.old m goal.now.param_env.items) goal.now.predicate.trait_ref.def_id (erased_args goal.now.predicate.trait_ref.args.items) result }
         ensures decided { (m : TypingMode) → IsOwed self.new m → AreClosed goal.now.predicate.trait_ref.args.items goal.now.param_env.items → IsMaybe result → IsOpen (level_over self.old m goal.now.param_env.items) goal.now.predicate.trait_ref.def_id (erased_args goal.now.predicate.trait_ref.args.items) }
-        ensures agrees { (m : TypingMode) (n k : ℕ) (a b : Answer) → decides a ≡ true → decides b ≡ true → IsAnswer (level (setting_of self.old.tables m goal.now.param_env.items) n) (whether (holds goal.now.predicate.trait_ref.def_id (erased_args goal.now.predicate.trait_ref.args.items))) a → IsAnswer (level (setting_of self.old.tables m goal.now.param_env.items) k) (whether (holds goal.now.predicate.trait_ref.def_id (erased_args goal.now.predicate.trait_ref.args.items))) b → a ≡ b }
         ensures unchanged { self.new ≡ restored self.old self.new }
         ensures goes_back { GoesBack self.old self.new }
         ensures fault { IsFaultOf self.old self.new result }
         ensures quiet { AreClosed goal.now.predicate.trait_ref.args.items goal.now.param_env.items → AnswersQuietly (length (kinds_of self.old)) result }
+        ensures lists { AreClosed goal.now.predicate.trait_ref.args.items goal.now.param_env.items → IfOk result (λ r. r.var_values.items ≡ []) }
+        ensures class { AreClosed goal.now.predicate.trait_ref.args.items goal.now.param_env.items → IfOk result (λ r. r.certainty ≡ certainty.Maybe → r.proven_via ≡ None) }
+        ensures at_once { self.old.remaining_depth ≡ 0 → LeavesUndecided self.old result }
         ensures merged { (n : ℕ) → (AreClosed goal.now.predicate.trait_ref.args.items goal.now.param_env.items → ⊥) → self.old.remaining_depth ≡ suc n → WhenAnswered result (MergesTrait goal.now (at_depth n self.old) result (at_depth n self.new)) }
         ensures applies { IfOk result (IsApplicable self.new) }
     {
@@ -74,6 +96,8 @@ impl EvalCtxt<'_> {
         ensures goes_back { GoesBack self.old self.new }
         ensures fault { IsFaultOf self.old self.new result }
         ensures quiet { AnswersQuietly (length (kinds_of self.old)) result }
+        ensures lists { IfOk result (λ r. r.var_values.items ≡ []) }
+        ensures class { IfOk result (λ r. r.certainty ≡ certainty.Maybe → r.proven_via ≡ None) }
         ensures applies { IfOk result (IsApplicable self.new) }
     {
         self.is_well_formed();

@@ -1,11 +1,12 @@
 -- The parts of an index, row by row.
-use Rattle.std.proofs.Common.{◌≡◌, ℕ, zero, suc, ◌<◌, ◌≤◌, Bool, true, false, cond, List, [], ◌∷◌, ◌++◌, length, map, get_or, Option, Some, None, refl, sym, ap, ◌∙◌, arith}
-use Rattle.std.specs.Prelude.{◌==◌, ◌||◌, if◌then◌else◌, filter, slice_get, is_some}
+use Rattle.std.proofs.Common.{◌≡◌, ℕ, zero, suc, ◌<◌, ◌≤◌, Bool, true, false, cond, List, [], ◌∷◌, ◌++◌, length, map, get_or, Option, Some, None, refl, sym, ap, ap₂, ◌∙◌, append-nil, arith}
+use Rattle.std.specs.Prelude.{◌==◌, ◌||◌, if◌then◌else◌, slice_get, is_some}
+use Rattle.std.proofs.lemmas.List.{map_push}
+use Rattle.std.proofs.lemmas.List.Elements.{filter-append}
 use Rattle.std.specs.HashMap.{get}
 use Rattle.std.specs.List.{list_any}
 use Rattle.std.specs.Option.{option_map}
 use Rattle.goal_terms.specs.declared.ids.ItemId.{ItemId}
-use Rattle.goal_terms.specs.declared.ids.ImplId.{ImplId}
 use Rattle.goal_tables.specs.Places.{first_place, IsIndexOf}
 use Rattle.goal_tables.specs.Options.{option_holds}
 use Rattle.goal_tables.specs.Indexed.{IsRowIndex, AreListings, listed_numbers, lists_number, lists_twice, impls_numbered}
@@ -68,26 +69,15 @@ some_lists_twice-doubled (q ∷ rs) (j ∷ is) h =
 
 pub ruleset doubling = (some_lists_twice-doubled)
 
-one_on : (r : ImplRow) (b : Bool) → map (λ (q : ImplRow). q.id) (cond b (r ∷ []) []) ≡ (if b then r.id ∷ [] else [])
-one_on r true = refl
-one_on r false = refl
-
-cons_on : (b c : Bool) (x : ImplRow) (rest : List ImplRow) (r : ImplRow) (later : List ImplId) →
-    map (λ (q : ImplRow). q.id) rest ≡ (if c then later ++ r.id ∷ [] else later) →
-    map (λ (q : ImplRow). q.id) (cond b (x ∷ rest) rest) ≡ (if c then (cond b (x.id ∷ later) later) ++ r.id ∷ [] else cond b (x.id ∷ later) later)
-cons_on true true x rest r later e = ap (λ ids. x.id ∷ ids) e
-cons_on true false x rest r later e = ap (λ ids. x.id ∷ ids) e
-cons_on false true x rest r later e = e
-cons_on false false x rest r later e = e
-
-map_on : (b : Bool) (x : ImplRow) (rest : List ImplRow) → map (λ (q : ImplRow). q.id) (cond b (x ∷ rest) rest) ≡ cond b (x.id ∷ map (λ (q : ImplRow). q.id) rest) (map (λ (q : ImplRow). q.id) rest)
-map_on true x rest = refl
-map_on false x rest = refl
+added_on : {X : Type 0} (rows : List X) (places : List ℕ) (found : List X) (r : X) (i : ℕ) (b : Bool) → slice_get rows i ≡ Some r →
+    map (slice_get rows) places ≡ map Some found → map (slice_get rows) (if b then places ++ i ∷ [] else places) ≡ map Some (found ++ cond b (r ∷ []) [])
+added_on rows places found r i true here so = map_push (slice_get rows) places i ∙ ap₂ (λ xs x. xs ++ x ∷ []) so here ∙ sym (map_push Some found r)
+added_on rows places found r i false here so = so ∙ ap (map Some) (sym (append-nil found))
 
 -- one more impl is the last of its trait's
-pub impls_numbered-step : (rows : List ImplRow) (r : ImplRow) (n : ℕ) →
-    impls_numbered (rows ++ r ∷ []) n ≡ (if r.trait_id.0 == n then impls_numbered rows n ++ r.id ∷ [] else impls_numbered rows n)
-impls_numbered-step [] r n = one_on r (r.trait_id.0 == n)
-impls_numbered-step (x ∷ rows) r n =
-    cons_on (x.trait_id.0 == n) (r.trait_id.0 == n) x (filter (λ q. q.trait_id.0 == n) (rows ++ r ∷ [])) r (impls_numbered rows n) (impls_numbered-step rows r n)
-    ∙ ap (λ ids. if r.trait_id.0 == n then ids ++ r.id ∷ [] else ids) (sym (map_on (x.trait_id.0 == n) x (filter (λ q. q.trait_id.0 == n) rows)))
+pub impls_numbered-step : (rows done : List ImplRow) (places : List ℕ) (r : ImplRow) (i n : ℕ) → slice_get rows i ≡ Some r →
+    map (slice_get rows) places ≡ map Some (impls_numbered done n) →
+    map (slice_get rows) (if r.trait_id.0 == n then places ++ i ∷ [] else places) ≡ map Some (impls_numbered (done ++ r ∷ []) n)
+impls_numbered-step rows done places r i n here so =
+    added_on rows places (impls_numbered done n) r i (r.trait_id.0 == n) here so
+    ∙ ap (map Some) (sym (filter-append (λ q. q.trait_id.0 == n) done (r ∷ [])))

@@ -1,8 +1,7 @@
 -- Tables with the places of their rows.
-use Rattle.std.specs.Prelude.{◌≡◌, ◌==◌, ◌||◌, ℕ, Bool, List, [], ◌∷◌, map, filter, Option, Some, None, Vec}
+use Rattle.std.specs.Prelude.{◌≡◌, ◌==◌, ◌||◌, ℕ, Bool, List, [], ◌∷◌, map, filter, slice_get, Option, Some, None, Vec}
 use Rattle.std.specs.HashMap.{get, HashMap}
 use Rattle.std.specs.List.{list_any}
-use Rattle.goal_terms.specs.declared.ids.ImplId.{ImplId}
 use Rattle.goal_tables.specs.FixedParams.{impl_has_unfixed, inherent_has_unfixed}
 use Rattle.goal_tables.specs.Places.{IsIndexOf, same_pair, has_double}
 use Rattle.goal_tables.specs.Rows.{same_lang_item, same_lang_target}
@@ -47,18 +46,18 @@ AreListings [] (i ∷ is) = ⊥
 AreListings (r ∷ rs) [] = ⊥
 AreListings (r ∷ rs) (i ∷ is) = IsRowIndex (listed_numbers r) i × AreListings rs is
 
--- the impls that a map has for a trait
-abbrev pub list_at : {A : Type 0} → Option (Vec ImplId A) → List ImplId
+-- the places that a map has for a trait
+abbrev pub list_at : {A : Type 0} → Option (Vec ℕ A) → List ℕ
 list_at None = []
-list_at (Some ids) = ids.items
+list_at (Some places) = places.items
 
 -- the impls of the trait of a number, in the order of their rows
-abbrev pub impls_numbered : List ImplRow → ℕ → List ImplId
-impls_numbered rows n = map (λ r. r.id) (filter (λ r. r.trait_id.0 == n) rows)
+abbrev pub impls_numbered : List ImplRow → ℕ → List ImplRow
+impls_numbered rows n = filter (λ r. r.trait_id.0 == n) rows
 
--- a map has the impls of each trait
-unfoldable pub AreImplLists : {A S : Type 0} → List ImplRow → HashMap ℕ (Vec ImplId A) S → Type 0
-AreImplLists {A} {S} rows lists = (n : ℕ) → list_at (get ◌==◌ lists n) ≡ impls_numbered rows n
+-- a map has for each trait the places of its impls
+unfoldable pub AreImplLists : {A S : Type 0} → List ImplRow → HashMap ℕ (Vec ℕ A) S → Type 0
+AreImplLists {A} {S} rows lists = (n : ℕ) → map (slice_get rows) (list_at (get ◌==◌ lists n)) ≡ map Some (impls_numbered rows n)
 
 -- the places of traits and items are right, and those of the items in their traits' lists
 pub record IsTraitIndex (t : Tables) (i : TraitIndex) : Type 0 where
@@ -66,7 +65,7 @@ pub record IsTraitIndex (t : Tables) (i : TraitIndex) : Type 0 where
   pub items : IsRowIndex (map (λ r. r.id.0) t.items.items) i.items
   pub listings : AreListings t.traits.items i.listings.items
 
--- the places of impls and definitions are right, the lists of each trait's impls, and whether a parameter stands in no header
+-- the places of impls and definitions are right, those of each trait's impls, and whether a parameter stands in no header
 pub record IsImplIndex (t : Tables) (i : ImplIndex) : Type 0 where
   pub impls : IsRowIndex (map (λ r. r.id.0) t.impls.items) i.impls
   pub definitions : IsRowIndex (map (λ r. r.id.0) t.definitions.items) i.definitions

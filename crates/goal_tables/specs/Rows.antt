@@ -87,8 +87,8 @@ abbrev pub source_of : Tables → ImplId → ItemId → Option SourceRow
 source_of t impl_id item_id = find (λ r. (r.impl_id.0 == impl_id.0) && (r.item_id.0 == item_id.0)) t.sources.items
 
 -- the impls of a trait, in the order of their rows
-abbrev pub impls_of : Tables → TraitId → List ImplId
-impls_of t id = map (λ r. r.id) (filter (λ r. r.trait_id.0 == id.0) t.impls.items)
+abbrev pub impls_of : Tables → TraitId → List ImplRow
+impls_of t id = filter (λ r. r.trait_id.0 == id.0) t.impls.items
 
 -- the items of a trait, as its row lists them
 abbrev pub items_of : Tables → TraitId → List ItemId

@@ -1,5 +1,5 @@
 //! Tables whose rows are found by their ids.
-ghost use Rattle.std.specs.Prelude.{◌≡◌, ◌==◌, ◌&&◌, IfOk, find, map};
+ghost use Rattle.std.specs.Prelude.{◌≡◌, ◌==◌, ◌<◌, ◌&&◌, IfOk, find, length, map, slice_get};
 ghost use Rattle.std.specs.List.{list_any};
 ghost use Rattle.std.specs.Option.{option_copied};
 ghost use Rattle.std.specs.HashMap.{get};
@@ -204,11 +204,19 @@ impl IndexedTables {
         )
     }
 
-    /// The impls of a trait, in the order of their rows.
-    pub fn impls_of_trait(&self, id: TraitId) -> &[ImplId]
-        ensures { result.now ≡ impls_of self.now id }
+    /// The places of the impls of a trait, in the order of their rows.
+    pub fn impls_of_trait(&self, id: TraitId) -> &[usize]
+        ensures { map (slice_get self.now.impls.items) result.now ≡ map Some (impls_of self.now id) }
     {
         list_of(&self.index.holds.of_impls.by_trait, id.0)
+    }
+
+    /// The impl at a place.
+    pub fn impl_at(&self, place: usize) -> &ImplRow
+        requires { place < length self.now.impls.items }
+        ensures { slice_get self.now.impls.items place ≡ Some result.now }
+    {
+        &self.tables.impls.as_slice()[place]
     }
 
     /// The items of a trait, as its row lists them.
@@ -369,7 +377,7 @@ fn naming_at<'a>(index: &LangIndex, rows: &'a [LangRow], target: LangTarget) -> 
 }
 
 /// The list that a map has for a number.
-fn list_of(lists: &IndexMap<u32, Vec<ImplId>>, number: u32) -> &[ImplId]
+fn list_of(lists: &IndexMap<u32, Vec<usize>>, number: u32) -> &[usize]
     ensures { result.now ≡ list_at (get ◌==◌ lists.now number) }
 {
     match lists.get(&number) {

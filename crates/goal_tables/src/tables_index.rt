@@ -10,7 +10,6 @@ use crate::index::{RowIndex, index_of};
 use crate::lang::{LangItem, LangRow, LangTarget};
 use crate::listings::listings;
 use crate::rows::{SourceRow, Tables};
-use goal_terms::ids::ImplId;
 use indexmap::IndexMap;
 use std::alloc::{AllocError, Global};
 
@@ -46,12 +45,12 @@ impl Drop for SourceIndex {
     }
 }
 
-/// Where the rows of impls and definitions stand, which impls each trait has, and whether a
+/// Where the rows of impls and definitions stand, where those of each trait's impls do, and whether a
 /// parameter of an impl doesn't stand in its header.
 pub struct ImplIndex {
     pub impls: RowIndex,
     pub definitions: RowIndex,
-    pub by_trait: IndexMap<u32, Vec<ImplId>>,
+    pub by_trait: IndexMap<u32, Vec<usize>>,
     pub unfixed: bool,
 }
 

@@ -9,6 +9,7 @@ pub mod TermNodeLemmas
 pub mod SortLemmas
 pub mod FitLemmas
 pub mod TableLemmas
+pub mod TermFlagLemmas
 pub mod InternLemmas
 pub mod SizeLemmas
 pub mod SameTermLemmas

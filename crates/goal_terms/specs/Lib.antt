@@ -18,5 +18,6 @@ pub mod TreeWith
 pub mod TreeCode
 pub mod Sorts
 pub mod TableMeaning
+pub mod TermFlags
 pub mod SameHead
 pub mod NameText

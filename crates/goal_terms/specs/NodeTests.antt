@@ -68,6 +68,12 @@ is_any_infer (nodes.Head h) = false
 is_any_infer (nodes.Alias k) = false
 is_any_infer (nodes.Variable v) = true
 
+-- whether a node is an alias
+abbrev pub is_alias : Node → Bool
+is_alias (nodes.Head h) = false
+is_alias (nodes.Alias k) = true
+is_alias (nodes.Variable v) = false
+
 -- whether a node is an error
 abbrev pub is_error : Node → Bool
 is_error (nodes.Head (TyError n)) = true

@@ -29,6 +29,7 @@ mod same_terms;
 mod scalar_text;
 pub mod scalars;
 pub mod sorts;
+pub mod term_flags;
 pub mod term_nodes;
 pub mod term_table;
 pub mod terms;

@@ -5,18 +5,21 @@ ghost use Rattle.goal_terms.specs.Tree.{node_of, parts_of};
 ghost use Rattle.goal_terms.specs.Sorts.{Fits, part_at};
 ghost use Rattle.goal_terms.specs.TreeWith.{tree_with};
 ghost use Rattle.goal_terms.specs.TableMeaning.{tree_at, AreBelow, HasTerm, Keeps, IsOnly};
+ghost use Rattle.goal_terms.specs.TermFlags.{flags_of};
 
 use crate::heads::Node;
 use crate::sorts::Sort;
+use crate::term_flags::TermFlags;
 use crate::term_nodes::{OutOfMemory, TermId, TermNode};
 use indexmap::IndexSet;
 use std::alloc::Global;
 use std::marker::Model;
 
-/// Types, constants and their parts, each once. The number of a term never changes.
+/// Types, constants and their parts, each once, with its flags. The number of a term never changes.
 #[derive(Drop)]
 pub struct TermTable {
     nodes: IndexSet<TermNode>,
+    flags: Vec<TermFlags>,
 }
 
 impl Model for TermTable {
@@ -28,11 +31,12 @@ impl Model for TermTable {
 
     ghost coded = { trees_code };
 
-    ghost use Rattle.goal_terms.specs.TableMeaning.{trees_of_nodes, IsTable};
+    ghost use Rattle.goal_terms.specs.TableMeaning.{trees_of_nodes};
+    ghost use Rattle.goal_terms.specs.TermFlags.{AreFlagged};
 
     ghost view = { λ a. trees_of_nodes a.nodes.keys };
 
-    ghost invariant = { λ a. IsTable a.nodes.keys };
+    ghost invariant = { λ a. AreFlagged a.nodes.keys a.flags.items };
 }
 
 #[tactic(auto, using(crate::proofs::TableLemmas::table_facts))]
@@ -43,6 +47,7 @@ impl TermTable {
     {
         TermTable {
             nodes: IndexSet::new(alloc),
+            flags: Vec::new(alloc),
         }
     }
 
@@ -87,6 +92,15 @@ impl TermTable {
         self.parts(id)[place]
     }
 
+    /// Whether an error, an alias or an inference variable stands anywhere in a term. It takes no
+    /// memory.
+    pub fn flags(&self, id: TermId) -> TermFlags
+        requires { id.0 < length self.now }
+        ensures { result ≡ flags_of (tree_at self.now id) }
+    {
+        self.flags[id.0 as usize]
+    }
+
     /// A law: below no binder a term is itself, and no other number has it.
     pub fn below_no_binder(&self, id: TermId)
         requires { id.0 < length self.now }
@@ -117,7 +131,10 @@ impl TermTable {
         if self.nodes.len() >= u32::MAX as usize {
             return Err(OutOfMemory);
         }
+        let flags = self.flags_with(node, added.parts.as_slice());
+        self.flags.reserve(1)?;
         let (place, _) = self.nodes.insert_full(added)?;
+        self.flags.push_reserved(flags);
         Ok(TermId(place as u32))
     }
 

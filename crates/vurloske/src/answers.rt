@@ -2,8 +2,8 @@
 ghost use Rattle.std.specs.Prelude.{◌≡◌, ◌↔◌, Ok, Err, IsErr, IfOk};
 ghost use Rattle.vurloske.specs.Answers.{IsListed, IsTermFor, Says};
 
+use goal_solver::eval::goals::GoalFault;
 use goal_solver::faults::{DepthTooLarge, Fault};
-use goal_solver::goals::GoalFault;
 use goal_terms::answers::{Certainty, Response};
 use goal_terms::names::TermNames;
 use goal_terms::term_nodes::OutOfMemory;

@@ -9,7 +9,7 @@ use crate::tests::sketches::{
     Asked, BOOL, STRUCT_P, STRUCT_Z, TR_A, TermSketch, TypeSketch, U8, U16, V0, V1,
 };
 use crate::tests::steps::{AT_ONCE, Scene, Step, TWO_VARIABLES, assert_scene, assert_scenes};
-use goal_solver::goals::GoalFault;
+use goal_solver::eval::goals::GoalFault;
 use goal_terms::answers::{ParamKind, TraitGoalProvenVia, VarKind};
 use goal_terms::ids::TraitId;
 use goal_terms::terms::AliasTermKind;

@@ -14,6 +14,7 @@ use Rattle.goal_solver.proofs.AnswerLemmas.{alias-unsure, owed-evaluated}
 use Rattle.goal_solver.proofs.AssembledLemmas.{class-one, class-given, above-same}
 use Rattle.goal_solver.proofs.FoundAnswers.{found-sound, found-open_of_one}
 use Rattle.goal_solver.proofs.GoingBackLemmas.{goes_back-same}
+use Rattle.goal_solver.proofs.PromiseLemmas.{nothing-named, empty-maybe}
 use Rattle.goal_solver.proofs.context.EvalCtxt.answer_through.Goals as goal
 
 pub returns-in_default-clause-goes_back : goal.returns-in_default-clause-goes_back
@@ -97,3 +98,15 @@ returns-in-Ok-Refuted-clause-sound c = λ m stands.
 pub returns-in-Err-clause-sound : goal.returns-in-Err-clause-sound
 returns-in-Err-clause-sound c = λ m stands.
     alias-unsure (level_through (setting_of c.args.self.now.tables m c.args.environment.now) (level_over c.args.self.now m c.args.environment.now) c.args.class) c.args.asked.now.alias.kind (erased_args c.args.asked.now.alias.args.items) c.args.asked.now.term c.stopped.result c.stopped.ensures.unsure (λ e. absurd (c.stopped.ensures.never e))
+
+pub returns-in-Ok-Refuted-clause-lists : goal.returns-in-Ok-Refuted-clause-lists
+returns-in-Ok-Refuted-clause-lists c = empty-maybe c.refuted.result (nothing-listed c.refuted.result c.refuted.ensures.nothing)
+
+pub returns-in-Ok-Refuted-clause-no_class : goal.returns-in-Ok-Refuted-clause-no_class
+returns-in-Ok-Refuted-clause-no_class c = nothing-named c.refuted.result c.refuted.ensures.nothing
+
+pub returns-in-Err-clause-lists : goal.returns-in-Err-clause-lists
+returns-in-Err-clause-lists c = empty-maybe c.stopped.result (nothing-listed c.stopped.result c.stopped.ensures.nothing)
+
+pub returns-in-Err-clause-no_class : goal.returns-in-Err-clause-no_class
+returns-in-Err-clause-no_class c = nothing-named c.stopped.result c.stopped.ensures.nothing

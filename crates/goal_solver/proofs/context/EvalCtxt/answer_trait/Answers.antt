@@ -5,7 +5,8 @@ use Rattle.goal_solver.specs.Answers.{erased_args}
 use Rattle.goal_solver.specs.Outcomes.{SaysThrough}
 use Rattle.goal_solver.proofs.AnswerLemmas.{trait-unsure}
 use Rattle.goal_solver.proofs.ApplicableLemmas.{nothing-applies-later, nothing-listed}
-use Rattle.std.specs.Prelude.{Ok}
+use Rattle.std.specs.Prelude.{Ok, ◌≡◌, None}
+use Rattle.goal_solver.proofs.PromiseLemmas.{nothing-named, unnamed-maybe, yes-unsure}
 use Rattle.goal_solver.proofs.context.EvalCtxt.answer_trait.Goals as goal
 
 pub returns-in-Ok-Holds-clause-goes_back : goal.returns-in-Ok-Holds-clause-goes_back
@@ -46,3 +47,18 @@ returns-in-Ok-Refuted-clause-sound c = λ m stands.
 pub returns-in-Err-clause-sound : goal.returns-in-Err-clause-sound
 returns-in-Err-clause-sound c = λ m stands.
     trait-unsure (level (setting_of c.args.self.now.tables m c.args.environment.now) c.args.depth) c.args.trait_id (erased_args c.args.args.now) c.stopped.result c.stopped.ensures.unsure (λ e. absurd (c.stopped.ensures.never e))
+
+pub returns-in-Ok-Holds-clause-class : goal.returns-in-Ok-Holds-clause-class
+returns-in-Ok-Holds-clause-class c = λ e. yes-unsure c.respond.result.certainty (c.respond.result.proven_via ≡ None) c.respond.ensures.certainty e
+
+pub returns-in-Ok-Refuted-clause-lists : goal.returns-in-Ok-Refuted-clause-lists
+returns-in-Ok-Refuted-clause-lists c = nothing-listed c.refuted.result c.refuted.ensures.nothing
+
+pub returns-in-Ok-Refuted-clause-class : goal.returns-in-Ok-Refuted-clause-class
+returns-in-Ok-Refuted-clause-class c = unnamed-maybe c.refuted.result (nothing-named c.refuted.result c.refuted.ensures.nothing)
+
+pub returns-in-Err-clause-lists : goal.returns-in-Err-clause-lists
+returns-in-Err-clause-lists c = nothing-listed c.stopped.result c.stopped.ensures.nothing
+
+pub returns-in-Err-clause-class : goal.returns-in-Err-clause-class
+returns-in-Err-clause-class c = unnamed-maybe c.stopped.result (nothing-named c.stopped.result c.stopped.ensures.nothing)

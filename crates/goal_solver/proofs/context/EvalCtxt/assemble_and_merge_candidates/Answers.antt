@@ -1,27 +1,101 @@
 use Rattle.std.proofs.Common.{sym, ◌∙◌, subst}
+use Rattle.std.specs.Prelude.{Ok}
+use Rattle.goal_kinds.specs.declared.goal_kind.MergeRule.{MergeRule}
 use Rattle.goal_solver.specs.Collecting.{kind_words}
 use Rattle.goal_solver.specs.OpenGoals.{WhenAnswered}
 use Rattle.goal_solver.specs.OpenProjections.{MergesThrough}
-use Rattle.goal_solver.proofs.CollectedTermLemmas.{some-same}
+use Rattle.goal_solver.specs.Promises.{AnswersGiven, AppliesGiven, asked_through}
+use Rattle.goal_solver.proofs.PromiseLemmas.{answers-trait_above, answers-through, answers-given, applies-given, owed-restored, given-parts, trait_not_projection, host_not_projection, none_through, some_through, none-some, closed-same}
 use Rattle.goal_solver.proofs.GoingBackLemmas.{goes_back-same}
 use Rattle.goal_solver.proofs.context.EvalCtxt.assemble_and_merge_candidates.Goals as goal
 
-pub returns-in-TraitGoals-clause-decided : goal.returns-in-TraitGoals-clause-decided
-returns-in-TraitGoals-clause-decided g c = λ m q owed asks closed undecided. c.merge_trait_goal.ensures.decided m q owed asks.1 closed undecided
+-- trait goals
+pub returns-in-TraitGoals-clause-trait_goals : goal.returns-in-TraitGoals-clause-trait_goals
+returns-in-TraitGoals-clause-trait_goals g c = λ is closed.
+    answers-trait_above c.args.self.now c.merge_trait_goal.new.self c.args.goal.now.param_env.items (g.G.GoalKind.trait_asked c.args.goal.now.predicate c.args.self.now.tables) c.merge_trait_goal.result
+    (λ m owed. owed-restored c.args.self.now c.merge_trait_goal.new.self m c.merge_trait_goal.ensures.unchanged owed)
+    (λ m q stands asked. c.merge_trait_goal.ensures.sound m q stands asked closed) (λ m q owed asked undecided. c.merge_trait_goal.ensures.decided m q owed asked closed undecided)
+    (c.merge_trait_goal.ensures.quiet closed) (c.merge_trait_goal.ensures.lists closed) (c.merge_trait_goal.ensures.class closed) (λ asked. c.merge_trait_goal.ensures.missing closed asked)
 
+pub returns-in-TraitGoals-clause-merged : goal.returns-in-TraitGoals-clause-merged
+returns-in-TraitGoals-clause-merged g c = λ is variables. c.merge_trait_goal.ensures.merged variables
+
+pub returns-in-TraitGoals-clause-given : goal.returns-in-TraitGoals-clause-given
+returns-in-TraitGoals-clause-given g c = λ other. absurd (other (sym c.merge_rule.ensures ∙ c.in-TraitGoals.is))
+
+pub returns-in-TraitGoals-clause-merged_through : goal.returns-in-TraitGoals-clause-merged_through
+returns-in-TraitGoals-clause-merged_through g c = λ a k asked. absurd (trait_not_projection g.G.GoalKind.merging c.args.proven_via (g.G.PredicateTerms.normalization c.args.goal.now.predicate) a (sym c.merge_rule.ensures ∙ c.in-TraitGoals.is) asked)
+
+pub returns-in-TraitGoals-clause-applies : goal.returns-in-TraitGoals-clause-applies
+returns-in-TraitGoals-clause-applies g c =
+    subst (λ (r : MergeRule). AppliesGiven c.args.self.now c.merge_trait_goal.new.self c.args.goal.now.param_env.items (asked_through r c.args.proven_via (g.G.PredicateTerms.normalization c.args.goal.now.predicate)) c.merge_trait_goal.result)
+    (sym (sym c.merge_rule.ensures ∙ c.in-TraitGoals.is)) c.merge_trait_goal.ensures.applies
+
+-- host effect goals
 pub returns-in-HostEffectGoals-clause-goes_back : goal.returns-in-HostEffectGoals-clause-goes_back
 returns-in-HostEffectGoals-clause-goes_back g c = goes_back-same c.args.self.now
 
+pub returns-in-HostEffectGoals-clause-given : goal.returns-in-HostEffectGoals-clause-given
+returns-in-HostEffectGoals-clause-given g c = λ other.
+    subst (λ (r : MergeRule). AnswersGiven c.args.self.now c.args.self.now c.args.goal.now.param_env.items (asked_through r c.args.proven_via (g.G.PredicateTerms.normalization c.args.goal.now.predicate)) (Ok c.undecided.result))
+    (sym (sym c.merge_rule.ensures ∙ c.in-HostEffectGoals.is)) c.undecided.ensures.nothing
+
+pub returns-in-HostEffectGoals-clause-merged_through : goal.returns-in-HostEffectGoals-clause-merged_through
+returns-in-HostEffectGoals-clause-merged_through g c = λ a k asked. absurd (host_not_projection g.G.GoalKind.merging c.args.proven_via (g.G.PredicateTerms.normalization c.args.goal.now.predicate) a (sym c.merge_rule.ensures ∙ c.in-HostEffectGoals.is) asked)
+
+pub returns-in-HostEffectGoals-clause-applies : goal.returns-in-HostEffectGoals-clause-applies
+returns-in-HostEffectGoals-clause-applies g c =
+    subst (λ (r : MergeRule). AppliesGiven c.args.self.now c.args.self.now c.args.goal.now.param_env.items (asked_through r c.args.proven_via (g.G.PredicateTerms.normalization c.args.goal.now.predicate)) (Ok c.undecided.result))
+    (sym (sym c.merge_rule.ensures ∙ c.in-HostEffectGoals.is)) c.undecided.ensures.applies
+
+-- projections without a class
 pub returns-in-None-clause-goes_back : goal.returns-in-None-clause-goes_back
 returns-in-None-clause-goes_back g c = goes_back-same c.args.self.now
 
-pub returns-in-TraitGoals-clause-quiet : goal.returns-in-TraitGoals-clause-quiet
-returns-in-TraitGoals-clause-quiet g c = λ closed through. c.merge_trait_goal.ensures.quiet (closed (sym c.merge_rule.ensures ∙ c.in-TraitGoals.is))
+pub returns-in-None-clause-given : goal.returns-in-None-clause-given
+returns-in-None-clause-given g c = λ other.
+    subst (λ o. AnswersGiven c.args.self.now c.args.self.now c.args.goal.now.param_env.items o (Ok c.undecided-in-None.result))
+    (sym (none_through g.G.GoalKind.merging c.args.proven_via (g.G.PredicateTerms.normalization c.args.goal.now.predicate) (sym c.merge_rule.ensures ∙ c.in-Projections.is) c.in-None.is)) c.undecided-in-None.ensures.nothing
 
-pub returns-in-Some-clause-quiet : goal.returns-in-Some-clause-quiet
-returns-in-Some-clause-quiet g c = λ closed through. c.merge_projection.ensures.quiet (λ p e. through c.in-Some.class p (sym c.merge_rule.ensures ∙ c.in-Projections.is, c.in-Some.is, e))
+pub returns-in-None-clause-merged_through : goal.returns-in-None-clause-merged_through
+returns-in-None-clause-merged_through g c = λ a k asked.
+    absurd (none-some a (sym (none_through g.G.GoalKind.merging c.args.proven_via (g.G.PredicateTerms.normalization c.args.goal.now.predicate) (sym c.merge_rule.ensures ∙ c.in-Projections.is) c.in-None.is) ∙ asked))
+
+pub returns-in-None-clause-applies : goal.returns-in-None-clause-applies
+returns-in-None-clause-applies g c =
+    subst (λ o. AppliesGiven c.args.self.now c.args.self.now c.args.goal.now.param_env.items o (Ok c.undecided-in-None.result))
+    (sym (none_through g.G.GoalKind.merging c.args.proven_via (g.G.PredicateTerms.normalization c.args.goal.now.predicate) (sym c.merge_rule.ensures ∙ c.in-Projections.is) c.in-None.is)) c.undecided-in-None.ensures.applies
+
+-- projections through a class
+pub returns-in-Some-clause-given : goal.returns-in-Some-clause-given
+returns-in-Some-clause-given g c = λ other.
+    subst (λ o. AnswersGiven c.args.self.now c.merge_projection.new.self c.args.goal.now.param_env.items o c.merge_projection.result)
+    (sym (some_through g.G.GoalKind.merging c.args.proven_via (g.G.PredicateTerms.normalization c.args.goal.now.predicate) c.in-Some.class (sym c.merge_rule.ensures ∙ c.in-Projections.is) c.in-Some.is))
+    (answers-given c.args.self.now c.merge_projection.new.self c.args.goal.now.param_env.items c.in-Some.class (g.G.PredicateTerms.normalization c.args.goal.now.predicate) c.merge_projection.result
+    (λ p asked closed. answers-through c.args.self.now c.merge_projection.new.self c.args.goal.now.param_env.items (record { class = c.in-Some.class; asked = p }) c.merge_projection.result
+    (λ m owed. owed-restored c.args.self.now c.merge_projection.new.self m c.merge_projection.ensures.unchanged owed)
+    (λ m stands. c.merge_projection.ensures.sound_through m p stands asked closed)
+    (λ m n owed expected undecided. c.merge_projection.ensures.decided_through m p n owed asked closed expected undecided)
+    (λ m stands proven. c.merge_projection.ensures.sound_above m p stands asked proven closed)
+    (λ m n owed proven ok expected undecided. c.merge_projection.ensures.whole m p n owed asked proven ok closed expected undecided)
+    (c.merge_projection.ensures.quiet (closed-same (g.G.PredicateTerms.normalization c.args.goal.now.predicate) p c.args.goal.now.param_env.items asked closed))
+    (c.merge_projection.ensures.lists p asked closed) (c.merge_projection.ensures.no_class p asked closed))
+    c.merge_projection.ensures.missing)
+
+pub returns-in-Some-clause-applies : goal.returns-in-Some-clause-applies
+returns-in-Some-clause-applies g c =
+    subst (λ o. AppliesGiven c.args.self.now c.merge_projection.new.self c.args.goal.now.param_env.items o c.merge_projection.result)
+    (sym (some_through g.G.GoalKind.merging c.args.proven_via (g.G.PredicateTerms.normalization c.args.goal.now.predicate) c.in-Some.class (sym c.merge_rule.ensures ∙ c.in-Projections.is) c.in-Some.is))
+    (applies-given c.args.self.now c.merge_projection.new.self c.args.goal.now.param_env.items c.in-Some.class (g.G.PredicateTerms.normalization c.args.goal.now.predicate) c.merge_projection.result
+    (λ p asked. record {
+      proven = λ m stands proven ok. c.merge_projection.ensures.applies_above m p stands asked proven ok;
+      variables = λ n others expected. c.merge_projection.ensures.applies_open p n asked others expected;
+    })
+    c.merge_projection.ensures.applies_missing)
 
 pub returns-in-Some-clause-merged_through : goal.returns-in-Some-clause-merged_through
-returns-in-Some-clause-merged_through g c = λ d p k asks others expected.
-    subst (λ x. WhenAnswered c.merge_projection.result (MergesThrough (kind_words g.G.GoalKind.merging g.G.GoalKind.has_term g.G.GoalKind.self_type g.G.GoalKind.is_with_self g.G.PredicateTerms.has_fault g.G.GoalKind.trait_asked g.G.GoalKind.passes g.G.GoalKind.is_impl_for g.G.GoalKind.candidate_gives g.G.GoalKind.candidate_refuted g.G.GoalKind.is_for g.G.GoalKind.additional) p x c.args.goal.now c.args.self.now c.merge_projection.result c.merge_projection.new.self)) (some-same c.in-Some.class d (sym c.in-Some.is ∙ asks.1))
-    (c.merge_projection.ensures.merged_through p k asks.2 others expected)
+returns-in-Some-clause-merged_through g c = λ a k asked others expected.
+    let parts = given-parts c.in-Some.class (g.G.PredicateTerms.normalization c.args.goal.now.predicate) a
+    (sym (some_through g.G.GoalKind.merging c.args.proven_via (g.G.PredicateTerms.normalization c.args.goal.now.predicate) c.in-Some.class (sym c.merge_rule.ensures ∙ c.in-Projections.is) c.in-Some.is) ∙ asked) in
+    subst (λ x. WhenAnswered c.merge_projection.result (MergesThrough (kind_words g.G.GoalKind.merging g.G.GoalKind.has_term g.G.GoalKind.self_type g.G.GoalKind.is_with_self g.G.PredicateTerms.has_fault g.G.GoalKind.trait_asked g.G.GoalKind.passes g.G.GoalKind.is_impl_for g.G.GoalKind.candidate_gives g.G.GoalKind.candidate_refuted g.G.GoalKind.is_for g.G.GoalKind.additional) a.asked x c.args.goal.now c.args.self.now c.merge_projection.result c.merge_projection.new.self)) parts.0
+    (c.merge_projection.ensures.merged_through a.asked k parts.1 others expected)

@@ -3,7 +3,7 @@ use Rattle.goal_terms.specs.declared.answers.Response.{Response}
 use Rattle.goal_solver.specs.Answers.{IsQuiet}
 use Rattle.goal_solver.specs.Collecting.{kind_words, CollectsFor}
 use Rattle.goal_solver.specs.State.{State, kinds_of}
-use Rattle.goal_solver.specs.declared.merged_rules.Merged.TheVariants as merged
+use Rattle.goal_solver.specs.declared.assembly.merged_rules.Merged.TheVariants as merged
 use Rattle.goal_solver.proofs.ApplicableLemmas.{nothing-applies-after}
 use Rattle.goal_solver.proofs.GoingBackLemmas.{goes_back-same}
 use Rattle.goal_solver.proofs.OpenClassLemmas.{collects-in, class-answers}

@@ -10,7 +10,7 @@ invariant_of-self c = (
   c.self.invariant.2,
   c.self.invariant.3,
   c.self.invariant.4,
-  solved-grown c.self.inside.terms c.class_term.new.terms c.self.inside.inference c.class_term.ensures.kept c.self.invariant.5,
+  solved-grown c.self.inside.terms c.alias_proven_via.new.terms c.self.inside.inference c.alias_proven_via.ensures.kept c.self.invariant.5,
   c.self.invariant.6,
 )
 
@@ -21,9 +21,9 @@ invariant_of-self-2 c = (
   c.self.invariant.2,
   c.self.invariant.3,
   c.self.invariant.4,
-  solved-grown c.self.inside.terms c.class_term.new.terms c.self.inside.inference c.class_term.ensures.kept c.self.invariant.5,
+  solved-grown c.self.inside.terms c.alias_proven_via.new.terms c.self.inside.inference c.alias_proven_via.ensures.kept c.self.invariant.5,
   c.self.invariant.6,
 )
 
 pub returns-in_err-found-clause-goes_back : goal.returns-in_err-found-clause-goes_back
-returns-in_err-found-clause-goes_back c = goes_back-interned _ c.args.self.now _ c.class_term.new.terms c.self.view_is refl c.class_term.ensures.kept
+returns-in_err-found-clause-goes_back c = goes_back-interned _ c.args.self.now _ c.alias_proven_via.new.terms c.self.view_is refl c.alias_proven_via.ensures.kept

@@ -1,129 +1,19 @@
-use Rattle.std.proofs.Common.{arith, sym, ◌∙◌, ap, subst}
-use Rattle.goal_terms.specs.NodeTests.{general_variable_at}
-use Rattle.goal_terms.specs.Tree.{node_of}
-use Rattle.goal_kinds.specs.Answers.{setting_of}
-use Rattle.goal_solver.specs.Outcomes.{FoundIn, SaysWhich}
-use Rattle.goal_solver.specs.Answers.{erased_args, level_over}
-use Rattle.goal_solver.proofs.AnswerLemmas.{alias-unsure, alias_open-ground, owed-evaluated}
-use Rattle.goal_solver.proofs.FoundAnswers.{found-sound, found-open}
-use Rattle.goal_kinds.proofs.ConsistentLemmas.{each_level_is_consistent}
-use Rattle.goal_solver.proofs.GoingBackLemmas.{goes_back-same}
-use Rattle.std.specs.Prelude.{Ok, length}
-use Rattle.std.proofs.Common.{refl}
-use Rattle.goal_terms.specs.declared.modes.TypingMode.{TypingMode}
-use Rattle.goal_kinds.specs.Answers.{IsAnswer}
-use Rattle.goal_kinds.specs.Settings.{is_headline}
-use Rattle.goal_solver.specs.Answers.{AnswersQuietly, is_closed_alias}
-use Rattle.goal_solver.specs.Outcomes.{StandsFor}
-use Rattle.goal_solver.specs.State.{State, kinds_of}
-use Rattle.goal_solver.proofs.ApplicableLemmas.{nothing-applies, nothing-applies-later, nothing-listed, accepted-open, found-applies, evaluated-restored, stands-for-some}
+use Rattle.goal_solver.specs.Answers.{is_closed_alias}
+use Rattle.goal_solver.specs.Promises.{term_asked}
+use Rattle.goal_solver.proofs.PromiseLemmas.{answers-alias, owed-restored, no-two-disagree, false-unless}
 use Rattle.goal_solver.proofs.context.EvalCtxt.compute_normalizes_to_goal.Goals as goal
 
-pub returns-in_default-clause-goes_back : goal.returns-in_default-clause-goes_back
-returns-in_default-clause-goes_back c = goes_back-same c.args.self.now
+pub returns-clause-closed : goal.returns-clause-closed
+returns-clause-closed c = λ closed.
+    answers-alias c.args.self.now c.normalizes_to_response.new.self c.args.goal.now.param_env.items c.args.goal.now.predicate c.normalizes_to_response.result
+    (λ m owed. owed-restored c.args.self.now c.normalizes_to_response.new.self m c.normalizes_to_response.ensures.unchanged owed)
+    (λ m stands. c.normalizes_to_response.ensures.sound m stands closed)
+    (λ m n owed ok expected undecided. c.normalizes_to_response.ensures.whole m n owed ok closed expected undecided)
+    (c.normalizes_to_response.ensures.quiet closed) (c.normalizes_to_response.ensures.lists closed) (c.normalizes_to_response.ensures.no_class closed)
 
-pub returns-then-remaining_depth-eq0-clause-decided : goal.returns-then-remaining_depth-eq0-clause-decided
-returns-then-remaining_depth-eq0-clause-decided c = λ m n owed closed expected undecided.
-    alias_open-ground (setting_of c.args.self.now.tables m c.args.goal.now.param_env.items) c.args.self.now.remaining_depth (omega (arith, c.remaining_depth.ensures, c.if-remaining_depth-eq0.true))
-    c.args.goal.now.predicate.alias.kind (erased_args c.args.goal.now.predicate.alias.args.items)
+pub returns-clause-merged : goal.returns-clause-merged
+returns-clause-merged c = λ variables n k expected above.
+    c.normalizes_to_response.ensures.merged n k (false-unless (is_closed_alias c.args.goal.now.predicate.alias c.args.goal.now.param_env.items) variables) expected above
 
-pub returns-then-remaining_depth-eq0-clause-goes_back : goal.returns-then-remaining_depth-eq0-clause-goes_back
-returns-then-remaining_depth-eq0-clause-goes_back c = goes_back-same c.args.self.now
-
-pub returns-then-not-is_closed_alias-clause-goes_back : goal.returns-then-not-is_closed_alias-clause-goes_back
-returns-then-not-is_closed_alias-clause-goes_back c = c.project_below.ensures.goes_back
-
-pub returns-in-Ok-Is-clause-goes_back : goal.returns-in-Ok-Is-clause-goes_back
-returns-in-Ok-Is-clause-goes_back c = c.alias_outcome.ensures.goes_back
-
-pub returns-in-Ok-Refuted-clause-goes_back : goal.returns-in-Ok-Refuted-clause-goes_back
-returns-in-Ok-Refuted-clause-goes_back c = c.alias_outcome.ensures.goes_back
-
-pub returns-in-Ok-Undecided-clause-goes_back : goal.returns-in-Ok-Undecided-clause-goes_back
-returns-in-Ok-Undecided-clause-goes_back c = c.alias_outcome.ensures.goes_back
-
-pub returns-in-Ok-Is-clause-sound : goal.returns-in-Ok-Is-clause-sound
-returns-in-Ok-Is-clause-sound c = λ m stands closed.
-    found-sound (level_over c.args.self.now m c.args.goal.now.param_env.items)
-    c.args.goal.now.predicate.alias.kind (erased_args c.args.goal.now.predicate.alias.args.items) c.args.goal.now.predicate.term
-    c.alias_outcome.new.self.terms c.in-Ok-Is.id c.in-Some.expected
-    (sym (c.in-Some.ensures ∙ ap general_variable_at (c.node.ensures ∙ ap node_of c.view.ensures)))
-    (subst (FoundIn c.alias_outcome.new.self.terms) c.in-Ok-Is.field-0-is c.in-Ok-Is.ensures.within).0
-    (subst (SaysWhich ((level_over c.args.self.now m c.args.goal.now.param_env.items).gives c.args.goal.now.predicate.alias.kind (erased_args c.args.goal.now.predicate.alias.args.items)) ((level_over c.args.self.now m c.args.goal.now.param_env.items).gives_refuted c.args.goal.now.predicate.alias.kind (erased_args c.args.goal.now.predicate.alias.args.items)) c.alias_outcome.new.self.terms) c.in-Ok-Is.field-0-is
-    (c.in-Ok-Is.ensures.says m stands))
-    c.respond_found.result (c.respond_found.ensures.yes, c.respond_found.ensures.maybe, c.respond_found.ensures.only_memory)
-
-pub returns-in-Ok-Is-clause-decided : goal.returns-in-Ok-Is-clause-decided
-returns-in-Ok-Is-clause-decided c = λ m n owed closed expected undecided.
-    found-open (level_over c.args.self.now m c.args.goal.now.param_env.items)
-    (each_level_is_consistent (setting_of c.args.self.now.tables m c.args.goal.now.param_env.items) c.args.self.now.remaining_depth)
-    c.args.goal.now.predicate.alias.kind (erased_args c.args.goal.now.predicate.alias.args.items)
-    c.alias_outcome.new.self.terms c.in-Ok-Is.id c.in-Some.expected
-    (subst (FoundIn c.alias_outcome.new.self.terms) c.in-Ok-Is.field-0-is c.in-Ok-Is.ensures.within).0
-    (subst (SaysWhich ((level_over c.args.self.now m c.args.goal.now.param_env.items).gives c.args.goal.now.predicate.alias.kind (erased_args c.args.goal.now.predicate.alias.args.items)) ((level_over c.args.self.now m c.args.goal.now.param_env.items).gives_refuted c.args.goal.now.predicate.alias.kind (erased_args c.args.goal.now.predicate.alias.args.items)) c.alias_outcome.new.self.terms) c.in-Ok-Is.field-0-is
-    (c.in-Ok-Is.ensures.says m (owed-evaluated c.args.self.now c.alias_outcome.new.self m c.alias_outcome.ensures.unchanged owed)))
-    c.respond_found.result (c.respond_found.ensures.yes, c.respond_found.ensures.maybe, c.respond_found.ensures.only_memory) undecided
-
-pub returns-in_default-clause-applies : goal.returns-in_default-clause-applies
-returns-in_default-clause-applies c = λ ok. nothing-applies c.args.self.now c.respond.result c.is_well_formed.ensures.storage c.respond.ensures.quiet c.respond.ensures.values
-
-pub returns-then-remaining_depth-eq0-clause-applies : goal.returns-then-remaining_depth-eq0-clause-applies
-returns-then-remaining_depth-eq0-clause-applies c = λ ok.
-    nothing-applies c.args.self.now c.respond-then-remaining_depth-eq0.result c.is_well_formed.ensures.storage c.respond-then-remaining_depth-eq0.ensures.quiet c.respond-then-remaining_depth-eq0.ensures.values
-
-pub returns-then-not-is_closed_alias-clause-applies : goal.returns-then-not-is_closed_alias-clause-applies
-returns-then-not-is_closed_alias-clause-applies c = λ ok. c.project_below.ensures.applies
-
-pub returns-in-Ok-Undecided-clause-applies : goal.returns-in-Ok-Undecided-clause-applies
-returns-in-Ok-Undecided-clause-applies c = λ ok.
-    nothing-applies-later c.args.self.now c.alias_outcome.new.self c.alias_outcome.new.self (Ok c.respond-in-Ok-Undecided.result) c.alias_outcome.ensures.unchanged refl
-    c.is_well_formed.ensures.storage c.respond-in-Ok-Undecided.ensures.quiet c.respond-in-Ok-Undecided.ensures.values
-
-pub returns-in-Ok-Refuted-clause-applies : goal.returns-in-Ok-Refuted-clause-applies
-returns-in-Ok-Refuted-clause-applies c = λ ok.
-    nothing-applies-later c.args.self.now c.alias_outcome.new.self c.alias_outcome.new.self c.refuted.result c.alias_outcome.ensures.unchanged refl
-    c.is_well_formed.ensures.storage c.refuted.ensures.quiet (nothing-listed c.refuted.result c.refuted.ensures.nothing)
-
-pub returns-in-Err-clause-applies : goal.returns-in-Err-clause-applies
-returns-in-Err-clause-applies c = λ ok.
-    nothing-applies-later c.args.self.now c.alias_outcome.new.self c.stopped.new.self c.stopped.result c.alias_outcome.ensures.unchanged c.stopped.ensures.unchanged
-    c.is_well_formed.ensures.storage c.stopped.ensures.quiet (nothing-listed c.stopped.result c.stopped.ensures.nothing)
-
-pub returns-then-remaining_depth-eq0-clause-whole : goal.returns-then-remaining_depth-eq0-clause-whole
-returns-then-remaining_depth-eq0-clause-whole c = λ m n owed ok closed expected undecided.
-    accepted-open c.args.self.now m c.args.self.now.remaining_depth c.args.goal.now.predicate c.args.goal.now.param_env.items c.is_well_formed.ensures.tables ok
-    (returns-then-remaining_depth-eq0-clause-decided c m n owed closed expected undecided)
-
-pub returns-in-Ok-Is-clause-whole : goal.returns-in-Ok-Is-clause-whole
-returns-in-Ok-Is-clause-whole c = λ m n owed ok closed expected undecided.
-    accepted-open c.args.self.now m c.args.self.now.remaining_depth c.args.goal.now.predicate c.args.goal.now.param_env.items c.is_well_formed.ensures.tables ok
-    (returns-in-Ok-Is-clause-decided c m n owed closed expected undecided)
-
-pub returns-in-Ok-Undecided-clause-whole : goal.returns-in-Ok-Undecided-clause-whole
-unfolding IsAnswer
-returns-in-Ok-Undecided-clause-whole c = λ m n owed ok closed expected undecided.
-    subst (SaysWhich ((level_over c.args.self.now m c.args.goal.now.param_env.items).gives c.args.goal.now.predicate.alias.kind (erased_args c.args.goal.now.predicate.alias.args.items)) ((level_over c.args.self.now m c.args.goal.now.param_env.items).gives_refuted c.args.goal.now.predicate.alias.kind (erased_args c.args.goal.now.predicate.alias.args.items)) c.alias_outcome.new.self.terms) c.in-Ok-Undecided.field-0-is
-    (c.in-Ok-Undecided.ensures.says m (owed-evaluated c.args.self.now c.alias_outcome.new.self m c.alias_outcome.ensures.unchanged owed))
-
-pub returns-in-Ok-Is-clause-applies : goal.returns-in-Ok-Is-clause-applies
-returns-in-Ok-Is-clause-applies c = λ ok.
-    let some : (m : TypingMode) × StandsFor c.args.self.now.typing_mode m = stands-for-some c.args.self.now.typing_mode (is_headline c.args.self.now.typing_mode) refl in
-    found-applies c.args.self.now c.alias_outcome.new.self some.0 c.args.self.now.remaining_depth c.args.goal.now.predicate c.args.goal.now.param_env.items c.alias_outcome.new.self.terms c.in-Ok-Is.id c.in-Some.expected c.respond_found.result
-    (evaluated-restored c.args.self.now c.alias_outcome.new.self c.alias_outcome.ensures.unchanged) c.is_well_formed.ensures.tables c.is_well_formed.ensures.storage
-    (sym (c.is_closed_alias.ensures ∙ ap (is_closed_alias c.args.goal.now.predicate.alias) c.deref.ensures.value) ∙ c.if-not-is_closed_alias.false) ok
-    (subst (λ (s : State). AnswersQuietly (length (kinds_of s)) c.respond_found.result) c.alias_outcome.ensures.unchanged c.respond_found.ensures.quiet)
-    (subst (FoundIn c.alias_outcome.new.self.terms) c.in-Ok-Is.field-0-is c.in-Ok-Is.ensures.within).0
-    (subst (SaysWhich ((level_over c.args.self.now some.0 c.args.goal.now.param_env.items).gives c.args.goal.now.predicate.alias.kind (erased_args c.args.goal.now.predicate.alias.args.items)) ((level_over c.args.self.now some.0 c.args.goal.now.param_env.items).gives_refuted c.args.goal.now.predicate.alias.kind (erased_args c.args.goal.now.predicate.alias.args.items)) c.alias_outcome.new.self.terms) c.in-Ok-Is.field-0-is
-    (c.in-Ok-Is.ensures.says some.0 some.1))
-    (sym (c.in-Some.ensures ∙ ap general_variable_at (c.node.ensures ∙ ap node_of c.view.ensures)))
-    c.respond_found.ensures.yes
-
-pub returns-in-Ok-Refuted-clause-sound : goal.returns-in-Ok-Refuted-clause-sound
-returns-in-Ok-Refuted-clause-sound c = λ m stands closed.
-    alias-unsure (level_over c.args.self.now m c.args.goal.now.param_env.items) c.args.goal.now.predicate.alias.kind (erased_args c.args.goal.now.predicate.alias.args.items) c.args.goal.now.predicate.term c.refuted.result c.refuted.ensures.unsure
-    (λ e. subst (SaysWhich ((level_over c.args.self.now m c.args.goal.now.param_env.items).gives c.args.goal.now.predicate.alias.kind (erased_args c.args.goal.now.predicate.alias.args.items)) ((level_over c.args.self.now m c.args.goal.now.param_env.items).gives_refuted c.args.goal.now.predicate.alias.kind (erased_args c.args.goal.now.predicate.alias.args.items)) c.alias_outcome.new.self.terms) c.in-Ok-Refuted.field-0-is
-    (c.in-Ok-Refuted.ensures.says m stands))
-
-pub returns-in-Err-clause-sound : goal.returns-in-Err-clause-sound
-returns-in-Err-clause-sound c = λ m stands closed.
-    alias-unsure (level_over c.args.self.now m c.args.goal.now.param_env.items) c.args.goal.now.predicate.alias.kind (erased_args c.args.goal.now.predicate.alias.args.items) c.args.goal.now.predicate.term c.stopped.result c.stopped.ensures.unsure (λ e. absurd (c.stopped.ensures.never e))
+pub returns-clause-agrees : goal.returns-clause-agrees
+returns-clause-agrees c = no-two-disagree c.args.self.now.tables c.args.goal.now.param_env.items (term_asked c.args.goal.now.predicate)

@@ -1,48 +1,14 @@
-use Rattle.std.proofs.Common.{arith}
-use Rattle.goal_terms.specs.Erased.{erased}
-use Rattle.goal_terms.specs.PredicateTrees.{equals}
-use Rattle.goal_terms.specs.TreeOf.{tree_of_alias, tree_of_term}
-use Rattle.goal_kinds.specs.Answers.{setting_of}
-use Rattle.goal_solver.proofs.AnswerLemmas.{undecided-ground, predicate-sound, predicate-decided, equation-says_of}
-use Rattle.goal_solver.proofs.GoingBackLemmas.{goes_back-same}
-use Rattle.goal_solver.proofs.ApplicableLemmas.{nothing-applies, nothing-applies-later}
+use Rattle.goal_kinds.specs.Answers.{whether}
+use Rattle.goal_solver.specs.Promises.{equation_asked}
+use Rattle.goal_solver.proofs.PromiseLemmas.{answers-projection, owed-restored, no-two-disagree}
 use Rattle.goal_solver.proofs.context.EvalCtxt.compute_projection_goal.Goals as goal
 
-pub returns-then-remaining_depth-eq0-clause-decided : goal.returns-then-remaining_depth-eq0-clause-decided
-returns-then-remaining_depth-eq0-clause-decided c = λ m owed closed undecided.
-    undecided-ground (setting_of c.args.self.now.tables m c.args.goal.now.param_env.items) c.args.self.now.remaining_depth (omega (arith, c.remaining_depth.ensures, c.if-remaining_depth-eq0.true))
-    (equals (erased (tree_of_alias c.args.goal.now.predicate.projection_term)) (erased (tree_of_term c.args.goal.now.predicate.term)))
+pub returns-clause-closed : goal.returns-clause-closed
+returns-clause-closed c = λ closed.
+    answers-projection c.args.self.now c.projection_goal_response.new.self c.args.goal.now.param_env.items c.args.goal.now.predicate c.projection_goal_response.result
+    (λ m owed. owed-restored c.args.self.now c.projection_goal_response.new.self m c.projection_goal_response.ensures.unchanged owed)
+    c.projection_goal_response.ensures.sound (λ m owed undecided. c.projection_goal_response.ensures.decided m owed closed undecided)
+    c.projection_goal_response.ensures.quiet c.projection_goal_response.ensures.lists c.projection_goal_response.ensures.no_class
 
-pub returns-then-remaining_depth-eq0-clause-goes_back : goal.returns-then-remaining_depth-eq0-clause-goes_back
-returns-then-remaining_depth-eq0-clause-goes_back c = goes_back-same c.args.self.now
-
-pub returns-then-has_variable-clause-goes_back : goal.returns-then-has_variable-clause-goes_back
-returns-then-has_variable-clause-goes_back c = goes_back-same c.args.self.now
-
-pub returns-clause-sound : goal.returns-clause-sound
-returns-clause-sound c =
-    predicate-sound c.args.self.now c.args.goal.now.param_env.items
-    (equals (erased (tree_of_alias c.args.goal.now.predicate.projection_term)) (erased (tree_of_term c.args.goal.now.predicate.term)))
-    c.projection_goal_outcome-outcome.result c.conclude.result
-    (equation-says_of c.args.self.now c.args.goal.now.param_env.items (erased (tree_of_alias c.args.goal.now.predicate.projection_term)) (erased (tree_of_term c.args.goal.now.predicate.term)) c.projection_goal_outcome-outcome.result c.projection_goal_outcome-outcome.ensures.says)
-    c.conclude.ensures.yes c.conclude.ensures.no
-
-pub returns-clause-decided : goal.returns-clause-decided
-returns-clause-decided c = λ m owed closed undecided.
-    predicate-decided c.args.self.now c.projection_goal_outcome-outcome.new.self c.conclude.new.self c.args.goal.now.param_env.items
-    (equals (erased (tree_of_alias c.args.goal.now.predicate.projection_term)) (erased (tree_of_term c.args.goal.now.predicate.term)))
-    c.projection_goal_outcome-outcome.result c.conclude.result c.projection_goal_outcome-outcome.ensures.unchanged c.conclude.ensures.unchanged
-    (equation-says_of c.args.self.now c.args.goal.now.param_env.items (erased (tree_of_alias c.args.goal.now.predicate.projection_term)) (erased (tree_of_term c.args.goal.now.predicate.term)) c.projection_goal_outcome-outcome.result c.projection_goal_outcome-outcome.ensures.says)
-    c.projection_goal_outcome-outcome.ensures.stops c.conclude.ensures.owed m owed undecided
-
-pub returns-then-remaining_depth-eq0-clause-applies : goal.returns-then-remaining_depth-eq0-clause-applies
-returns-then-remaining_depth-eq0-clause-applies c = nothing-applies c.args.self.now c.respond.result c.is_well_formed.ensures.storage c.respond.ensures.quiet c.respond.ensures.values
-
-pub returns-then-has_variable-clause-applies : goal.returns-then-has_variable-clause-applies
-returns-then-has_variable-clause-applies c =
-    nothing-applies c.args.self.now c.respond-then-has_variable.result c.is_well_formed.ensures.storage c.respond-then-has_variable.ensures.quiet c.respond-then-has_variable.ensures.values
-
-pub returns-clause-applies : goal.returns-clause-applies
-returns-clause-applies c =
-    nothing-applies-later c.args.self.now c.projection_goal_outcome-outcome.new.self c.conclude.new.self c.conclude.result c.projection_goal_outcome-outcome.ensures.unchanged c.conclude.ensures.unchanged
-    c.is_well_formed.ensures.storage c.conclude.ensures.quiet c.conclude.ensures.lists
+pub returns-clause-agrees : goal.returns-clause-agrees
+returns-clause-agrees c = no-two-disagree c.args.self.now.tables c.args.goal.now.param_env.items (whether (equation_asked c.args.goal.now.predicate))

@@ -1,18 +1,16 @@
-use Rattle.std.proofs.Common.{arith}
-use Rattle.goal_kinds.specs.Answers.{setting_of}
-use Rattle.goal_solver.specs.Answers.{erased_args}
-use Rattle.goal_solver.proofs.AnswerLemmas.{open-ground}
-use Rattle.goal_solver.proofs.GoingBackLemmas.{goes_back-same}
-use Rattle.goal_solver.proofs.ApplicableLemmas.{nothing-applies}
+use Rattle.goal_solver.specs.Promises.{trait_asked, trait_question}
+use Rattle.goal_solver.proofs.PromiseLemmas.{answers-trait, owed-restored, no-two-disagree}
 use Rattle.goal_solver.proofs.context.EvalCtxt.compute_trait_goal.Goals as goal
 
-pub returns-then-remaining_depth-eq0-clause-decided : goal.returns-then-remaining_depth-eq0-clause-decided
-returns-then-remaining_depth-eq0-clause-decided c = λ m owed closed undecided.
-    open-ground (setting_of c.args.self.now.tables m c.args.goal.now.param_env.items) c.args.self.now.remaining_depth (omega (arith, c.remaining_depth.ensures, c.if-remaining_depth-eq0.true))
-    c.args.goal.now.predicate.trait_ref.def_id (erased_args c.args.goal.now.predicate.trait_ref.args.items)
+pub returns-clause-closed : goal.returns-clause-closed
+returns-clause-closed c = λ closed.
+    answers-trait c.args.self.now c.trait_goal_response.new.self c.args.goal.now.param_env.items (trait_asked c.args.goal.now.predicate) c.trait_goal_response.result
+    (λ m owed. owed-restored c.args.self.now c.trait_goal_response.new.self m c.trait_goal_response.ensures.unchanged owed)
+    (λ m stands. c.trait_goal_response.ensures.sound m stands closed) (λ m owed undecided. c.trait_goal_response.ensures.decided m owed closed undecided)
+    (c.trait_goal_response.ensures.quiet closed) (c.trait_goal_response.ensures.lists closed) (c.trait_goal_response.ensures.class closed)
 
-pub returns-then-remaining_depth-eq0-clause-goes_back : goal.returns-then-remaining_depth-eq0-clause-goes_back
-returns-then-remaining_depth-eq0-clause-goes_back c = goes_back-same c.args.self.now
+pub returns-clause-merged : goal.returns-clause-merged
+returns-clause-merged c = λ variables n above. c.trait_goal_response.ensures.merged n variables above
 
-pub returns-then-remaining_depth-eq0-clause-applies : goal.returns-then-remaining_depth-eq0-clause-applies
-returns-then-remaining_depth-eq0-clause-applies c = nothing-applies c.args.self.now c.respond.result c.is_well_formed.ensures.storage c.respond.ensures.quiet c.respond.ensures.values
+pub returns-clause-agrees : goal.returns-clause-agrees
+returns-clause-agrees c = no-two-disagree c.args.self.now.tables c.args.goal.now.param_env.items (trait_question (trait_asked c.args.goal.now.predicate))

@@ -22,7 +22,7 @@ invariant_of-self-2 c = (
   c.self.invariant.2,
   c.self.invariant.3,
   c.self.invariant.4,
-  solved-grown_twice c.self.inside.terms c.intern_args.new.terms c.const_outcome.new.terms c.self.inside.inference c.intern_args.ensures.kept c.const_outcome.ensures.kept c.self.invariant.5,
+  solved-grown_twice c.self.inside.terms c.intern_args.new.terms c.evaluate_host_effect_goal.new.terms c.self.inside.inference c.intern_args.ensures.kept c.evaluate_host_effect_goal.ensures.kept c.self.invariant.5,
   c.self.invariant.6,
 )
 
@@ -33,7 +33,7 @@ invariant_of-self-in_err-outcome c = (
   c.self.invariant.2,
   c.self.invariant.3,
   c.self.invariant.4,
-  solved-grown_twice c.self.inside.terms c.intern_args.new.terms c.const_outcome.new.terms c.self.inside.inference c.intern_args.ensures.kept c.const_outcome.ensures.kept c.self.invariant.5,
+  solved-grown_twice c.self.inside.terms c.intern_args.new.terms c.evaluate_host_effect_goal.new.terms c.self.inside.inference c.intern_args.ensures.kept c.evaluate_host_effect_goal.ensures.kept c.self.invariant.5,
   c.self.invariant.6,
 )
 
@@ -42,4 +42,4 @@ returns-in_err-ids-clause-goes_back c = goes_back-interned _ c.args.self.now _ c
 
 pub returns-in_err-outcome-clause-goes_back : goal.returns-in_err-outcome-clause-goes_back
 returns-in_err-outcome-clause-goes_back c =
-    goes_back-interned _ c.args.self.now _ c.const_outcome.new.terms c.self.view_is refl (keeps-chain c.self.inside.terms c.intern_args.new.terms c.const_outcome.new.terms c.intern_args.ensures.kept c.const_outcome.ensures.kept)
+    goes_back-interned _ c.args.self.now _ c.evaluate_host_effect_goal.new.terms c.self.view_is refl (keeps-chain c.self.inside.terms c.intern_args.new.terms c.evaluate_host_effect_goal.new.terms c.intern_args.ensures.kept c.evaluate_host_effect_goal.ensures.kept)

@@ -8,10 +8,10 @@ use Rattle.goal_solver.proofs.context.EvalCtxt.merge_through.Goals as goal
 
 pub returns-in-None-clause-applies : goal.returns-in-None-clause-applies
 returns-in-None-clause-applies g c =
-    nothing-applies-after c.args.self.now c.considered.new.self c.respond.result c.considered.ensures.unchanged c.is_well_formed.ensures.storage
-    (subst (λ (s : State). IsQuiet (length (kinds_of s)) c.respond.result) c.considered.ensures.unchanged c.respond.ensures.quiet) c.respond.ensures.values
+    nothing-applies-after c.args.self.now c.with_normalized_self_ty.new.self c.respond.result c.with_normalized_self_ty.ensures.unchanged c.is_well_formed.ensures.storage
+    (subst (λ (s : State). IsQuiet (length (kinds_of s)) c.respond.result) c.with_normalized_self_ty.ensures.unchanged c.respond.ensures.quiet) c.respond.ensures.values
 
 pub returns-in-Some-clause-merges : goal.returns-in-Some-clause-merges
 returns-in-Some-clause-merges g c =
-    through-formed (kind_words g.G.GoalKind.merging g.G.GoalKind.has_term g.G.GoalKind.self_type g.G.GoalKind.is_with_self g.G.PredicateTerms.has_fault g.G.GoalKind.trait_asked g.G.GoalKind.passes g.G.GoalKind.is_impl_for g.G.GoalKind.candidate_gives g.G.GoalKind.candidate_refuted g.G.GoalKind.is_for g.G.GoalKind.additional) c.args.asked.now c.args.class c.args.goal.now c.in-Some.considered c.args.self.now c.considered.new.self c.merge_groups.new.self c.merge_groups.result c.in_ok-considered.field-0
-    c.in_ok-considered.ensures.forms c.in-Some.is c.considered.ensures.unchanged c.merge_groups.ensures.decides
+    through-formed (kind_words g.G.GoalKind.merging g.G.GoalKind.has_term g.G.GoalKind.self_type g.G.GoalKind.is_with_self g.G.PredicateTerms.has_fault g.G.GoalKind.trait_asked g.G.GoalKind.passes g.G.GoalKind.is_impl_for g.G.GoalKind.candidate_gives g.G.GoalKind.candidate_refuted g.G.GoalKind.is_for g.G.GoalKind.additional) c.args.asked.now c.args.class c.args.goal.now c.in-Some.normalized c.args.self.now c.with_normalized_self_ty.new.self c.merge_groups.new.self c.merge_groups.result c.in_ok-with_normalized_self_ty.field-0
+    c.in_ok-with_normalized_self_ty.ensures.forms c.in-Some.is c.with_normalized_self_ty.ensures.unchanged c.merge_groups.ensures.decides

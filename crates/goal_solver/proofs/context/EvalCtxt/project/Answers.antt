@@ -23,49 +23,49 @@ returns-in_default-clause-applies c =
 
 pub returns-in_err-answer-clause-merges : goal.returns-in_err-answer-clause-merges
 returns-in_err-answer-clause-merges c =
-    handed-on c.from_residual-in_err-answer.result c.in_err-answer.field-0.0 (λ (r : Result Response Fault). WhenAnswered r (MergesProjection c.args.goal.now c.args.self.now r c.compute_trait_goal.new.self))
+    handed-on c.from_residual-in_err-answer.result c.in_err-answer.field-0.0 (λ (r : Result Response Fault). WhenAnswered r (MergesProjection c.args.goal.now c.args.self.now r c.trait_goal_response.new.self))
     c.from_residual-in_err-answer.ensures.1
-    (projects-refused c.args.goal.now c.in-Some.asked c.args.self.now c.compute_trait_goal.new.self c.in_err-answer.field-0.0
+    (projects-refused c.args.goal.now c.in-Some.asked c.args.self.now c.trait_goal_response.new.self c.in_err-answer.field-0.0
     (asks-its-trait _ c.args.self.now c.args.goal.now _ c.in-Some.asked c.self.view_is c.in-Some.is c.in_ok-asked.ensures.asks)
-    (λ is. subst (AnswersTrait c.in-Some.asked c.args.self.now c.compute_trait_goal.new.self) c.in_err-answer.was
+    (λ is. subst (AnswersTrait c.in-Some.asked c.args.self.now c.trait_goal_response.new.self) c.in_err-answer.was
     (record {
-      sound = c.compute_trait_goal.ensures.sound;
-      decided = c.compute_trait_goal.ensures.decided;
-      merges = c.compute_trait_goal.ensures.merged;
-      back = c.compute_trait_goal.ensures.unchanged;
+      sound = c.trait_goal_response.ensures.sound;
+      decided = c.trait_goal_response.ensures.decided;
+      merges = c.trait_goal_response.ensures.merged;
+      back = c.trait_goal_response.ensures.unchanged;
     })))
 
 pub returns-in-None-clause-merges : goal.returns-in-None-clause-merges
 returns-in-None-clause-merges c =
-    projects-unproven c.args.goal.now c.in-Some.asked c.args.self.now c.compute_trait_goal.new.self c.in_ok-answer.answer c.respond-in-None.result
+    projects-unproven c.args.goal.now c.in-Some.asked c.args.self.now c.trait_goal_response.new.self c.in_ok-answer.answer c.respond-in-None.result
     (asks-its-trait _ c.args.self.now c.args.goal.now _ c.in-Some.asked c.self.view_is c.in-Some.is c.in_ok-asked.ensures.asks)
-    (subst (AnswersTrait c.in-Some.asked c.args.self.now c.compute_trait_goal.new.self) c.in_ok-answer.was
+    (subst (AnswersTrait c.in-Some.asked c.args.self.now c.trait_goal_response.new.self) c.in_ok-answer.was
     (record {
-      sound = c.compute_trait_goal.ensures.sound;
-      decided = c.compute_trait_goal.ensures.decided;
-      merges = c.compute_trait_goal.ensures.merged;
-      back = c.compute_trait_goal.ensures.unchanged;
+      sound = c.trait_goal_response.ensures.sound;
+      decided = c.trait_goal_response.ensures.decided;
+      merges = c.trait_goal_response.ensures.merged;
+      back = c.trait_goal_response.ensures.unchanged;
     }))
     (sym c.in-None.is ∙ c.proven_class.ensures) c.respond-in-None.ensures.certainty
 
 pub returns-in-None-clause-applies : goal.returns-in-None-clause-applies
 returns-in-None-clause-applies c =
-    nothing-applies-after c.args.self.now c.compute_trait_goal.new.self c.respond-in-None.result c.compute_trait_goal.ensures.unchanged c.is_well_formed.ensures.storage
-    (subst (λ (s : State). IsQuiet (length (kinds_of s)) c.respond-in-None.result) c.compute_trait_goal.ensures.unchanged c.respond-in-None.ensures.quiet) c.respond-in-None.ensures.values
+    nothing-applies-after c.args.self.now c.trait_goal_response.new.self c.respond-in-None.result c.trait_goal_response.ensures.unchanged c.is_well_formed.ensures.storage
+    (subst (λ (s : State). IsQuiet (length (kinds_of s)) c.respond-in-None.result) c.trait_goal_response.ensures.unchanged c.respond-in-None.ensures.quiet) c.respond-in-None.ensures.values
 
 pub returns-clause-merges : goal.returns-clause-merges
 returns-clause-merges c =
-    projects-through c.args.goal.now c.in-Some.asked c.in-Some-proven_class.class c.args.self.now c.compute_trait_goal.new.self c.merge_through.new.self c.in_ok-answer.answer c.merge_through.result
+    projects-through c.args.goal.now c.in-Some.asked c.in-Some-proven_class.class c.args.self.now c.trait_goal_response.new.self c.merge_through.new.self c.in_ok-answer.answer c.merge_through.result
     (asks-its-trait _ c.args.self.now c.args.goal.now _ c.in-Some.asked c.self.view_is c.in-Some.is c.in_ok-asked.ensures.asks)
-    (subst (AnswersTrait c.in-Some.asked c.args.self.now c.compute_trait_goal.new.self) c.in_ok-answer.was
+    (subst (AnswersTrait c.in-Some.asked c.args.self.now c.trait_goal_response.new.self) c.in_ok-answer.was
     (record {
-      sound = c.compute_trait_goal.ensures.sound;
-      decided = c.compute_trait_goal.ensures.decided;
-      merges = c.compute_trait_goal.ensures.merged;
-      back = c.compute_trait_goal.ensures.unchanged;
+      sound = c.trait_goal_response.ensures.sound;
+      decided = c.trait_goal_response.ensures.decided;
+      merges = c.trait_goal_response.ensures.merged;
+      back = c.trait_goal_response.ensures.unchanged;
     }))
     (sym c.in-Some-proven_class.is ∙ c.proven_class.ensures) c.merge_through.ensures.merges
 
 pub returns-clause-goes_back : goal.returns-clause-goes_back
 returns-clause-goes_back c =
-    goes_back-through c.args.self.now c.compute_trait_goal.new.self c.merge_through.new.self c.compute_trait_goal.ensures.goes_back c.merge_through.ensures.goes_back
+    goes_back-through c.args.self.now c.trait_goal_response.new.self c.merge_through.new.self c.trait_goal_response.ensures.goes_back c.merge_through.ensures.goes_back

@@ -12,10 +12,10 @@ invariant_of-self-2 c = (
   c.self.invariant.1,
   c.self.invariant.2,
   c.self.invariant.3,
-  set-entered c.args.fault c.self.inside.delayed_faults.items c.enter_fault.new.met.items (search rules) c.self.invariant.4,
+  set-entered c.args.fault c.self.inside.delayed_faults.items c.enter_fault.new.delayed_faults.items (search rules) c.self.invariant.4,
   c.self.invariant.5,
   c.self.invariant.6,
 )
 
 pub returns-clause-goes_back : goal.returns-clause-goes_back
-returns-clause-goes_back c = goes_back-faults c.args.self.now _ (search rules) (begins-entered c.args.fault c.args.self.now.delayed_faults c.enter_fault.new.met.items (search rules))
+returns-clause-goes_back c = goes_back-faults c.args.self.now _ (search rules) (begins-entered c.args.fault c.args.self.now.delayed_faults c.enter_fault.new.delayed_faults.items (search rules))

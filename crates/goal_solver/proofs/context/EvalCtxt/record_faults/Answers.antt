@@ -14,7 +14,7 @@ loop-fault-init c = record {
 
 pub loop-fault-preserved : goal.loop-fault-preserved
 loop-fault-preserved c = record {
-  recorded = contained-next c.loop-fault.self c.meet_fault.new.self c.args.met.now c.loop-fault.fault-index _ c.meet_fault.ensures.goes_back (omega arith) c.loop-fault.invariant.recorded c.in_ok-meet_fault.ensures.recorded;
+  recorded = contained-next c.loop-fault.self c.meet_fault.new.self c.args.delayed_faults.now c.loop-fault.fault-index _ c.meet_fault.ensures.goes_back (omega arith) c.loop-fault.invariant.recorded c.in_ok-meet_fault.ensures.recorded;
   unchanged = faults-alone c.args.self.now c.loop-fault.self c.meet_fault.new.self c.loop-fault.invariant.unchanged c.meet_fault.ensures.unchanged;
   back = goes_back-through c.args.self.now c.loop-fault.self c.meet_fault.new.self c.loop-fault.invariant.back c.meet_fault.ensures.goes_back;
 }
@@ -26,4 +26,4 @@ pub returns-in_err-meet_fault-clause-goes_back : goal.returns-in_err-meet_fault-
 returns-in_err-meet_fault-clause-goes_back c = goes_back-through c.args.self.now c.loop-fault.self c.meet_fault.new.self c.loop-fault.invariant.back c.meet_fault.ensures.goes_back
 
 pub returns-clause-recorded : goal.returns-clause-recorded
-returns-clause-recorded c = contained-end c.loop-fault.self c.args.met.now c.loop-fault.fault-index (omega arith) c.loop-fault.invariant.recorded
+returns-clause-recorded c = contained-end c.loop-fault.self c.args.delayed_faults.now c.loop-fault.fault-index (omega arith) c.loop-fault.invariant.recorded

@@ -5,7 +5,7 @@ use Rattle.goal_solver.proofs.context.EvalCtxt.record_faults.Given as goal
 
 abbrev pub invariant-loop-fault : goal.invariant-loop-fault
 invariant-loop-fault l = record {
-  recorded : All (Contains l.self.delayed_faults) (take l.fault-index l.met);
+  recorded : All (Contains l.self.delayed_faults) (take l.fault-index l.delayed_faults);
   unchanged : l.self ≡ record l.fn.self { delayed_faults = l.self.delayed_faults };
   back : GoesBack l.fn.self l.self;
 }

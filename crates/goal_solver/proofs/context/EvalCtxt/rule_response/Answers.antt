@@ -1,7 +1,7 @@
 use Rattle.std.proofs.Common.{None, Some, ap, subst, ◌∙◌}
 use Rattle.goal_solver.specs.Answers.{level_over}
 use Rattle.goal_solver.specs.RunRules.{setting_over, RuledIn, AreListed}
-use Rattle.goal_solver.specs.declared.rule_runs.RuleOutcome.TheVariants as ruled
+use Rattle.goal_solver.specs.declared.eval.run_rule.progress.RuleOutcome.TheVariants as ruled
 use Rattle.goal_solver.proofs.GoingBackLemmas.{goes_back-through}
 use Rattle.goal_solver.proofs.RecordedLemmas.{listed-kept, unsure-recorded}
 use Rattle.goal_solver.proofs.RuleAnswerLemmas.{held-sound, rule-found-sound, rule-found-open, unsettled-open, refuted-sound, owed-run, says_rule-as}

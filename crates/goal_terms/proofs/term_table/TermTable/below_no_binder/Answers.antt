@@ -13,8 +13,8 @@ within c =
 pub returns-clause-itself : goal.returns-clause-itself
 returns-clause-itself c =
     subst (λ ts. shifted 0 0 (tree_at ts c.args.id) ≡ tree_at ts c.args.id) c.self.view_is
-    (shifted_number-0 c.self.inside.nodes.keys c.self.invariant c.args.id (within c))
+    (shifted_number-0 c.self.inside.nodes.keys c.self.invariant.table c.args.id (within c))
 
 pub returns-clause-only : goal.returns-clause-only
 returns-clause-only c other l e =
-    same_number c.args.self.now (subst AreDistinct c.self.view_is c.self.invariant.distinct) other c.args.id l c.requires e
+    same_number c.args.self.now (subst AreDistinct c.self.view_is c.self.invariant.table.distinct) other c.args.id l c.requires e

@@ -1,10 +1,14 @@
 use Rattle.std.proofs.Common.{sym, ap, ◌∙◌, subst}
 use Rattle.goal_terms.specs.TableMeaning.{IsTable, trees_of_nodes}
 use Rattle.goal_terms.proofs.TableLemmas.{table-none, trees-none}
+use Rattle.goal_terms.proofs.TermFlagLemmas.{flags-none}
 use Rattle.goal_terms.proofs.term_table.TermTable.new.Goals as goal
 
 pub invariant_of-result : goal.invariant_of-result
-invariant_of-result c = subst IsTable (sym c.new.ensures.empty) table-none
+invariant_of-result c = record {
+  table = subst IsTable (sym c.new.ensures.empty) table-none;
+  flags = flags-none c.new.result.keys c.new-2.result.items c.new-2.ensures.items (ap trees_of_nodes c.new.ensures.empty ∙ trees-none);
+}
 
 pub returns : goal.returns
 returns c = ap trees_of_nodes c.new.ensures.empty ∙ trees-none

@@ -16,8 +16,8 @@ here c =
 pub returns-clause-trees : goal.returns-clause-trees
 returns-clause-trees c =
     ap (map (tree_at c.args.self.now)) c.as_slice-2.ensures.value
-    ∙ parts_read c.self.inside.nodes.keys c.args.self.now c.self.invariant c.self.view_is c.args.id _ (here c)
+    ∙ parts_read c.self.inside.nodes.keys c.args.self.now c.self.invariant.table c.self.view_is c.args.id _ (here c)
 
 pub returns-clause-earlier : goal.returns-clause-earlier
 returns-clause-earlier c =
-    All-same (λ p. p.0 < c.args.id.0) _ _ c.as_slice-2.ensures.value (c.self.invariant.earlier c.args.id.0 _ (here c))
+    All-same (λ p. p.0 < c.args.id.0) _ _ c.as_slice-2.ensures.value (c.self.invariant.table.earlier c.args.id.0 _ (here c))

@@ -14,5 +14,5 @@ pub returns-clause-identical : goal.returns-clause-identical
 returns-clause-identical c = (
   λ h. ap (tree_at c.args.self.now) ((returns-clause-equal c).0 h),
   λ e. (returns-clause-equal c).1
-      (same_number c.args.self.now (subst AreDistinct c.self.view_is c.self.invariant.distinct) c.args.a c.args.b c.requires.first c.requires.second e),
+      (same_number c.args.self.now (subst AreDistinct c.self.view_is c.self.invariant.table.distinct) c.args.a c.args.b c.requires.first c.requires.second e),
 )

@@ -1,5 +1,0 @@
-use Rattle.goal_kinds.proofs.ProjectionKindLaws.{rejected-projection}
-use Rattle.goal_kinds.proofs.projection_kind_laws.rejected_clauses_give_no_term.Goals as goal
-
-pub returns : goal.returns
-returns c a e S k ok x y rejected = rejected-projection S a e k ok x y rejected

@@ -1,0 +1,9 @@
+//! The candidates of a goal, as data over the numbers of a term table.
+pub(crate) mod bounds;
+pub(crate) mod environment;
+pub mod interned;
+pub mod lists;
+pub(crate) mod objects;
+pub mod premises;
+pub(crate) mod row_terms;
+pub(crate) mod tops;

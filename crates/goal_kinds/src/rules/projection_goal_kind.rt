@@ -1,0 +1,261 @@
+//! Normalizations of projections as a kind of goals with candidates.
+ghost use Rattle.std.specs.Prelude.{◌≡◌, ◌||◌, Err, Ok, IfOk, MatchOption};
+ghost use Rattle.goal_terms.specs.TreeOf.{tree_of_ty};
+ghost use Rattle.goal_kinds.specs.ProjectionKind.{lang_of_alias, is_lang, IsAliasWithSelf as is_goal_with_self};
+ghost use Rattle.goal_tables.specs.declared.lang.LangItem.TheVariants as lang_items;
+
+use crate::faults::Fault;
+use crate::goal_kind::{GoalKind, MergeRule, TraitView};
+use crate::rules::Rule;
+use crate::rules::assoc_items::{asked_item, projected};
+use crate::rules::impl_terms::impl_term_rule;
+use crate::rules::lists::undecided_where;
+use crate::rules::parts::{copied_term, first_of};
+use crate::rules::projections::{match_projection, may_match_projection};
+use crate::rules::trait_goal_kind::first_type;
+use goal_tables::checked::CheckedTables;
+use goal_tables::lang::{LangItem, LangTarget};
+use goal_terms::answers::{CandidateSource, Certainty};
+use goal_terms::ids::{ImplId, TraitId};
+use goal_terms::instantiate::rebase_onto;
+use goal_terms::modes::TypingMode;
+use goal_terms::predicates::{Clause, Goal, NormalizesTo};
+use goal_terms::term_nodes::OutOfMemory;
+use goal_terms::terms::{AliasTerm, GenericArg, Ty};
+
+/// The lang item that names the item of a projection. It takes no memory.
+fn lang_item_of(tables: &CheckedTables, alias: &AliasTerm) -> Option<LangItem>
+    ensures { result ≡ lang_of_alias tables.now alias.now.kind }
+{
+    let item = projected(alias.kind)?;
+    let row = tables.rows().lang_naming(LangTarget::Item(item))?;
+    Some(row.item)
+}
+
+/// Whether a lang item names the item of a projection. It takes no memory.
+fn is_lang_item(tables: &CheckedTables, alias: &AliasTerm, item: LangItem) -> bool
+    ensures { result ≡ is_lang (lang_of_alias tables.now alias.now.kind) item }
+{
+    match lang_item_of(tables, alias) {
+        None => false,
+        Some(found) => found == item,
+    }
+}
+
+/// Whether a projection is of an item of fields. It takes no memory.
+fn is_of_field(tables: &CheckedTables, alias: &AliasTerm) -> bool
+    ensures { result ≡ is_lang (lang_of_alias tables.now alias.now.kind) lang_items.Base || is_lang (lang_of_alias tables.now alias.now.kind) lang_items.FieldType }
+{
+    is_lang_item(tables, alias, LangItem::Base) || is_lang_item(tables, alias, LangItem::FieldType)
+}
+
+/// A goal with another self type of its alias.
+fn with_self(asked: &NormalizesTo, self_ty: Ty) -> Result<NormalizesTo, OutOfMemory>
+    ensures { IfOk result (is_goal_with_self asked.now (tree_of_ty self_ty)) }
+{
+    let alloc = *asked.alias.args.allocator();
+    let first = vec![in alloc; GenericArg::Ty(self_ty)]?;
+    let args = rebase_onto(alloc, &asked.alias.args, 1, &first)?;
+    let term = copied_term(&asked.term)?;
+    let kind = asked.alias.kind;
+    Ok(NormalizesTo {
+        alias: AliasTerm { kind, args },
+        term,
+    })
+}
+
+impl GoalKind for NormalizesTo {
+    ghost use Rattle.std.specs.Prelude.{◌≡◌, true, false, [], Some};
+    ghost use Rattle.goal_terms.specs.TreeOf.{tree_of_term};
+    ghost use Rattle.goal_kinds.specs.CandidateRules.{first_type};
+    ghost use Rattle.goal_kinds.specs.ProjectionEntries.{may_match_term};
+    ghost use Rattle.goal_kinds.specs.ProjectionKind.{ProjectionCandidateGives, ProjectionCandidateRefuted, projected_trait, IsAliasWithSelf, lang_of_alias, is_for_alias};
+    ghost use Rattle.goal_kinds.specs.declared.goal_kind.MergeRule.TheVariants as merging_by;
+    ghost use Rattle.goal_kinds.specs.ProjectionKind.{IsImplForItem};
+
+    ghost merging = { merging_by.Projections };
+
+    ghost has_term = { true };
+
+    ghost trait_asked = { λ p t. projected_trait t p.alias };
+
+    ghost self_type = { λ p. first_type p.alias.args.items };
+
+    ghost is_with_self = { IsAliasWithSelf };
+
+    ghost passes = { λ p k. may_match_term p.alias k };
+
+    ghost expected = { λ p t. t ≡ tree_of_term p.term };
+
+    ghost is_impl_for = { λ p t r. IsImplForItem t p.alias r };
+
+    ghost candidate_gives = { λ p S n c t. ProjectionCandidateGives p.alias S n c t };
+
+    ghost candidate_refuted = { λ p S n c. ProjectionCandidateRefuted p.alias S n c };
+
+    ghost is_for = { λ p t k. is_for_alias k (lang_of_alias t p.alias.kind) };
+
+    ghost additional = { λ p S a. [] };
+
+    fn merge_rule() -> MergeRule {
+        MergeRule::Projections
+    }
+
+    fn trait_ref<'a>(&'a self, tables: &'a CheckedTables) -> Option<TraitView<'a>> {
+        let item = asked_item(tables.rows(), &self.alias)?;
+        Some(TraitView {
+            def_id: item.row.trait_id,
+            args: first_of(self.alias.args.as_slice(), item.trait_params),
+        })
+    }
+
+    fn trait_def_id(&self, tables: &CheckedTables) -> Option<TraitId> {
+        let item = asked_item(tables.rows(), &self.alias)?;
+        Some(item.row.trait_id)
+    }
+
+    fn self_ty(&self) -> Option<&Ty> {
+        first_type(&self.alias.args)
+    }
+
+    fn with_replaced_self_ty(&self, self_ty: Ty) -> Result<Self, Fault> {
+        Ok(with_self(self, self_ty)?)
+    }
+
+    fn fast_reject_assumption(&self, assumption: &Clause) -> Result<(), Fault> {
+        if may_match_projection(&self.alias, assumption) {
+            Ok(())
+        } else {
+            Err(Fault::NoSolution)
+        }
+    }
+
+    fn match_assumption(
+        tables: &CheckedTables,
+        _mode: &TypingMode,
+        goal: &Goal<Self>,
+        source: CandidateSource,
+        assumption: &Clause,
+        then: Certainty,
+    ) -> Result<Rule, Fault> {
+        let asked = &goal.predicate;
+        match_projection(tables, &asked.alias, &asked.term, source, assumption, then)
+    }
+
+    fn consider_impl_candidate(
+        tables: &CheckedTables,
+        mode: &TypingMode,
+        goal: &Goal<Self>,
+        impl_id: ImplId,
+        then: Certainty,
+    ) -> Result<Rule, Fault> {
+        let _ = tables.rows();
+        let asked = &goal.predicate;
+        impl_term_rule(tables, mode, &asked.alias, &asked.term, impl_id, then)
+    }
+
+    fn consider_error_guaranteed_candidate(
+        _tables: &CheckedTables,
+        _mode: &TypingMode,
+        _goal: &Goal<Self>,
+    ) -> Result<Rule, Fault> {
+        Err(Fault::NoSolution)
+    }
+
+    fn consider_additional_alias_assumptions(
+        _tables: &CheckedTables,
+        _mode: &TypingMode,
+        goal: &Goal<Self>,
+        _alias: &AliasTerm,
+    ) -> Result<Vec<Rule>, Fault> {
+        Ok(Vec::new(*goal.predicate.alias.args.allocator()))
+    }
+
+    fn consider_trait_alias_candidate(
+        _tables: &CheckedTables,
+        _mode: &TypingMode,
+        _goal: &Goal<Self>,
+    ) -> Result<Rule, Fault> {
+        Err(Fault::NotForThisKind)
+    }
+
+    fn consider_builtin_sizedness_candidates(
+        _tables: &CheckedTables,
+        _mode: &TypingMode,
+        _goal: &Goal<Self>,
+    ) -> Result<Rule, Fault> {
+        Err(Fault::NotForThisKind)
+    }
+
+    fn consider_builtin_copy_clone_candidate(
+        _tables: &CheckedTables,
+        _mode: &TypingMode,
+        _goal: &Goal<Self>,
+    ) -> Result<Rule, Fault> {
+        Err(Fault::NotForThisKind)
+    }
+
+    fn consider_builtin_fn_ptr_trait_candidate(
+        _tables: &CheckedTables,
+        _mode: &TypingMode,
+        _goal: &Goal<Self>,
+    ) -> Result<Rule, Fault> {
+        Err(Fault::NotForThisKind)
+    }
+
+    fn consider_builtin_fn_trait_candidates(
+        tables: &CheckedTables,
+        _mode: &TypingMode,
+        goal: &Goal<Self>,
+    ) -> Result<Rule, Fault> {
+        let is_for = is_lang_item(tables, &goal.predicate.alias, LangItem::Output);
+        undecided_where(is_for, *goal.param_env.allocator())
+    }
+
+    fn consider_builtin_tuple_candidate(
+        _tables: &CheckedTables,
+        _mode: &TypingMode,
+        _goal: &Goal<Self>,
+    ) -> Result<Rule, Fault> {
+        Err(Fault::NotForThisKind)
+    }
+
+    fn consider_builtin_pointee_candidate(
+        tables: &CheckedTables,
+        _mode: &TypingMode,
+        goal: &Goal<Self>,
+    ) -> Result<Rule, Fault> {
+        let is_for = is_lang_item(tables, &goal.predicate.alias, LangItem::Metadata);
+        undecided_where(is_for, *goal.param_env.allocator())
+    }
+
+    fn consider_builtin_discriminant_kind_candidate(
+        tables: &CheckedTables,
+        _mode: &TypingMode,
+        goal: &Goal<Self>,
+    ) -> Result<Rule, Fault> {
+        let is_for = is_lang_item(tables, &goal.predicate.alias, LangItem::Discriminant);
+        undecided_where(is_for, *goal.param_env.allocator())
+    }
+
+    fn consider_builtin_destruct_candidate(
+        _tables: &CheckedTables,
+        _mode: &TypingMode,
+        _goal: &Goal<Self>,
+    ) -> Result<Rule, Fault> {
+        Err(Fault::NotForThisKind)
+    }
+
+    fn consider_builtin_field_candidate(
+        tables: &CheckedTables,
+        _mode: &TypingMode,
+        goal: &Goal<Self>,
+    ) -> Result<Rule, Fault> {
+        let is_for = is_of_field(tables, &goal.predicate.alias);
+        undecided_where(is_for, *goal.param_env.allocator())
+    }
+
+    fn more_height_keeps_candidates() {}
+
+    fn rejected_clauses_are_refuted() {}
+}

@@ -1,0 +1,374 @@
+-- What the calls that answer goals promise follows from what their bodies answer.
+use Rattle.std.proofs.Common.{◌≡◌, ℕ, true, false, Bool, List, [], length, Option, Some, None, Result, Ok, Err, refl, sym, ap, subst, inl, inr, ◌⊎◌}
+use Rattle.std.specs.Prelude.{IfOk, IfSome}
+use Rattle.std.proofs.Common.{suc, arith, ◌∙◌}
+use Rattle.goal_terms.specs.NodeTests.{general_variable_at}
+use Rattle.goal_terms.specs.PredicateTrees.{PredicateTree, holds, holds_const}
+use Rattle.goal_terms.specs.Tree.{Tree, node_of}
+use Rattle.goal_terms.specs.TreeOf.{tree_of_term}
+use Rattle.goal_terms.specs.declared.answers.Certainty.{Certainty}
+use Rattle.goal_terms.specs.declared.answers.Certainty.TheVariants as certainty
+use Rattle.goal_terms.specs.declared.answers.Response.{Response}
+use Rattle.goal_terms.specs.declared.answers.TraitGoalProvenVia.{TraitGoalProvenVia}
+use Rattle.goal_terms.specs.declared.heads.Node.{Node}
+use Rattle.goal_terms.specs.declared.heads.Node.TheVariants as nodes
+use Rattle.goal_terms.specs.declared.heads.Variable.TheVariants as variables
+use Rattle.goal_terms.specs.declared.ids.TraitId.{TraitId}
+use Rattle.goal_terms.specs.declared.modes.TypingMode.{TypingMode}
+use Rattle.goal_terms.specs.declared.predicates.BoundConstness.{BoundConstness}
+use Rattle.goal_terms.specs.declared.predicates.BoundConstness.TheVariants as constness
+use Rattle.goal_terms.specs.declared.predicates.Clause.{Clause}
+use Rattle.goal_terms.specs.declared.predicates.HostEffectPredicate.{HostEffectPredicate}
+use Rattle.goal_terms.specs.declared.predicates.NormalizesTo.{NormalizesTo}
+use Rattle.goal_terms.specs.declared.predicates.ProjectionPredicate.{ProjectionPredicate}
+use Rattle.goal_terms.specs.declared.terms.AliasTerm.{AliasTerm}
+use Rattle.goal_terms.specs.declared.terms.AliasTermKind.{AliasTermKind}
+use Rattle.goal_terms.specs.declared.terms.InferTy.TheVariants as infer
+use Rattle.goal_terms.specs.declared.terms.Term.{Term}
+use Rattle.goal_tables.specs.declared.rows.Tables.{Tables}
+use Rattle.goal_kinds.specs.Answers.{Question, whether, which_term, yes, no, maybe, IsAnswer, setting_of}
+use Rattle.goal_kinds.specs.Laws.{IsWithin}
+use Rattle.goal_kinds.specs.Level.{Level}
+use Rattle.goal_kinds.specs.Levels.{level}
+use Rattle.goal_kinds.specs.Premises.{TraitTree, ClauseHolds, ClauseRefuted}
+use Rattle.goal_kinds.specs.declared.faults.Fault.{Fault}
+use Rattle.goal_kinds.specs.declared.faults.Fault.TheVariants as fault
+use Rattle.goal_kinds.specs.declared.goal_kind.MergeRule.{MergeRule}
+use Rattle.goal_kinds.specs.declared.goal_kind.MergeRule.TheVariants as merge
+use Rattle.goal_kinds.specs.Settings.{Setting, is_headline}
+use Rattle.goal_kinds.proofs.AnswerLaws.{answer-within, answers-agree, const-agrees, const-plain}
+use Rattle.goal_kinds.proofs.WithinLevels.{within-level}
+use Rattle.goal_solver.specs.Answers.{IsOwed, level_over, erased_args, IsMaybe, IsOpen, IsUndecided, IsTraitResponse, IsTraitAnswer, IsHoldingResponse, IsPredicateAnswer, IsAliasResponse, IsAliasAnswer, AnswersQuietly, IsQuiet, ListsNothing, expected_variable, is_closed_alias, IsAliasOpen}
+use Rattle.goal_solver.specs.Assembled.{level_above}
+use Rattle.goal_solver.specs.Binding.{IsApplicable}
+use Rattle.goal_solver.specs.FreeVariables.{general_variable, lacks_free_variable}
+use Rattle.goal_solver.specs.GoingBack.{restored}
+use Rattle.goal_solver.specs.Goals.{IsAcceptedNormalization}
+use Rattle.goal_solver.specs.Outcomes.{StandsFor}
+use Rattle.goal_solver.specs.Promises.{whether_answered, said_of_whether, term_answered, said_of_term, listed_term, if_decided, decided_in, IsYes, LeavesUndecided, ChangesNothing, AnswersPredicate, NamesClass, NamesNoClass, AnswersTrait, AnswersProjection, AnswersHostEffect, ListsTerm, GivesTermAlone, AnswersAlias, NoTwoDisagree, equation_asked, const_asked, term_asked, one_deeper, AnswersTraitAbove, Through, given_through, asked_through, through_level, IsProven, AnswersThrough, AnswersGiven, AppliesProven, AppliesGiven}
+use Rattle.goal_solver.specs.State.{State, kinds_of}
+use Rattle.goal_solver.specs.declared.eval.goals.GoalFault.TheVariants.{ExpectedTermNotFree}
+use Rattle.goal_solver.proofs.AnswerLemmas.{owed-stands}
+use Rattle.goal_solver.proofs.ApplicableLemmas.{stands-for-some}
+use Rattle.goal_solver.proofs.CollectedTermLemmas.{some-same}
+
+-- a mode that is owed an answer is one that the run stands for
+pub owed-restored : (before after : State) (m : TypingMode) → after ≡ restored before after → IsOwed after m → StandsFor before.typing_mode m
+owed-restored before after m e owed = owed-stands before before after m refl e owed
+
+-- what lists nothing names no class
+pub nothing-named : (r : Result Response Fault) → ListsNothing r → IfOk r NamesNoClass
+nothing-named (Ok x) h = h.0
+nothing-named (Err f) h = tt
+
+pub unnamed-maybe : (r : Result Response Fault) → IfOk r NamesNoClass → IfOk r (λ x. x.certainty ≡ certainty.Maybe → x.proven_via ≡ None)
+unnamed-maybe (Ok x) h = λ e. h
+unnamed-maybe (Err f) h = tt
+
+pub empty-maybe : (r : Result Response Fault) → IfOk r (λ x. x.var_values.items ≡ []) → IfOk r (λ x. x.certainty ≡ certainty.Maybe → x.var_values.items ≡ [])
+empty-maybe (Ok x) h = λ e. h
+empty-maybe (Err f) h = tt
+
+-- what is answered of a predicate is right at the level
+certain-right : (L : Level) (p : PredicateTree) (x : Certainty) → IsHoldingResponse L p x → (x ≡ certainty.Maybe → IsUndecided L p) → IsAnswer L (whether p) (said_of_whether x)
+unfolding IsAnswer
+certain-right L p certainty.Yes h u = h
+certain-right L p certainty.Maybe h u = u refl
+
+whether-right : (L : Level) (p : PredicateTree) (r : Result Response Fault) → IsPredicateAnswer L p r → (IsMaybe r → IsUndecided L p) → IfSome (whether_answered r) (IsAnswer L (whether p))
+unfolding IsAnswer
+whether-right L p (Ok x) h u = certain-right L p x.certainty h u
+whether-right L p (Err fault.NoSolution) h u = h
+whether-right L p (Err fault.RerunNonErased) h u = tt
+whether-right L p (Err fault.OutOfMemory) h u = tt
+whether-right L p (Err fault.NotForThisKind) h u = tt
+
+-- and what is decided is right at each level that proves as much
+certain-lasts : {L M : Level} → IsWithin L M → (p : PredicateTree) (x : Certainty) → IsHoldingResponse L p x → IfSome (if_decided (said_of_whether x)) (IsAnswer M (whether p))
+unfolding IsAnswer
+certain-lasts w p certainty.Yes h = answer-within w (whether p) yes refl h
+certain-lasts w p certainty.Maybe h = tt
+
+whether-lasts : {L M : Level} → IsWithin L M → (p : PredicateTree) (r : Result Response Fault) → IsPredicateAnswer L p r → IfSome (decided_in (whether_answered r)) (IsAnswer M (whether p))
+unfolding IsAnswer
+whether-lasts w p (Ok x) h = certain-lasts w p x.certainty h
+whether-lasts w p (Err fault.NoSolution) h = answer-within w (whether p) no refl h
+whether-lasts w p (Err fault.RerunNonErased) h = tt
+whether-lasts w p (Err fault.OutOfMemory) h = tt
+whether-lasts w p (Err fault.NotForThisKind) h = tt
+
+-- nothing is changed where no value is listed
+changes-nothing : (s : State) (r : Result Response Fault) → AnswersQuietly (length (kinds_of s)) r → IfOk r (λ x. x.var_values.items ≡ []) → IfOk r (ChangesNothing s)
+changes-nothing s (Ok x) quiet values = record { quiet = quiet; values = values }
+changes-nothing s (Err f) quiet values = tt
+
+-- what a body says of a predicate
+module _ (before after : State) (env : List Clause) (stands-owed : (m : TypingMode) → IsOwed after m → StandsFor before.typing_mode m) where
+  pub answers-predicate : (p : PredicateTree) (r : Result Response Fault) →
+      ((m : TypingMode) → StandsFor before.typing_mode m → IsPredicateAnswer (level_over before m env) p r) →
+      ((m : TypingMode) → IsOwed after m → IsMaybe r → IsUndecided (level_over before m env) p) →
+      AnswersQuietly (length (kinds_of before)) r → IfOk r (λ x. x.var_values.items ≡ []) → AnswersPredicate before after env p r
+  answers-predicate p r sound decided quiet values = record {
+    exact = λ m owed. whether-right (level_over before m env) p r (sound m (stands-owed m owed)) (decided m owed);
+    lasts = λ m n stands le. whether-lasts (within-level (setting_of before.tables m env) before.remaining_depth n le) p r (sound m stands);
+    quiet = changes-nothing before r quiet values;
+  }
+
+-- an answer to a trait goal is one to its predicate
+holding-trait : (L : Level) (i : TraitId) (ts : List Tree) (x : Certainty) (r : Response) → IsTraitResponse L i ts x r → IsHoldingResponse L (holds i ts) x
+unfolding ClauseHolds
+holding-trait L i ts certainty.Yes r h = (h.0, h.2)
+holding-trait L i ts certainty.Maybe r h = tt
+
+predicate-trait : (L : Level) (i : TraitId) (ts : List Tree) (r : Result Response Fault) → IsTraitAnswer L i ts r → IsPredicateAnswer L (holds i ts) r
+unfolding ClauseRefuted
+predicate-trait L i ts (Ok x) h = holding-trait L i ts x.certainty x h
+predicate-trait L i ts (Err fault.NoSolution) h = h
+predicate-trait L i ts (Err fault.RerunNonErased) h = tt
+predicate-trait L i ts (Err fault.OutOfMemory) h = tt
+predicate-trait L i ts (Err fault.NotForThisKind) h = tt
+
+undecided-trait : (L : Level) (i : TraitId) (ts : List Tree) → IsOpen L i ts → IsUndecided L (holds i ts)
+unfolding ClauseHolds ClauseRefuted
+undecided-trait L i ts h = ((λ k. h.0 k.0 k.1), h.1)
+
+-- which names its class, at each level that proves as much
+class-named : {L M : Level} → IsWithin L M → (i : TraitId) (ts : List Tree) (x : Certainty) (r : Response) → IsTraitResponse L i ts x r → (x ≡ certainty.Maybe → r.proven_via ≡ None) → NamesClass M i ts x r.proven_via
+class-named w i ts certainty.Yes r h k = (h.0, h.1, w.through h.0 i ts h.2)
+class-named w i ts certainty.Maybe r h k = k refl
+
+names-class : {L M : Level} → IsWithin L M → (i : TraitId) (ts : List Tree) (r : Result Response Fault) → IsTraitAnswer L i ts r →
+    IfOk r (λ x. x.certainty ≡ certainty.Maybe → x.proven_via ≡ None) → IfOk r (λ x. NamesClass M i ts x.certainty x.proven_via)
+names-class w i ts (Ok x) h k = class-named w i ts x.certainty x h k
+names-class w i ts (Err f) h k = tt
+
+pub answers-trait : (before after : State) (env : List Clause) (q : TraitTree) (r : Result Response Fault) → ((m : TypingMode) → IsOwed after m → StandsFor before.typing_mode m) →
+    ((m : TypingMode) → StandsFor before.typing_mode m → IsTraitAnswer (level_over before m env) q.def_id q.args r) →
+    ((m : TypingMode) → IsOwed after m → IsMaybe r → IsOpen (level_over before m env) q.def_id q.args) →
+    AnswersQuietly (length (kinds_of before)) r → IfOk r (λ x. x.var_values.items ≡ []) → IfOk r (λ x. x.certainty ≡ certainty.Maybe → x.proven_via ≡ None) →
+    AnswersTrait before after env q r
+answers-trait before after env q r owed sound decided quiet values class = record {
+  answers = answers-predicate before after env owed (holds q.def_id q.args) r
+      (λ m stands. predicate-trait (level_over before m env) q.def_id q.args r (sound m stands))
+      (λ m o u. undecided-trait (level_over before m env) q.def_id q.args (decided m o u)) quiet values;
+  class = λ m n stands le. names-class (within-level (setting_of before.tables m env) before.remaining_depth n le) q.def_id q.args r (sound m stands) class;
+}
+
+pub answers-projection : (before after : State) (env : List Clause) (p : ProjectionPredicate) (r : Result Response Fault) → ((m : TypingMode) → IsOwed after m → StandsFor before.typing_mode m) →
+    ((m : TypingMode) → StandsFor before.typing_mode m → IsPredicateAnswer (level_over before m env) (equation_asked p) r) →
+    ((m : TypingMode) → IsOwed after m → IsMaybe r → IsUndecided (level_over before m env) (equation_asked p)) →
+    AnswersQuietly (length (kinds_of before)) r → IfOk r (λ x. x.var_values.items ≡ []) → IfOk r NamesNoClass → AnswersProjection before after env p r
+answers-projection before after env p r owed sound decided quiet values unnamed = record {
+  answers = answers-predicate before after env owed (equation_asked p) r sound decided quiet values;
+  no_class = unnamed;
+}
+
+-- a yes says that the predicate holds
+yes-given : (L : Level) (p : PredicateTree) (x : Certainty) → x ≡ certainty.Yes → IsHoldingResponse L p x → ClauseHolds L p
+yes-given L p certainty.Yes e h = h
+yes-given L p certainty.Maybe e h = absurd (cc)
+
+yes-holding : (L : Level) (p : PredicateTree) (r : Result Response Fault) → IsYes r → IsPredicateAnswer L p r → ClauseHolds L p
+yes-holding L p (Ok x) e h = yes-given L p x.certainty e h
+yes-holding L p (Err f) e h = absurd e
+
+-- so the plain goal holds too, and what holds as `const` is refuted as `[const]` nowhere
+const-holding : (L : Level) (c : BoundConstness) (i : TraitId) (ts : List Tree) (r : Result Response Fault) → IsYes r → IsPredicateAnswer L (holds_const c i ts) r → L.const_holds c i ts
+unfolding ClauseHolds
+const-holding L c i ts r e h = yes-holding L (holds_const c i ts) r e h
+
+plain-holding : {L M : Level} → IsWithin L M → (i : TraitId) (ts : List Tree) → ClauseHolds L (holds i ts) → IsAnswer M (whether (holds i ts)) yes
+unfolding IsAnswer
+plain-holding w i ts h = answer-within w (whether (holds i ts)) yes refl h
+
+plain-of : (L : Level) (i : TraitId) (ts : List Tree) → ((c : TraitGoalProvenVia) × L.through c i ts) → ClauseHolds L (holds i ts)
+unfolding ClauseHolds
+plain-of L i ts h = h
+
+never-refuted : (S : Setting) (n k : ℕ) (c : BoundConstness) (i : TraitId) (ts : List Tree) → c ≡ constness.Const → (level S n).const_holds c i ts →
+    IsAnswer (level S k) (whether (holds_const constness.Maybe i ts)) no → ⊥
+unfolding IsAnswer ClauseRefuted
+never-refuted S n k c i ts e h j = const-agrees S n k i ts (subst (λ (x : BoundConstness). (level S n).const_holds x i ts) e h) j
+
+pub answers-host_effect : (before after : State) (env : List Clause) (p : HostEffectPredicate) (r : Result Response Fault) → ((m : TypingMode) → IsOwed after m → StandsFor before.typing_mode m) →
+    ((m : TypingMode) → StandsFor before.typing_mode m → IsPredicateAnswer (level_over before m env) (const_asked p) r) →
+    ((m : TypingMode) → IsOwed after m → IsMaybe r → IsUndecided (level_over before m env) (const_asked p)) →
+    AnswersQuietly (length (kinds_of before)) r → IfOk r (λ x. x.var_values.items ≡ []) → IfOk r NamesNoClass → AnswersHostEffect before after env p r
+answers-host_effect before after env p r owed sound decided quiet values unnamed = record {
+  answers = answers-predicate before after env owed (const_asked p) r sound decided quiet values;
+  no_class = unnamed;
+  plain = λ yes m n stands le.
+      plain-holding (within-level (setting_of before.tables m env) before.remaining_depth n le) p.trait_ref.def_id (erased_args p.trait_ref.args.items)
+      (plain-of (level_over before m env) p.trait_ref.def_id (erased_args p.trait_ref.args.items)
+      (const-plain (setting_of before.tables m env) before.remaining_depth p.constness p.trait_ref.def_id (erased_args p.trait_ref.args.items)
+      (const-holding (level_over before m env) p.constness p.trait_ref.def_id (erased_args p.trait_ref.args.items) r yes (sound m stands))));
+  stronger = λ yes is m n stands.
+      never-refuted (setting_of before.tables m env) before.remaining_depth n p.constness p.trait_ref.def_id (erased_args p.trait_ref.args.items) is
+      (const-holding (level_over before m env) p.constness p.trait_ref.def_id (erased_args p.trait_ref.args.items) r yes (sound m stands));
+}
+
+-- the term that is listed is the alias's
+said-right : (L : Level) (k : AliasTermKind) (ts : List Tree) (e : Term) (x : Certainty) (r : Response) → IsAliasResponse L k ts e x r →
+    (x ≡ certainty.Maybe → IsAnswer L (which_term k ts) maybe) → IsAnswer L (which_term k ts) (said_of_term x r.var_values.items)
+unfolding IsAnswer
+said-right L k ts e certainty.Yes r h u =
+    subst (λ (vs : List (ℕ × Term)). IsAnswer L (which_term k ts) (listed_term vs)) (sym h.2.2.1) (subst (λ (t : Tree). L.gives k ts t) (sym h.2.2.2) h.1)
+said-right L k ts e certainty.Maybe r h u = u refl
+
+term-right : (L : Level) (k : AliasTermKind) (ts : List Tree) (e : Term) (r : Result Response Fault) → IsAliasAnswer L k ts e r → (IsMaybe r → IsAnswer L (which_term k ts) maybe) →
+    IfSome (term_answered r) (IsAnswer L (which_term k ts))
+unfolding IsAnswer
+term-right L k ts e (Ok x) h u = said-right L k ts e x.certainty x h u
+term-right L k ts e (Err fault.NoSolution) h u = h
+term-right L k ts e (Err fault.RerunNonErased) h u = tt
+term-right L k ts e (Err fault.OutOfMemory) h u = tt
+term-right L k ts e (Err fault.NotForThisKind) h u = tt
+
+said-lasts : (L M : Level) (k : AliasTermKind) (ts : List Tree) → ((t : Tree) → L.gives k ts t → M.gives k ts t) → (e : Term) (x : Certainty) (r : Response) → IsAliasResponse L k ts e x r →
+    IfSome (if_decided (said_of_term x r.var_values.items)) (IsAnswer M (which_term k ts))
+unfolding IsAnswer
+said-lasts L M k ts given e certainty.Yes r h =
+    subst (λ (vs : List (ℕ × Term)). IfSome (if_decided (listed_term vs)) (IsAnswer M (which_term k ts))) (sym h.2.2.1)
+    (subst (λ (t : Tree). M.gives k ts t) (sym h.2.2.2) (given h.0 h.1))
+said-lasts L M k ts given e certainty.Maybe r h = tt
+
+term-said : (L M : Level) (k : AliasTermKind) (ts : List Tree) → ((t : Tree) → L.gives k ts t → M.gives k ts t) → (L.gives_refuted k ts → M.gives_refuted k ts) →
+    (e : Term) (r : Result Response Fault) → IsAliasAnswer L k ts e r → IfSome (decided_in (term_answered r)) (IsAnswer M (which_term k ts))
+unfolding IsAnswer
+term-said L M k ts given refuted e (Ok x) h = said-lasts L M k ts given e x.certainty x h
+term-said L M k ts given refuted e (Err fault.NoSolution) h = refuted h
+term-said L M k ts given refuted e (Err fault.RerunNonErased) h = tt
+term-said L M k ts given refuted e (Err fault.OutOfMemory) h = tt
+term-said L M k ts given refuted e (Err fault.NotForThisKind) h = tt
+
+term-lasts : {L M : Level} → IsWithin L M → (k : AliasTermKind) (ts : List Tree) (e : Term) (r : Result Response Fault) → IsAliasAnswer L k ts e r →
+    IfSome (decided_in (term_answered r)) (IsAnswer M (which_term k ts))
+term-lasts {L = L} {M = M} w k ts = term-said L M k ts (w.gives k ts) (w.gives_refuted k ts)
+
+-- and no other value is listed
+lists-term : (L : Level) (k : AliasTermKind) (ts : List Tree) (e : Term) (x : Certainty) (r : Response) → IsAliasResponse L k ts e x r →
+    (x ≡ certainty.Maybe → r.var_values.items ≡ []) → ListsTerm e x r.var_values.items
+lists-term L k ts e certainty.Yes r h u = (h.2.0, h.2.2.0, h.2.1, h.2.2.1)
+lists-term L k ts e certainty.Maybe r h u = u refl
+
+gives-alone : (s : State) (L : Level) (k : AliasTermKind) (ts : List Tree) (e : Term) (r : Result Response Fault) → AnswersQuietly (length (kinds_of s)) r → IsAliasAnswer L k ts e r →
+    IfOk r (λ x. x.certainty ≡ certainty.Maybe → x.var_values.items ≡ []) → IfOk r (GivesTermAlone s e)
+gives-alone s L k ts e (Ok x) quiet h u = record { quiet = quiet; values = lists-term L k ts e x.certainty x h u }
+gives-alone s L k ts e (Err f) quiet h u = tt
+
+-- the expected term of an accepted goal is a general variable
+node-expected : (s : State) (a : AliasTerm) (env : List Clause) (m : Node) → lacks_free_variable s (general_variable m) a env ≡ false → (n : ℕ) × (general_variable_at m ≡ Some n)
+node-expected s a env (nodes.Head h) e = absurd (cc)
+node-expected s a env (nodes.Alias k) e = absurd (cc)
+node-expected s a env (nodes.Variable (variables.Ty (infer.TyVar k))) e = (k, refl)
+node-expected s a env (nodes.Variable (variables.Ty (infer.IntVar k))) e = absurd (cc)
+node-expected s a env (nodes.Variable (variables.Ty (infer.FloatVar k))) e = absurd (cc)
+node-expected s a env (nodes.Variable (variables.Const k)) e = (k, refl)
+
+pub accepted-expected : (s : State) (p : NormalizesTo) (env : List Clause) → IsAcceptedNormalization s p env → (n : ℕ) × (expected_variable p.term ≡ Some n)
+accepted-expected s p env ok = node-expected s p.alias env (node_of (tree_of_term p.term)) (ok ExpectedTermNotFree)
+
+pub answers-alias : (before after : State) (env : List Clause) (p : NormalizesTo) (r : Result Response Fault) → ((m : TypingMode) → IsOwed after m → StandsFor before.typing_mode m) →
+    ((m : TypingMode) → StandsFor before.typing_mode m → IsAliasAnswer (level_over before m env) p.alias.kind (erased_args p.alias.args.items) p.term r) →
+    ((m : TypingMode) (n : ℕ) → IsOwed after m → IsAcceptedNormalization before p env → expected_variable p.term ≡ Some n → IsMaybe r → IsAnswer (level_over before m env) (term_asked p) maybe) →
+    AnswersQuietly (length (kinds_of before)) r → IfOk r (λ x. x.certainty ≡ certainty.Maybe → x.var_values.items ≡ []) → IfOk r NamesNoClass → AnswersAlias before after env p r
+answers-alias before after env p r owed sound whole quiet values unnamed =
+    let some : (m : TypingMode) × StandsFor before.typing_mode m = stands-for-some before.typing_mode (is_headline before.typing_mode) refl in
+    record {
+      exact = λ ok m o.
+          let expected : (n : ℕ) × (expected_variable p.term ≡ Some n) = accepted-expected before p env ok in
+          term-right (level_over before m env) p.alias.kind (erased_args p.alias.args.items) p.term r (sound m (owed m o)) (whole m expected.0 o ok expected.1);
+      lasts = λ m n stands le. term-lasts (within-level (setting_of before.tables m env) before.remaining_depth n le) p.alias.kind (erased_args p.alias.args.items) p.term r (sound m stands);
+      quiet = gives-alone before (level_over before some.0 env) p.alias.kind (erased_args p.alias.args.items) p.term r quiet (sound some.0 some.1) values;
+      no_class = unnamed;
+    }
+
+-- no two answers disagree
+pub no-two-disagree : (t : Tables) (env : List Clause) (q : Question) → NoTwoDisagree t env q
+no-two-disagree t env q m n k a b d e h j = answers-agree (setting_of t m env) n k q a b d e h j
+
+pub false-unless : (b : Bool) → (b ≡ true → ⊥) → b ≡ false
+false-unless true h = absurd (h refl)
+false-unless false h = refl
+
+-- with depth left, and where the expected term is a general variable, a goal isn't answered at once
+pub not-at_once : (d : ℕ) (o : Option ℕ) (n : ℕ) → (d ≡ 0 → ⊥) → o ≡ Some n → (d ≡ 0) ⊎ (o ≡ None) → ⊥
+not-at_once d o n positive e (inl h) = positive h
+not-at_once d o n positive e (inr h) = absurd (cc)
+
+-- a yes isn't a maybe
+pub yes-unsure : (x : Certainty) (A : Type 0) → x ≡ certainty.Yes → x ≡ certainty.Maybe → A
+yes-unsure x A e h = absurd (cc)
+
+-- a response that is unsure and lists nothing leaves its goal undecided
+pub leaves-undecided : (s : State) (x : Response) → x.certainty ≡ certainty.Maybe → x.proven_via ≡ None → x.var_values.items ≡ [] → IsQuiet (length (kinds_of s)) x → LeavesUndecided s (Ok x)
+leaves-undecided s x e p v q = record { certainty = e; no_class = p; changes = record { quiet = q; values = v } }
+
+-- what the candidates of a trait goal answer is its answer one above
+pub answers-trait_above : (before after : State) (env : List Clause) (o : Option TraitTree) (r : Result Response Fault) → ((m : TypingMode) → IsOwed after m → StandsFor before.typing_mode m) →
+    ((m : TypingMode) (q : TraitTree) → StandsFor before.typing_mode m → o ≡ Some q → IsTraitAnswer (level_above before m env) q.def_id q.args r) →
+    ((m : TypingMode) (q : TraitTree) → IsOwed after m → o ≡ Some q → IsMaybe r → IsOpen (level_above before m env) q.def_id q.args) →
+    AnswersQuietly (length (kinds_of before)) r → IfOk r (λ x. x.var_values.items ≡ []) → IfOk r (λ x. x.certainty ≡ certainty.Maybe → x.proven_via ≡ None) →
+    (o ≡ None → LeavesUndecided before r) → AnswersTraitAbove before after env o r
+answers-trait_above before after env None r owed sound decided quiet values class missing = missing refl
+answers-trait_above before after env (Some q) r owed sound decided quiet values class missing =
+    answers-trait (one_deeper before) after env q r owed (λ m stands. sound m q stands refl) (λ m o. decided m q o refl) quiet values class
+
+-- what the candidates of an alias answer through a class
+pub answers-through : (before after : State) (env : List Clause) (a : Through) (r : Result Response Fault) → ((m : TypingMode) → IsOwed after m → StandsFor before.typing_mode m) →
+    ((m : TypingMode) → StandsFor before.typing_mode m → IsAliasAnswer (through_level before m env a) a.asked.alias.kind (erased_args a.asked.alias.args.items) a.asked.term r) →
+    ((m : TypingMode) (n : ℕ) → IsOwed after m → expected_variable a.asked.term ≡ Some n → IsMaybe r → IsAliasOpen (through_level before m env a) a.asked.alias.kind (erased_args a.asked.alias.args.items)) →
+    ((m : TypingMode) → StandsFor before.typing_mode m → IsProven before m env a → IsAliasAnswer (level_above before m env) a.asked.alias.kind (erased_args a.asked.alias.args.items) a.asked.term r) →
+    ((m : TypingMode) (n : ℕ) → IsOwed after m → IsProven before m env a → IsAcceptedNormalization before a.asked env → expected_variable a.asked.term ≡ Some n → IsMaybe r →
+    IsAnswer (level_above before m env) (term_asked a.asked) maybe) →
+    AnswersQuietly (length (kinds_of before)) r → IfOk r (λ x. x.certainty ≡ certainty.Maybe → x.var_values.items ≡ []) → IfOk r NamesNoClass → AnswersThrough before after env a r
+answers-through before after env a r owed sound decided above whole quiet values unnamed =
+    let some : (m : TypingMode) × StandsFor before.typing_mode m = stands-for-some before.typing_mode (is_headline before.typing_mode) refl in
+    record {
+      sound = λ m stands.
+          term-said (through_level before m env a) (through_level before m env a) a.asked.alias.kind (erased_args a.asked.alias.args.items) (λ t h. h) (λ h. h) a.asked.term r (sound m stands);
+      decided = decided;
+      exact = λ m o proven ok.
+          let expected : (n : ℕ) × (expected_variable a.asked.term ≡ Some n) = accepted-expected before a.asked env ok in
+          term-right (level_above before m env) a.asked.alias.kind (erased_args a.asked.alias.args.items) a.asked.term r (above m (owed m o) proven) (whole m expected.0 o proven ok expected.1);
+      lasts = λ m n stands proven le.
+          term-lasts (within-level (setting_of before.tables m env) (suc before.remaining_depth) n (omega arith)) a.asked.alias.kind (erased_args a.asked.alias.args.items) a.asked.term r (above m stands proven);
+      quiet = gives-alone before (through_level before some.0 env a) a.asked.alias.kind (erased_args a.asked.alias.args.items) a.asked.term r quiet (sound some.0 some.1) values;
+      no_class = unnamed;
+    }
+
+-- which alias is asked for, and through which class
+pub answers-given : (before after : State) (env : List Clause) (c : TraitGoalProvenVia) (o : Option NormalizesTo) (r : Result Response Fault) →
+    ((p : NormalizesTo) → o ≡ Some p → is_closed_alias p.alias env ≡ true → AnswersThrough before after env (record { class = c; asked = p }) r) →
+    (o ≡ None → LeavesUndecided before r) → AnswersGiven before after env (given_through (Some c) o) r
+answers-given before after env c None r answers missing = missing refl
+answers-given before after env c (Some p) r answers missing = answers p refl
+
+pub applies-given : (before after : State) (env : List Clause) (c : TraitGoalProvenVia) (o : Option NormalizesTo) (r : Result Response Fault) →
+    ((p : NormalizesTo) → o ≡ Some p → AppliesProven before after env (record { class = c; asked = p }) r) →
+    (o ≡ None → IfOk r (IsApplicable after)) → AppliesGiven before after env (given_through (Some c) o) r
+applies-given before after env c None r applies missing = missing refl
+applies-given before after env c (Some p) r applies missing = applies p refl
+
+pub none_through : (m : MergeRule) (c : Option TraitGoalProvenVia) (o : Option NormalizesTo) → m ≡ merge.Projections → c ≡ None → asked_through m c o ≡ None
+none_through m c o e f = ap (λ (x : MergeRule). asked_through x c o) e ∙ ap (λ (x : Option TraitGoalProvenVia). given_through x o) f
+
+pub some_through : (m : MergeRule) (c : Option TraitGoalProvenVia) (o : Option NormalizesTo) (x : TraitGoalProvenVia) → m ≡ merge.Projections → c ≡ Some x → asked_through m c o ≡ given_through (Some x) o
+some_through m c o x e f = ap (λ (y : MergeRule). asked_through y c o) e ∙ ap (λ (y : Option TraitGoalProvenVia). given_through y o) f
+
+pub none-some : (a : Through) → None ≡ Some a → ⊥
+none-some a e = absurd (cc)
+
+pub trait_not_projection : (m : MergeRule) (c : Option TraitGoalProvenVia) (o : Option NormalizesTo) (a : Through) → m ≡ merge.TraitGoals → asked_through m c o ≡ Some a → ⊥
+trait_not_projection m c o a e h = none-some a (sym (ap (λ (x : MergeRule). asked_through x c o) e) ∙ h)
+
+pub host_not_projection : (m : MergeRule) (c : Option TraitGoalProvenVia) (o : Option NormalizesTo) (a : Through) → m ≡ merge.HostEffectGoals → asked_through m c o ≡ Some a → ⊥
+host_not_projection m c o a e h = none-some a (sym (ap (λ (x : MergeRule). asked_through x c o) e) ∙ h)
+
+-- what is asked through a class has it
+pub given-parts : (c : TraitGoalProvenVia) (o : Option NormalizesTo) (a : Through) → given_through (Some c) o ≡ Some a → (c ≡ a.class) × (o ≡ Some a.asked)
+given-parts c None a e = absurd (none-some a e)
+given-parts c (Some p) a e = let given : Through = record { class = c; asked = p } in let same : given ≡ a = some-same given a e in (ap (λ (x : Through). x.class) same, ap (λ (x : Through). Some x.asked) same)
+
+pub closed-same : (o : Option NormalizesTo) (p : NormalizesTo) (env : List Clause) → o ≡ Some p → is_closed_alias p.alias env ≡ true → (q : NormalizesTo) → o ≡ Some q → is_closed_alias q.alias env ≡ true
+closed-same o p env e closed q f = subst (λ (x : NormalizesTo). is_closed_alias x.alias env ≡ true) (some-same p q (sym e ∙ f)) closed

@@ -1,5 +1,0 @@
-use Rattle.goal_solver.proofs.EqualResponses.{values-decided}
-use Rattle.goal_solver.proofs.merged_rules.has_same_values.Goals as goal
-
-pub returns : goal.returns
-returns c = values-decided c.args.a.now.items c.args.b.now.items c.eq.result c.eq.ensures

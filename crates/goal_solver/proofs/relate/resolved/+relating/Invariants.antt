@@ -1,0 +1,20 @@
+use Rattle.std.proofs.Common.{◌≡◌, ◌+◌, ◌*◌, take}
+use Rattle.goal_terms.specs.TableMeaning.{Keeps}
+use Rattle.goal_kinds.specs.Interned.{erased_all}
+use Rattle.goal_solver.specs.Settled.{AreSettled}
+use Rattle.goal_solver.specs.declared.eval.outcomes.Outcome.TheVariants as outcome
+use Rattle.goal_solver.proofs.PendingLemmas.{ceiling}
+use Rattle.goal_solver.proofs.relate.resolved.+relating.Given as goal
+
+abbrev pub decreases-relate_resolved : goal.decreases-relate_resolved
+decreases-relate_resolved l = 2 * l.left.0 + 1
+
+abbrev pub decreases-relate_resolved_lists : goal.decreases-relate_resolved_lists
+decreases-relate_resolved_lists l = 2 * ceiling l.left.now
+
+abbrev pub invariant-relate_resolved_lists-loop-i : goal.invariant-relate_resolved_lists-loop-i
+invariant-relate_resolved_lists-loop-i l = record {
+  kept : Keeps l.fn.terms l.terms;
+  settled : AreSettled l.setting l.opens l.depth (take l.i (erased_all l.fn.terms l.left)) (take l.i (erased_all l.fn.terms l.right)) l.outcome;
+  same : erased_all l.fn.terms l.left ≡ erased_all l.fn.terms l.right → l.outcome ≡ outcome.Holds;
+}

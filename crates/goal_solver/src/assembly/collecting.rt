@@ -1,0 +1,569 @@
+//! The rules of a goal's candidates, class by class. Nothing is evaluated here.
+ghost use Rattle.std.specs.Prelude.{◌≡◌, ◌≢◌, ◌∷◌, ◌++◌, [], true, false, map, Some, Err, IfOk, IsOkUnless};
+ghost use Rattle.std.specs.List.{All, list_any};
+ghost use Rattle.goal_terms.specs.Erased.{erased};
+ghost use Rattle.goal_terms.specs.Occurrences.{has_error};
+ghost use Rattle.goal_terms.specs.PredicateTrees.{tree_of_kind};
+ghost use Rattle.goal_terms.specs.TreeOf.{tree_of_arg, tree_of_clause, tree_of_ty, trees_of};
+ghost use Rattle.goal_terms.specs.declared.terms.Ty.{Ty as ty};
+ghost use Rattle.goal_tables.specs.Rows.{impl_of, item_of, opaque_of, trait_of};
+ghost use Rattle.goal_tables.specs.declared.rows.ImplRow.{ImplRow as impl_row};
+ghost use Rattle.goal_kinds.specs.Answers.{setting_of};
+ghost use Rattle.goal_kinds.specs.CandidateRules.{HasNoKindFault, IsAcceptedClause, IsNamedAnswer, said_by};
+ghost use Rattle.goal_kinds.specs.Candidates.{assumption, by_impl, built_in, error, bounds_under, object_bound, object_bounds, impls_for, environment, rest};
+ghost use Rattle.goal_kinds.specs.Premises.{TraitTree as trait_tree, predicate_under};
+ghost use Rattle.goal_kinds.specs.RuleWords.{TermsAreFor};
+ghost use Rattle.goal_kinds.specs.Settings.{is_headline};
+ghost use Rattle.goal_solver.specs.Collecting.{words_over, is_later_named, is_any_named, is_alias_row, may_be_built_in, is_plain_goal, args_and_itself, clauses_of_item, clauses_of_opaque, Speaks, Lacks, Adds, AreCollected, Collects, CollectsBounds};
+
+use crate::faults::Fault;
+use goal_kinds::goal_kind::{GoalKind, MergeRule};
+use goal_kinds::rules::Rule;
+use goal_tables::checked::CheckedTables;
+use goal_tables::lang::LangTarget;
+use goal_tables::rows::ImplRow;
+use goal_terms::answers::{BuiltinImplSource, CandidateSource, Certainty, TraitGoalProvenVia};
+use goal_terms::ids::{ItemId, OpaqueId, TraitId};
+use goal_terms::instantiate::{instantiate, rebase_onto};
+use goal_terms::modes::TypingMode;
+use goal_terms::predicates::{
+    Clause, ClauseKind, Goal, ProjectionPredicate, TraitPredicate, TraitRef,
+};
+use goal_terms::term_nodes::OutOfMemory;
+use goal_terms::terms::{AliasTerm, AliasTermKind, DynClause, GenericArg, Ty};
+use std::alloc::Global;
+
+/// A place as a number of 32 bits. Want of numbers is the refusal.
+fn numbered(place: usize) -> Result<u32, OutOfMemory>
+    ensures { IfOk result (λ number. number ≡ place) }
+{
+    if place > u32::MAX as usize {
+        return Err(OutOfMemory);
+    }
+    Ok(place as u32)
+}
+
+/// Adds a rule. Want of memory is the only refusal.
+fn push_rule(found: &mut Vec<Rule>, rule: Rule) -> Result<(), OutOfMemory>
+    ensures { IfOk result (λ _. found.new.items ≡ found.old.items ++ rule ∷ []) }
+{
+    found.push(rule)?;
+    Ok(())
+}
+
+/// Adds the rule of a clause, unless the fast rejection doesn't let the clause pass. Want of memory is the
+/// only refusal.
+fn push_clause_rule<G: GoalKind>(
+    tables: &CheckedTables,
+    mode: &TypingMode,
+    goal: &Goal<G>,
+    source: CandidateSource,
+    clause: &Clause,
+    found: &mut Vec<Rule>,
+) -> Result<(), Fault>
+    ensures adds { IfOk result (λ _. Adds (Speaks (words_over G.merging G.has_term (G.candidate_gives goal.now.predicate) (G.candidate_refuted goal.now.predicate) (G.passes goal.now.predicate) (G.is_for goal.now.predicate tables.now) (G.trait_asked goal.now.predicate tables.now) (setting_of tables.now mode.now goal.now.param_env.items))) (λ _. G.passes goal.now.predicate clause.now.kind ≡ false) (said_by clause.now.kind) found.old.items found.new.items) }
+    ensures expected { All (λ r. TermsAreFor (G.expected goal.now.predicate) r.entries.items) found.old.items → IfOk result (λ _. All (λ r. TermsAreFor (G.expected goal.now.predicate) r.entries.items) found.new.items) }
+    ensures only_memory { IsOkUnless result Fault.OutOfMemory }
+{
+    match G::probe_and_match_goal_against_assumption(
+        tables,
+        mode,
+        goal,
+        source,
+        clause,
+        Certainty::Yes,
+    ) {
+        Ok(rule) => Ok(push_rule(found, rule)?),
+        Err(Fault::NoSolution) => Ok(()),
+        Err(fault) => Err(fault),
+    }
+}
+
+/// Adds the rules of the clauses of a goal's environment, in order. Want of memory is the only refusal.
+fn push_environment_rules<G: GoalKind>(
+    tables: &CheckedTables,
+    mode: &TypingMode,
+    goal: &Goal<G>,
+    found: &mut Vec<Rule>,
+) -> Result<(), Fault>
+    requires accepted { HasNoKindFault (λ f. G.has_fault goal.now.predicate tables.now f) }
+    ensures collected { All (λ c. IsAcceptedClause tables.now c.kind) goal.now.param_env.items → IfOk result (λ _. Collects (Speaks (words_over G.merging G.has_term (G.candidate_gives goal.now.predicate) (G.candidate_refuted goal.now.predicate) (G.passes goal.now.predicate) (G.is_for goal.now.predicate tables.now) (G.trait_asked goal.now.predicate tables.now) (setting_of tables.now mode.now goal.now.param_env.items))) (λ c. G.candidate_refuted goal.now.predicate (setting_of tables.now mode.now goal.now.param_env.items) 0 c) (environment (setting_of tables.now mode.now goal.now.param_env.items)) found.old.items found.new.items) }
+    ensures expected { All (λ r. TermsAreFor (G.expected goal.now.predicate) r.entries.items) found.old.items → IfOk result (λ _. All (λ r. TermsAreFor (G.expected goal.now.predicate) r.entries.items) found.new.items) }
+    ensures only_memory { IsOkUnless result Fault.OutOfMemory }
+{
+    G::rejected_clauses_are_refuted();
+    tables.rows();
+    let clauses = goal.param_env.as_slice();
+    for k in 0..clauses.len() {
+        let source = CandidateSource::ParamEnv(numbered(k)?);
+        push_clause_rule(tables, mode, goal, source, &clauses[k], found)?;
+    }
+    Ok(())
+}
+
+/// Adds the rule of an impl of the goal's trait. No impl of that trait is refused for another reason than
+/// that it is refuted, or want of memory.
+fn push_impl_rule<G: GoalKind>(
+    tables: &CheckedTables,
+    mode: &TypingMode,
+    goal: &Goal<G>,
+    row: &ImplRow,
+    found: &mut Vec<Rule>,
+) -> Result<(), Fault>
+    requires accepted { HasNoKindFault (λ f. G.has_fault goal.now.predicate tables.now f) }
+    ensures adds { is_headline mode.now ≡ true → impl_of tables.now row.now.id ≡ Some row.now → G.is_impl_for goal.now.predicate tables.now row.now → IfOk result (λ _. Adds (Speaks (words_over G.merging G.has_term (G.candidate_gives goal.now.predicate) (G.candidate_refuted goal.now.predicate) (G.passes goal.now.predicate) (G.is_for goal.now.predicate tables.now) (G.trait_asked goal.now.predicate tables.now) (setting_of tables.now mode.now goal.now.param_env.items))) (Lacks (words_over G.merging G.has_term (G.candidate_gives goal.now.predicate) (G.candidate_refuted goal.now.predicate) (G.passes goal.now.predicate) (G.is_for goal.now.predicate tables.now) (G.trait_asked goal.now.predicate tables.now) (setting_of tables.now mode.now goal.now.param_env.items))) (by_impl row.now) found.old.items found.new.items) }
+    ensures expected { All (λ r. TermsAreFor (G.expected goal.now.predicate) r.entries.items) found.old.items → IfOk result (λ _. All (λ r. TermsAreFor (G.expected goal.now.predicate) r.entries.items) found.new.items) }
+    ensures only_memory { IsOkUnless result Fault.OutOfMemory }
+{
+    match G::consider_impl_candidate(tables, mode, goal, row.id, Certainty::Yes) {
+        Ok(rule) => Ok(push_rule(found, rule)?),
+        Err(Fault::NoSolution) => Ok(()),
+        Err(_) => Err(Fault::OutOfMemory),
+    }
+}
+
+/// Adds the rules of the impls of a trait, in the order of their rows. Want of memory is the only refusal.
+fn push_impl_rules<G: GoalKind>(
+    tables: &CheckedTables,
+    mode: &TypingMode,
+    goal: &Goal<G>,
+    trait_id: TraitId,
+    found: &mut Vec<Rule>,
+) -> Result<(), Fault>
+    requires accepted { HasNoKindFault (λ f. G.has_fault goal.now.predicate tables.now f) }
+    ensures collected { is_headline mode.now ≡ true → ((row : impl_row) → row.trait_id ≡ trait_id → G.is_impl_for goal.now.predicate tables.now row) → IfOk result (λ _. Collects (Speaks (words_over G.merging G.has_term (G.candidate_gives goal.now.predicate) (G.candidate_refuted goal.now.predicate) (G.passes goal.now.predicate) (G.is_for goal.now.predicate tables.now) (G.trait_asked goal.now.predicate tables.now) (setting_of tables.now mode.now goal.now.param_env.items))) (Lacks (words_over G.merging G.has_term (G.candidate_gives goal.now.predicate) (G.candidate_refuted goal.now.predicate) (G.passes goal.now.predicate) (G.is_for goal.now.predicate tables.now) (G.trait_asked goal.now.predicate tables.now) (setting_of tables.now mode.now goal.now.param_env.items))) (map by_impl (impls_for tables.now trait_id)) found.old.items found.new.items) }
+    ensures expected { All (λ r. TermsAreFor (G.expected goal.now.predicate) r.entries.items) found.old.items → IfOk result (λ _. All (λ r. TermsAreFor (G.expected goal.now.predicate) r.entries.items) found.new.items) }
+    ensures only_memory { IsOkUnless result Fault.OutOfMemory }
+{
+    let rows = tables.rows();
+    let places = rows.impls_of_trait(trait_id);
+    for i in 0..places.len() {
+        let row = rows.impl_at(places[i]);
+        push_impl_rule(tables, mode, goal, row, found)?;
+    }
+    Ok(())
+}
+
+/// Whether a function of a named rule is for the goal, by what it answered.
+fn is_for_goal(answer: &Result<Rule, Fault>) -> bool
+    ensures other { result ≡ false → answer.now ≡ Err Fault.NotForThisKind }
+    ensures own { result ≡ true → answer.now ≢ Err Fault.NotForThisKind }
+{
+    match answer {
+        Err(Fault::NotForThisKind) => false,
+        _ => true,
+    }
+}
+
+/// The first that is for the goal of the trait alias and the built-in rules, or else `NotForThisKind`.
+fn named_rule<G: GoalKind>(
+    tables: &CheckedTables,
+    mode: &TypingMode,
+    goal: &Goal<G>,
+) -> Result<Rule, Fault>
+    ensures { IsNamedAnswer (is_any_named (G.is_for goal.now.predicate tables.now)) G.has_term (setting_of tables.now mode.now goal.now.param_env.items) (λ n t. G.candidate_gives goal.now.predicate (setting_of tables.now mode.now goal.now.param_env.items) n built_in t) (λ n. G.candidate_refuted goal.now.predicate (setting_of tables.now mode.now goal.now.param_env.items) n built_in) result }
+{
+    let alias = G::consider_trait_alias_candidate(tables, mode, goal);
+    if is_for_goal(&alias) {
+        return alias;
+    }
+    let sized = G::consider_builtin_sizedness_candidates(tables, mode, goal);
+    if is_for_goal(&sized) {
+        return sized;
+    }
+    let copied = G::consider_builtin_copy_clone_candidate(tables, mode, goal);
+    if is_for_goal(&copied) {
+        return copied;
+    }
+    let pointer = G::consider_builtin_fn_ptr_trait_candidate(tables, mode, goal);
+    if is_for_goal(&pointer) {
+        return pointer;
+    }
+    let called = G::consider_builtin_fn_trait_candidates(tables, mode, goal);
+    if is_for_goal(&called) {
+        return called;
+    }
+    later_named_rule(tables, mode, goal)
+}
+
+/// The first that is for the goal of the later half of these rules, or else `NotForThisKind`.
+fn later_named_rule<G: GoalKind>(
+    tables: &CheckedTables,
+    mode: &TypingMode,
+    goal: &Goal<G>,
+) -> Result<Rule, Fault>
+    ensures { IsNamedAnswer (is_later_named (G.is_for goal.now.predicate tables.now)) G.has_term (setting_of tables.now mode.now goal.now.param_env.items) (λ n t. G.candidate_gives goal.now.predicate (setting_of tables.now mode.now goal.now.param_env.items) n built_in t) (λ n. G.candidate_refuted goal.now.predicate (setting_of tables.now mode.now goal.now.param_env.items) n built_in) result }
+{
+    let tuple = G::consider_builtin_tuple_candidate(tables, mode, goal);
+    if is_for_goal(&tuple) {
+        return tuple;
+    }
+    let pointee = G::consider_builtin_pointee_candidate(tables, mode, goal);
+    if is_for_goal(&pointee) {
+        return pointee;
+    }
+    let discriminant = G::consider_builtin_discriminant_kind_candidate(tables, mode, goal);
+    if is_for_goal(&discriminant) {
+        return discriminant;
+    }
+    let dropped = G::consider_builtin_destruct_candidate(tables, mode, goal);
+    if is_for_goal(&dropped) {
+        return dropped;
+    }
+    G::consider_builtin_field_candidate(tables, mode, goal)
+}
+
+/// Whether a trait is a trait alias.
+fn is_alias(tables: &CheckedTables, trait_id: TraitId) -> bool
+    ensures { result ≡ is_alias_row (trait_of tables.now trait_id) }
+{
+    match tables.rows().trait_row(trait_id) {
+        None => false,
+        Some(row) => row.is_alias,
+    }
+}
+
+/// Whether something built in may show a trait: it is a trait alias, or a lang item names it.
+fn may_be_built_in(tables: &CheckedTables, trait_id: TraitId) -> bool
+    ensures { result ≡ may_be_built_in tables.now trait_id }
+{
+    let target = LangTarget::Trait(trait_id);
+    is_alias(tables, trait_id) || tables.rows().lang_naming(target).is_some()
+}
+
+/// Whether a trait goal asks for a trait that nothing built in shows.
+fn is_plain_goal<G: GoalKind>(tables: &CheckedTables, goal: &Goal<G>) -> bool
+    ensures { result ≡ is_plain_goal tables.now G.merging (G.trait_asked goal.now.predicate tables.now) }
+{
+    match G::merge_rule() {
+        MergeRule::TraitGoals => match goal.predicate.trait_def_id(tables) {
+            None => false,
+            Some(trait_id) => !may_be_built_in(tables, trait_id),
+        },
+        MergeRule::HostEffectGoals | MergeRule::Projections => false,
+    }
+}
+
+/// Adds the rule of the trait alias, or the built-in rule, if one is for the goal. None is for a trait goal whose
+/// trait is no trait alias and no lang item. Want of memory is the only refusal.
+fn push_built_in_rule<G: GoalKind>(
+    tables: &CheckedTables,
+    mode: &TypingMode,
+    goal: &Goal<G>,
+    found: &mut Vec<Rule>,
+) -> Result<(), Fault>
+    ensures adds { IfOk result (λ _. Adds (Speaks (words_over G.merging G.has_term (G.candidate_gives goal.now.predicate) (G.candidate_refuted goal.now.predicate) (G.passes goal.now.predicate) (G.is_for goal.now.predicate tables.now) (G.trait_asked goal.now.predicate tables.now) (setting_of tables.now mode.now goal.now.param_env.items))) (Lacks (words_over G.merging G.has_term (G.candidate_gives goal.now.predicate) (G.candidate_refuted goal.now.predicate) (G.passes goal.now.predicate) (G.is_for goal.now.predicate tables.now) (G.trait_asked goal.now.predicate tables.now) (setting_of tables.now mode.now goal.now.param_env.items))) built_in found.old.items found.new.items) }
+    ensures only_memory { IsOkUnless result Fault.OutOfMemory }
+{
+    if is_plain_goal(tables, goal) {
+        return Ok(());
+    }
+    match named_rule(tables, mode, goal) {
+        Ok(rule) => Ok(push_rule(found, rule)?),
+        Err(Fault::OutOfMemory) => Err(Fault::OutOfMemory),
+        Err(_) => Ok(()),
+    }
+}
+
+/// Whether an error stands in some arguments.
+fn has_error_in(args: &[GenericArg]) -> bool
+    ensures { result ≡ list_any (λ a. has_error (tree_of_arg a)) args.now }
+{
+    args.iter().any(|argument| argument.view().has_error())
+}
+
+/// Adds the rule of an error, if one stands in what a goal asks of its trait. Want of memory is the only
+/// refusal.
+fn push_error_rule<G: GoalKind>(
+    tables: &CheckedTables,
+    mode: &TypingMode,
+    goal: &Goal<G>,
+    found: &mut Vec<Rule>,
+) -> Result<(), Fault>
+    ensures adds { IfOk result (λ _. Adds (Speaks (words_over G.merging G.has_term (G.candidate_gives goal.now.predicate) (G.candidate_refuted goal.now.predicate) (G.passes goal.now.predicate) (G.is_for goal.now.predicate tables.now) (G.trait_asked goal.now.predicate tables.now) (setting_of tables.now mode.now goal.now.param_env.items))) (Lacks (words_over G.merging G.has_term (G.candidate_gives goal.now.predicate) (G.candidate_refuted goal.now.predicate) (G.passes goal.now.predicate) (G.is_for goal.now.predicate tables.now) (G.trait_asked goal.now.predicate tables.now) (setting_of tables.now mode.now goal.now.param_env.items))) error found.old.items found.new.items) }
+    ensures only_memory { IsOkUnless result Fault.OutOfMemory }
+{
+    let Some(asked) = goal.predicate.trait_ref(tables) else {
+        return Ok(());
+    };
+    if !has_error_in(asked.args) {
+        return Ok(());
+    }
+    match G::consider_error_guaranteed_candidate(tables, mode, goal) {
+        Ok(rule) => Ok(push_rule(found, rule)?),
+        Err(Fault::NoSolution) => Ok(()),
+        Err(fault) => Err(fault),
+    }
+}
+
+/// A clause under arguments.
+fn clause_under(alloc: Global, clause: &Clause, args: &[GenericArg]) -> Result<Clause, OutOfMemory>
+    ensures { IfOk result (λ c. said_by c.kind ≡ assumption (predicate_under (map erased (trees_of args.now)) (tree_of_kind clause.now.kind))) }
+{
+    Ok(instantiate(alloc, clause, args)?)
+}
+
+/// Adds the rules of clauses that a row declares for an alias, under arguments. Want of memory is the only
+/// refusal.
+fn push_declared_rules<G: GoalKind>(
+    tables: &CheckedTables,
+    mode: &TypingMode,
+    goal: &Goal<G>,
+    clauses: &[Clause],
+    args: &[GenericArg],
+    found: &mut Vec<Rule>,
+) -> Result<(), Fault>
+    ensures collected { IfOk result (λ _. Collects (Speaks (words_over G.merging G.has_term (G.candidate_gives goal.now.predicate) (G.candidate_refuted goal.now.predicate) (G.passes goal.now.predicate) (G.is_for goal.now.predicate tables.now) (G.trait_asked goal.now.predicate tables.now) (setting_of tables.now mode.now goal.now.param_env.items))) (Lacks (words_over G.merging G.has_term (G.candidate_gives goal.now.predicate) (G.candidate_refuted goal.now.predicate) (G.passes goal.now.predicate) (G.is_for goal.now.predicate tables.now) (G.trait_asked goal.now.predicate tables.now) (setting_of tables.now mode.now goal.now.param_env.items))) (bounds_under (map erased (trees_of args.now)) clauses.now) found.old.items found.new.items) }
+    ensures only_memory { IsOkUnless result Fault.OutOfMemory }
+{
+    let alloc = *goal.param_env.allocator();
+    for i in 0..clauses.len() {
+        let clause = clause_under(alloc, &clauses[i], args)?;
+        push_clause_rule(
+            tables,
+            mode,
+            goal,
+            CandidateSource::AliasBound,
+            &clause,
+            found,
+        )?;
+    }
+    Ok(())
+}
+
+/// Adds rules. Want of memory is the only refusal.
+pub(crate) fn push_rules(found: &mut Vec<Rule>, rules: Vec<Rule>) -> Result<(), OutOfMemory>
+    ensures { IfOk result (λ _. found.new.items ≡ found.old.items ++ rules.items) }
+{
+    for rule in rules {
+        found.push(rule)?;
+    }
+    Ok(())
+}
+
+/// The arguments of an alias that is a type, and then the alias itself.
+fn args_and_itself(alias: &AliasTerm) -> Result<Vec<GenericArg>, OutOfMemory>
+    ensures { IfOk result (λ args. map erased (trees_of args.items) ≡ args_and_itself alias.now) }
+{
+    let alloc = *alias.args.allocator();
+    let rigid_alias = vec![in alloc; GenericArg::Ty(Ty::Alias(alias.clone()?))]?;
+    Ok(rebase_onto(alloc, &rigid_alias, 0, &alias.args)?)
+}
+
+/// Adds the rules of clauses that a row declares for an alias, which is the self type, and then those that
+/// the kind of goals adds for it. Want of memory is the only refusal.
+fn push_alias_rules<G: GoalKind>(
+    tables: &CheckedTables,
+    mode: &TypingMode,
+    goal: &Goal<G>,
+    alias: &AliasTerm,
+    clauses: &[Clause],
+    found: &mut Vec<Rule>,
+) -> Result<(), Fault>
+    ensures collected { IfOk result (λ _. Collects (Speaks (words_over G.merging G.has_term (G.candidate_gives goal.now.predicate) (G.candidate_refuted goal.now.predicate) (G.passes goal.now.predicate) (G.is_for goal.now.predicate tables.now) (G.trait_asked goal.now.predicate tables.now) (setting_of tables.now mode.now goal.now.param_env.items))) (Lacks (words_over G.merging G.has_term (G.candidate_gives goal.now.predicate) (G.candidate_refuted goal.now.predicate) (G.passes goal.now.predicate) (G.is_for goal.now.predicate tables.now) (G.trait_asked goal.now.predicate tables.now) (setting_of tables.now mode.now goal.now.param_env.items))) (bounds_under (args_and_itself alias.now) clauses.now ++ G.additional goal.now.predicate (setting_of tables.now mode.now goal.now.param_env.items) alias.now) found.old.items found.new.items) }
+    ensures only_memory { IsOkUnless result Fault.OutOfMemory }
+{
+    let args = args_and_itself(alias)?;
+    push_declared_rules(tables, mode, goal, clauses, &args, found)?;
+    let added = G::consider_additional_alias_assumptions(tables, mode, goal, alias)?;
+    push_rules(found, added)?;
+    Ok(())
+}
+
+/// The clauses that an item's row declares for its alias: none where it has no row.
+fn clauses_of_item(tables: &CheckedTables, item: ItemId) -> &[Clause]
+    ensures { result.now ≡ clauses_of_item (item_of tables.now item) }
+{
+    match tables.rows().item_row(item) {
+        None => &[],
+        Some(row) => row.bounds.as_slice(),
+    }
+}
+
+/// The clauses that an opaque type's row declares for it: none where it has no row.
+fn clauses_of_opaque(tables: &CheckedTables, opaque: OpaqueId) -> &[Clause]
+    ensures { result.now ≡ clauses_of_opaque (opaque_of tables.now opaque) }
+{
+    match tables.rows().opaque_row(opaque) {
+        None => &[],
+        Some(row) => row.bounds.as_slice(),
+    }
+}
+
+/// Adds the rules of the bounds of a self type that is a rigid projection or opaque type. Want of memory is
+/// the only refusal.
+fn push_bound_rules<G: GoalKind>(
+    tables: &CheckedTables,
+    mode: &TypingMode,
+    goal: &Goal<G>,
+    self_ty: &Ty,
+    found: &mut Vec<Rule>,
+) -> Result<(), Fault>
+    ensures collected { IfOk result (λ _. CollectsBounds (words_over G.merging G.has_term (G.candidate_gives goal.now.predicate) (G.candidate_refuted goal.now.predicate) (G.passes goal.now.predicate) (G.is_for goal.now.predicate tables.now) (G.trait_asked goal.now.predicate tables.now) (setting_of tables.now mode.now goal.now.param_env.items)) (G.additional goal.now.predicate (setting_of tables.now mode.now goal.now.param_env.items)) self_ty.now found.old.items found.new.items) }
+    ensures only_memory { IsOkUnless result Fault.OutOfMemory }
+{
+    let Ty::Alias(alias) = self_ty else {
+        return Ok(());
+    };
+    match alias.kind {
+        AliasTermKind::ProjectionTy(item) => {
+            let clauses = clauses_of_item(tables, item);
+            push_alias_rules(tables, mode, goal, alias, clauses, found)?;
+            Ok(())
+        }
+        AliasTermKind::OpaqueTy(opaque) => {
+            let clauses = clauses_of_opaque(tables, opaque);
+            push_alias_rules(tables, mode, goal, alias, clauses, found)?;
+            Ok(())
+        }
+        _ => Ok(()),
+    }
+}
+
+/// A self type and then arguments.
+fn self_and_args(
+    alloc: Global,
+    self_ty: &Ty,
+    args: &[GenericArg],
+) -> Result<Vec<GenericArg>, OutOfMemory>
+    ensures { IfOk result (λ all. map erased (trees_of all.items) ≡ erased (tree_of_ty self_ty.now) ∷ map erased (trees_of args.now)) }
+{
+    let first = vec![in alloc; GenericArg::Ty(self_ty.clone()?)]?;
+    Ok(rebase_onto(alloc, args, 0, &first)?)
+}
+
+/// What a clause of a `dyn` type says of that type.
+fn kind_of_object(
+    alloc: Global,
+    self_ty: &Ty,
+    clause: &DynClause,
+) -> Result<ClauseKind, OutOfMemory>
+    ensures { IfOk result (λ kind. object_bound (erased (tree_of_ty self_ty.now)) (erased (tree_of_clause clause.now)) ≡ said_by kind ∷ []) }
+{
+    match clause {
+        DynClause::Trait(def_id, args) => {
+            let args = self_and_args(alloc, self_ty, args)?;
+            let trait_ref = TraitRef {
+                def_id: *def_id,
+                args,
+            };
+            Ok(ClauseKind::Trait(TraitPredicate { trait_ref }))
+        }
+        DynClause::Projection(item, args, term) => {
+            let args = self_and_args(alloc, self_ty, args)?;
+            let kind = AliasTermKind::ProjectionTy(*item);
+            let projection_term = AliasTerm { kind, args };
+            let term = term.clone()?;
+            Ok(ClauseKind::Projection(ProjectionPredicate {
+                projection_term,
+                term,
+            }))
+        }
+    }
+}
+
+/// Adds the rule of what a clause of a `dyn` self type says, unless the fast rejection doesn't let it pass.
+/// The type's clause doesn't say how many lifetimes it binds, and no rule asks. Want of memory is the only
+/// refusal.
+fn push_object_rule<G: GoalKind>(
+    tables: &CheckedTables,
+    mode: &TypingMode,
+    goal: &Goal<G>,
+    source: CandidateSource,
+    kind: ClauseKind,
+    found: &mut Vec<Rule>,
+) -> Result<(), Fault>
+    ensures adds { IfOk result (λ _. Adds (Speaks (words_over G.merging G.has_term (G.candidate_gives goal.now.predicate) (G.candidate_refuted goal.now.predicate) (G.passes goal.now.predicate) (G.is_for goal.now.predicate tables.now) (G.trait_asked goal.now.predicate tables.now) (setting_of tables.now mode.now goal.now.param_env.items))) (λ _. G.passes goal.now.predicate kind ≡ false) (said_by kind) found.old.items found.new.items) }
+    ensures only_memory { IsOkUnless result Fault.OutOfMemory }
+{
+    let clause = Clause {
+        bound_regions: 0,
+        kind,
+    };
+    match G::probe_and_consider_object_bound_candidate(tables, mode, goal, source, &clause) {
+        Ok(rule) => Ok(push_rule(found, rule)?),
+        Err(Fault::NoSolution) => Ok(()),
+        Err(fault) => Err(fault),
+    }
+}
+
+/// Adds the rules of what the clauses of a `dyn` self type say, in order. Want of memory is the only
+/// refusal.
+fn push_object_rules<G: GoalKind>(
+    tables: &CheckedTables,
+    mode: &TypingMode,
+    goal: &Goal<G>,
+    self_ty: &Ty,
+    found: &mut Vec<Rule>,
+) -> Result<(), Fault>
+    ensures collected { IfOk result (λ _. Collects (Speaks (words_over G.merging G.has_term (G.candidate_gives goal.now.predicate) (G.candidate_refuted goal.now.predicate) (G.passes goal.now.predicate) (G.is_for goal.now.predicate tables.now) (G.trait_asked goal.now.predicate tables.now) (setting_of tables.now mode.now goal.now.param_env.items))) (Lacks (words_over G.merging G.has_term (G.candidate_gives goal.now.predicate) (G.candidate_refuted goal.now.predicate) (G.passes goal.now.predicate) (G.is_for goal.now.predicate tables.now) (G.trait_asked goal.now.predicate tables.now) (setting_of tables.now mode.now goal.now.param_env.items))) (object_bounds (erased (tree_of_ty self_ty.now))) found.old.items found.new.items) }
+    ensures only_memory { IsOkUnless result Fault.OutOfMemory }
+{
+    let Ty::Dynamic(clauses, _) = self_ty else {
+        return Ok(());
+    };
+    let alloc = *goal.param_env.allocator();
+    let clauses = clauses.as_slice();
+    for k in 0..clauses.len() {
+        let place = BuiltinImplSource::Object(numbered(k)?);
+        let kind = kind_of_object(alloc, self_ty, &clauses[k])?;
+        let source = CandidateSource::BuiltinImpl(place);
+        push_object_rule(tables, mode, goal, source, kind, found)?;
+    }
+    Ok(())
+}
+
+/// Adds the rules of the rest: the impls of the goal's trait, the trait alias or built-in rule, what the
+/// clauses of a `dyn` self type say, and an error. Want of memory is the only refusal.
+fn push_rest_rules<G: GoalKind>(
+    tables: &CheckedTables,
+    mode: &TypingMode,
+    goal: &Goal<G>,
+    trait_id: TraitId,
+    self_ty: &Ty,
+    found: &mut Vec<Rule>,
+) -> Result<(), Fault>
+    requires accepted { HasNoKindFault (λ f. G.has_fault goal.now.predicate tables.now f) }
+    ensures collected { is_headline mode.now ≡ true → ((row : impl_row) → row.trait_id ≡ trait_id → G.is_impl_for goal.now.predicate tables.now row) → IfOk result (λ _. Collects (Speaks (words_over G.merging G.has_term (G.candidate_gives goal.now.predicate) (G.candidate_refuted goal.now.predicate) (G.passes goal.now.predicate) (G.is_for goal.now.predicate tables.now) (G.trait_asked goal.now.predicate tables.now) (setting_of tables.now mode.now goal.now.param_env.items))) (Lacks (words_over G.merging G.has_term (G.candidate_gives goal.now.predicate) (G.candidate_refuted goal.now.predicate) (G.passes goal.now.predicate) (G.is_for goal.now.predicate tables.now) (G.trait_asked goal.now.predicate tables.now) (setting_of tables.now mode.now goal.now.param_env.items))) (rest (setting_of tables.now mode.now goal.now.param_env.items) trait_id (erased (tree_of_ty self_ty.now))) found.old.items found.new.items) }
+    ensures only_memory { IsOkUnless result Fault.OutOfMemory }
+{
+    push_impl_rules(tables, mode, goal, trait_id, found)?;
+    push_built_in_rule(tables, mode, goal, found)?;
+    push_object_rules(tables, mode, goal, self_ty, found)?;
+    push_error_rule(tables, mode, goal, found)?;
+    Ok(())
+}
+
+/// The rules of the candidates of a class for a goal, in the order of the candidates. The goal is read as it
+/// is given, and its self type as a head form. A goal without a trait or a self type has no rules of the
+/// latter two classes. Want of memory is the only refusal.
+pub(crate) fn class_rules<G: GoalKind>(
+    tables: &CheckedTables,
+    mode: &TypingMode,
+    goal: &Goal<G>,
+    class: TraitGoalProvenVia,
+) -> Result<Vec<Rule>, Fault>
+    requires accepted { HasNoKindFault (λ f. G.has_fault goal.now.predicate tables.now f) }
+    ensures environment { class ≡ TraitGoalProvenVia.ParamEnv → All (λ c. IsAcceptedClause tables.now c.kind) goal.now.param_env.items → IfOk result (λ rs. AreCollected (Speaks (words_over G.merging G.has_term (G.candidate_gives goal.now.predicate) (G.candidate_refuted goal.now.predicate) (G.passes goal.now.predicate) (G.is_for goal.now.predicate tables.now) (G.trait_asked goal.now.predicate tables.now) (setting_of tables.now mode.now goal.now.param_env.items))) (λ c. G.candidate_refuted goal.now.predicate (setting_of tables.now mode.now goal.now.param_env.items) 0 c) rs.items (environment (setting_of tables.now mode.now goal.now.param_env.items))) }
+    ensures bounds { (q : trait_tree) (s : ty) → class ≡ TraitGoalProvenVia.AliasBound → G.trait_asked goal.now.predicate tables.now ≡ Some q → G.self_type goal.now.predicate ≡ Some s → IfOk result (λ rs. CollectsBounds (words_over G.merging G.has_term (G.candidate_gives goal.now.predicate) (G.candidate_refuted goal.now.predicate) (G.passes goal.now.predicate) (G.is_for goal.now.predicate tables.now) (G.trait_asked goal.now.predicate tables.now) (setting_of tables.now mode.now goal.now.param_env.items)) (G.additional goal.now.predicate (setting_of tables.now mode.now goal.now.param_env.items)) s [] rs.items) }
+    ensures rest { (q : trait_tree) (s : ty) → class ≡ TraitGoalProvenVia.Misc → is_headline mode.now ≡ true → G.trait_asked goal.now.predicate tables.now ≡ Some q → G.self_type goal.now.predicate ≡ Some s → ((row : impl_row) → row.trait_id ≡ q.def_id → G.is_impl_for goal.now.predicate tables.now row) → IfOk result (λ rs. AreCollected (Speaks (words_over G.merging G.has_term (G.candidate_gives goal.now.predicate) (G.candidate_refuted goal.now.predicate) (G.passes goal.now.predicate) (G.is_for goal.now.predicate tables.now) (G.trait_asked goal.now.predicate tables.now) (setting_of tables.now mode.now goal.now.param_env.items))) (Lacks (words_over G.merging G.has_term (G.candidate_gives goal.now.predicate) (G.candidate_refuted goal.now.predicate) (G.passes goal.now.predicate) (G.is_for goal.now.predicate tables.now) (G.trait_asked goal.now.predicate tables.now) (setting_of tables.now mode.now goal.now.param_env.items))) rs.items (rest (setting_of tables.now mode.now goal.now.param_env.items) q.def_id (erased (tree_of_ty s)))) }
+    ensures only_memory { IsOkUnless result Fault.OutOfMemory }
+{
+    let mut found = Vec::new(*goal.param_env.allocator());
+    if let TraitGoalProvenVia::ParamEnv = class {
+        push_environment_rules(tables, mode, goal, &mut found)?;
+        return Ok(found);
+    }
+    let Some(trait_id) = goal.predicate.trait_def_id(tables) else {
+        return Ok(found);
+    };
+    let Some(self_ty) = goal.predicate.self_ty() else {
+        return Ok(found);
+    };
+    if let TraitGoalProvenVia::AliasBound = class {
+        push_bound_rules(tables, mode, goal, self_ty, &mut found)?;
+    } else {
+        push_rest_rules(tables, mode, goal, trait_id, self_ty, &mut found)?;
+    }
+    Ok(found)
+}

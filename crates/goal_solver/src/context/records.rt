@@ -1,0 +1,118 @@
+//! What a context records: opaque accesses and delayed faults, each once, in the order of first entry.
+ghost use Rattle.std.specs.Prelude.{◌≡◌, ◌⊎◌, ◌↔◌, IsTrue, OnOk, OnErr, IsOkUnless};
+ghost use Rattle.std.specs.List.{All, Contains};
+ghost use Rattle.goal_terms.specs.declared.answers.DelayedFault.{DelayedFault as Delayed};
+ghost use Rattle.goal_solver.specs.Added.{Enters, RecordsAccess, RecordsFault};
+ghost use Rattle.goal_solver.specs.GoingBack.{GoesBack};
+ghost use Rattle.goal_solver.specs.Stored.{IsSet};
+
+use crate::context::EvalCtxt;
+use crate::eval::outcomes::Stop;
+use crate::faults::Fault;
+use goal_terms::answers::{DelayedFault, OpaqueAccess};
+use goal_terms::term_nodes::OutOfMemory;
+
+impl EvalCtxt<'_> {
+    /// What the answers so far would have read of another typing mode, each access once, in the order
+    /// of first entry. It takes no memory.
+    pub fn opaque_accesses(&self) -> &[OpaqueAccess]
+        ensures recorded { result.now ≡ self.now.accesses }
+        ensures once { IsSet result.now }
+    {
+        self.accesses.as_slice()
+    }
+
+    /// The faults of the checked program that were met so far, each once, in the order of first entry.
+    /// It takes no memory.
+    pub fn delayed_faults(&self) -> &[DelayedFault]
+        ensures recorded { result.now ≡ self.now.delayed_faults }
+        ensures once { IsSet result.now }
+    {
+        self.delayed_faults.as_slice()
+    }
+
+    /// Records an access. Only memory is refused; then nothing changes.
+    pub(crate) fn record_access(&mut self, access: OpaqueAccess) -> Result<(), Fault>
+        ensures recorded { OnOk result (RecordsAccess access self.old self.new) }
+        ensures unchanged { OnErr result (self.new ≡ self.old) }
+        ensures goes_back { GoesBack self.old self.new }
+        ensures only_memory { IsOkUnless result Fault.OutOfMemory }
+    {
+        if has_access(self.accesses.as_slice(), access) {
+            return Ok(());
+        }
+        if self.accesses.push(access).is_err() {
+            return Err(Fault::OutOfMemory);
+        }
+        Ok(())
+    }
+
+    /// Records a delayed fault. Only memory is refused; then nothing changes.
+    pub(crate) fn record_fault(&mut self, fault: DelayedFault) -> Result<(), Fault>
+        ensures recorded { OnOk result (RecordsFault fault self.old self.new) }
+        ensures unchanged { OnErr result (self.new ≡ self.old) }
+        ensures goes_back { GoesBack self.old self.new }
+        ensures only_memory { IsOkUnless result Fault.OutOfMemory }
+    {
+        if enter_fault(&mut self.delayed_faults, fault).is_err() {
+            return Err(Fault::OutOfMemory);
+        }
+        Ok(())
+    }
+
+    /// Records a delayed fault that a run or an evaluation met, as `record_fault` does.
+    pub(crate) fn meet_fault(&mut self, fault: DelayedFault) -> Result<(), Stop>
+        ensures recorded { OnOk result (Contains self.new.delayed_faults fault) }
+        ensures listed { (f : Delayed) → Contains self.new.delayed_faults f → Contains self.old.delayed_faults f ⊎ (fault ≡ f) }
+        ensures unchanged { self.new ≡ record self.old { delayed_faults = self.new.delayed_faults } }
+        ensures goes_back { GoesBack self.old self.new }
+        ensures only_memory { IsOkUnless result Stop.OutOfMemory }
+    {
+        let Ok(()) = self.record_fault(fault) else {
+            return Err(Stop::OutOfMemory);
+        };
+        Ok(())
+    }
+
+    /// Records the delayed faults that an evaluation met, in their order. Only memory is refused; then some of
+    /// them may be recorded.
+    pub(crate) fn record_faults(&mut self, delayed_faults: &[DelayedFault]) -> Result<(), Stop>
+        ensures recorded { OnOk result (All (Contains self.new.delayed_faults) delayed_faults.now) }
+        ensures unchanged { self.new ≡ record self.old { delayed_faults = self.new.delayed_faults } }
+        ensures goes_back { GoesBack self.old self.new }
+        ensures only_memory { IsOkUnless result Stop.OutOfMemory }
+    {
+        for fault in delayed_faults {
+            self.meet_fault(*fault)?;
+        }
+        Ok(())
+    }
+}
+
+/// Enters a delayed fault behind others, where it isn't among them. Only memory is refused; then nothing
+/// changes.
+pub(crate) fn enter_fault(
+    delayed_faults: &mut Vec<DelayedFault>,
+    fault: DelayedFault,
+) -> Result<(), OutOfMemory>
+    ensures entered { OnOk result (Enters fault delayed_faults.old.items delayed_faults.new.items) }
+    ensures unchanged { OnErr result (delayed_faults.new.items ≡ delayed_faults.old.items) }
+{
+    if has_fault(delayed_faults.as_slice(), fault) {
+        return Ok(());
+    }
+    delayed_faults.push(fault)?;
+    Ok(())
+}
+
+fn has_access(known: &[OpaqueAccess], access: OpaqueAccess) -> bool
+    ensures { IsTrue result ↔ Contains known.now access }
+{
+    known.contains(&access)
+}
+
+fn has_fault(known: &[DelayedFault], fault: DelayedFault) -> bool
+    ensures { IsTrue result ↔ Contains known.now fault }
+{
+    known.contains(&fault)
+}

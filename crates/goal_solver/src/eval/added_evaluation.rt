@@ -1,0 +1,247 @@
+//! Evaluating the goals that were added to a context.
+ghost use Rattle.std.specs.Prelude.{◌≡◌, ◌≢◌, ◌↔◌, ◌<◌, ℕ, List, [], ◌∷◌, ◌++◌, length, true, false, Some, slice_get, Err, IfOk, IfErr, OnOk, OnErr, IsTrue, IsOkUnless};
+ghost use Rattle.std.specs.List.{Contains};
+ghost use Rattle.goal_terms.specs.declared.modes.TypingMode.{TypingMode as modes};
+ghost use Rattle.goal_kinds.specs.Settings.{is_headline};
+ghost use Rattle.goal_solver.specs.Added.{has_goals};
+ghost use Rattle.goal_solver.specs.AddedGoals.{IsClosedGoal, IsGoalAnswer, IsVerdict, IsPendingAnswer, ArePendingClosed, ArePendingUndecided, ChangesTaken};
+ghost use Rattle.goal_solver.specs.AddedGoals.{AreSplit, AreClosedAt, LeavesUndecided, IsListed, JoinsUnless, IsRefusalAt, IsAnswerAt};
+ghost use Rattle.goal_solver.specs.Answers.{IsOwed};
+ghost use Rattle.goal_solver.specs.GoingBack.{BeginsWith, GoesBack, lengths_of, restored};
+ghost use Rattle.goal_solver.specs.Refusals.{WhenRefused, RefusesGoal, RefusesListed, RefusesOne};
+ghost use Rattle.goal_solver.specs.Relating.{ChangesRecords, IsFaultFor, SaysYes, LeavesOpen};
+
+use crate::context::{EvalCtxt, Snapshot};
+use crate::eval::outcomes::{Outcome, Stop};
+use crate::faults::Fault;
+use goal_terms::answers::{Certainty, GoalSource};
+use goal_terms::modes::TypingMode;
+use goal_terms::predicates::{Goal, Predicate};
+use std::mem;
+
+/// How many times the goals are gone over at most.
+const MOST_ROUNDS: usize = 8;
+
+impl EvalCtxt<'_> {
+    /// Evaluates the goals that were added and not taken out, in order, in rounds, until a round binds no
+    /// variable or eight are done. A goal that holds at the remaining depth is taken out. `Yes`: all were.
+    /// `NoSolution`: one is refuted; in coherence such a one stays undecided. `Maybe`: some are undecided.
+    ///
+    /// A goal is asked with the bindings of its variables followed, and is undecided while one is left in it or
+    /// one stands in its environment. Two kinds go further: an alias and a term are then made equal, and the
+    /// term of an alias without variables is given to the goal's expected variable. So goals may bind variables,
+    /// and these bindings stay. After a fault inference state, goals and storage are as before.
+    pub fn try_evaluate_added_goals(&mut self) -> Result<Certainty, Fault>
+        ensures sound { (m : modes) → IsOwed self.new m → ArePendingClosed self.old → IsPendingAnswer self.old m result }
+        ensures decided { (m : modes) → IsOwed self.new m → ArePendingClosed self.old → LeavesOpen result → ArePendingUndecided self.old m }
+        ensures refused { WhenRefused result (RefusesOne self.old self.new) }
+        ensures closed { ArePendingClosed self.old → self.new.inference ≡ self.old.inference }
+        ensures taken { SaysYes result → has_goals self.new ≡ false }
+        ensures alone { ChangesTaken self.old self.new }
+        ensures unchanged { OnErr result (self.new ≡ restored self.old self.new) }
+        ensures goes_back { GoesBack self.old self.new }
+        ensures fault { IsFaultFor self.old self.new result }
+    {
+        self.holds_together();
+        let before = self.snapshot();
+        let answered = self.evaluate_added_goals();
+        if answered.is_err() {
+            self.rollback(before);
+        }
+        answered
+    }
+
+    /// Evaluates the goals that were added and not taken out. After a fault some may be taken out, and some
+    /// variables bound.
+    fn evaluate_added_goals(&mut self) -> Result<Certainty, Fault>
+        ensures sound { (m : modes) → IsOwed self.new m → ArePendingClosed self.old → IsPendingAnswer self.old m result }
+        ensures decided { (m : modes) → IsOwed self.new m → ArePendingClosed self.old → LeavesOpen result → ArePendingUndecided self.old m }
+        ensures refused { WhenRefused result (RefusesOne self.old self.new) }
+        ensures closed { ArePendingClosed self.old → OnOk result (self.new.inference ≡ self.old.inference) }
+        ensures taken { SaysYes result → has_goals self.new ≡ false }
+        ensures alone { ChangesTaken self.old self.new }
+        ensures goes_back { GoesBack self.old self.new }
+        ensures fault { IsFaultFor self.old self.new result }
+    {
+        let alloc = self.allocator();
+        let pending = self.pending_places()?;
+        let goals = mem::replace(&mut self.goals, Vec::new(alloc));
+        let mut taken = mem::replace(&mut self.taken, Vec::new(alloc));
+        let answered = self.evaluate_rounds(goals.as_slice(), &mut taken, pending);
+        self.goals = goals;
+        self.taken = taken;
+        answered
+    }
+
+    /// The places of the goals that were added and not taken out, in order. Only memory is refused.
+    fn pending_places(&self) -> Result<Vec<usize>, Fault>
+        ensures split { IfOk result (λ places. AreSplit (length self.now.goals) self.now.taken places.items) }
+        ensures only_memory { IfErr result (λ f. f ≡ Fault.OutOfMemory) }
+    {
+        let mut places = Vec::new(self.allocator());
+        for place in 0..self.goals.len() {
+            add_pending(self.taken.as_slice(), place, &mut places)?;
+        }
+        Ok(places)
+    }
+
+    /// Evaluates the goals at some places in rounds, until one binds no variable. The places of those that
+    /// hold come after the others that were taken out.
+    fn evaluate_rounds(
+        &mut self,
+        goals: &[(GoalSource, Goal<Predicate>)],
+        taken: &mut Vec<usize>,
+        places: Vec<usize>,
+    ) -> Result<Certainty, Fault>
+        requires split { AreSplit (length goals.now) taken.old.items places.items }
+        ensures answer { (m : modes) → IsOwed self.new m → AreClosedAt goals.now places.items → IsAnswerAt self.old m goals.now places.items result }
+        ensures refused { WhenRefused result (RefusesListed self.old self.new goals.now places.items) }
+        ensures closed { AreClosedAt goals.now places.items → OnOk result (self.new.inference ≡ self.old.inference) }
+        ensures split { (rest : List ℕ) × AreSplit (length goals.now) taken.new.items rest × (SaysYes result → rest ≡ []) }
+        ensures taken { BeginsWith taken.new.items taken.old.items }
+        ensures alone { ChangesRecords self.old self.new }
+        ensures goes_back { GoesBack self.old self.new }
+        ensures fault { IsFaultFor self.old self.new result }
+    {
+        let mut pending = places;
+        for round in 0..MOST_ROUNDS {
+            let _ = round;
+            let earlier = self.snapshot();
+            let left = self.evaluate_round(goals, taken, pending.as_slice())?;
+            if left.is_empty() {
+                return Ok(Certainty::Yes);
+            }
+            if self.is_at(earlier) {
+                return Ok(Certainty::Maybe);
+            }
+            pending = left;
+        }
+        Ok(Certainty::Maybe)
+    }
+
+    /// Whether there is as much of what a rollback undoes as a snapshot says.
+    fn is_at(&self, earlier: Snapshot) -> bool
+        ensures { IsTrue result ↔ (lengths_of self.now ≡ earlier) }
+    {
+        self.snapshot() == earlier
+    }
+
+    /// Evaluates the goals at some places, in order, and answers the places of those that are undecided. The
+    /// places of those that hold come after the others that were taken out.
+    fn evaluate_round(
+        &mut self,
+        goals: &[(GoalSource, Goal<Predicate>)],
+        taken: &mut Vec<usize>,
+        places: &[usize],
+    ) -> Result<Vec<usize>, Fault>
+        requires split { AreSplit (length goals.now) taken.old.items places.now }
+        ensures says { (m : modes) → IsOwed self.new m → AreClosedAt goals.now places.now → IfOk result (λ left. LeavesUndecided self.old m goals.now places.now [] left.items) }
+        ensures refuses { (m : modes) → IsOwed self.new m → AreClosedAt goals.now places.now → IfErr result (IsRefusalAt self.old m goals.now places.now) }
+        ensures refused { WhenRefused result (RefusesListed self.old self.new goals.now places.now) }
+        ensures closed { AreClosedAt goals.now places.now → OnOk result (self.new.inference ≡ self.old.inference) }
+        ensures split { (rest : List ℕ) × AreSplit (length goals.now) taken.new.items rest × IfOk result (λ left. rest ≡ left.items) }
+        ensures taken { BeginsWith taken.new.items taken.old.items }
+        ensures alone { ChangesRecords self.old self.new }
+        ensures goes_back { GoesBack self.old self.new }
+        ensures fault { IsFaultFor self.old self.new result }
+    {
+        let mut left = Vec::new(self.allocator());
+        for i in 0..places.len() {
+            let place = places[i];
+            let added = goal_at(goals, place);
+            let answered = self.evaluate_goal(&added.1)?;
+            list_place(answered, place, taken, &mut left)?;
+        }
+        Ok(left)
+    }
+
+    /// What a goal comes to at the remaining depth.
+    fn evaluate_goal(&mut self, goal: &Goal<Predicate>) -> Result<Certainty, Fault>
+        ensures answer { (m : modes) → IsOwed self.new m → IsClosedGoal goal.now.predicate goal.now.param_env.items → IsGoalAnswer self.old m goal.now result }
+        ensures refused { WhenRefused result (RefusesGoal self.old self.new goal.now) }
+        ensures closed { IsClosedGoal goal.now.predicate goal.now.param_env.items → self.new.inference ≡ self.old.inference }
+        ensures alone { ChangesRecords self.old self.new }
+        ensures goes_back { GoesBack self.old self.new }
+        ensures fault { IsFaultFor self.old self.new result }
+    {
+        let outcome = self.goal_outcome(goal);
+        self.verdict(outcome)
+    }
+
+    /// What is answered to a goal that holds or not. In coherence no refusal is final yet, so the goal is
+    /// undecided there. Nothing changes but that an access may be recorded.
+    fn verdict(&mut self, outcome: Result<Outcome, Stop>) -> Result<Certainty, Fault>
+        ensures owed { (m : modes) → IsOwed self.new m → (is_headline self.old.typing_mode ≡ true → IfErr outcome (λ s. s ≡ Stop.OutOfMemory)) → IsVerdict outcome result }
+        ensures refused { WhenRefused result (self.old.typing_mode ≢ TypingMode.Coherence) }
+        ensures unchanged { self.new ≡ restored self.old self.new }
+        ensures alone { self.new ≡ record self.old { accesses = self.new.accesses } }
+        ensures goes_back { GoesBack self.old self.new }
+        ensures fault { IsFaultFor self.old self.new result }
+    {
+        match outcome {
+            Ok(Outcome::Holds) => Ok(Certainty::Yes),
+            Ok(Outcome::Undecided) => Ok(Certainty::Maybe),
+            Ok(Outcome::Refuted) => match self.typing_mode() {
+                TypingMode::Coherence => Ok(Certainty::Maybe),
+                _ => Err(Fault::NoSolution),
+            },
+            Err(stop) => self.undecided_by(stop),
+        }
+    }
+}
+
+fn goal_at(goals: &[(GoalSource, Goal<Predicate>)], place: usize) -> &(GoalSource, Goal<Predicate>)
+    requires { place < length goals.now }
+    ensures { slice_get goals.now place ≡ Some result.now }
+{
+    &goals[place]
+}
+
+fn has_place(places: &[usize], place: usize) -> bool
+    ensures { IsTrue result ↔ Contains places.now place }
+{
+    places.contains(&place)
+}
+
+/// Adds a place after the others, unless the goal there was taken out. Only memory is refused; then nothing
+/// changes.
+fn add_pending(taken: &[usize], place: usize, places: &mut Vec<usize>) -> Result<(), Fault>
+    ensures added { OnOk result (JoinsUnless taken.now place places.old.items places.new.items) }
+    ensures unchanged { OnErr result (places.new.items ≡ places.old.items) }
+    ensures only_memory { IsOkUnless result Fault.OutOfMemory }
+{
+    if has_place(taken, place) {
+        return Ok(());
+    }
+    add_place(places, place)
+}
+
+/// Adds a place to those of the goals that were taken out if its goal holds, and to those that are left if not.
+/// Only memory is refused; then nothing changes.
+fn list_place(
+    answered: Certainty,
+    place: usize,
+    taken: &mut Vec<usize>,
+    left: &mut Vec<usize>,
+) -> Result<(), Fault>
+    ensures listed { OnOk result (IsListed answered place taken.old.items left.old.items taken.new.items left.new.items) }
+    ensures unchanged { OnErr result ((taken.new.items ≡ taken.old.items) × (left.new.items ≡ left.old.items)) }
+    ensures only_memory { IsOkUnless result Fault.OutOfMemory }
+{
+    match answered {
+        Certainty::Yes => add_place(taken, place),
+        Certainty::Maybe => add_place(left, place),
+    }
+}
+
+/// Adds a place after the others. Only memory is refused; then nothing changes.
+fn add_place(places: &mut Vec<usize>, place: usize) -> Result<(), Fault>
+    ensures added { OnOk result (places.new.items ≡ places.old.items ++ place ∷ []) }
+    ensures unchanged { OnErr result (places.new.items ≡ places.old.items) }
+    ensures only_memory { IsOkUnless result Fault.OutOfMemory }
+{
+    if places.push(place).is_err() {
+        return Err(Fault::OutOfMemory);
+    }
+    Ok(())
+}

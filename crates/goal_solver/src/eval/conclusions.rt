@@ -1,0 +1,103 @@
+//! What the calls answer where an evaluation is stopped or a goal refuted.
+ghost use Rattle.std.specs.Prelude.{◌≡◌, ◌≢◌, ◌⊎◌, true, false, [], None, Ok, Err, IfOk, IfErr};
+ghost use Rattle.goal_terms.specs.declared.answers.Certainty.TheVariants as certainty;
+ghost use Rattle.goal_terms.specs.declared.modes.TypingMode.{TypingMode as modes};
+ghost use Rattle.goal_kinds.specs.Settings.{is_headline};
+ghost use Rattle.goal_solver.specs.Answers.{IsOwed, IsFaultOf, AnswersQuietly, ListsNothing, IsConclusion};
+ghost use Rattle.goal_solver.specs.GoingBack.{GoesBack, restored};
+ghost use Rattle.goal_solver.specs.Relating.{SaysYes, Refuses, IsFaultFor};
+ghost use Rattle.goal_solver.specs.State.{kinds_of};
+ghost use Rattle.std.specs.Prelude.{length};
+
+use crate::context::EvalCtxt;
+use crate::eval::outcomes::{Outcome, Stop};
+use crate::faults::Fault;
+use goal_terms::answers::{Certainty, OpaqueAccess, Response};
+use goal_terms::modes::TypingMode;
+
+impl EvalCtxt<'_> {
+    /// What a call answers where its evaluation was stopped. Where a rule reads a mode, the erased mode
+    /// records it, and the goal is to be run again in another mode, if the context stops then or the rule
+    /// has no answer without a mode; else the goal is undecided. Inference state, added goals and storage
+    /// are as before.
+    pub(crate) fn stopped(&mut self, stop: Stop) -> Result<Response, Fault>
+        ensures owed { (m : modes) → IsOwed self.new m → (is_headline self.old.typing_mode ≡ true → stop ≡ Stop.OutOfMemory) → result ≡ Err Fault.OutOfMemory }
+        ensures faults { self.new.delayed_faults ≡ self.old.delayed_faults }
+        ensures unchanged { self.new ≡ restored self.old self.new }
+        ensures goes_back { GoesBack self.old self.new }
+        ensures fault { IsFaultOf self.old self.new result }
+        ensures quiet { AnswersQuietly (length (kinds_of self.old)) result }
+        ensures nothing { ListsNothing result }
+        ensures unsure { IfOk result (λ r. r.certainty ≢ certainty.Yes) }
+        ensures never { result ≡ Err Fault.NoSolution → ⊥ }
+    {
+        let certainty = self.undecided_by(stop)?;
+        Ok(self.respond(certainty, None))
+    }
+
+    /// What equating terms answers where its evaluation was stopped, as `stopped` does for a goal: that it is
+    /// undecided, or to be run again in another mode. Inference state, added goals and storage are as before.
+    pub(crate) fn undecided_by(&mut self, stop: Stop) -> Result<Certainty, Fault>
+        ensures owed { (m : modes) → IsOwed self.new m → (is_headline self.old.typing_mode ≡ true → stop ≡ Stop.OutOfMemory) → result ≡ Err Fault.OutOfMemory }
+        ensures memory { stop ≡ Stop.OutOfMemory → result ≡ Err Fault.OutOfMemory }
+        ensures undecided { SaysYes result ⊎ Refuses result → ⊥ }
+        ensures alone { self.new ≡ record self.old { accesses = self.new.accesses } }
+        ensures goes_back { GoesBack self.old self.new }
+        ensures fault { IsFaultFor self.old self.new result }
+    {
+        let Stop::ReadsMode(access) = stop else {
+            return Err(Fault::OutOfMemory);
+        };
+        if !self.is_erased() {
+            return Ok(Certainty::Maybe);
+        }
+        self.record_access(access)?;
+        if self.stop_on_rerun || matches!(access, OpaqueAccess::Always) {
+            return Err(Fault::RerunNonErased);
+        }
+        Ok(Certainty::Maybe)
+    }
+
+    /// What a call answers to a goal that is refuted. In coherence no refusal is final yet, so the goal is
+    /// undecided there.
+    pub(crate) fn refuted(&self) -> Result<Response, Fault>
+        ensures owed { (m : modes) → IsOwed self.now m → result ≡ Err Fault.NoSolution }
+        ensures fault { IsFaultOf self.now self.now result }
+        ensures quiet { AnswersQuietly (length (kinds_of self.now)) result }
+        ensures nothing { ListsNothing result }
+        ensures unsure { IfOk result (λ r. r.certainty ≢ certainty.Yes) }
+    {
+        match self.typing_mode {
+            TypingMode::Coherence => Ok(self.respond(Certainty::Maybe, None)),
+            _ => Err(Fault::NoSolution),
+        }
+    }
+
+    /// What a call answers to a goal that holds or not.
+    pub(crate) fn conclude(&mut self, outcome: Result<Outcome, Stop>) -> Result<Response, Fault>
+        ensures owed { (m : modes) → IsOwed self.new m → (is_headline self.old.typing_mode ≡ true → IfErr outcome (λ s. s ≡ Stop.OutOfMemory)) → IsConclusion outcome result }
+        ensures yes { IfOk result (λ r. r.certainty ≡ certainty.Yes → outcome ≡ Ok Outcome.Holds) }
+        ensures no { result ≡ Err Fault.NoSolution → outcome ≡ Ok Outcome.Refuted }
+        ensures unchanged { self.new ≡ restored self.old self.new }
+        ensures goes_back { GoesBack self.old self.new }
+        ensures fault { IsFaultOf self.old self.new result }
+        ensures lists { IfOk result (λ r. r.var_values.items ≡ []) }
+        ensures no_class { IfOk result (λ r. r.proven_via ≡ None) }
+        ensures quiet { AnswersQuietly (length (kinds_of self.old)) result }
+    {
+        match outcome {
+            Ok(Outcome::Holds) => Ok(self.respond(Certainty::Yes, None)),
+            Ok(Outcome::Refuted) => self.refuted(),
+            Ok(Outcome::Undecided) => Ok(self.respond(Certainty::Maybe, None)),
+            Err(stop) => self.stopped(stop),
+        }
+    }
+
+    /// Whether the typing mode is the erased one.
+    fn is_erased(&self) -> bool
+        ensures yes { result ≡ true → self.now.typing_mode ≡ TypingMode.ErasedNotCoherence }
+        ensures no { result ≡ false → self.now.typing_mode ≢ TypingMode.ErasedNotCoherence }
+    {
+        matches!(self.typing_mode, TypingMode::ErasedNotCoherence)
+    }
+}

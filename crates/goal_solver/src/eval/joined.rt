@@ -1,0 +1,97 @@
+//! Outcomes of several questions, joined.
+ghost use Rattle.std.specs.Prelude.{◌≡◌};
+ghost use Rattle.goal_solver.specs.Joined.{both, one_of, held, fitting, known_only, impl_held, through};
+
+use crate::eval::outcomes::{HeaderMatch, Outcome, TraitOutcome};
+use goal_terms::answers::TraitGoalProvenVia;
+use goal_terms::term_nodes::TermId;
+
+impl Outcome {
+    /// What two questions come to together: refuted where one is refuted, else undecided where one is.
+    pub fn and(self, other: Outcome) -> Outcome
+        ensures { result ≡ both self other }
+    {
+        match self {
+            Outcome::Refuted => Outcome::Refuted,
+            Outcome::Holds => other,
+            Outcome::Undecided => match other {
+                Outcome::Refuted => Outcome::Refuted,
+                _ => Outcome::Undecided,
+            },
+        }
+    }
+
+    /// What one of two questions comes to: it holds where one holds, else it is undecided where one is.
+    pub fn or(self, other: Outcome) -> Outcome
+        ensures { result ≡ one_of self other }
+    {
+        match self {
+            Outcome::Holds => Outcome::Holds,
+            Outcome::Refuted => other,
+            Outcome::Undecided => match other {
+                Outcome::Holds => Outcome::Holds,
+                _ => Outcome::Undecided,
+            },
+        }
+    }
+
+    /// What a trait goal comes to, where the candidates of a class come to this and those of the classes
+    /// before are refuted; nothing where these are refuted, too.
+    pub fn through(self, class: TraitGoalProvenVia) -> Option<TraitOutcome>
+        ensures { result ≡ through self class }
+    {
+        match self {
+            Outcome::Holds => Some(TraitOutcome::Holds(class)),
+            Outcome::Refuted => None,
+            Outcome::Undecided => Some(TraitOutcome::Undecided),
+        }
+    }
+}
+
+impl TraitOutcome {
+    /// What a trait goal comes to, by whichever class.
+    pub fn held(self) -> Outcome
+        ensures { result ≡ held self }
+    {
+        match self {
+            TraitOutcome::Holds(_) => Outcome::Holds,
+            TraitOutcome::Refuted => Outcome::Refuted,
+            TraitOutcome::Undecided => Outcome::Undecided,
+        }
+    }
+}
+
+impl HeaderMatch {
+    /// What an impl comes to whose header fits under these terms, by its where clauses.
+    pub fn fitting(known: Vec<TermId>, clauses: Outcome) -> HeaderMatch
+        ensures { result ≡ fitting known clauses }
+    {
+        match clauses {
+            Outcome::Holds => HeaderMatch::Fits(known),
+            Outcome::Refuted => HeaderMatch::Clashes,
+            Outcome::Undecided => HeaderMatch::Known(known),
+        }
+    }
+
+    /// What an impl comes to whose header may fit under these terms, by its where clauses.
+    pub fn known_only(known: Vec<TermId>, clauses: Outcome) -> HeaderMatch
+        ensures { result ≡ known_only known clauses }
+    {
+        match clauses {
+            Outcome::Refuted => HeaderMatch::Clashes,
+            _ => HeaderMatch::Known(known),
+        }
+    }
+
+    /// What an impl comes to, under whichever terms.
+    pub fn impl_held(&self) -> Outcome
+        ensures { result ≡ impl_held self.now }
+    {
+        match self {
+            HeaderMatch::Fits(_) => Outcome::Holds,
+            HeaderMatch::Known(_) => Outcome::Undecided,
+            HeaderMatch::Clashes => Outcome::Refuted,
+            HeaderMatch::Unknown => Outcome::Undecided,
+        }
+    }
+}

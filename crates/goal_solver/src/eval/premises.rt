@@ -1,0 +1,187 @@
+//! Whether what a rule asks for holds.
+ghost use Rattle.std.specs.Prelude.{◌≡◌, true, IfErr, IfOk, map};
+ghost use Rattle.std.specs.List.{All};
+ghost use Rattle.goal_terms.specs.TableMeaning.{Keeps};
+ghost use Rattle.goal_terms.specs.declared.modes.TypingMode.{TypingMode};
+ghost use Rattle.goal_kinds.specs.Interned.{IsIn, AreIn, TraitIn, PredicateIn, PremiseIn, erased_at, erased_all, trait_at, predicate_at, premise_at};
+ghost use Rattle.goal_kinds.specs.Premises.{ClauseHolds, ClauseRefuted, PremiseHolds, PremiseRefuted, PremisesHold, PremisesRefuted, clauses_under, conditions_as};
+ghost use Rattle.goal_kinds.specs.Settings.{is_headline};
+ghost use Rattle.goal_solver.specs.Outcomes.{StandsFor, level_in, Says};
+
+use crate::effect_goals::candidates::evaluate_host_effect_goal;
+use crate::eval::outcomes::{Outcome, Setting, Stop};
+use crate::relate::equality::compare_terms;
+use crate::trait_goals::candidates::evaluate_trait_goal;
+use goal_kinds::candidates::interned::{InternedPredicate, InternedPremise, InternedTrait};
+use goal_kinds::candidates::premises::clauses_under;
+use goal_terms::answers::DelayedFault;
+use goal_terms::predicates::{BoundConstness, Clause};
+use goal_terms::term_nodes::TermId;
+use goal_terms::term_table::TermTable;
+
+/// Whether a premise holds at a depth.
+#[cycle(closed)]
+pub fn premise_outcome(
+    setting: &Setting<'_>,
+    terms: &mut TermTable,
+    faults: &mut Vec<DelayedFault>,
+    premise: &InternedPremise,
+    depth: u32,
+) -> Result<Outcome, Stop>
+    requires { PremiseIn terms.old premise.now }
+    ensures kept { Keeps terms.old terms.new }
+    ensures stops { is_headline setting.now.typing_mode.now ≡ true → IfErr result (λ s. s ≡ Stop.OutOfMemory) }
+    ensures says { (m : TypingMode) → StandsFor setting.now.typing_mode.now m → IfOk result (Says (PremiseHolds (level_in setting.now m depth) (premise_at terms.old premise.now)) (PremiseRefuted (level_in setting.now m depth) (premise_at terms.old premise.now))) }
+{
+    match premise {
+        InternedPremise::Predicate(predicate) => {
+            predicate_outcome(setting, terms, faults, predicate, depth)
+        }
+        InternedPremise::Equation(left, right) => {
+            compare_terms(setting, terms, faults, *left, *right, depth)
+        }
+    }
+}
+
+/// Whether a predicate holds at a depth.
+#[cycle(closed)]
+fn predicate_outcome(
+    setting: &Setting<'_>,
+    terms: &mut TermTable,
+    faults: &mut Vec<DelayedFault>,
+    predicate: &InternedPredicate,
+    depth: u32,
+) -> Result<Outcome, Stop>
+    requires { PredicateIn terms.old predicate.now }
+    ensures kept { Keeps terms.old terms.new }
+    ensures stops { is_headline setting.now.typing_mode.now ≡ true → IfErr result (λ s. s ≡ Stop.OutOfMemory) }
+    ensures says { (m : TypingMode) → StandsFor setting.now.typing_mode.now m → IfOk result (Says (ClauseHolds (level_in setting.now m depth) (predicate_at terms.old predicate.now)) (ClauseRefuted (level_in setting.now m depth) (predicate_at terms.old predicate.now))) }
+{
+    match predicate {
+        InternedPredicate::Trait(held) => {
+            let found = evaluate_trait_goal(
+                setting,
+                terms,
+                faults,
+                held.def_id,
+                &held.args,
+                depth,
+            )?;
+            Ok(found.held())
+        }
+        InternedPredicate::Projection(alias, term) => {
+            equation_outcome(setting, terms, faults, *alias, *term, depth)
+        }
+        InternedPredicate::HostEffect(constness, held) => {
+            evaluate_host_effect_goal(
+                setting,
+                terms,
+                faults,
+                *constness,
+                held.def_id,
+                &held.args,
+                depth,
+            )
+        }
+    }
+}
+
+/// Whether the goal that an alias and a term are equal holds at a depth. They are compared one lower.
+#[cycle(closed)]
+fn equation_outcome(
+    setting: &Setting<'_>,
+    terms: &mut TermTable,
+    faults: &mut Vec<DelayedFault>,
+    alias: TermId,
+    term: TermId,
+    depth: u32,
+) -> Result<Outcome, Stop>
+    requires first { IsIn terms.old alias }
+    requires second { IsIn terms.old term }
+    ensures kept { Keeps terms.old terms.new }
+    ensures stops { is_headline setting.now.typing_mode.now ≡ true → IfErr result (λ s. s ≡ Stop.OutOfMemory) }
+    ensures says { (m : TypingMode) → StandsFor setting.now.typing_mode.now m → IfOk result (Says ((level_in setting.now m depth).equation_holds (erased_at terms.old alias) (erased_at terms.old term)) ((level_in setting.now m depth).equation_refuted (erased_at terms.old alias) (erased_at terms.old term))) }
+{
+    if depth == 0 {
+        return Ok(Outcome::Undecided);
+    }
+    compare_terms(setting, terms, faults, alias, term, depth - 1)
+}
+
+/// Whether all of some premises hold at a depth. One that is refuted refutes them.
+#[cycle(closed)]
+pub fn premises_outcome(
+    setting: &Setting<'_>,
+    terms: &mut TermTable,
+    faults: &mut Vec<DelayedFault>,
+    premises: &[InternedPremise],
+    depth: u32,
+) -> Result<Outcome, Stop>
+    requires { All (PremiseIn terms.old) premises.now }
+    ensures kept { Keeps terms.old terms.new }
+    ensures stops { is_headline setting.now.typing_mode.now ≡ true → IfErr result (λ s. s ≡ Stop.OutOfMemory) }
+    ensures says { (m : TypingMode) → StandsFor setting.now.typing_mode.now m → IfOk result (Says (PremisesHold (level_in setting.now m depth) (map (premise_at terms.old) premises.now)) (PremisesRefuted (level_in setting.now m depth) (map (premise_at terms.old) premises.now))) }
+{
+    let mut found = Outcome::Holds;
+    for premise in premises {
+        let next = premise_outcome(setting, terms, faults, premise, depth)?;
+        found = found.and(next);
+        if let Outcome::Refuted = found {
+            return Ok(Outcome::Refuted);
+        }
+    }
+    Ok(found)
+}
+
+/// Whether a row's where clauses hold at a depth, under arguments.
+#[cycle(closed)]
+pub fn clauses_outcome(
+    setting: &Setting<'_>,
+    terms: &mut TermTable,
+    faults: &mut Vec<DelayedFault>,
+    clauses: &[Clause],
+    args: &[TermId],
+    depth: u32,
+) -> Result<Outcome, Stop>
+    requires { AreIn terms.old args.now }
+    ensures kept { Keeps terms.old terms.new }
+    ensures stops { is_headline setting.now.typing_mode.now ≡ true → IfErr result (λ s. s ≡ Stop.OutOfMemory) }
+    ensures says { (m : TypingMode) → StandsFor setting.now.typing_mode.now m → IfOk result (Says (PremisesHold (level_in setting.now m depth) (clauses_under (erased_all terms.old args.now) clauses.now)) (PremisesRefuted (level_in setting.now m depth) (clauses_under (erased_all terms.old args.now) clauses.now))) }
+{
+    let premises = clauses_under(terms, clauses, args)?;
+    premises_outcome(setting, terms, faults, &premises, depth)
+}
+
+/// Whether traits hold at a depth as const traits of a constness.
+#[cycle(closed)]
+pub fn conditions_outcome(
+    setting: &Setting<'_>,
+    terms: &mut TermTable,
+    faults: &mut Vec<DelayedFault>,
+    constness: BoundConstness,
+    conditions: &[InternedTrait],
+    depth: u32,
+) -> Result<Outcome, Stop>
+    requires { All (TraitIn terms.old) conditions.now }
+    ensures kept { Keeps terms.old terms.new }
+    ensures stops { is_headline setting.now.typing_mode.now ≡ true → IfErr result (λ s. s ≡ Stop.OutOfMemory) }
+    ensures says { (m : TypingMode) → StandsFor setting.now.typing_mode.now m → IfOk result (Says (PremisesHold (level_in setting.now m depth) (conditions_as constness (map (trait_at terms.old) conditions.now))) (PremisesRefuted (level_in setting.now m depth) (conditions_as constness (map (trait_at terms.old) conditions.now)))) }
+{
+    let mut found = Outcome::Holds;
+    for condition in conditions {
+        let next = evaluate_host_effect_goal(
+            setting,
+            terms,
+            faults,
+            constness,
+            condition.def_id,
+            &condition.args,
+            depth,
+        )?;
+        found = found.and(next);
+        if let Outcome::Refuted = found {
+            return Ok(Outcome::Refuted);
+        }
+    }
+    Ok(found)
+}

@@ -1,0 +1,201 @@
+//! Running rules.
+ghost use Rattle.std.specs.Prelude.{◌≡◌, ◌⊎◌, ◌∷◌, [], true, length, IfOk, IfErr, OnOk};
+ghost use Rattle.std.specs.List.{Contains};
+ghost use Rattle.goal_terms.specs.TableMeaning.{Keeps};
+ghost use Rattle.goal_terms.specs.declared.answers.DelayedFault.{DelayedFault as Delayed};
+ghost use Rattle.goal_terms.specs.declared.modes.TypingMode.{TypingMode};
+ghost use Rattle.goal_kinds.specs.Settings.{is_headline as is_of_headline};
+ghost use Rattle.goal_solver.specs.Answers.{IsOwed, level_over, IsMaybe, AnswersQuietly, IsFaultOf};
+ghost use Rattle.goal_solver.specs.Binding.{IsApplicable, CanBeListed};
+ghost use Rattle.goal_solver.specs.GoingBack.{GoesBack, restored};
+ghost use Rattle.goal_solver.specs.Added.{RecordsAccess};
+ghost use Rattle.goal_solver.specs.OpenRuns.{RunsOpen};
+ghost use Rattle.goal_solver.specs.Refusals.{WhenRefused, IsRefusedOpen};
+ghost use Rattle.goal_solver.specs.Outcomes.{StandsFor};
+ghost use Rattle.goal_solver.specs.RunRules.{setting_over, asked_of, IsAskedOnce, IsClosedRule, IsRuleAnswer, IsRuleOpen, IsRecorded, IsKept, AreRecorded, IsRecordedAnswer, AreListed, IsHolding, response_of, RunIn, progress_at, LeadsOn, SaysRule, RuledIn};
+ghost use Rattle.goal_solver.specs.State.{kinds_of};
+
+pub(crate) mod entries;
+pub(crate) mod open;
+pub(crate) mod open_arguments;
+pub(crate) mod open_entries;
+pub(crate) mod progress;
+pub(crate) mod recorded;
+pub(crate) mod variables;
+
+use crate::context::EvalCtxt;
+use crate::eval::mode_tests::is_headline;
+use crate::eval::outcomes::{Setting, Stop};
+use crate::eval::run_rule::entries::run_entry;
+use crate::eval::run_rule::progress::{Reached, RuleOutcome, RuleRun};
+use crate::eval::run_rule::recorded::{ToRecord, to_record};
+use crate::eval::run_rule::variables::has_variable;
+use crate::faults::Fault;
+use goal_kinds::rules::{Candidate, Rule, RuleEntry};
+use goal_terms::answers::{Certainty, OpaqueAccess, Response};
+use goal_terms::predicates::Clause;
+
+impl EvalCtxt<'_> {
+    /// Runs a rule's list of entries at the remaining depth, under an environment, and hands on where it comes
+    /// from. On a closed list and environment, expected terms aside: `Yes`: all entries hold by derivations no
+    /// higher than that depth; where the list has a term for an expected variable, the response lists just this
+    /// term as the variable's value. `NoSolution`: a refutation no higher refutes an entry, all arguments that
+    /// were named before it being known. `Maybe`, in a headline mode, where one term at most is asked for, for a
+    /// general variable: there is neither. A refuted list is `Maybe` in coherence.
+    ///
+    /// A list or an environment with inference variables is run in a trial, by one step for each entry, in order:
+    /// arguments of a header are fresh variables and the header is equated with what it is matched with, two
+    /// lists are equated, clauses and normalizations are added as goals. Then the goals are evaluated. `Yes`: each
+    /// step and the evaluation are sure. `NoSolution`: one of them is refused. `Maybe`: one is undecided, and none
+    /// refused. The response lists what was made, bound, equated and entered in the trial, and can be applied. That
+    /// of a closed list can be applied where the value that it may list can be given to its variable.
+    ///
+    /// An access or a delayed fault is recorded when its entry is reached: nothing before it is refuted, and of a
+    /// closed list all arguments that were named before it are known. So after `Yes` all that the list says to
+    /// record is recorded, and no delayed fault comes that it doesn't name. Inference state, added goals and
+    /// storage are as before.
+    pub fn run_rule(&mut self, environment: &[Clause], rule: &Rule) -> Result<Candidate, Fault>
+        ensures sound { (m : TypingMode) → IsOwed self.new m → IsClosedRule rule.now.entries.items environment.now → IsRuleAnswer (setting_over self.old m environment.now) (level_over self.old m environment.now) rule.now (response_of result) }
+        ensures decided { (m : TypingMode) → IsOwed self.new m → IsClosedRule rule.now.entries.items environment.now → IsAskedOnce (asked_of rule.now.entries.items) → IsMaybe (response_of result) → IsRuleOpen (setting_over self.old m environment.now) (level_over self.old m environment.now) rule.now }
+        ensures recorded { IfOk (response_of result) (IsRecordedAnswer self.new rule.now.entries.items) }
+        ensures listed { AreListed rule.now.entries.items self.old self.new }
+        ensures source { IfOk result (λ c. c.source ≡ rule.now.source) }
+        ensures unchanged { self.new ≡ restored self.old self.new }
+        ensures goes_back { GoesBack self.old self.new }
+        ensures fault { IsFaultOf self.old self.new (response_of result) }
+        ensures quiet { IsClosedRule rule.now.entries.items environment.now → AnswersQuietly (length (kinds_of self.old)) (response_of result) }
+        ensures chain { (IsClosedRule rule.now.entries.items environment.now → ⊥) → IfOk (response_of result) (RunsOpen environment.now rule.now.entries.items self.old self.new) }
+        ensures applies { (IsClosedRule rule.now.entries.items environment.now → ⊥) → IfOk (response_of result) (IsApplicable self.new) }
+        ensures applies_closed { IsClosedRule rule.now.entries.items environment.now → IfOk (response_of result) (λ r. CanBeListed self.new r.var_values.items → IsApplicable self.new r) }
+        ensures refused { (IsClosedRule rule.now.entries.items environment.now → ⊥) → WhenRefused (response_of result) (IsRefusedOpen environment.now rule.now.entries.items self.old self.new) }
+    {
+        self.is_well_formed();
+        let result = self.rule_response(environment, rule)?;
+        Ok(Candidate {
+            source: rule.source,
+            result,
+        })
+    }
+
+    /// What a rule's list of entries is answered.
+    fn rule_response(&mut self, environment: &[Clause], rule: &Rule) -> Result<Response, Fault>
+        ensures sound { (m : TypingMode) → IsOwed self.new m → IsClosedRule rule.now.entries.items environment.now → IsRuleAnswer (setting_over self.old m environment.now) (level_over self.old m environment.now) rule.now result }
+        ensures decided { (m : TypingMode) → IsOwed self.new m → IsClosedRule rule.now.entries.items environment.now → IsAskedOnce (asked_of rule.now.entries.items) → IsMaybe result → IsRuleOpen (setting_over self.old m environment.now) (level_over self.old m environment.now) rule.now }
+        ensures recorded { IfOk result (IsRecordedAnswer self.new rule.now.entries.items) }
+        ensures listed { AreListed rule.now.entries.items self.old self.new }
+        ensures unchanged { self.new ≡ restored self.old self.new }
+        ensures goes_back { GoesBack self.old self.new }
+        ensures fault { IsFaultOf self.old self.new result }
+        ensures quiet { IsClosedRule rule.now.entries.items environment.now → AnswersQuietly (length (kinds_of self.old)) result }
+        ensures chain { (IsClosedRule rule.now.entries.items environment.now → ⊥) → IfOk result (RunsOpen environment.now rule.now.entries.items self.old self.new) }
+        ensures applies { (IsClosedRule rule.now.entries.items environment.now → ⊥) → IfOk result (IsApplicable self.new) }
+        ensures refused { (IsClosedRule rule.now.entries.items environment.now → ⊥) → WhenRefused result (IsRefusedOpen environment.now rule.now.entries.items self.old self.new) }
+    {
+        if has_variable(&rule.entries, environment) {
+            return self.run_open(environment, &rule.entries);
+        }
+        match self.run_entries(environment, &rule.entries) {
+            Ok(RuleOutcome::Holds(None)) => Ok(self.respond(Certainty::Yes, None)),
+            Ok(RuleOutcome::Holds(Some((expected, id)))) => self.respond_found(expected, id),
+            Ok(RuleOutcome::Refuted) => self.refuted(),
+            Ok(RuleOutcome::Undecided) => Ok(self.respond(Certainty::Maybe, None)),
+            Err(stop) => self.stopped(stop),
+        }
+    }
+
+    /// What a list of entries comes to at the remaining depth. There may be more terms, accesses and delayed
+    /// faults; nothing else changes.
+    fn run_entries(
+        &mut self,
+        environment: &[Clause],
+        entries: &[RuleEntry],
+    ) -> Result<RuleOutcome, Stop>
+        ensures within { IfOk result (RuledIn self.new.terms) }
+        ensures recorded { IfOk result (λ o. IsHolding o → AreRecorded self.new entries.now) }
+        ensures listed { AreListed entries.now self.old self.new }
+        ensures unchanged { self.new ≡ restored self.old self.new }
+        ensures goes_back { GoesBack self.old self.new }
+        ensures stops { is_of_headline self.old.typing_mode ≡ true → IfErr result (λ s. s ≡ Stop.OutOfMemory) }
+        ensures says { (m : TypingMode) → StandsFor self.old.typing_mode m → IfOk result (SaysRule (setting_over self.old m environment.now) (level_over self.old m environment.now) entries.now self.new.terms) }
+    {
+        let mut run = RuleRun::new(self.allocator());
+        for entry in entries {
+            self.record_entry(entry)?;
+            match self.reach(environment, &mut run, entry)? {
+                Reached::Next => {}
+                Reached::Refuted => return Ok(RuleOutcome::Refuted),
+                Reached::Undecided => return Ok(RuleOutcome::Undecided),
+            }
+        }
+        Ok(run.outcome())
+    }
+
+    /// Where an entry leads at the remaining depth. Nothing changes but that there may be more terms.
+    fn reach(
+        &mut self,
+        environment: &[Clause],
+        run: &mut RuleRun,
+        entry: &RuleEntry,
+    ) -> Result<Reached, Stop>
+        requires { RunIn self.old.terms run.old }
+        ensures kept { Keeps self.old.terms self.new.terms }
+        ensures unchanged { self.new ≡ record self.old { terms = self.new.terms } }
+        ensures within { IfOk result (λ _. RunIn self.new.terms run.new) }
+        ensures stops { is_of_headline self.old.typing_mode ≡ true → IfErr result (λ s. s ≡ Stop.OutOfMemory) }
+        ensures says { (m : TypingMode) → StandsFor self.old.typing_mode m → IfOk result (LeadsOn (setting_over self.old m environment.now) (level_over self.old m environment.now) (progress_at self.old.terms run.old) entry.now (progress_at self.new.terms run.new)) }
+    {
+        let mut faults = Vec::new(self.allocator());
+        let setting = Setting {
+            rows: self.tables.rows(),
+            typing_mode: &self.typing_mode,
+            environment,
+        };
+        let depth = self.remaining_depth;
+        run_entry(&setting, &mut self.terms, &mut faults, run, entry, depth)
+    }
+
+    /// Records what an entry says to record.
+    fn record_entry(&mut self, entry: &RuleEntry) -> Result<(), Stop>
+        ensures recorded { OnOk result (IsRecorded self.new entry.now) }
+        ensures listed { AreListed (entry.now ∷ []) self.old self.new }
+        ensures unchanged { self.new ≡ record self.old { accesses = self.new.accesses; delayed_faults = self.new.delayed_faults } }
+        ensures goes_back { GoesBack self.old self.new }
+        ensures stops { is_of_headline self.old.typing_mode ≡ true → IfErr result (λ s. s ≡ Stop.OutOfMemory) }
+    {
+        self.record_at_most(to_record(entry))
+    }
+
+    /// Records an access, a delayed fault, or nothing.
+    fn record_at_most(&mut self, what: ToRecord) -> Result<(), Stop>
+        ensures recorded { OnOk result (IsKept self.new what) }
+        ensures listed { (f : Delayed) → Contains self.new.delayed_faults f → Contains self.old.delayed_faults f ⊎ (what ≡ ToRecord.DelayedFault f) }
+        ensures unchanged { self.new ≡ record self.old { accesses = self.new.accesses; delayed_faults = self.new.delayed_faults } }
+        ensures goes_back { GoesBack self.old self.new }
+        ensures stops { is_of_headline self.old.typing_mode ≡ true → IfErr result (λ s. s ≡ Stop.OutOfMemory) }
+    {
+        match what {
+            ToRecord::Access(access) => self.read_mode(access),
+            ToRecord::DelayedFault(fault) => self.meet_fault(fault),
+            ToRecord::Nothing => Ok(()),
+        }
+    }
+
+    /// Records that a rule reads the mode. Where the context stops then, or the rule has no answer without a
+    /// mode, the run is stopped, but not in a headline mode.
+    pub(crate) fn read_mode(&mut self, access: OpaqueAccess) -> Result<(), Stop>
+        ensures entered { OnOk result (RecordsAccess access self.old self.new) }
+        ensures recorded { OnOk result (Contains self.new.accesses access) }
+        ensures unchanged { self.new ≡ record self.old { accesses = self.new.accesses } }
+        ensures goes_back { GoesBack self.old self.new }
+        ensures stops { is_of_headline self.old.typing_mode ≡ true → IfErr result (λ s. s ≡ Stop.OutOfMemory) }
+    {
+        let stops = self.stop_on_rerun || matches!(access, OpaqueAccess::Always);
+        if stops && !is_headline(&self.typing_mode) {
+            return Err(Stop::ReadsMode(access));
+        }
+        let Ok(()) = self.record_access(access) else {
+            return Err(Stop::OutOfMemory);
+        };
+        Ok(())
+    }
+}

@@ -1,0 +1,168 @@
+//! The head forms of terms in a context.
+ghost use Rattle.std.specs.Prelude.{◌≡◌, ◌||◌, true, false, Ok, Err, None, IfOk, IfErr};
+ghost use Rattle.goal_terms.specs.NodeTests.{is_any_infer, some_node};
+ghost use Rattle.goal_terms.specs.TableMeaning.{Keeps, HasTerm};
+ghost use Rattle.goal_terms.specs.Tree.{node_of};
+ghost use Rattle.goal_terms.specs.declared.modes.TypingMode.{TypingMode as modes};
+ghost use Rattle.goal_tables.specs.Predicates.{some_in_env as some_env};
+ghost use Rattle.goal_infer.specs.Unification.{is_alias};
+ghost use Rattle.goal_kinds.specs.Interned.{IsIn, erased_at};
+ghost use Rattle.goal_kinds.specs.Level.{HasHeadForm, HeadFormRefuted};
+ghost use Rattle.goal_kinds.specs.Settings.{is_headline};
+ghost use Rattle.goal_solver.specs.Answers.{IsOwed, level_over};
+ghost use Rattle.goal_solver.specs.GoingBack.{GoesBack, restored};
+ghost use Rattle.goal_solver.specs.HeadForms.{bound_term, IsClosedForm, IsFormAnswer, IsFormOpen, IsAnswered, IsFormFound, IsFormUnfound, IsFoundItself};
+ghost use Rattle.goal_solver.specs.Outcomes.{StandsFor, SaysWhich, FoundIn};
+ghost use Rattle.goal_solver.specs.Relating.{IsFaultFor};
+
+use crate::context::EvalCtxt;
+use crate::eval::head_forms::head_form;
+use crate::eval::outcomes::{Found, Setting, Stop};
+use crate::faults::Fault;
+use goal_infer::followed::follow;
+use goal_tables::predicate_terms::some_in_env;
+use goal_terms::heads::Node;
+use goal_terms::modes::TypingMode;
+use goal_terms::node_tests::NodeTest;
+use goal_terms::predicates::Clause;
+use goal_terms::term_nodes::TermId;
+use goal_terms::terms::Term;
+
+impl EvalCtxt<'_> {
+    /// The head form of a term at the remaining depth, lifetimes aside: what an alias normalizes to, and each other
+    /// term itself, in every mode. The bindings of variables are followed first. A term: a derivation no higher
+    /// than the remaining depth gives it. `None`, for a closed term and environment in a headline mode: no type
+    /// and no constant is the head form, nor is it refuted. An alias that holds an inference variable, or that
+    /// is asked for in an environment with one, is `None`, and a refuted one in coherence.
+    ///
+    /// `NoSolution`: a refutation no higher shows that there is no head form. `RerunNonErased`: the erased mode
+    /// doesn't suffice. `OutOfMemory`: a growth was refused. `NotForThisKind` is never answered. Inference state,
+    /// added goals and hidden types are as before in every case.
+    pub fn structurally_normalize_term(
+        &mut self,
+        environment: &[Clause],
+        term: &Term,
+    ) -> Result<Option<Term>, Fault>
+        ensures sound { (m : modes) → IsOwed self.new m → IsFormAnswer (level_over self.old m environment.now) (bound_term self.old term.now) result }
+        ensures decided { (m : modes) → IsOwed self.new m → IsClosedForm (bound_term self.old term.now) environment.now → result ≡ Ok None → IsFormOpen (level_over self.old m environment.now) (bound_term self.old term.now) }
+        ensures itself { is_alias (node_of (bound_term self.old term.now)) ≡ false → IfOk result (IsAnswered (bound_term self.old term.now)) }
+        ensures only_memory { is_alias (node_of (bound_term self.old term.now)) ≡ false → IfErr result (λ f. f ≡ Fault.OutOfMemory) }
+        ensures unchanged { self.new ≡ restored self.old self.new }
+        ensures goes_back { GoesBack self.old self.new }
+        ensures fault { IsFaultFor self.old self.new result }
+    {
+        match self.form_outcome(environment, term) {
+            Ok(Found::Is(id)) => self.form_at(id),
+            Ok(Found::Refuted) => self.formless(),
+            Ok(Found::Undecided) => Ok(None),
+            Err(stop) => {
+                self.undecided_by(stop)?;
+                Ok(None)
+            }
+        }
+    }
+
+    /// What the head form of a term with its bindings followed comes to. Nothing changes but that there may be
+    /// more terms.
+    fn form_outcome(&mut self, environment: &[Clause], term: &Term) -> Result<Found, Stop>
+        ensures kept { Keeps self.old.terms self.new.terms }
+        ensures unchanged { self.new ≡ record self.old { terms = self.new.terms } }
+        ensures within { IfOk result (FoundIn self.new.terms) }
+        ensures sound { (m : modes) → StandsFor self.old.typing_mode m → IfOk result (IsFormFound (level_over self.old m environment.now) (bound_term self.old term.now) self.new.terms) }
+        ensures decided { (m : modes) → StandsFor self.old.typing_mode m → IsClosedForm (bound_term self.old term.now) environment.now → IfOk result (IsFormUnfound (level_over self.old m environment.now) (bound_term self.old term.now)) }
+        ensures itself { is_alias (node_of (bound_term self.old term.now)) ≡ false → IfOk result (IsFoundItself (bound_term self.old term.now) self.new.terms) }
+        ensures only_memory { is_alias (node_of (bound_term self.old term.now)) ≡ false → IfErr result (λ s. s ≡ Stop.OutOfMemory) }
+        ensures stops { is_headline self.old.typing_mode ≡ true → IfErr result (λ s. s ≡ Stop.OutOfMemory) }
+    {
+        self.holds_together();
+        let form = self.bound_form(term)?;
+        if !self.is_alias_at(form) {
+            return Ok(Found::Is(form));
+        }
+        if self.is_open(environment, form) {
+            return Ok(Found::Undecided);
+        }
+        self.form_of_alias(environment, form)
+    }
+
+    /// The number of a term with its bindings followed. Nothing changes but that there may be more terms.
+    fn bound_form(&mut self, term: &Term) -> Result<TermId, Stop>
+        ensures kept { Keeps self.old.terms self.new.terms }
+        ensures unchanged { self.new ≡ record self.old { terms = self.new.terms } }
+        ensures term { IfOk result (HasTerm self.new.terms) }
+        ensures tree { IfOk result (λ id. erased_at self.new.terms id ≡ bound_term self.old term.now) }
+        ensures stops { IfErr result (λ s. s ≡ Stop.OutOfMemory) }
+    {
+        let id = self.terms.intern(term)?;
+        Ok(follow(&mut self.terms, &self.inference, id)?)
+    }
+
+    #[tactic(auto, using(crate::proofs::FormAnswerLemmas::forms))]
+    /// Whether the term of a number is an alias.
+    fn is_alias_at(&self, id: TermId) -> bool
+        requires { IsIn self.now.terms id }
+        ensures { result ≡ is_alias (node_of (erased_at self.now.terms id)) }
+    {
+        matches!(self.terms.node(id), Node::Alias(_))
+    }
+
+    #[tactic(auto, using(crate::proofs::FormAnswerLemmas::forms))]
+    /// Whether an inference variable stands in a term or in an environment.
+    fn is_open(&self, environment: &[Clause], id: TermId) -> bool
+        requires { IsIn self.now.terms id }
+        ensures { result ≡ (some_node is_any_infer (erased_at self.now.terms id) || some_env is_any_infer environment.now) }
+    {
+        self.terms.has_infer(id) || some_in_env(NodeTest::IsAnyInfer, environment)
+    }
+
+    /// What the head form of a term comes to at the remaining depth. Nothing changes but that there may be more
+    /// terms.
+    fn form_of_alias(&mut self, environment: &[Clause], id: TermId) -> Result<Found, Stop>
+        requires { IsIn self.old.terms id }
+        ensures kept { Keeps self.old.terms self.new.terms }
+        ensures unchanged { self.new ≡ record self.old { terms = self.new.terms } }
+        ensures within { IfOk result (FoundIn self.new.terms) }
+        ensures says { (m : modes) → StandsFor self.old.typing_mode m → IfOk result (SaysWhich (HasHeadForm (level_over self.old m environment.now) (erased_at self.old.terms id)) (HeadFormRefuted (level_over self.old m environment.now) (erased_at self.old.terms id)) self.new.terms) }
+        ensures stops { is_headline self.old.typing_mode ≡ true → IfErr result (λ s. s ≡ Stop.OutOfMemory) }
+    {
+        let mut faults = Vec::new(self.allocator());
+        let setting = Setting {
+            rows: self.tables.rows(),
+            typing_mode: &self.typing_mode,
+            environment,
+        };
+        head_form(
+            &setting,
+            &mut self.terms,
+            &mut faults,
+            id,
+            self.remaining_depth,
+        )
+    }
+
+    /// The term of a number, if it is a type or a constant. Only memory is refused.
+    fn form_at(&self, id: TermId) -> Result<Option<Term>, Fault>
+        ensures found { HasTerm self.now.terms id → IfOk result (IsAnswered (erased_at self.now.terms id)) }
+        ensures none { (HasTerm self.now.terms id → ⊥) → IfOk result (λ o. o ≡ None) }
+        ensures only_memory { IfErr result (λ f. f ≡ Fault.OutOfMemory) }
+    {
+        if !self.terms.contains(id) {
+            return Ok(None);
+        }
+        let Ok(term) = self.terms.to_term(id) else {
+            return Err(Fault::OutOfMemory);
+        };
+        Ok(Some(term))
+    }
+
+    /// The answer where it is refuted that there is a head form. In coherence no refusal is final.
+    fn formless(&self) -> Result<Option<Term>, Fault>
+        ensures owed { (m : modes) → IsOwed self.now m → result ≡ Err Fault.NoSolution }
+        ensures fault { IsFaultFor self.now self.now result }
+    {
+        match self.typing_mode {
+            TypingMode::Coherence => Ok(None),
+            _ => Err(Fault::NoSolution),
+        }
+    }
+}

@@ -1,0 +1,404 @@
+//! Goals of the terms of projections with inference variables.
+ghost use Rattle.std.specs.Prelude.{◌≡◌, ◌<◌, ◌⊎◌, ℕ, suc, true, false, drop, None, Err, IfOk, IsOkUnless, MatchOption};
+ghost use Rattle.std.specs.Option.{option_map};
+ghost use Rattle.goal_terms.specs.TreeOf.{tree_of_alias, tree_of_term};
+ghost use Rattle.goal_kinds.specs.ProjectionKind.{projected_trait};
+ghost use Rattle.goal_solver.specs.Answers.{is_closed_alias, expected_variable};
+ghost use Rattle.goal_solver.specs.Binding.{IsApplicable};
+ghost use Rattle.goal_solver.specs.Collecting.{kind_words, CollectsFor};
+ghost use Rattle.goal_solver.specs.GoingBack.{GoesBack, restored};
+ghost use Rattle.goal_solver.specs.MergedRules.{IfAnswered};
+ghost use Rattle.goal_solver.specs.OpenGoals.{WhenAnswered, has_kind_fault, at_depth};
+ghost use Rattle.goal_solver.specs.OpenProjections.{AsksItsTrait, proven_class, own_args, CollectsAll, MergesGroup, tree_in, is_formed, Forms, FormsAll, RefusesForm, LacksForm, WithForms, IsRigidList, IsRigid, ByBounds, ByRest, ByLater, ByGroups, MergesThrough, MergesProjection};
+ghost use Rattle.goal_solver.specs.Refusals.{WhenRefused};
+ghost use Rattle.goal_solver.specs.Relating.{IsFaultFor};
+
+use crate::assembly::collecting::{class_rules, push_rules};
+use crate::assembly::merged_rules::Merged;
+use crate::context::EvalCtxt;
+use crate::context::respond::copied_args;
+use crate::eval::closed_goals::is_closed_alias;
+use crate::eval::where_goals::copied_clauses;
+use crate::faults::Fault;
+use goal_kinds::goal_kind::GoalKind;
+use goal_kinds::rules::{Rule, RuleEntry, RuleTerm};
+use goal_tables::checked::CheckedTables;
+use goal_terms::answers::{Certainty, Response, TraitGoalProvenVia};
+use goal_terms::modes::TypingMode;
+use goal_terms::node_tests::general_variable;
+use goal_terms::predicates::{Clause, Goal, NormalizesTo, TraitPredicate, TraitRef};
+use goal_terms::term_nodes::OutOfMemory;
+use goal_terms::terms::{AliasTerm, Const, GenericArg, Term, Ty};
+
+impl EvalCtxt<'_> {
+    /// What the goal of an alias's term is answered, at one less of the depth, where inference variables stand in
+    /// it: for a projection, by its trait goal and then by its candidates; another alias is left undecided.
+    /// Inference state, added goals and storage are as before.
+    pub(crate) fn project_below(&mut self, goal: &Goal<NormalizesTo>) -> Result<Response, Fault>
+        requires positive { 0 < self.old.remaining_depth }
+        ensures merges { (n : ℕ) → self.old.remaining_depth ≡ suc n → WhenAnswered result (MergesProjection goal.now (at_depth n self.old) result (at_depth n self.new)) }
+        ensures applies { IfOk result (IsApplicable self.new) }
+        ensures unchanged { self.new ≡ restored self.old self.new }
+        ensures goes_back { GoesBack self.old self.new }
+        ensures fault { IsFaultFor self.old self.new result }
+    {
+        self.holds_together();
+        let depth = self.remaining_depth;
+        self.remaining_depth = depth - 1;
+        let answer = self.project(goal);
+        self.remaining_depth = depth;
+        answer
+    }
+
+    /// What the goal of an alias's term is answered, where inference variables stand in it. A projection's trait
+    /// goal is answered first: its refusal is the answer, and where it is undecided so is the goal.
+    fn project(&mut self, goal: &Goal<NormalizesTo>) -> Result<Response, Fault>
+        ensures merges { WhenAnswered result (MergesProjection goal.now self.old result self.new) }
+        ensures applies { IfOk result (IsApplicable self.new) }
+        ensures unchanged { self.new ≡ restored self.old self.new }
+        ensures goes_back { GoesBack self.old self.new }
+        ensures fault { IsFaultFor self.old self.new result }
+    {
+        self.is_well_formed();
+        let Some(asked) = trait_goal_of(self.tables, goal)? else {
+            return Ok(self.respond(Certainty::Maybe, None));
+        };
+        let answer = self.trait_goal_response(&asked)?;
+        match proven_class(&answer) {
+            None => Ok(self.respond(Certainty::Maybe, None)),
+            Some(class) => self.merge_through(class, &goal.predicate, goal),
+        }
+    }
+
+    /// What the candidates of a projection make of its goal at the remaining depth, if its trait goal holds
+    /// through a class. The goal is one for the term of an alias. Inference state, added goals and storage are as
+    /// before.
+    pub(crate) fn merge_through<G: GoalKind + Drop>(
+        &mut self,
+        class: TraitGoalProvenVia,
+        asked: &NormalizesTo,
+        goal: &Goal<G>,
+    ) -> Result<Response, Fault>
+        ensures merges { WhenAnswered result (MergesThrough (kind_words G.merging G.has_term G.self_type G.is_with_self G.has_fault G.trait_asked G.passes G.is_impl_for G.candidate_gives G.candidate_refuted G.is_for G.additional) asked.now class goal.now self.old result self.new) }
+        ensures applies { IfOk result (IsApplicable self.new) }
+        ensures unchanged { self.new ≡ restored self.old self.new }
+        ensures goes_back { GoesBack self.old self.new }
+        ensures fault { IsFaultFor self.old self.new result }
+    {
+        self.is_well_formed();
+        match self.with_normalized_self_ty(goal)? {
+            None => Ok(self.respond(Certainty::Maybe, None)),
+            Some(normalized) => self.merge_groups(class, asked, &normalized),
+        }
+    }
+
+    /// What the groups of candidates make of a goal, whose self type is a head form: the environment, then those
+    /// that go with the class.
+    fn merge_groups<G: GoalKind>(
+        &mut self,
+        class: TraitGoalProvenVia,
+        asked: &NormalizesTo,
+        goal: &Goal<G>,
+    ) -> Result<Response, Fault>
+        requires accepted { has_kind_fault G.has_fault self.old.tables goal.now ≡ false }
+        ensures decides { WhenAnswered result (ByGroups (CollectsFor (kind_words G.merging G.has_term G.self_type G.is_with_self G.has_fault G.trait_asked G.passes G.is_impl_for G.candidate_gives G.candidate_refuted G.is_for G.additional) self.old.tables goal.now) class goal.now.param_env.items (own_args self.old.tables asked.now.alias) asked.now self.old result self.new) }
+        ensures applies { IfOk result (IsApplicable self.new) }
+        ensures unchanged { self.new ≡ restored self.old self.new }
+        ensures goes_back { GoesBack self.old self.new }
+        ensures fault { IsFaultFor self.old self.new result }
+    {
+        self.is_well_formed();
+        match self.merge_group(goal, &[TraitGoalProvenVia::ParamEnv])? {
+            Merged::Refuted => self.merge_later(class, asked, goal),
+            Merged::Answered(response) => self.with_forms(asked, &goal.param_env, response),
+            Merged::Split => Ok(self.respond(Certainty::Maybe, None)),
+        }
+    }
+
+    /// What the candidates after the environment make of a goal, by the class through which its trait goal holds.
+    fn merge_later<G: GoalKind>(
+        &mut self,
+        class: TraitGoalProvenVia,
+        asked: &NormalizesTo,
+        goal: &Goal<G>,
+    ) -> Result<Response, Fault>
+        requires accepted { has_kind_fault G.has_fault self.old.tables goal.now ≡ false }
+        ensures decides { WhenAnswered result (ByLater class (CollectsFor (kind_words G.merging G.has_term G.self_type G.is_with_self G.has_fault G.trait_asked G.passes G.is_impl_for G.candidate_gives G.candidate_refuted G.is_for G.additional) self.old.tables goal.now) goal.now.param_env.items (own_args self.old.tables asked.now.alias) asked.now self.old result self.new) }
+        ensures applies { IfOk result (IsApplicable self.new) }
+        ensures unchanged { self.new ≡ restored self.old self.new }
+        ensures goes_back { GoesBack self.old self.new }
+        ensures fault { IsFaultFor self.old self.new result }
+    {
+        match class {
+            TraitGoalProvenVia::ParamEnv => self.merge_bounds(asked, goal),
+            TraitGoalProvenVia::AliasBound => self.merge_bounds(asked, goal),
+            TraitGoalProvenVia::Misc => self.merge_rest(goal),
+        }
+    }
+
+    /// What the bounds make of a goal. Where all of them are refused the alias is rigid.
+    fn merge_bounds<G: GoalKind>(
+        &mut self,
+        asked: &NormalizesTo,
+        goal: &Goal<G>,
+    ) -> Result<Response, Fault>
+        requires accepted { has_kind_fault G.has_fault self.old.tables goal.now ≡ false }
+        ensures decides { WhenAnswered result (ByBounds (CollectsFor (kind_words G.merging G.has_term G.self_type G.is_with_self G.has_fault G.trait_asked G.passes G.is_impl_for G.candidate_gives G.candidate_refuted G.is_for G.additional) self.old.tables goal.now) goal.now.param_env.items (own_args self.old.tables asked.now.alias) asked.now self.old result self.new) }
+        ensures applies { IfOk result (IsApplicable self.new) }
+        ensures unchanged { self.new ≡ restored self.old self.new }
+        ensures goes_back { GoesBack self.old self.new }
+        ensures fault { IsFaultFor self.old self.new result }
+    {
+        self.is_well_formed();
+        match self.merge_group(goal, &[TraitGoalProvenVia::AliasBound])? {
+            Merged::Refuted => self.rigid(&goal.param_env, asked),
+            Merged::Answered(response) => self.with_forms(asked, &goal.param_env, response),
+            Merged::Split => Ok(self.respond(Certainty::Maybe, None)),
+        }
+    }
+
+    /// What the bounds and the rest make of a goal together. Where all of them are refused the goal is.
+    fn merge_rest<G: GoalKind>(&mut self, goal: &Goal<G>) -> Result<Response, Fault>
+        requires accepted { has_kind_fault G.has_fault self.old.tables goal.now ≡ false }
+        ensures decides { WhenAnswered result (ByRest (CollectsFor (kind_words G.merging G.has_term G.self_type G.is_with_self G.has_fault G.trait_asked G.passes G.is_impl_for G.candidate_gives G.candidate_refuted G.is_for G.additional) self.old.tables goal.now) goal.now.param_env.items self.old result self.new) }
+        ensures applies { IfOk result (IsApplicable self.new) }
+        ensures unchanged { self.new ≡ restored self.old self.new }
+        ensures goes_back { GoesBack self.old self.new }
+        ensures fault { IsFaultFor self.old self.new result }
+    {
+        self.is_well_formed();
+        let classes = [TraitGoalProvenVia::AliasBound, TraitGoalProvenVia::Misc];
+        match self.merge_group(goal, &classes)? {
+            Merged::Refuted => {
+                let certainty = self.open_refusal()?;
+                Ok(self.respond(certainty, None))
+            }
+            Merged::Answered(response) => Ok(response),
+            Merged::Split => Ok(self.respond(Certainty::Maybe, None)),
+        }
+    }
+
+    /// What the candidates of some classes make of a goal together.
+    fn merge_group<G: GoalKind>(
+        &mut self,
+        goal: &Goal<G>,
+        classes: &[TraitGoalProvenVia],
+    ) -> Result<Merged, Fault>
+        requires accepted { has_kind_fault G.has_fault self.old.tables goal.now ≡ false }
+        ensures merges { IfOk result (λ m. MergesGroup (CollectsFor (kind_words G.merging G.has_term G.self_type G.is_with_self G.has_fault G.trait_asked G.passes G.is_impl_for G.candidate_gives G.candidate_refuted G.is_for G.additional) self.old.tables goal.now) goal.now.param_env.items classes.now self.old m self.new) }
+        ensures applies { IfOk result (λ m. IfAnswered m (IsApplicable self.new)) }
+        ensures never { result ≡ Err Fault.NoSolution → ⊥ }
+        ensures unchanged { self.new ≡ restored self.old self.new }
+        ensures goes_back { GoesBack self.old self.new }
+        ensures fault { IsFaultFor self.old self.new result }
+    {
+        let rules = rules_of(self.tables, &self.typing_mode, goal, classes)?;
+        self.merge_rules(&goal.param_env, &rules)
+    }
+
+    /// A response, where each own argument of the alias has a head form that is no general variable, or where the
+    /// response isn't sure; else the goal is undecided, or refused where an argument's head form is.
+    fn with_forms(
+        &mut self,
+        asked: &NormalizesTo,
+        environment: &[Clause],
+        response: Response,
+    ) -> Result<Response, Fault>
+        requires applies { IsApplicable self.old response }
+        ensures forms { WhenAnswered result (WithForms environment.now (own_args self.old.tables asked.now.alias) response self.old result self.new) }
+        ensures applies { IfOk result (IsApplicable self.new) }
+        ensures unchanged { self.new ≡ restored self.old self.new }
+        ensures goes_back { GoesBack self.old self.new }
+        ensures fault { IsFaultFor self.old self.new result }
+    {
+        self.is_well_formed();
+        self.holds_together();
+        if let Certainty::Maybe = response.certainty {
+            return Ok(response);
+        }
+        let tables = self.tables;
+        if self.have_forms(environment, own_args(tables, asked))? {
+            Ok(response)
+        } else {
+            Ok(self.respond(Certainty::Maybe, None))
+        }
+    }
+
+    /// Whether each of some arguments has a head form that is no general variable.
+    fn have_forms(&mut self, environment: &[Clause], args: &[GenericArg]) -> Result<bool, Fault>
+        ensures forms { IfOk result (λ b. FormsAll environment.now args.now self.old b self.new) }
+        ensures lacks { WhenRefused result (LacksForm environment.now args.now self.old self.new) }
+        ensures unchanged { self.new ≡ restored self.old self.new }
+        ensures goes_back { GoesBack self.old self.new }
+        ensures fault { IsFaultFor self.old self.new result }
+    {
+        let mut formed = true;
+        for arg in args {
+            let has_form = self.has_form(environment, arg)?;
+            formed = formed && has_form;
+        }
+        Ok(formed)
+    }
+
+    /// Whether an argument has a head form that is no general variable, if it isn't a lifetime.
+    fn has_form(&mut self, environment: &[Clause], arg: &GenericArg) -> Result<bool, Fault>
+        ensures forms { IfOk result (λ b. Forms environment.now (tree_in arg.now) self.old b self.new) }
+        ensures lacks { WhenRefused result (RefusesForm environment.now (tree_in arg.now) self.old self.new) }
+        ensures unchanged { self.new ≡ restored self.old self.new }
+        ensures goes_back { GoesBack self.old self.new }
+        ensures fault { IsFaultFor self.old self.new result }
+    {
+        let Some(term) = term_in(arg)? else {
+            return Ok(true);
+        };
+        let found = self.structurally_normalize_term(environment, &term)?;
+        Ok(is_formed(&found))
+    }
+
+    /// The answer where an alias is rigid: its expected term is given the alias as it stands.
+    fn rigid(&mut self, environment: &[Clause], asked: &NormalizesTo) -> Result<Response, Fault>
+        ensures rigid { WhenAnswered result (IsRigid environment.now asked.now self.old result self.new) }
+        ensures applies { IfOk result (IsApplicable self.new) }
+        ensures unchanged { self.new ≡ restored self.old self.new }
+        ensures goes_back { GoesBack self.old self.new }
+        ensures fault { IsFaultFor self.old self.new result }
+    {
+        let entries = rigid_entries(asked)?;
+        self.run_open(environment, &entries)
+    }
+}
+
+/// Whether the term of an alias is asked for a general variable, where an inference variable stands in the alias
+/// or in the environment.
+pub(crate) fn asks_open(asked: &NormalizesTo, environment: &[Clause]) -> bool
+    ensures open { result ≡ true → is_closed_alias asked.now.alias environment.now ≡ false }
+    ensures other { result ≡ false → (is_closed_alias asked.now.alias environment.now ≡ true) ⊎ (expected_variable asked.now.term ≡ None) }
+{
+    match general_variable(asked.term.view().node()) {
+        None => false,
+        Some(_) => !is_closed_alias(&asked.alias, environment),
+    }
+}
+
+/// The class through which a response says that a trait goal holds.
+fn proven_class(response: &Response) -> Option<TraitGoalProvenVia>
+    ensures { result ≡ proven_class response.now }
+{
+    match response.certainty {
+        Certainty::Yes => response.proven_via,
+        Certainty::Maybe => None,
+    }
+}
+
+/// The goal whether the trait of the item that an alias projects holds, in the same environment, if it and its
+/// trait have rows.
+fn trait_goal_of(
+    tables: &CheckedTables,
+    goal: &Goal<NormalizesTo>,
+) -> Result<Option<Goal<TraitPredicate>>, Fault>
+    ensures asks { IfOk result (λ o. MatchOption o (projected_trait tables.now goal.now.predicate.alias ≡ None) (AsksItsTrait tables.now goal.now)) }
+    ensures only_memory { IsOkUnless result Fault.OutOfMemory }
+{
+    let alloc = *goal.param_env.allocator();
+    let Some(view) = goal.predicate.trait_ref(tables) else {
+        return Ok(None);
+    };
+    let Ok(args) = copied_args(alloc, view.args) else {
+        return Err(Fault::OutOfMemory);
+    };
+    let Ok(param_env) = copied_clauses(alloc, &goal.param_env) else {
+        return Err(Fault::OutOfMemory);
+    };
+    let def_id = view.def_id;
+    let trait_ref = TraitRef { def_id, args };
+    let predicate = TraitPredicate { trait_ref };
+    Ok(Some(Goal {
+        param_env,
+        predicate,
+    }))
+}
+
+/// The own arguments of a projection: those behind the trait's.
+fn own_args<'a>(tables: &'a CheckedTables, asked: &'a NormalizesTo) -> &'a [GenericArg]
+    ensures { result.now ≡ own_args tables.now asked.now.alias }
+{
+    let Some(view) = asked.trait_ref(tables) else {
+        return &[];
+    };
+    args_behind(&asked.alias.args, view.args.len())
+}
+
+/// The arguments behind a number of them.
+fn args_behind(args: &[GenericArg], count: usize) -> &[GenericArg]
+    ensures { result.now ≡ drop count args.now }
+{
+    if count >= args.len() {
+        return &[];
+    }
+    &args[count..]
+}
+
+/// The rules of the candidates of some classes for a goal, one class after the other. Want of memory is the only
+/// refusal.
+fn rules_of<G: GoalKind>(
+    tables: &CheckedTables,
+    mode: &TypingMode,
+    goal: &Goal<G>,
+    classes: &[TraitGoalProvenVia],
+) -> Result<Vec<Rule>, Fault>
+    requires accepted { has_kind_fault G.has_fault tables.now goal.now ≡ false }
+    ensures collected { IfOk result (λ rs. CollectsAll (CollectsFor (kind_words G.merging G.has_term G.self_type G.is_with_self G.has_fault G.trait_asked G.passes G.is_impl_for G.candidate_gives G.candidate_refuted G.is_for G.additional) tables.now goal.now mode.now) classes.now rs.items) }
+    ensures only_memory { IsOkUnless result Fault.OutOfMemory }
+{
+    let mut found = Vec::new(*goal.param_env.allocator());
+    for class in classes {
+        let rules = class_rules(tables, mode, goal, *class)?;
+        push_rules(&mut found, rules)?;
+    }
+    Ok(found)
+}
+
+/// The type or the constant that an argument is.
+#[tactic(auto, using(goal_terms::proofs::TreeLemmas::tree_equations))]
+fn term_in(arg: &GenericArg) -> Result<Option<Term>, OutOfMemory>
+    ensures { IfOk result (λ o. option_map tree_of_term o ≡ tree_in arg.now) }
+{
+    match arg {
+        GenericArg::Ty(ty) => Ok(Some(Term::Ty(ty.clone()?))),
+        GenericArg::Const(constant) => Ok(Some(Term::Const(constant.clone()?))),
+        GenericArg::Lifetime(_) => Ok(None),
+    }
+}
+
+/// Whether a head form is there, and no general variable.
+fn is_formed(found: &Option<Term>) -> bool
+    ensures { result ≡ is_formed found.now }
+{
+    match found {
+        None => false,
+        Some(form) => general_variable(form.view().node()).is_none(),
+    }
+}
+
+/// An alias, as the type or the constant that it stands for.
+#[tactic(auto, using(goal_terms::proofs::TreeLemmas::tree_equations))]
+fn term_of_alias(alias: &AliasTerm) -> Result<Term, OutOfMemory>
+    ensures { IfOk result (λ made. tree_of_term made ≡ tree_of_alias alias.now) }
+{
+    let copy = alias.clone()?;
+    if alias.kind.is_type() {
+        Ok(Term::Ty(Ty::Alias(copy)))
+    } else {
+        Ok(Term::Const(Const::Alias(copy)))
+    }
+}
+
+/// The list of the one entry that gives an expected term its alias as it stands.
+fn rigid_entries(asked: &NormalizesTo) -> Result<Vec<RuleEntry>, OutOfMemory>
+    ensures { IfOk result (λ es. IsRigidList asked.now es.items) }
+{
+    let alloc = *asked.alias.args.allocator();
+    let rigid_alias = term_of_alias(&asked.alias)?;
+    let expected = asked.term.clone()?;
+    Ok(vec![in alloc; RuleEntry::Term(expected, RuleTerm::AsItStands(rigid_alias))]?)
+}

@@ -1,0 +1,609 @@
+//! The terms of projections.
+ghost use Rattle.std.specs.Prelude.{true, IfErr, ◌≡◌, ◌⊎◌, IfOk, map};
+ghost use Rattle.std.specs.List.{All};
+ghost use Rattle.goal_terms.specs.TableMeaning.{Keeps};
+ghost use Rattle.goal_terms.specs.declared.modes.TypingMode.{TypingMode};
+ghost use Rattle.goal_kinds.specs.Builtins.{listed_by_size, term_rule};
+ghost use Rattle.goal_kinds.specs.Candidates.{environment, second_group};
+ghost use Rattle.goal_kinds.specs.Interned.{IsIn, AreIn, PredicateIn, PremiseIn, CandidateIn, ListedIn, erased_at, erased_all, predicate_at, premise_at, candidate_at, listed_at};
+ghost use Rattle.goal_kinds.specs.Level.{HasHeadForm, HeadFormRefuted};
+ghost use Rattle.goal_kinds.specs.Premises.{PremisesHold, PremisesRefuted};
+ghost use Rattle.goal_kinds.specs.Projections.{EquationGives, EquationRefuted, AssumptionGives, AssumptionTermRefuted, ListedGives, ListedRefuted, CandidateGives, TermRefuted, GroupGives, GroupRefuted, GroupsGive, GroupsRefuted, OwnUnformed, ItemGives, ItemRefuted, ProjectionGives, ProjectionRefuted};
+ghost use Rattle.goal_kinds.specs.Settings.{is_headline};
+ghost use Rattle.goal_solver.specs.Outcomes.{StandsFor, setting_in, level_in, Says, SaysWhich, FoundIn, ProjectionIn, projection_at};
+ghost use Rattle.goal_solver.specs.ProjectionParts.{EqualArgsGive, EqualArgsRefuted, HaveHeadForms, SomeUnformed, FormedGives, LaterGives, LaterRefuted, ReplacedGives, ReplacedRefuted, ThroughGives, ThroughRefuted};
+
+use crate::assembly::merging::merge_terms;
+use crate::eval::combined::found_behind;
+use crate::eval::head_forms::head_form;
+use crate::eval::outcomes::{Found, Outcome, Projection, Setting, Stop, TraitOutcome};
+use crate::eval::premises::{clauses_outcome, premises_outcome};
+use crate::normalizes_to::impl_terms::consider_projection_impl_candidate;
+use crate::normalizes_to::projection_args::{
+    first_args, intern_alias, intern_unit, later_args, projected_args, with_self,
+};
+use crate::relate::equality::compare_lists;
+use crate::trait_goals::candidates::evaluate_trait_goal;
+use goal_kinds::builtin::terms::term_rule;
+use goal_kinds::candidates::interned::{
+    InternedCandidate, InternedPredicate, InternedPremise, ListedTerm,
+};
+use goal_kinds::candidates::lists::{candidates_of_class, second_group};
+use goal_tables::rows::{ItemRow, TraitRow};
+use goal_terms::answers::{DelayedFault, TraitGoalProvenVia};
+use goal_terms::ids::{ItemId, TraitId};
+use goal_terms::term_nodes::TermId;
+use goal_terms::term_table::TermTable;
+use goal_terms::terms::AliasTermKind;
+
+/// A projection as it was given, whose trait goal holds through a class: the alias and its arguments, its
+/// item, and how many of its arguments are the trait's.
+#[derive(Clone, Copy)]
+pub(crate) struct Given<'e> {
+    pub(crate) kind: AliasTermKind,
+    pub(crate) item: &'e ItemRow,
+    pub(crate) trait_params: usize,
+    pub(crate) class: TraitGoalProvenVia,
+    pub(crate) args: &'e [TermId],
+}
+
+/// The term that a projection of an item has, one above a depth.
+#[cycle(closed)]
+pub fn projection_term(
+    setting: &Setting<'_>,
+    terms: &mut TermTable,
+    faults: &mut Vec<DelayedFault>,
+    kind: AliasTermKind,
+    item: ItemId,
+    args: &[TermId],
+    depth: u32,
+) -> Result<Found, Stop>
+    requires { AreIn terms.old args.now }
+    ensures kept { Keeps terms.old terms.new }
+    ensures within { IfOk result (FoundIn terms.new) }
+    ensures stops { is_headline setting.now.typing_mode.now ≡ true → IfErr result (λ s. s ≡ Stop.OutOfMemory) }
+    ensures says { (m : TypingMode) → StandsFor setting.now.typing_mode.now m → IfOk result (SaysWhich (ProjectionGives (setting_in setting.now m) (level_in setting.now m depth) kind item (erased_all terms.old args.now)) (ProjectionRefuted (setting_in setting.now m) (level_in setting.now m depth) kind item (erased_all terms.old args.now)) terms.new) }
+{
+    let Some(row) = setting.rows.item_row(item) else {
+        return Ok(Found::Undecided);
+    };
+    let Some(trait_row) = setting.rows.trait_row(row.trait_id) else {
+        return Ok(Found::Undecided);
+    };
+    item_term(setting, terms, faults, kind, row, trait_row, args, depth)
+}
+
+/// The term that a projection has by its item's row and its trait's.
+#[cycle(closed)]
+fn item_term(
+    setting: &Setting<'_>,
+    terms: &mut TermTable,
+    faults: &mut Vec<DelayedFault>,
+    kind: AliasTermKind,
+    item: &ItemRow,
+    trait_row: &TraitRow,
+    args: &[TermId],
+    depth: u32,
+) -> Result<Found, Stop>
+    requires { AreIn terms.old args.now }
+    ensures kept { Keeps terms.old terms.new }
+    ensures within { IfOk result (FoundIn terms.new) }
+    ensures stops { is_headline setting.now.typing_mode.now ≡ true → IfErr result (λ s. s ≡ Stop.OutOfMemory) }
+    ensures says { (m : TypingMode) → StandsFor setting.now.typing_mode.now m → IfOk result (SaysWhich (λ u. ItemGives (setting_in setting.now m) (level_in setting.now m depth) kind (erased_all terms.old args.now) u item.now trait_row.now) (ItemRefuted (setting_in setting.now m) (level_in setting.now m depth) kind (erased_all terms.old args.now) item.now trait_row.now) terms.new) }
+{
+    if args.is_empty() {
+        return Ok(Found::Undecided);
+    }
+    let trait_params = trait_row.params.len();
+    let trait_args = first_args(args, trait_params);
+    match evaluate_trait_goal(setting, terms, faults, item.trait_id, trait_args, depth)? {
+        TraitOutcome::Undecided => Ok(Found::Undecided),
+        TraitOutcome::Refuted => Ok(Found::Refuted),
+        TraitOutcome::Holds(class) => {
+            let given = Given {
+                kind,
+                item,
+                trait_params,
+                class,
+                args,
+            };
+            term_proven_via(setting, terms, faults, &given, depth)
+        }
+    }
+}
+
+/// The term of a projection whose trait goal holds.
+#[cycle(closed)]
+pub(crate) fn term_proven_via(
+    setting: &Setting<'_>,
+    terms: &mut TermTable,
+    faults: &mut Vec<DelayedFault>,
+    given: &Given<'_>,
+    depth: u32,
+) -> Result<Found, Stop>
+    requires { AreIn terms.old given.now.args.now }
+    ensures kept { Keeps terms.old terms.new }
+    ensures within { IfOk result (FoundIn terms.new) }
+    ensures stops { is_headline setting.now.typing_mode.now ≡ true → IfErr result (λ s. s ≡ Stop.OutOfMemory) }
+    ensures says { (m : TypingMode) → StandsFor setting.now.typing_mode.now m → IfOk result (SaysWhich (ThroughGives (setting_in setting.now m) (level_in setting.now m depth) given.now.kind given.now.item.now given.now.trait_params given.now.class (erased_all terms.old given.now.args.now)) (ThroughRefuted (setting_in setting.now m) (level_in setting.now m depth) given.now.kind given.now.item.now given.now.trait_params given.now.class (erased_all terms.old given.now.args.now)) terms.new) }
+{
+    let args = given.args;
+    if args.is_empty() {
+        return Ok(Found::Undecided);
+    }
+    match head_form(setting, terms, faults, args[0], depth)? {
+        Found::Undecided => Ok(Found::Undecided),
+        Found::Refuted => Ok(Found::Undecided),
+        Found::Is(self_ty) => replaced_term(setting, terms, faults, given, self_ty, depth),
+    }
+}
+
+/// The term of a projection whose trait goal holds, for the head form of its self type.
+#[cycle(closed)]
+fn replaced_term(
+    setting: &Setting<'_>,
+    terms: &mut TermTable,
+    faults: &mut Vec<DelayedFault>,
+    given: &Given<'_>,
+    self_ty: TermId,
+    depth: u32,
+) -> Result<Found, Stop>
+    requires args { AreIn terms.old given.now.args.now }
+    requires self_ty { IsIn terms.old self_ty }
+    ensures kept { Keeps terms.old terms.new }
+    ensures within { IfOk result (FoundIn terms.new) }
+    ensures stops { is_headline setting.now.typing_mode.now ≡ true → IfErr result (λ s. s ≡ Stop.OutOfMemory) }
+    ensures says { (m : TypingMode) → StandsFor setting.now.typing_mode.now m → IfOk result (SaysWhich (ReplacedGives (setting_in setting.now m) (level_in setting.now m depth) given.now.kind given.now.item.now given.now.trait_params given.now.class (erased_all terms.old given.now.args.now) (erased_at terms.old self_ty)) (ReplacedRefuted (setting_in setting.now m) (level_in setting.now m depth) given.now.kind given.now.item.now given.now.trait_params given.now.class (erased_all terms.old given.now.args.now) (erased_at terms.old self_ty)) terms.new) }
+{
+    let alias = intern_alias(setting.allocator(), terms, given.kind, given.args)?;
+    let args = with_self(setting.allocator(), self_ty, given.args)?;
+    let rigid_alias = intern_alias(setting.allocator(), terms, given.kind, args.as_slice())?;
+    let projection = Projection {
+        item: given.item,
+        trait_params: given.trait_params,
+        args: args.as_slice(),
+        rigid_alias,
+    };
+    groups_term(
+        setting,
+        terms,
+        faults,
+        &projection,
+        self_ty,
+        alias,
+        given.class,
+        depth,
+    )
+}
+
+/// The term of a projection by the groups of candidates.
+#[cycle(closed)]
+fn groups_term(
+    setting: &Setting<'_>,
+    terms: &mut TermTable,
+    faults: &mut Vec<DelayedFault>,
+    projection: &Projection<'_>,
+    self_ty: TermId,
+    given: TermId,
+    class: TraitGoalProvenVia,
+    depth: u32,
+) -> Result<Found, Stop>
+    requires projection { ProjectionIn terms.old projection.now }
+    requires self_ty { IsIn terms.old self_ty }
+    requires given { IsIn terms.old given }
+    ensures kept { Keeps terms.old terms.new }
+    ensures within { IfOk result (FoundIn terms.new) }
+    ensures stops { is_headline setting.now.typing_mode.now ≡ true → IfErr result (λ s. s ≡ Stop.OutOfMemory) }
+    ensures says { (m : TypingMode) → StandsFor setting.now.typing_mode.now m → IfOk result (SaysWhich (GroupsGive (setting_in setting.now m) (level_in setting.now m depth) class (projection_at terms.old projection.now) (erased_at terms.old projection.now.rigid_alias) (erased_at terms.old given) (second_group (setting_in setting.now m) projection.now.item.now.trait_id (erased_at terms.old self_ty) class)) (GroupsRefuted (setting_in setting.now m) (level_in setting.now m depth) class (projection_at terms.old projection.now) (erased_at terms.old projection.now.rigid_alias) (second_group (setting_in setting.now m) projection.now.item.now.trait_id (erased_at terms.old self_ty) class)) terms.new) }
+{
+    match environment_term(setting, terms, faults, projection, self_ty, depth)? {
+        Found::Undecided => Ok(Found::Undecided),
+        Found::Is(term) => own_args_normalized(setting, terms, faults, projection, term, depth),
+        Found::Refuted => later_term(
+            setting, terms, faults, projection, self_ty, given, class, depth,
+        ),
+    }
+}
+
+/// The term of a projection by the candidates after the environment.
+#[cycle(closed)]
+fn later_term(
+    setting: &Setting<'_>,
+    terms: &mut TermTable,
+    faults: &mut Vec<DelayedFault>,
+    projection: &Projection<'_>,
+    self_ty: TermId,
+    given: TermId,
+    class: TraitGoalProvenVia,
+    depth: u32,
+) -> Result<Found, Stop>
+    requires projection { ProjectionIn terms.old projection.now }
+    requires self_ty { IsIn terms.old self_ty }
+    requires given { IsIn terms.old given }
+    ensures kept { Keeps terms.old terms.new }
+    ensures within { IfOk result (FoundIn terms.new) }
+    ensures stops { is_headline setting.now.typing_mode.now ≡ true → IfErr result (λ s. s ≡ Stop.OutOfMemory) }
+    ensures says { (m : TypingMode) → StandsFor setting.now.typing_mode.now m → IfOk result (SaysWhich (LaterGives (setting_in setting.now m) (level_in setting.now m depth) class (projection_at terms.old projection.now) (erased_at terms.old projection.now.rigid_alias) (erased_at terms.old given) (second_group (setting_in setting.now m) projection.now.item.now.trait_id (erased_at terms.old self_ty) class)) (LaterRefuted (setting_in setting.now m) (level_in setting.now m depth) class (projection_at terms.old projection.now) (erased_at terms.old projection.now.rigid_alias) (second_group (setting_in setting.now m) projection.now.item.now.trait_id (erased_at terms.old self_ty) class)) terms.new) }
+{
+    match second_term(setting, terms, faults, projection, self_ty, class, depth)? {
+        Found::Undecided => Ok(Found::Undecided),
+        Found::Refuted => match class {
+            TraitGoalProvenVia::Misc => Ok(Found::Refuted),
+            _ => Ok(Found::Is(given)),
+        },
+        Found::Is(term) => match class {
+            TraitGoalProvenVia::Misc => Ok(Found::Is(term)),
+            _ => own_args_normalized(setting, terms, faults, projection, term, depth),
+        },
+    }
+}
+
+/// The term that the environment gives a projection.
+#[cycle(closed)]
+fn environment_term(
+    setting: &Setting<'_>,
+    terms: &mut TermTable,
+    faults: &mut Vec<DelayedFault>,
+    projection: &Projection<'_>,
+    self_ty: TermId,
+    depth: u32,
+) -> Result<Found, Stop>
+    requires projection { ProjectionIn terms.old projection.now }
+    requires self_ty { IsIn terms.old self_ty }
+    ensures kept { Keeps terms.old terms.new }
+    ensures within { IfOk result (FoundIn terms.new) }
+    ensures stops { is_headline setting.now.typing_mode.now ≡ true → IfErr result (λ s. s ≡ Stop.OutOfMemory) }
+    ensures says { (m : TypingMode) → StandsFor setting.now.typing_mode.now m → IfOk result (SaysWhich (GroupGives (setting_in setting.now m) (level_in setting.now m depth) (projection_at terms.old projection.now) (erased_at terms.old projection.now.rigid_alias) (environment (setting_in setting.now m))) (GroupRefuted (setting_in setting.now m) (level_in setting.now m depth) (projection_at terms.old projection.now) (environment (setting_in setting.now m))) terms.new) }
+{
+    let candidates = candidates_of_class(
+        setting.rows,
+        setting.environment,
+        terms,
+        projection.item.trait_id,
+        self_ty,
+        TraitGoalProvenVia::ParamEnv,
+    )?;
+    group_term(
+        setting,
+        terms,
+        faults,
+        projection,
+        candidates.as_slice(),
+        depth,
+    )
+}
+
+/// The term that the candidates after the environment give a projection.
+#[cycle(closed)]
+fn second_term(
+    setting: &Setting<'_>,
+    terms: &mut TermTable,
+    faults: &mut Vec<DelayedFault>,
+    projection: &Projection<'_>,
+    self_ty: TermId,
+    class: TraitGoalProvenVia,
+    depth: u32,
+) -> Result<Found, Stop>
+    requires projection { ProjectionIn terms.old projection.now }
+    requires self_ty { IsIn terms.old self_ty }
+    ensures kept { Keeps terms.old terms.new }
+    ensures within { IfOk result (FoundIn terms.new) }
+    ensures stops { is_headline setting.now.typing_mode.now ≡ true → IfErr result (λ s. s ≡ Stop.OutOfMemory) }
+    ensures says { (m : TypingMode) → StandsFor setting.now.typing_mode.now m → IfOk result (SaysWhich (GroupGives (setting_in setting.now m) (level_in setting.now m depth) (projection_at terms.old projection.now) (erased_at terms.old projection.now.rigid_alias) (second_group (setting_in setting.now m) projection.now.item.now.trait_id (erased_at terms.old self_ty) class)) (GroupRefuted (setting_in setting.now m) (level_in setting.now m depth) (projection_at terms.old projection.now) (second_group (setting_in setting.now m) projection.now.item.now.trait_id (erased_at terms.old self_ty) class)) terms.new) }
+{
+    let candidates = second_group(
+        setting.rows,
+        setting.environment,
+        terms,
+        projection.item.trait_id,
+        self_ty,
+        class,
+    )?;
+    group_term(
+        setting,
+        terms,
+        faults,
+        projection,
+        candidates.as_slice(),
+        depth,
+    )
+}
+
+/// A term, where a projection's own arguments have head forms.
+#[cycle(closed)]
+fn own_args_normalized(
+    setting: &Setting<'_>,
+    terms: &mut TermTable,
+    faults: &mut Vec<DelayedFault>,
+    projection: &Projection<'_>,
+    term: TermId,
+    depth: u32,
+) -> Result<Found, Stop>
+    requires projection { ProjectionIn terms.old projection.now }
+    requires term { IsIn terms.old term }
+    ensures kept { Keeps terms.old terms.new }
+    ensures within { IfOk result (FoundIn terms.new) }
+    ensures stops { is_headline setting.now.typing_mode.now ≡ true → IfErr result (λ s. s ≡ Stop.OutOfMemory) }
+    ensures says { (m : TypingMode) → StandsFor setting.now.typing_mode.now m → IfOk result (SaysWhich (FormedGives (level_in setting.now m depth) (projection_at terms.old projection.now) (erased_at terms.old term)) (OwnUnformed (level_in setting.now m depth) (projection_at terms.old projection.now)) terms.new) }
+{
+    let own = later_args(projection.args, projection.trait_params);
+    match head_forms_outcome(setting, terms, faults, own, depth)? {
+        Outcome::Undecided => Ok(Found::Undecided),
+        Outcome::Refuted => Ok(Found::Refuted),
+        Outcome::Holds => Ok(Found::Is(term)),
+    }
+}
+
+/// Whether terms have head forms. One without a head form refutes it.
+#[cycle(closed)]
+fn head_forms_outcome(
+    setting: &Setting<'_>,
+    terms: &mut TermTable,
+    faults: &mut Vec<DelayedFault>,
+    ids: &[TermId],
+    depth: u32,
+) -> Result<Outcome, Stop>
+    requires { AreIn terms.old ids.now }
+    ensures kept { Keeps terms.old terms.new }
+    ensures stops { is_headline setting.now.typing_mode.now ≡ true → IfErr result (λ s. s ≡ Stop.OutOfMemory) }
+    ensures says { (m : TypingMode) → StandsFor setting.now.typing_mode.now m → IfOk result (Says (HaveHeadForms (level_in setting.now m depth) (erased_all terms.old ids.now)) (SomeUnformed (level_in setting.now m depth) (erased_all terms.old ids.now))) }
+{
+    let mut outcome = Outcome::Holds;
+    for id in ids {
+        match head_form(setting, terms, faults, *id, depth)? {
+            Found::Refuted => return Ok(Outcome::Refuted),
+            Found::Undecided => outcome = Outcome::Undecided,
+            Found::Is(_) => {}
+        }
+    }
+    Ok(outcome)
+}
+
+/// The term that a group of candidates gives a projection: all that give one have to give the same.
+#[cycle(closed)]
+fn group_term(
+    setting: &Setting<'_>,
+    terms: &mut TermTable,
+    faults: &mut Vec<DelayedFault>,
+    projection: &Projection<'_>,
+    candidates: &[InternedCandidate<'_>],
+    depth: u32,
+) -> Result<Found, Stop>
+    requires projection { ProjectionIn terms.old projection.now }
+    requires candidates { All (CandidateIn terms.old) candidates.now }
+    ensures kept { Keeps terms.old terms.new }
+    ensures within { IfOk result (FoundIn terms.new) }
+    ensures stops { is_headline setting.now.typing_mode.now ≡ true → IfErr result (λ s. s ≡ Stop.OutOfMemory) }
+    ensures says { (m : TypingMode) → StandsFor setting.now.typing_mode.now m → IfOk result (SaysWhich (GroupGives (setting_in setting.now m) (level_in setting.now m depth) (projection_at terms.old projection.now) (erased_at terms.old projection.now.rigid_alias) (map (candidate_at terms.old) candidates.now)) (GroupRefuted (setting_in setting.now m) (level_in setting.now m depth) (projection_at terms.old projection.now) (map (candidate_at terms.old) candidates.now)) terms.new) }
+{
+    let mut found = Found::Refuted;
+    for candidate in candidates {
+        let next = candidate_term(setting, terms, faults, projection, candidate, depth)?;
+        found = merge_terms(terms, found, next);
+        if let Found::Undecided = found {
+            return Ok(Found::Undecided);
+        }
+    }
+    Ok(found)
+}
+
+/// The term that a candidate gives a projection.
+#[cycle(closed)]
+fn candidate_term(
+    setting: &Setting<'_>,
+    terms: &mut TermTable,
+    faults: &mut Vec<DelayedFault>,
+    projection: &Projection<'_>,
+    candidate: &InternedCandidate<'_>,
+    depth: u32,
+) -> Result<Found, Stop>
+    requires projection { ProjectionIn terms.old projection.now }
+    requires candidate { CandidateIn terms.old candidate.now }
+    ensures kept { Keeps terms.old terms.new }
+    ensures within { IfOk result (FoundIn terms.new) }
+    ensures stops { is_headline setting.now.typing_mode.now ≡ true → IfErr result (λ s. s ≡ Stop.OutOfMemory) }
+    ensures says { (m : TypingMode) → StandsFor setting.now.typing_mode.now m → IfOk result (SaysWhich (λ u. CandidateGives (setting_in setting.now m) (level_in setting.now m depth) (projection_at terms.old projection.now) (erased_at terms.old projection.now.rigid_alias) u (candidate_at terms.old candidate.now)) (TermRefuted (setting_in setting.now m) (level_in setting.now m depth) (projection_at terms.old projection.now) (candidate_at terms.old candidate.now)) terms.new) }
+{
+    match candidate {
+        InternedCandidate::Assumption(predicate) => {
+            match_assumption(setting, terms, faults, projection, predicate, depth)
+        }
+        InternedCandidate::ImpliedBound(_, _) => Ok(Found::Refuted),
+        InternedCandidate::Impl(row) => consider_projection_impl_candidate(
+            setting, terms, faults, row, projection, depth,
+        ),
+        InternedCandidate::BuiltIn => consider_builtin_candidate(
+            setting, terms, faults, projection, depth,
+        ),
+        InternedCandidate::Error => Ok(Found::Refuted),
+    }
+}
+
+/// The term that a clause gives a projection.
+#[cycle(closed)]
+fn match_assumption(
+    setting: &Setting<'_>,
+    terms: &mut TermTable,
+    faults: &mut Vec<DelayedFault>,
+    projection: &Projection<'_>,
+    predicate: &InternedPredicate,
+    depth: u32,
+) -> Result<Found, Stop>
+    requires projection { ProjectionIn terms.old projection.now }
+    requires predicate { PredicateIn terms.old predicate.now }
+    ensures kept { Keeps terms.old terms.new }
+    ensures within { IfOk result (FoundIn terms.new) }
+    ensures stops { is_headline setting.now.typing_mode.now ≡ true → IfErr result (λ s. s ≡ Stop.OutOfMemory) }
+    ensures says { (m : TypingMode) → StandsFor setting.now.typing_mode.now m → IfOk result (SaysWhich (AssumptionGives (level_in setting.now m depth) (projection_at terms.old projection.now) (predicate_at terms.old predicate.now)) (AssumptionTermRefuted (level_in setting.now m depth) (projection_at terms.old projection.now) (predicate_at terms.old predicate.now)) terms.new) }
+{
+    match predicate {
+        InternedPredicate::Trait(_) => Ok(Found::Refuted),
+        InternedPredicate::HostEffect(_, _) => Ok(Found::Refuted),
+        InternedPredicate::Projection(alias, term) => {
+            equation_term(setting, terms, faults, projection, *alias, *term, depth)
+        }
+    }
+}
+
+/// The term that a clause that an alias and a term are equal gives a projection.
+#[cycle(closed)]
+fn equation_term(
+    setting: &Setting<'_>,
+    terms: &mut TermTable,
+    faults: &mut Vec<DelayedFault>,
+    projection: &Projection<'_>,
+    alias: TermId,
+    term: TermId,
+    depth: u32,
+) -> Result<Found, Stop>
+    requires projection { ProjectionIn terms.old projection.now }
+    requires alias { IsIn terms.old alias }
+    requires term { IsIn terms.old term }
+    ensures kept { Keeps terms.old terms.new }
+    ensures within { IfOk result (FoundIn terms.new) }
+    ensures stops { is_headline setting.now.typing_mode.now ≡ true → IfErr result (λ s. s ≡ Stop.OutOfMemory) }
+    ensures says { (m : TypingMode) → StandsFor setting.now.typing_mode.now m → IfOk result (SaysWhich (EquationGives (level_in setting.now m depth) (projection_at terms.old projection.now) (erased_at terms.old alias) (erased_at terms.old term)) (EquationRefuted (level_in setting.now m depth) (projection_at terms.old projection.now) (erased_at terms.old alias) (erased_at terms.old term)) terms.new) }
+{
+    let Some(args) = projected_args(setting.allocator(), terms, alias, projection.item.id)? else {
+        return Ok(Found::Refuted);
+    };
+    equal_args_term(
+        setting,
+        terms,
+        faults,
+        projection,
+        args.as_slice(),
+        term,
+        depth,
+    )
+}
+
+/// The term of a clause on a projection of the same item, by its arguments.
+#[cycle(closed)]
+fn equal_args_term(
+    setting: &Setting<'_>,
+    terms: &mut TermTable,
+    faults: &mut Vec<DelayedFault>,
+    projection: &Projection<'_>,
+    args: &[TermId],
+    term: TermId,
+    depth: u32,
+) -> Result<Found, Stop>
+    requires projection { ProjectionIn terms.old projection.now }
+    requires args { AreIn terms.old args.now }
+    requires term { IsIn terms.old term }
+    ensures kept { Keeps terms.old terms.new }
+    ensures within { IfOk result (FoundIn terms.new) }
+    ensures stops { is_headline setting.now.typing_mode.now ≡ true → IfErr result (λ s. s ≡ Stop.OutOfMemory) }
+    ensures says { (m : TypingMode) → StandsFor setting.now.typing_mode.now m → IfOk result (SaysWhich (EqualArgsGive (level_in setting.now m depth) (projection_at terms.old projection.now) (erased_all terms.old args.now) (erased_at terms.old term)) (EqualArgsRefuted (level_in setting.now m depth) (projection_at terms.old projection.now) (erased_all terms.old args.now) (erased_at terms.old term)) terms.new) }
+{
+    let equal = compare_lists(setting, terms, faults, args, projection.args, depth)?;
+    if let Outcome::Refuted = equal {
+        return Ok(Found::Refuted);
+    }
+    let clauses = projection.item.own_predicates.as_slice();
+    let hold = clauses_outcome(setting, terms, faults, clauses, projection.args, depth)?;
+    if let Outcome::Refuted = hold {
+        return Ok(Found::Refuted);
+    }
+    let found = head_form(setting, terms, faults, term, depth)?;
+    Ok(found_behind(equal.and(hold), found))
+}
+
+/// The term that a built-in rule gives a projection.
+#[cycle(closed)]
+fn consider_builtin_candidate(
+    setting: &Setting<'_>,
+    terms: &mut TermTable,
+    faults: &mut Vec<DelayedFault>,
+    projection: &Projection<'_>,
+    depth: u32,
+) -> Result<Found, Stop>
+    requires { ProjectionIn terms.old projection.now }
+    ensures kept { Keeps terms.old terms.new }
+    ensures within { IfOk result (FoundIn terms.new) }
+    ensures stops { is_headline setting.now.typing_mode.now ≡ true → IfErr result (λ s. s ≡ Stop.OutOfMemory) }
+    ensures says { (m : TypingMode) → StandsFor setting.now.typing_mode.now m → IfOk result (SaysWhich (ListedGives (level_in setting.now m depth) (projection_at terms.old projection.now) (erased_at terms.old projection.now.rigid_alias) (term_rule setting.now.rows.now projection.now.item.now.id (erased_all terms.old projection.now.args.now))) (ListedRefuted (level_in setting.now m depth) (term_rule setting.now.rows.now projection.now.item.now.id (erased_all terms.old projection.now.args.now))) terms.new) }
+{
+    let rule = term_rule(setting.rows, terms, projection.item.id, projection.args)?;
+    listed_term(setting, terms, faults, projection, &rule, depth)
+}
+
+/// The term that what a built-in rule lists gives a projection.
+#[cycle(closed)]
+fn listed_term(
+    setting: &Setting<'_>,
+    terms: &mut TermTable,
+    faults: &mut Vec<DelayedFault>,
+    projection: &Projection<'_>,
+    rule: &ListedTerm,
+    depth: u32,
+) -> Result<Found, Stop>
+    requires projection { ProjectionIn terms.old projection.now }
+    requires rule { ListedIn terms.old rule.now }
+    ensures kept { Keeps terms.old terms.new }
+    ensures within { IfOk result (FoundIn terms.new) }
+    ensures stops { is_headline setting.now.typing_mode.now ≡ true → IfErr result (λ s. s ≡ Stop.OutOfMemory) }
+    ensures says { (m : TypingMode) → StandsFor setting.now.typing_mode.now m → IfOk result (SaysWhich (ListedGives (level_in setting.now m depth) (projection_at terms.old projection.now) (erased_at terms.old projection.now.rigid_alias) (listed_at terms.old rule.now)) (ListedRefuted (level_in setting.now m depth) (listed_at terms.old rule.now)) terms.new) }
+{
+    match rule {
+        ListedTerm::Nothing => Ok(Found::Refuted),
+        ListedTerm::Rigid => Ok(Found::Is(projection.rigid_alias)),
+        ListedTerm::Behind(premises, term) => {
+            behind_term(setting, terms, faults, premises.as_slice(), *term, depth)
+        }
+        ListedTerm::BySize(sized) => sized_term(setting, terms, faults, projection, *sized, depth),
+    }
+}
+
+/// The head form of a term, behind premises.
+#[cycle(closed)]
+fn behind_term(
+    setting: &Setting<'_>,
+    terms: &mut TermTable,
+    faults: &mut Vec<DelayedFault>,
+    premises: &[InternedPremise],
+    term: TermId,
+    depth: u32,
+) -> Result<Found, Stop>
+    requires premises { All (PremiseIn terms.old) premises.now }
+    requires term { IsIn terms.old term }
+    ensures kept { Keeps terms.old terms.new }
+    ensures within { IfOk result (FoundIn terms.new) }
+    ensures stops { is_headline setting.now.typing_mode.now ≡ true → IfErr result (λ s. s ≡ Stop.OutOfMemory) }
+    ensures says { (m : TypingMode) → StandsFor setting.now.typing_mode.now m → IfOk result (SaysWhich (λ u. PremisesHold (level_in setting.now m depth) (map (premise_at terms.old) premises.now) × HasHeadForm (level_in setting.now m depth) (erased_at terms.old term) u) (PremisesRefuted (level_in setting.now m depth) (map (premise_at terms.old) premises.now) ⊎ HeadFormRefuted (level_in setting.now m depth) (erased_at terms.old term)) terms.new) }
+{
+    let hold = premises_outcome(setting, terms, faults, premises, depth)?;
+    if let Outcome::Refuted = hold {
+        return Ok(Found::Refuted);
+    }
+    let found = head_form(setting, terms, faults, term, depth)?;
+    Ok(found_behind(hold, found))
+}
+
+/// The term of a projection that is `()` where its self type is `Sized`, and else stays.
+#[cycle(closed)]
+fn sized_term(
+    setting: &Setting<'_>,
+    terms: &mut TermTable,
+    faults: &mut Vec<DelayedFault>,
+    projection: &Projection<'_>,
+    sized: TraitId,
+    depth: u32,
+) -> Result<Found, Stop>
+    requires { ProjectionIn terms.old projection.now }
+    ensures kept { Keeps terms.old terms.new }
+    ensures within { IfOk result (FoundIn terms.new) }
+    ensures stops { is_headline setting.now.typing_mode.now ≡ true → IfErr result (λ s. s ≡ Stop.OutOfMemory) }
+    ensures says { (m : TypingMode) → StandsFor setting.now.typing_mode.now m → IfOk result (SaysWhich (ListedGives (level_in setting.now m depth) (projection_at terms.old projection.now) (erased_at terms.old projection.now.rigid_alias) (listed_by_size sized)) (ListedRefuted (level_in setting.now m depth) (listed_by_size sized)) terms.new) }
+{
+    let self_args = first_args(projection.args, 1);
+    match evaluate_trait_goal(setting, terms, faults, sized, self_args, depth)? {
+        TraitOutcome::Undecided => Ok(Found::Undecided),
+        TraitOutcome::Refuted => Ok(Found::Is(projection.rigid_alias)),
+        TraitOutcome::Holds(_) => {
+            let unit = intern_unit(setting.allocator(), terms)?;
+            Ok(Found::Is(unit))
+        }
+    }
+}

@@ -1,0 +1,138 @@
+//! The terms that projections have through a class by which their trait goals hold.
+ghost use Rattle.std.specs.Prelude.{◌≡◌, ℕ, true, [], length, Some, None, IfOk, IfErr};
+ghost use Rattle.goal_terms.specs.declared.answers.Certainty.TheVariants as certainty;
+ghost use Rattle.goal_terms.specs.TableMeaning.{Keeps};
+ghost use Rattle.goal_terms.specs.declared.modes.TypingMode.{TypingMode};
+ghost use Rattle.goal_kinds.specs.Answers.{setting_of};
+ghost use Rattle.goal_kinds.specs.Projections.{projected_item};
+ghost use Rattle.goal_kinds.specs.Settings.{is_headline};
+ghost use Rattle.goal_solver.specs.Answers.{IsOwed, level_over, erased_args, is_closed_alias, IsAliasAnswer, IsAliasOpen, expected_variable, IsMaybe, AnswersQuietly, IsFaultOf};
+ghost use Rattle.goal_solver.specs.Assembled.{HoldsThrough, level_through};
+ghost use Rattle.goal_solver.specs.Binding.{IsApplicable};
+ghost use Rattle.goal_solver.specs.Goals.{IsAcceptedNormalization};
+ghost use Rattle.goal_solver.specs.GoingBack.{GoesBack, evaluated, restored};
+ghost use Rattle.goal_solver.specs.Outcomes.{StandsFor, setting_in, level_in, SaysWhich, FoundIn};
+ghost use Rattle.goal_solver.specs.State.{kinds_of};
+
+use crate::context::EvalCtxt;
+use crate::eval::closed_goals::is_closed_alias;
+use crate::eval::interning::intern_args;
+use crate::eval::outcomes::{Found, Setting, Stop};
+use crate::faults::Fault;
+use crate::normalizes_to::projections::{Given, term_proven_via};
+use goal_terms::answers::{Certainty, DelayedFault, Response, TraitGoalProvenVia};
+use goal_terms::ids::ItemId;
+use goal_terms::node_tests::general_variable;
+use goal_terms::predicates::{Clause, NormalizesTo};
+use goal_terms::term_table::TermTable;
+use goal_terms::terms::{AliasTerm, AliasTermKind};
+
+/// The item that a kind of alias projects.
+fn projected_item(kind: AliasTermKind) -> Option<ItemId>
+    ensures { result ≡ projected_item kind }
+{
+    match kind {
+        AliasTermKind::ProjectionTy(id) | AliasTermKind::ProjectionConst(id) => Some(id),
+        _ => None,
+    }
+}
+
+/// The term that an alias has, one above a depth, if it is a projection whose trait goal holds through a
+/// class.
+fn alias_proven_via(
+    setting: &Setting<'_>,
+    terms: &mut TermTable,
+    faults: &mut Vec<DelayedFault>,
+    class: TraitGoalProvenVia,
+    alias: &AliasTerm,
+    depth: u32,
+) -> Result<Found, Stop>
+    ensures kept { Keeps terms.old terms.new }
+    ensures within { IfOk result (FoundIn terms.new) }
+    ensures stops { is_headline setting.now.typing_mode.now ≡ true → IfErr result (λ s. s ≡ Stop.OutOfMemory) }
+    ensures says { (m : TypingMode) → StandsFor setting.now.typing_mode.now m → IfOk result (SaysWhich ((level_through (setting_in setting.now m) (level_in setting.now m depth) class).gives alias.now.kind (erased_args alias.now.args.items)) ((level_through (setting_in setting.now m) (level_in setting.now m depth) class).gives_refuted alias.now.kind (erased_args alias.now.args.items)) terms.new) }
+{
+    let Some(id) = projected_item(alias.kind) else {
+        return Ok(Found::Undecided);
+    };
+    let Some(item) = setting.rows.item_row(id) else {
+        return Ok(Found::Undecided);
+    };
+    let Some(trait_row) = setting.rows.trait_row(item.trait_id) else {
+        return Ok(Found::Undecided);
+    };
+    let args = intern_args(*alias.args.allocator(), terms, &alias.args)?;
+    let given = Given {
+        kind: alias.kind,
+        item,
+        trait_params: trait_row.params.len(),
+        class,
+        args: args.as_slice(),
+    };
+    term_proven_via(setting, terms, faults, &given, depth)
+}
+
+#[tactic(auto, using(crate::proofs::AnswerLemmas::answering))]
+impl EvalCtxt<'_> {
+    /// The term that an alias has by the candidates at the remaining depth, if it is a projection whose trait
+    /// goal holds through a class. Nothing changes but that there may be more terms and delayed faults.
+    fn class_outcome(
+        &mut self,
+        class: TraitGoalProvenVia,
+        alias: &AliasTerm,
+        environment: &[Clause],
+    ) -> Result<Found, Stop>
+        ensures kept { Keeps self.old.terms self.new.terms }
+        ensures unchanged { self.new ≡ evaluated self.old self.new }
+        ensures goes_back { GoesBack self.old self.new }
+        ensures within { IfOk result (FoundIn self.new.terms) }
+        ensures stops { is_headline self.old.typing_mode ≡ true → IfErr result (λ s. s ≡ Stop.OutOfMemory) }
+        ensures says { (m : TypingMode) → StandsFor self.old.typing_mode m → IfOk result (SaysWhich ((level_through (setting_of self.old.tables m environment.now) (level_over self.old m environment.now) class).gives alias.now.kind (erased_args alias.now.args.items)) ((level_through (setting_of self.old.tables m environment.now) (level_over self.old m environment.now) class).gives_refuted alias.now.kind (erased_args alias.now.args.items)) self.new.terms) }
+    {
+        let mut faults = Vec::new(self.allocator());
+        let setting = Setting {
+            rows: self.tables.rows(),
+            typing_mode: &self.typing_mode,
+            environment,
+        };
+        let depth = self.remaining_depth;
+        let found = alias_proven_via(&setting, &mut self.terms, &mut faults, class, alias, depth)?;
+        self.record_faults(&faults)?;
+        Ok(found)
+    }
+
+    /// What is answered to the goal of an alias's term by the candidates at the remaining depth, if the alias is
+    /// a projection whose trait goal holds through a class. An alias or an environment with inference variables
+    /// is `Maybe`. Inference state, added goals and storage are as before; the answer to an accepted goal can be
+    /// applied, if the alias is such a projection.
+    pub(crate) fn answer_through(
+        &mut self,
+        class: TraitGoalProvenVia,
+        asked: &NormalizesTo,
+        environment: &[Clause],
+    ) -> Result<Response, Fault>
+        ensures sound { (m : TypingMode) → StandsFor self.old.typing_mode m → IsAliasAnswer (level_through (setting_of self.old.tables m environment.now) (level_over self.old m environment.now) class) asked.now.alias.kind (erased_args asked.now.alias.args.items) asked.now.term result }
+        ensures decided { (m : TypingMode) (n : ℕ) → IsOwed self.new m → is_closed_alias asked.now.alias environment.now ≡ true → expected_variable asked.now.term ≡ Some n → IsMaybe result → IsAliasOpen (level_through (setting_of self.old.tables m environment.now) (level_over self.old m environment.now) class) asked.now.alias.kind (erased_args asked.now.alias.args.items) }
+        ensures unchanged { self.new ≡ restored self.old self.new }
+        ensures goes_back { GoesBack self.old self.new }
+        ensures fault { IsFaultOf self.old self.new result }
+        ensures quiet { AnswersQuietly (length (kinds_of self.old)) result }
+        ensures lists { IfOk result (λ r. r.certainty ≡ certainty.Maybe → r.var_values.items ≡ []) }
+        ensures no_class { IfOk result (λ r. r.proven_via ≡ None) }
+        ensures applies { (m : TypingMode) → StandsFor self.old.typing_mode m → IsAcceptedNormalization self.old asked.now environment.now → HoldsThrough (setting_of self.old.tables m environment.now) (level_over self.old m environment.now) class asked.now.alias.kind (erased_args asked.now.alias.args.items) → IfOk result (IsApplicable self.new) }
+    {
+        self.is_well_formed();
+        let Some(expected) = general_variable(asked.term.view().node()) else {
+            return Ok(self.respond(Certainty::Maybe, None));
+        };
+        if !is_closed_alias(&asked.alias, environment) {
+            return Ok(self.respond(Certainty::Maybe, None));
+        }
+        match self.class_outcome(class, &asked.alias, environment) {
+            Ok(Found::Is(id)) => self.respond_found(expected, id),
+            Ok(Found::Refuted) => self.refuted(),
+            Ok(Found::Undecided) => Ok(self.respond(Certainty::Maybe, None)),
+            Err(stop) => self.stopped(stop),
+        }
+    }
+}

@@ -1,0 +1,384 @@
+//! The arguments that a definition of a goal's item takes.
+ghost use Rattle.std.specs.Prelude.{◌≡◌, ◌||◌, ◌++◌, List, [], true, false, length, map, drop, None, Some, Err, IfOk, IfErr, OnOk, OnErr};
+ghost use Rattle.std.specs.List.{list_any};
+ghost use Rattle.goal_terms.specs.Erased.{erased};
+ghost use Rattle.goal_terms.specs.NodeTests.{is_any_infer, some_node};
+ghost use Rattle.goal_terms.specs.TableMeaning.{tree_at, Keeps};
+ghost use Rattle.goal_terms.specs.Tree.{Tree};
+ghost use Rattle.goal_terms.specs.TreeOf.{trees_of};
+ghost use Rattle.goal_terms.specs.declared.heads.Variable.{Variable};
+ghost use Rattle.goal_terms.specs.declared.modes.TypingMode.{TypingMode as modes};
+ghost use Rattle.goal_tables.specs.Predicates.{some_in_env as some_env};
+ghost use Rattle.goal_tables.specs.Rows.{impl_of};
+ghost use Rattle.goal_infer.specs.Replacement.{OfKinds};
+ghost use Rattle.goal_kinds.specs.Headers.{under, AllKnown};
+ghost use Rattle.goal_kinds.specs.ImplTerms.{from_projection, from_impl, from_other};
+ghost use Rattle.goal_kinds.specs.Interned.{AreIn, erased_all};
+ghost use Rattle.goal_kinds.specs.Settings.{is_headline};
+ghost use Rattle.goal_kinds.specs.TraitGoals.{header_of};
+ghost use Rattle.goal_tables.specs.declared.rows.ImplRow.{ImplRow as impls};
+ghost use Rattle.goal_solver.specs.Answers.{IsOwed, level_over, erased_args};
+ghost use Rattle.goal_solver.specs.GoingBack.{GoesBack, restored};
+ghost use Rattle.goal_solver.specs.Outcomes.{StandsFor, SaysMatch, MatchIn};
+ghost use Rattle.goal_solver.specs.Relating.{AgreesWith, Identifies, SaysYes, Refuses, LeavesOpen, ChangesRecords, IsFaultFor, all_bound};
+ghost use Rattle.goal_solver.specs.State.{kinds_of};
+ghost use Rattle.goal_solver.specs.TranslatedArgs.{taken_by, own_after, bound_ref, AreClosedIn, certainty_in, AnswersJust, IsTranslation, IsHeaderOpen, IsFresh, BindsNothing, IsMadeEqual, IsEqualUnder, IsAdded, AddsClauses, MakesVariables, ChangesGoals};
+ghost use Rattle.goal_solver.specs.Variables.{fresh_args};
+
+use crate::context::EvalCtxt;
+use crate::context::rebuilding::rebuilt_args;
+use crate::eval::interning::intern_args;
+use crate::eval::open_terms::any_variable;
+use crate::eval::outcomes::{HeaderMatch, Setting, Stop};
+use crate::eval::where_goals::goals_under;
+use crate::faults::Fault;
+use crate::relate::headers::match_header;
+use goal_infer::followed::follow_all;
+use goal_tables::predicate_terms::some_in_env;
+use goal_tables::rows::{Container, ImplRow};
+use goal_terms::answers::Certainty;
+use goal_terms::ids::ImplId;
+use goal_terms::instantiate::{instantiate_args, rebase_onto};
+use goal_terms::modes::TypingMode;
+use goal_terms::node_tests::NodeTest;
+use goal_terms::predicates::{Clause, Goal, NormalizesTo, TraitRef};
+use goal_terms::term_nodes::TermId;
+use goal_terms::terms::GenericArg;
+
+impl EvalCtxt<'_> {
+    /// The arguments that a definition takes, which the impl `impl_id` uses for the item of a goal's alias, and
+    /// how certain they are. A definition that stands in the trait takes the alias's arguments, and one that
+    /// stands in the impl itself takes the impl's in place of the trait's: both are `Yes`, and nothing changes.
+    ///
+    /// One that stands in another impl takes that impl's arguments for the trait reference, and then the item's
+    /// own. Where the trait reference, bindings followed, and the environment hold no inference variable, these
+    /// are read off where its header's parameters stand: `Yes` where the header fits at the remaining depth, and
+    /// else `Maybe`, with fresh variables unless all parameters are known; in coherence a clash isn't final, and
+    /// is `Maybe` too. Otherwise its header under fresh variables is made equal to the trait reference, and the
+    /// answer is as certain as that. The other impl's where clauses under its arguments are added as goals, in the
+    /// goal's environment. An impl that has no row gives no arguments: `Maybe`, with the item's own alone.
+    ///
+    /// `NoSolution`: the other impl's header clashes with the trait reference, or can't be made equal to it.
+    /// `RerunNonErased`: the erased mode doesn't suffice. `OutOfMemory`: a growth was refused. After each of these
+    /// inference state, added goals and hidden types are as before. `NotForThisKind` is never answered.
+    pub fn translate_args(
+        &mut self,
+        goal: &Goal<NormalizesTo>,
+        impl_id: ImplId,
+        impl_args: &[GenericArg],
+        impl_trait_ref: &TraitRef,
+        container: Container,
+    ) -> Result<(Vec<GenericArg>, Certainty), Fault>
+        ensures in_trait { taken_by self.old impl_id container ≡ from_projection → AnswersJust (trees_of goal.now.predicate.alias.args.items) Certainty.Yes result × (self.new ≡ self.old) }
+        ensures in_impl { taken_by self.old impl_id container ≡ from_impl → AnswersJust (trees_of impl_args.now ++ own_after impl_trait_ref.now goal.now) Certainty.Yes result × (self.new ≡ self.old) }
+        ensures nowhere { taken_by self.old impl_id container ≡ from_other None → AnswersJust (own_after impl_trait_ref.now goal.now) Certainty.Maybe result × (self.new ≡ self.old) }
+        ensures sound { (m : modes) → IsOwed self.new m → (q : impls) → taken_by self.old impl_id container ≡ from_other (Some q) → AreClosedIn goal.now.param_env.items (bound_ref self.old impl_trait_ref.now) → IsTranslation (level_over self.old m goal.now.param_env.items) q (bound_ref self.old impl_trait_ref.now) (map erased (own_after impl_trait_ref.now goal.now)) result }
+        ensures decided { (m : modes) → IsOwed self.new m → (q : impls) → taken_by self.old impl_id container ≡ from_other (Some q) → AreClosedIn goal.now.param_env.items (bound_ref self.old impl_trait_ref.now) → LeavesOpen (certainty_in result) → IsHeaderOpen (level_over self.old m goal.now.param_env.items) q (bound_ref self.old impl_trait_ref.now) }
+        ensures fresh { (m : modes) → IsOwed self.new m → (q : impls) → taken_by self.old impl_id container ≡ from_other (Some q) → AreClosedIn goal.now.param_env.items (bound_ref self.old impl_trait_ref.now) → ((s : List Tree) → AllKnown (level_over self.old m goal.now.param_env.items) q.params.items (header_of q) (bound_ref self.old impl_trait_ref.now) s → ⊥) → IfOk result (λ r. IsFresh self.old self.new q (own_after impl_trait_ref.now goal.now) (trees_of r.0.items)) }
+        ensures binds_nothing { (q : impls) → taken_by self.old impl_id container ≡ from_other (Some q) → AreClosedIn goal.now.param_env.items (bound_ref self.old impl_trait_ref.now) → IfOk result (λ r. BindsNothing self.old self.new q (own_after impl_trait_ref.now goal.now) (trees_of r.0.items)) }
+        ensures made_equal { (q : impls) → taken_by self.old impl_id container ≡ from_other (Some q) → (AreClosedIn goal.now.param_env.items (bound_ref self.old impl_trait_ref.now) → ⊥) → IsMadeEqual self.old self.new goal.now.param_env.items q (trees_of impl_trait_ref.now.args.items) (own_after impl_trait_ref.now goal.now) result }
+        ensures equal { (m : modes) → IsOwed self.new m → (q : impls) → taken_by self.old impl_id container ≡ from_other (Some q) → (AreClosedIn goal.now.param_env.items (bound_ref self.old impl_trait_ref.now) → ⊥) → SaysYes (certainty_in result) → (ρ : Variable → Tree) → AgreesWith self.new ρ → IsEqualUnder (level_over self.old m goal.now.param_env.items) q ρ (erased_args impl_trait_ref.now.args.items) (own_after impl_trait_ref.now goal.now) result }
+        ensures never { (q : impls) → taken_by self.old impl_id container ≡ from_other (Some q) → (AreClosedIn goal.now.param_env.items (bound_ref self.old impl_trait_ref.now) → ⊥) → Refuses (certainty_in result) → (ρ : Variable → Tree) → OfKinds ρ → AgreesWith self.old ρ → Identifies ρ (erased_args impl_trait_ref.now.args.items) (map (under (fresh_args q.params.items (length (kinds_of self.old)))) (header_of q)) → ⊥ }
+        ensures agreed { (ρ : Variable → Tree) → AgreesWith self.new ρ → AgreesWith self.old ρ }
+        ensures added { (q : impls) → taken_by self.old impl_id container ≡ from_other (Some q) → IfOk result (λ r. IsAdded self.old self.new q goal.now.param_env.items (own_after impl_trait_ref.now goal.now) (trees_of r.0.items)) }
+        ensures alone { ChangesGoals self.old self.new }
+        ensures unchanged { OnErr result (self.new ≡ restored self.old self.new) }
+        ensures goes_back { GoesBack self.old self.new }
+        ensures fault { IsFaultFor self.old self.new result }
+    {
+        match container {
+            Container::Trait(_) => {
+                let args = self.with_own(goal, 0, &[])?;
+                Ok((args, Certainty::Yes))
+            }
+            Container::Impl(id) => {
+                if id.0 == impl_id.0 {
+                    let args = self.with_own(goal, impl_trait_ref.args.len(), impl_args)?;
+                    return Ok((args, Certainty::Yes));
+                }
+                self.args_of_other(goal, id, impl_trait_ref)
+            }
+        }
+    }
+
+    /// Some arguments, and then those of a goal's alias after so many. Only memory is refused.
+    fn with_own(
+        &self,
+        goal: &Goal<NormalizesTo>,
+        skipped: usize,
+        first: &[GenericArg],
+    ) -> Result<Vec<GenericArg>, Fault>
+        ensures args { IfOk result (λ args. trees_of args.items ≡ trees_of first.now ++ drop skipped (trees_of goal.now.predicate.alias.args.items)) }
+        ensures only_memory { IfErr result (λ f. f ≡ Fault.OutOfMemory) }
+    {
+        let alloc = self.allocator();
+        let Ok(args) = rebase_onto(alloc, &goal.predicate.alias.args, skipped, first) else {
+            return Err(Fault::OutOfMemory);
+        };
+        Ok(args)
+    }
+
+    /// The arguments of a definition that stands in another impl, if the impl has a row.
+    fn args_of_other(
+        &mut self,
+        goal: &Goal<NormalizesTo>,
+        id: ImplId,
+        trait_ref: &TraitRef,
+    ) -> Result<(Vec<GenericArg>, Certainty), Fault>
+        ensures nowhere { impl_of self.old.tables id ≡ None → AnswersJust (own_after trait_ref.now goal.now) Certainty.Maybe result × (self.new ≡ self.old) }
+        ensures sound { (m : modes) → IsOwed self.new m → (q : impls) → impl_of self.old.tables id ≡ Some q → AreClosedIn goal.now.param_env.items (bound_ref self.old trait_ref.now) → IsTranslation (level_over self.old m goal.now.param_env.items) q (bound_ref self.old trait_ref.now) (map erased (own_after trait_ref.now goal.now)) result }
+        ensures decided { (m : modes) → IsOwed self.new m → (q : impls) → impl_of self.old.tables id ≡ Some q → AreClosedIn goal.now.param_env.items (bound_ref self.old trait_ref.now) → LeavesOpen (certainty_in result) → IsHeaderOpen (level_over self.old m goal.now.param_env.items) q (bound_ref self.old trait_ref.now) }
+        ensures fresh { (m : modes) → IsOwed self.new m → (q : impls) → impl_of self.old.tables id ≡ Some q → AreClosedIn goal.now.param_env.items (bound_ref self.old trait_ref.now) → ((s : List Tree) → AllKnown (level_over self.old m goal.now.param_env.items) q.params.items (header_of q) (bound_ref self.old trait_ref.now) s → ⊥) → IfOk result (λ r. IsFresh self.old self.new q (own_after trait_ref.now goal.now) (trees_of r.0.items)) }
+        ensures binds_nothing { (q : impls) → impl_of self.old.tables id ≡ Some q → AreClosedIn goal.now.param_env.items (bound_ref self.old trait_ref.now) → IfOk result (λ r. BindsNothing self.old self.new q (own_after trait_ref.now goal.now) (trees_of r.0.items)) }
+        ensures made_equal { (q : impls) → impl_of self.old.tables id ≡ Some q → (AreClosedIn goal.now.param_env.items (bound_ref self.old trait_ref.now) → ⊥) → IsMadeEqual self.old self.new goal.now.param_env.items q (trees_of trait_ref.now.args.items) (own_after trait_ref.now goal.now) result }
+        ensures equal { (m : modes) → IsOwed self.new m → (q : impls) → impl_of self.old.tables id ≡ Some q → (AreClosedIn goal.now.param_env.items (bound_ref self.old trait_ref.now) → ⊥) → SaysYes (certainty_in result) → (ρ : Variable → Tree) → AgreesWith self.new ρ → IsEqualUnder (level_over self.old m goal.now.param_env.items) q ρ (erased_args trait_ref.now.args.items) (own_after trait_ref.now goal.now) result }
+        ensures never { (q : impls) → impl_of self.old.tables id ≡ Some q → (AreClosedIn goal.now.param_env.items (bound_ref self.old trait_ref.now) → ⊥) → Refuses (certainty_in result) → (ρ : Variable → Tree) → OfKinds ρ → AgreesWith self.old ρ → Identifies ρ (erased_args trait_ref.now.args.items) (map (under (fresh_args q.params.items (length (kinds_of self.old)))) (header_of q)) → ⊥ }
+        ensures agreed { (ρ : Variable → Tree) → AgreesWith self.new ρ → AgreesWith self.old ρ }
+        ensures added { (q : impls) → impl_of self.old.tables id ≡ Some q → IfOk result (λ r. IsAdded self.old self.new q goal.now.param_env.items (own_after trait_ref.now goal.now) (trees_of r.0.items)) }
+        ensures alone { ChangesGoals self.old self.new }
+        ensures unchanged { OnErr result (self.new ≡ restored self.old self.new) }
+        ensures goes_back { GoesBack self.old self.new }
+        ensures fault { IsFaultFor self.old self.new result }
+    {
+        self.holds_together();
+        let Some(other) = self.tables().rows().impl_row(id) else {
+            let own = self.with_own(goal, trait_ref.args.len(), &[])?;
+            return Ok((own, Certainty::Maybe));
+        };
+        let before = self.snapshot();
+        let translated = self.translated_to(goal, other, trait_ref);
+        if translated.is_err() {
+            self.rollback(before);
+        }
+        translated
+    }
+
+    /// Another impl's arguments for a trait reference, and then a goal's own ones; the impl's where clauses are
+    /// added. After a fault some of what was done may stay.
+    fn translated_to(
+        &mut self,
+        goal: &Goal<NormalizesTo>,
+        other: &ImplRow,
+        trait_ref: &TraitRef,
+    ) -> Result<(Vec<GenericArg>, Certainty), Fault>
+        ensures sound { (m : modes) → IsOwed self.new m → AreClosedIn goal.now.param_env.items (bound_ref self.old trait_ref.now) → IsTranslation (level_over self.old m goal.now.param_env.items) other.now (bound_ref self.old trait_ref.now) (map erased (own_after trait_ref.now goal.now)) result }
+        ensures decided { (m : modes) → IsOwed self.new m → AreClosedIn goal.now.param_env.items (bound_ref self.old trait_ref.now) → LeavesOpen (certainty_in result) → IsHeaderOpen (level_over self.old m goal.now.param_env.items) other.now (bound_ref self.old trait_ref.now) }
+        ensures fresh { (m : modes) → IsOwed self.new m → AreClosedIn goal.now.param_env.items (bound_ref self.old trait_ref.now) → ((s : List Tree) → AllKnown (level_over self.old m goal.now.param_env.items) other.now.params.items (header_of other.now) (bound_ref self.old trait_ref.now) s → ⊥) → IfOk result (λ r. IsFresh self.old self.new other.now (own_after trait_ref.now goal.now) (trees_of r.0.items)) }
+        ensures binds_nothing { AreClosedIn goal.now.param_env.items (bound_ref self.old trait_ref.now) → IfOk result (λ r. BindsNothing self.old self.new other.now (own_after trait_ref.now goal.now) (trees_of r.0.items)) }
+        ensures made_equal { (AreClosedIn goal.now.param_env.items (bound_ref self.old trait_ref.now) → ⊥) → IsMadeEqual self.old self.new goal.now.param_env.items other.now (trees_of trait_ref.now.args.items) (own_after trait_ref.now goal.now) result }
+        ensures equal { (m : modes) → IsOwed self.new m → (AreClosedIn goal.now.param_env.items (bound_ref self.old trait_ref.now) → ⊥) → SaysYes (certainty_in result) → (ρ : Variable → Tree) → AgreesWith self.new ρ → IsEqualUnder (level_over self.old m goal.now.param_env.items) other.now ρ (erased_args trait_ref.now.args.items) (own_after trait_ref.now goal.now) result }
+        ensures never { (AreClosedIn goal.now.param_env.items (bound_ref self.old trait_ref.now) → ⊥) → Refuses (certainty_in result) → (ρ : Variable → Tree) → OfKinds ρ → AgreesWith self.old ρ → Identifies ρ (erased_args trait_ref.now.args.items) (map (under (fresh_args other.now.params.items (length (kinds_of self.old)))) (header_of other.now)) → ⊥ }
+        ensures added { IfOk result (λ r. IsAdded self.old self.new other.now goal.now.param_env.items (own_after trait_ref.now goal.now) (trees_of r.0.items)) }
+        ensures alone { ChangesGoals self.old self.new }
+        ensures goes_back { GoesBack self.old self.new }
+        ensures fault { IsFaultFor self.old self.new result }
+    {
+        let environment = goal.param_env.as_slice();
+        let (first, certainty) = self.args_for(environment, other, trait_ref)?;
+        self.add_clauses(environment, &other.predicates, &first)?;
+        let args = self.with_own(goal, trait_ref.args.len(), &first)?;
+        Ok((args, certainty))
+    }
+
+    /// Adds a goal for each where clause, which asks in an environment what the clause says under arguments. Only
+    /// memory is refused; then none is added.
+    fn add_clauses(
+        &mut self,
+        environment: &[Clause],
+        clauses: &[Clause],
+        args: &[GenericArg],
+    ) -> Result<(), Fault>
+        ensures added { OnOk result (AddsClauses self.old self.new environment.now clauses.now (trees_of args.now)) }
+        ensures unchanged { OnErr result (self.new ≡ self.old) }
+        ensures goes_back { GoesBack self.old self.new }
+        ensures only_memory { IfErr result (λ f. f ≡ Fault.OutOfMemory) }
+    {
+        let alloc = self.allocator();
+        let Ok(goals) = goals_under(alloc, environment, clauses, args) else {
+            return Err(Fault::OutOfMemory);
+        };
+        self.add_goals(goals)
+    }
+
+    /// An impl's arguments for a trait reference.
+    fn args_for(
+        &mut self,
+        environment: &[Clause],
+        other: &ImplRow,
+        trait_ref: &TraitRef,
+    ) -> Result<(Vec<GenericArg>, Certainty), Fault>
+        ensures sound { (m : modes) → IsOwed self.new m → AreClosedIn environment.now (bound_ref self.old trait_ref.now) → IsTranslation (level_over self.old m environment.now) other.now (bound_ref self.old trait_ref.now) [] result }
+        ensures decided { (m : modes) → IsOwed self.new m → AreClosedIn environment.now (bound_ref self.old trait_ref.now) → LeavesOpen (certainty_in result) → IsHeaderOpen (level_over self.old m environment.now) other.now (bound_ref self.old trait_ref.now) }
+        ensures fresh { (m : modes) → IsOwed self.new m → AreClosedIn environment.now (bound_ref self.old trait_ref.now) → ((s : List Tree) → AllKnown (level_over self.old m environment.now) other.now.params.items (header_of other.now) (bound_ref self.old trait_ref.now) s → ⊥) → IfOk result (λ r. IsFresh self.old self.new other.now [] (trees_of r.0.items)) }
+        ensures binds_nothing { AreClosedIn environment.now (bound_ref self.old trait_ref.now) → IfOk result (λ r. BindsNothing self.old self.new other.now [] (trees_of r.0.items)) }
+        ensures made_equal { (AreClosedIn environment.now (bound_ref self.old trait_ref.now) → ⊥) → IsMadeEqual self.old self.new environment.now other.now (trees_of trait_ref.now.args.items) [] result }
+        ensures equal { (m : modes) → IsOwed self.new m → (AreClosedIn environment.now (bound_ref self.old trait_ref.now) → ⊥) → SaysYes (certainty_in result) → (ρ : Variable → Tree) → AgreesWith self.new ρ → IsEqualUnder (level_over self.old m environment.now) other.now ρ (erased_args trait_ref.now.args.items) [] result }
+        ensures never { (AreClosedIn environment.now (bound_ref self.old trait_ref.now) → ⊥) → Refuses (certainty_in result) → (ρ : Variable → Tree) → OfKinds ρ → AgreesWith self.old ρ → Identifies ρ (erased_args trait_ref.now.args.items) (map (under (fresh_args other.now.params.items (length (kinds_of self.old)))) (header_of other.now)) → ⊥ }
+        ensures count { IfOk result (λ r. length r.0.items ≡ length other.now.params.items) }
+        ensures alone { ChangesRecords self.old self.new }
+        ensures goes_back { GoesBack self.old self.new }
+        ensures fault { IsFaultFor self.old self.new result }
+    {
+        self.holds_together();
+        let given = self.bound_args(&trait_ref.args)?;
+        if self.are_open(environment, &given) {
+            return self.equated_args(environment, other, trait_ref);
+        }
+        self.closed_args(environment, other, &given)
+    }
+
+    /// The numbers of arguments with their bindings followed. Nothing changes but that there may be more terms.
+    fn bound_args(&mut self, args: &[GenericArg]) -> Result<Vec<TermId>, Fault>
+        ensures kept { Keeps self.old.terms self.new.terms }
+        ensures unchanged { self.new ≡ record self.old { terms = self.new.terms } }
+        ensures within { IfOk result (λ ids. AreIn self.new.terms ids.items) }
+        ensures trees { IfOk result (λ ids. erased_all self.new.terms ids.items ≡ all_bound self.old (erased_args args.now)) }
+        ensures only_memory { IfErr result (λ f. f ≡ Fault.OutOfMemory) }
+    {
+        let alloc = self.allocator();
+        let Ok(ids) = intern_args(alloc, &mut self.terms, args) else {
+            return Err(Fault::OutOfMemory);
+        };
+        let Ok(bound) = follow_all(&mut self.terms, &self.inference, &ids) else {
+            return Err(Fault::OutOfMemory);
+        };
+        Ok(bound)
+    }
+
+    #[tactic(auto, using(crate::proofs::TranslatedLemmas::erased_terms))]
+    /// Whether an inference variable stands in some terms or in an environment.
+    fn are_open(&self, environment: &[Clause], ids: &[TermId]) -> bool
+        requires { AreIn self.now.terms ids.now }
+        ensures { result ≡ (list_any (some_node is_any_infer) (erased_all self.now.terms ids.now) || some_env is_any_infer environment.now) }
+    {
+        any_variable(&self.terms, ids) || some_in_env(NodeTest::IsAnyInfer, environment)
+    }
+
+    /// An impl's arguments under which its header fits given terms.
+    fn closed_args(
+        &mut self,
+        environment: &[Clause],
+        other: &ImplRow,
+        given: &[TermId],
+    ) -> Result<(Vec<GenericArg>, Certainty), Fault>
+        requires { AreIn self.old.terms given.now }
+        ensures sound { (m : modes) → IsOwed self.new m → IsTranslation (level_over self.old m environment.now) other.now (erased_all self.old.terms given.now) [] result }
+        ensures decided { (m : modes) → IsOwed self.new m → LeavesOpen (certainty_in result) → IsHeaderOpen (level_over self.old m environment.now) other.now (erased_all self.old.terms given.now) }
+        ensures fresh { (m : modes) → IsOwed self.new m → ((s : List Tree) → AllKnown (level_over self.old m environment.now) other.now.params.items (header_of other.now) (erased_all self.old.terms given.now) s → ⊥) → IfOk result (λ r. IsFresh self.old self.new other.now [] (trees_of r.0.items)) }
+        ensures binds_nothing { IfOk result (λ r. BindsNothing self.old self.new other.now [] (trees_of r.0.items)) }
+        ensures count { IfOk result (λ r. length r.0.items ≡ length other.now.params.items) }
+        ensures alone { ChangesRecords self.old self.new }
+        ensures goes_back { GoesBack self.old self.new }
+        ensures fault { IsFaultFor self.old self.new result }
+    {
+        match self.header_outcome(environment, other, given) {
+            Ok(HeaderMatch::Fits(found)) => self.found_args(&found, Certainty::Yes),
+            Ok(HeaderMatch::Known(found)) => self.found_args(&found, Certainty::Maybe),
+            Ok(HeaderMatch::Clashes) => self.clashing_args(other),
+            Ok(HeaderMatch::Unknown) => self.unknown_args(other),
+            Err(stop) => {
+                self.undecided_by(stop)?;
+                self.unknown_args(other)
+            }
+        }
+    }
+
+    /// What an impl's header comes to for given terms at the remaining depth. Nothing changes but that there may
+    /// be more terms.
+    fn header_outcome(
+        &mut self,
+        environment: &[Clause],
+        other: &ImplRow,
+        given: &[TermId],
+    ) -> Result<HeaderMatch, Stop>
+        requires { AreIn self.old.terms given.now }
+        ensures kept { Keeps self.old.terms self.new.terms }
+        ensures unchanged { self.new ≡ record self.old { terms = self.new.terms } }
+        ensures within { IfOk result (MatchIn self.new.terms) }
+        ensures says { (m : modes) → StandsFor self.old.typing_mode m → IfOk result (SaysMatch (level_over self.old m environment.now) other.now.params.items (header_of other.now) (erased_all self.old.terms given.now) self.new.terms) }
+        ensures stops { is_headline self.old.typing_mode ≡ true → IfErr result (λ s. s ≡ Stop.OutOfMemory) }
+    {
+        let mut faults = Vec::new(self.allocator());
+        let setting = Setting {
+            rows: self.tables.rows(),
+            typing_mode: &self.typing_mode,
+            environment,
+        };
+        let depth = self.remaining_depth;
+        match_header(
+            &setting,
+            &mut self.terms,
+            &mut faults,
+            &other.params,
+            &other.trait_args,
+            given,
+            depth,
+        )
+    }
+
+    /// The arguments of some numbers. Only memory is refused.
+    fn found_args(
+        &self,
+        found: &[TermId],
+        certainty: Certainty,
+    ) -> Result<(Vec<GenericArg>, Certainty), Fault>
+        requires { AreIn self.now.terms found.now }
+        ensures { AnswersJust (map (tree_at self.now.terms) found.now) certainty result }
+    {
+        let Ok(args) = rebuilt_args(&self.terms, found) else {
+            return Err(Fault::OutOfMemory);
+        };
+        Ok((args, certainty))
+    }
+
+    /// What is answered where an impl's header clashes. In coherence no refusal is final.
+    fn clashing_args(&mut self, other: &ImplRow) -> Result<(Vec<GenericArg>, Certainty), Fault>
+        ensures owed { (m : modes) → IsOwed self.new m → result ≡ Err Fault.NoSolution }
+        ensures fresh { IfOk result (λ r. IsFresh self.old self.new other.now [] (trees_of r.0.items)) }
+        ensures count { IfOk result (λ r. length r.0.items ≡ length other.now.params.items) }
+        ensures made { MakesVariables self.old self.new }
+        ensures fault { IsFaultFor self.old self.new result }
+    {
+        match self.typing_mode {
+            TypingMode::Coherence => self.unknown_args(other),
+            _ => Err(Fault::NoSolution),
+        }
+    }
+
+    /// Fresh variables for an impl's arguments, of which nothing is known. Only memory is refused; then nothing
+    /// changes.
+    fn unknown_args(&mut self, other: &ImplRow) -> Result<(Vec<GenericArg>, Certainty), Fault>
+        ensures fresh { AnswersJust (fresh_args other.now.params.items (length (kinds_of self.old))) Certainty.Maybe result }
+        ensures making { IfOk result (λ r. IsFresh self.old self.new other.now [] (trees_of r.0.items)) }
+        ensures count { IfOk result (λ r. length r.0.items ≡ length other.now.params.items) }
+        ensures made { MakesVariables self.old self.new }
+    {
+        let args = self.fresh_args_for_item(&other.params)?;
+        Ok((args, Certainty::Maybe))
+    }
+
+    /// Fresh variables for an impl's arguments, its header under them being made equal to a trait reference. After a
+    /// fault the variables may stay.
+    fn equated_args(
+        &mut self,
+        environment: &[Clause],
+        other: &ImplRow,
+        trait_ref: &TraitRef,
+    ) -> Result<(Vec<GenericArg>, Certainty), Fault>
+        ensures equal { (m : modes) → IsOwed self.new m → SaysYes (certainty_in result) → (ρ : Variable → Tree) → AgreesWith self.new ρ → IsEqualUnder (level_over self.old m environment.now) other.now ρ (erased_args trait_ref.now.args.items) [] result }
+        ensures never { Refuses (certainty_in result) → (ρ : Variable → Tree) → OfKinds ρ → AgreesWith self.old ρ → Identifies ρ (erased_args trait_ref.now.args.items) (map (under (fresh_args other.now.params.items (length (kinds_of self.old)))) (header_of other.now)) → ⊥ }
+        ensures made_equal { IsMadeEqual self.old self.new environment.now other.now (trees_of trait_ref.now.args.items) [] result }
+        ensures count { IfOk result (λ r. length r.0.items ≡ length other.now.params.items) }
+        ensures alone { ChangesRecords self.old self.new }
+        ensures goes_back { GoesBack self.old self.new }
+        ensures fault { IsFaultFor self.old self.new result }
+    {
+        let args = self.fresh_args_for_item(&other.params)?;
+        let alloc = self.allocator();
+        let Ok(header) = instantiate_args(alloc, &other.trait_args, &args) else {
+            return Err(Fault::OutOfMemory);
+        };
+        let certainty = self.eq_args(environment, &trait_ref.args, &header)?;
+        Ok((args, certainty))
+    }
+}

@@ -1,0 +1,140 @@
+//! Whether two terms are equal, aliases opened.
+ghost use Rattle.std.specs.Prelude.{◌≡◌, true, IfErr, ℕ, IfOk};
+ghost use Rattle.std.specs.List.{All};
+ghost use Rattle.goal_terms.specs.TableMeaning.{Keeps};
+ghost use Rattle.goal_terms.specs.declared.modes.TypingMode.{TypingMode};
+ghost use Rattle.goal_kinds.specs.Interned.{IsIn, AreIn, erased_at, erased_all};
+ghost use Rattle.goal_kinds.specs.Words.{Pairs, SomePair};
+ghost use Rattle.goal_kinds.specs.Equality.{SameForm, OtherForm};
+ghost use Rattle.goal_kinds.specs.Settings.{is_headline};
+ghost use Rattle.goal_solver.specs.Outcomes.{StandsFor, level_in, Says};
+ghost use Rattle.goal_solver.specs.Pending.{IsOpen, Relates, AllEqual, SomeUnequal};
+
+use crate::eval::head_forms::head_form;
+use crate::eval::outcomes::{Outcome, Setting, Stop};
+use crate::relate::pairs::{Forms, Pending, TermPair, collect, collect_lists, pair_forms};
+use goal_terms::answers::DelayedFault;
+use goal_terms::compare::Regions;
+use goal_terms::term_nodes::TermId;
+use goal_terms::term_table::TermTable;
+
+/// Whether two terms are equal at a depth, lifetimes aside.
+#[cycle(closed)]
+pub fn compare_terms(
+    setting: &Setting<'_>,
+    terms: &mut TermTable,
+    faults: &mut Vec<DelayedFault>,
+    left: TermId,
+    right: TermId,
+    depth: u32,
+) -> Result<Outcome, Stop>
+    requires first { IsIn terms.old left }
+    requires second { IsIn terms.old right }
+    ensures kept { Keeps terms.old terms.new }
+    ensures stops { is_headline setting.now.typing_mode.now ≡ true → IfErr result (λ s. s ≡ Stop.OutOfMemory) }
+    ensures says { (m : TypingMode) → StandsFor setting.now.typing_mode.now m → IfOk result (Says ((level_in setting.now m depth).equal (erased_at terms.old left) (erased_at terms.old right)) ((level_in setting.now m depth).unequal (erased_at terms.old left) (erased_at terms.old right))) }
+{
+    let mut pending = Pending::new(setting.rows);
+    collect(terms, &mut pending, left, right)?;
+    compare_pending(setting, terms, faults, &pending, depth)
+}
+
+/// Whether two lists of terms are equal in pairs at a depth, lifetimes aside.
+#[cycle(closed)]
+pub fn compare_lists(
+    setting: &Setting<'_>,
+    terms: &mut TermTable,
+    faults: &mut Vec<DelayedFault>,
+    left: &[TermId],
+    right: &[TermId],
+    depth: u32,
+) -> Result<Outcome, Stop>
+    requires first { AreIn terms.old left.now }
+    requires second { AreIn terms.old right.now }
+    ensures kept { Keeps terms.old terms.new }
+    ensures stops { is_headline setting.now.typing_mode.now ≡ true → IfErr result (λ s. s ≡ Stop.OutOfMemory) }
+    ensures says { (m : TypingMode) → StandsFor setting.now.typing_mode.now m → IfOk result (Says (Pairs (level_in setting.now m depth).equal (erased_all terms.old left.now) (erased_all terms.old right.now)) (SomePair (level_in setting.now m depth).unequal (erased_all terms.old left.now) (erased_all terms.old right.now))) }
+{
+    let mut pending = Pending::new(setting.rows);
+    collect_lists(terms, &mut pending, left, right)?;
+    compare_pending(setting, terms, faults, &pending, depth)
+}
+
+/// Whether all that is left of a comparison holds at a depth.
+#[cycle(closed)]
+fn compare_pending(
+    setting: &Setting<'_>,
+    terms: &mut TermTable,
+    faults: &mut Vec<DelayedFault>,
+    pending: &Pending,
+    depth: u32,
+) -> Result<Outcome, Stop>
+    requires { All (IsOpen terms.old) pending.now.pairs.items }
+    ensures kept { Keeps terms.old terms.new }
+    ensures stops { is_headline setting.now.typing_mode.now ≡ true → IfErr result (λ s. s ≡ Stop.OutOfMemory) }
+    ensures says { (m : TypingMode) → StandsFor setting.now.typing_mode.now m → IfOk result (Says (AllEqual (level_in setting.now m depth) terms.old pending.now.outcome pending.now.pairs.items) (SomeUnequal (level_in setting.now m depth) terms.old pending.now.outcome pending.now.pairs.items)) }
+{
+    let mut outcome = pending.outcome;
+    for pair in &pending.pairs {
+        if outcome.is_refuted() {
+            return Ok(Outcome::Refuted);
+        }
+        let next = compare_pair(setting, terms, faults, *pair, depth)?;
+        outcome = outcome.and(next);
+    }
+    Ok(outcome)
+}
+
+/// Whether the terms of a pair are equal at a depth, by their head forms one lower.
+#[cycle(closed)]
+fn compare_pair(
+    setting: &Setting<'_>,
+    terms: &mut TermTable,
+    faults: &mut Vec<DelayedFault>,
+    pair: TermPair,
+    depth: u32,
+) -> Result<Outcome, Stop>
+    requires { IsOpen terms.old pair }
+    ensures kept { Keeps terms.old terms.new }
+    ensures stops { is_headline setting.now.typing_mode.now ≡ true → IfErr result (λ s. s ≡ Stop.OutOfMemory) }
+    ensures says { (m : TypingMode) → StandsFor setting.now.typing_mode.now m → IfOk result (Says (Relates (level_in setting.now m depth).equal terms.old pair) (Relates (level_in setting.now m depth).unequal terms.old pair)) }
+{
+    if depth == 0 {
+        return Ok(Outcome::Undecided);
+    }
+    let left = head_form(setting, terms, faults, pair.left, depth - 1)?;
+    let right = head_form(setting, terms, faults, pair.right, depth - 1)?;
+    match pair_forms(left, right) {
+        Forms::Found(form, other) => compare_forms(setting, terms, faults, form, other, depth - 1),
+        Forms::Lacking(outcome) => Ok(outcome),
+    }
+}
+
+/// Whether two head forms are the same at a depth, lifetimes aside: identical, or of one node with equal
+/// parts.
+#[cycle(closed)]
+fn compare_forms(
+    setting: &Setting<'_>,
+    terms: &mut TermTable,
+    faults: &mut Vec<DelayedFault>,
+    form: TermId,
+    other: TermId,
+    depth: u32,
+) -> Result<Outcome, Stop>
+    requires first { IsIn terms.old form }
+    requires second { IsIn terms.old other }
+    ensures kept { Keeps terms.old terms.new }
+    ensures stops { is_headline setting.now.typing_mode.now ≡ true → IfErr result (λ s. s ≡ Stop.OutOfMemory) }
+    ensures says { (m : TypingMode) → StandsFor setting.now.typing_mode.now m → IfOk result (Says (SameForm (level_in setting.now m depth) (erased_at terms.old form) (erased_at terms.old other)) (OtherForm (level_in setting.now m depth) (erased_at terms.old form) (erased_at terms.old other))) }
+{
+    if terms.same_erased(form, other) {
+        return Ok(Outcome::Holds);
+    }
+    let node = terms.node(form);
+    if !node.is_same(terms.node(other), Regions::Forgotten) {
+        return Ok(Outcome::Refuted);
+    }
+    let mut pending = Pending::new(setting.rows);
+    collect_lists(terms, &mut pending, terms.parts(form), terms.parts(other))?;
+    compare_pending(setting, terms, faults, &pending, depth)
+}

@@ -1,0 +1,124 @@
+//! Equating two lists of terms at a depth: unification, and what is left compared.
+ghost use Rattle.std.specs.Prelude.{◌≡◌, true, IsTrue, ◌↔◌, IfOk, IfErr};
+ghost use Rattle.goal_terms.specs.TableMeaning.{Keeps};
+ghost use Rattle.goal_terms.specs.Tree.{Tree};
+ghost use Rattle.goal_terms.specs.declared.heads.Variable.{Variable};
+ghost use Rattle.goal_infer.specs.ListUnification.{MakesAllSame, AreDecidedWherePlain, AreIdentified, AreClashing, AreUntouched};
+ghost use Rattle.goal_infer.specs.Unification.{Advances, IsUnified};
+ghost use Rattle.goal_kinds.specs.Interned.{AreIn, erased_all};
+ghost use Rattle.goal_kinds.specs.Settings.{is_headline};
+ghost use Rattle.goal_solver.specs.GoingBack.{GoesBack};
+ghost use Rattle.goal_solver.specs.Relating.{IsRelated, ChangesInference, AgreesWith, all_bound};
+ghost use Rattle.goal_solver.specs.Settled.{HoldsWithMemory, AreSettledIn, outcome_in, IsPlainOrSame};
+ghost use Rattle.goal_solver.specs.State.{kinds_of};
+
+use crate::context::EvalCtxt;
+use crate::eval::outcomes::{Outcome, Setting, Stop};
+use crate::relate::resolved::relate_resolved_lists;
+use goal_infer::followed::follow_all;
+use goal_infer::unify::Unified;
+use goal_infer::unify_all::unify_all;
+use goal_tables::predicate_terms::some_in_env;
+use goal_terms::modes::TypingMode;
+use goal_terms::node_tests::NodeTest;
+use goal_terms::predicates::Clause;
+use goal_terms::term_nodes::{OutOfMemory, TermId};
+
+impl EvalCtxt<'_> {
+    /// Makes two lists of terms equal in pairs, at a depth: variables are bound where the terms can be the same in
+    /// no other way, and closed pairs of which one is an alias are compared by their head forms. No region
+    /// equation is added. It leaves what it bound also where the lists are refused, and after a stop.
+    pub(crate) fn relate_all(
+        &mut self,
+        environment: &[Clause],
+        left: &[TermId],
+        right: &[TermId],
+        depth: u32,
+    ) -> Result<Outcome, Stop>
+        requires first { AreIn self.old.terms left.now }
+        requires second { AreIn self.old.terms right.now }
+        ensures related { IfOk result (IsRelated self.old self.new environment.now (erased_all self.old.terms left.now) (erased_all self.old.terms right.now) depth) }
+        ensures agreed { (ρ : Variable → Tree) → AgreesWith self.new ρ → AgreesWith self.old ρ }
+        ensures alone { ChangesInference self.old self.new }
+        ensures kinds { kinds_of self.new ≡ kinds_of self.old }
+        ensures goes_back { GoesBack self.old self.new }
+        ensures stops { is_headline self.old.typing_mode ≡ true → IfErr result (λ s. s ≡ Stop.OutOfMemory) }
+        ensures settles { IsPlainOrSame self.old (erased_all self.old.terms left.now) (erased_all self.old.terms right.now) → IfErr result (λ s. s ≡ Stop.OutOfMemory) }
+    {
+        self.holds_together();
+        let unified = self.unify_lists(left, right)?;
+        if is_no(unified) {
+            return Ok(Outcome::Refuted);
+        }
+        let settled = self.relate_followed(environment, left, right, depth)?;
+        Ok(self.in_mode(settled))
+    }
+
+    /// Unifies two lists of terms in pairs, as `unify_all` does.
+    fn unify_lists(&mut self, left: &[TermId], right: &[TermId]) -> Result<Unified, OutOfMemory>
+        requires first { AreIn self.old.terms left.now }
+        requires second { AreIn self.old.terms right.now }
+        ensures alone { self.new ≡ record self.old { inference = self.new.inference } }
+        ensures advances { Advances self.old.terms self.old.inference self.new.inference }
+        ensures answer { IfOk result (λ u. IsUnified self.old.terms self.old.inference self.new.inference (MakesAllSame self.old.terms left.now right.now) u) }
+        ensures plain { IfOk result (λ u. AreDecidedWherePlain self.old.terms self.old.inference left.now right.now u) }
+        ensures identified { IfOk result (λ u. AreIdentified self.old.terms self.old.inference self.new.inference left.now right.now u) }
+        ensures clash { IfOk result (λ u. AreClashing self.old.terms self.old.inference left.now right.now u) }
+        ensures closed { AreUntouched self.old.terms self.old.inference self.new.inference left.now right.now }
+    {
+        unify_all(&self.terms, &mut self.inference, left, right)
+    }
+
+    /// What two lists of terms come to in pairs, with the bindings of their variables followed.
+    fn relate_followed(
+        &mut self,
+        environment: &[Clause],
+        left: &[TermId],
+        right: &[TermId],
+        depth: u32,
+    ) -> Result<Outcome, Stop>
+        requires first { AreIn self.old.terms left.now }
+        requires second { AreIn self.old.terms right.now }
+        ensures kept { Keeps self.old.terms self.new.terms }
+        ensures alone { self.new ≡ record self.old { terms = self.new.terms } }
+        ensures settled { IfOk result (AreSettledIn self.old environment.now depth (all_bound self.old (erased_all self.old.terms left.now)) (all_bound self.old (erased_all self.old.terms right.now))) }
+        ensures same { all_bound self.old (erased_all self.old.terms left.now) ≡ all_bound self.old (erased_all self.old.terms right.now) → HoldsWithMemory result }
+        ensures stops { is_headline self.old.typing_mode ≡ true → IfErr result (λ s. s ≡ Stop.OutOfMemory) }
+    {
+        let mut faults = Vec::new(self.allocator());
+        let lefts = follow_all(&mut self.terms, &self.inference, left)?;
+        let rights = follow_all(&mut self.terms, &self.inference, right)?;
+        let opens = !some_in_env(NodeTest::IsAnyInfer, environment);
+        let setting = Setting {
+            rows: self.tables.rows(),
+            typing_mode: &self.typing_mode,
+            environment,
+        };
+        relate_resolved_lists(
+            &setting,
+            &mut self.terms,
+            &mut faults,
+            &lefts,
+            &rights,
+            opens,
+            depth,
+        )
+    }
+
+    /// What an outcome comes to in the context's typing mode: in coherence no refusal is final.
+    fn in_mode(&self, outcome: Outcome) -> Outcome
+        ensures { result ≡ outcome_in self.now.typing_mode outcome }
+    {
+        match self.typing_mode {
+            TypingMode::Coherence if outcome.is_refuted() => Outcome::Undecided,
+            _ => outcome,
+        }
+    }
+}
+
+/// Whether unification said that two lists are never the same.
+fn is_no(unified: Unified) -> bool
+    ensures { IsTrue result ↔ (unified ≡ Unified.No) }
+{
+    matches!(unified, Unified::No)
+}

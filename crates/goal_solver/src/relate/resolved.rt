@@ -1,0 +1,112 @@
+//! What terms come to that may hold inference variables.
+ghost use Rattle.std.specs.Prelude.{◌≡◌, ◌<◌, ◌||◌, not, true, IfOk, IfErr, length};
+ghost use Rattle.goal_terms.specs.NodeTests.{some_node, is_any_infer};
+ghost use Rattle.goal_terms.specs.TableMeaning.{tree_at, Keeps};
+ghost use Rattle.goal_kinds.specs.Interned.{erased_at, erased_all};
+ghost use Rattle.goal_kinds.specs.Settings.{is_headline};
+ghost use Rattle.goal_solver.specs.Pending.{AreOfOneKind, AreListsOfOneKind, NeedForms};
+ghost use Rattle.goal_solver.specs.Settled.{IsSettled, AreSettled, HoldsWithMemory};
+
+use crate::eval::id_lists::own_list;
+use crate::eval::outcomes::{Outcome, Setting, Stop};
+use crate::relate::equality::compare_terms;
+use crate::relate::pairs::{Tops, compare_tops};
+use goal_terms::answers::DelayedFault;
+use goal_terms::term_nodes::TermId;
+use goal_terms::term_table::TermTable;
+
+/// What two terms come to, lifetimes aside, whatever stands for their inference variables. It holds where
+/// they are equal at the depth in any case, and is refuted where they can't be made identical. An alias is
+/// opened only where neither it nor what it is compared with holds a variable and, as `opens` says, neither
+/// does the environment.
+#[cycle(relating)]
+pub(crate) fn relate_resolved(
+    setting: &Setting<'_>,
+    terms: &mut TermTable,
+    faults: &mut Vec<DelayedFault>,
+    left: TermId,
+    right: TermId,
+    opens: bool,
+    depth: u32,
+) -> Result<Outcome, Stop>
+    requires alike { AreOfOneKind terms.old left right }
+    ensures kept { Keeps terms.old terms.new }
+    ensures stops { is_headline setting.now.typing_mode.now ≡ true → IfErr result (λ s. s ≡ Stop.OutOfMemory) }
+    ensures says { IfOk result (IsSettled setting.now opens depth (erased_at terms.old left) (erased_at terms.old right)) }
+    ensures same { erased_at terms.old left ≡ erased_at terms.old right → HoldsWithMemory result }
+{
+    match compare_tops(terms, left, right) {
+        Tops::Settled(outcome) => Ok(outcome),
+        Tops::NeedForms => relate_resolved_forms(setting, terms, faults, left, right, opens, depth),
+        Tops::NeedParts => {
+            let parts = own_list(setting, terms.parts(left))?;
+            let others = own_list(setting, terms.parts(right))?;
+            relate_resolved_lists(setting, terms, faults, &parts, &others, opens, depth)
+        }
+    }
+}
+
+/// Whether two terms of which one is an alias are left open: where aliases aren't opened, or where an
+/// inference variable stands in one of the terms.
+fn stays_open(terms: &TermTable, left: TermId, right: TermId, opens: bool) -> bool
+    requires first { left.0 < length terms.now }
+    requires second { right.0 < length terms.now }
+    ensures { result ≡ (not opens || some_node is_any_infer (tree_at terms.now left) || some_node is_any_infer (tree_at terms.now right)) }
+{
+    !opens || terms.has_infer(left) || terms.has_infer(right)
+}
+
+/// What two terms come to of which one is an alias.
+fn relate_resolved_forms(
+    setting: &Setting<'_>,
+    terms: &mut TermTable,
+    faults: &mut Vec<DelayedFault>,
+    left: TermId,
+    right: TermId,
+    opens: bool,
+    depth: u32,
+) -> Result<Outcome, Stop>
+    requires alike { AreOfOneKind terms.old left right }
+    requires forms { NeedForms (erased_at terms.old left) (erased_at terms.old right) }
+    ensures kept { Keeps terms.old terms.new }
+    ensures stops { is_headline setting.now.typing_mode.now ≡ true → IfErr result (λ s. s ≡ Stop.OutOfMemory) }
+    ensures says { IfOk result (IsSettled setting.now opens depth (erased_at terms.old left) (erased_at terms.old right)) }
+{
+    if stays_open(terms, left, right, opens) {
+        return Ok(Outcome::Undecided);
+    }
+    compare_terms(setting, terms, faults, left, right, depth)
+}
+
+/// What two lists of terms come to in pairs, as `settle` says it of two terms. Lists of unlike lengths are
+/// refuted.
+#[cycle(relating)]
+pub(crate) fn relate_resolved_lists(
+    setting: &Setting<'_>,
+    terms: &mut TermTable,
+    faults: &mut Vec<DelayedFault>,
+    left: &[TermId],
+    right: &[TermId],
+    opens: bool,
+    depth: u32,
+) -> Result<Outcome, Stop>
+    requires alike { AreListsOfOneKind terms.old left.now right.now }
+    ensures kept { Keeps terms.old terms.new }
+    ensures stops { is_headline setting.now.typing_mode.now ≡ true → IfErr result (λ s. s ≡ Stop.OutOfMemory) }
+    ensures says { IfOk result (AreSettled setting.now opens depth (erased_all terms.old left.now) (erased_all terms.old right.now)) }
+    ensures same { erased_all terms.old left.now ≡ erased_all terms.old right.now → HoldsWithMemory result }
+{
+    let count = left.len();
+    if right.len() != count {
+        return Ok(Outcome::Refuted);
+    }
+    let mut outcome = Outcome::Holds;
+    for i in 0..count {
+        if outcome.is_refuted() {
+            return Ok(Outcome::Refuted);
+        }
+        let next = relate_resolved(setting, terms, faults, left[i], right[i], opens, depth)?;
+        outcome = outcome.and(next);
+    }
+    Ok(outcome)
+}
