@@ -115,4 +115,14 @@ pub mod SaidLists
 pub mod ProjectionLists
 pub mod ListHeights
 pub mod ListModes
+pub mod ListStandIns
+pub mod ListTerms
 pub mod ExamplesOfLists
+pub mod GrowingEntries
+pub mod TermErrorLemmas
+pub mod ListPartLemmas
+pub mod OpaqueListLemmas
+pub mod FewEntries
+pub mod InherentListLemmas
+pub mod ClauseListLemmas
+pub mod ProjectionListLemmas

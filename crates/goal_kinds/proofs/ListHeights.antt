@@ -131,7 +131,7 @@ module _ (L : Level) (c : IsConsistent L) where
   one_known named (followed_by n own) s z h k = OfRow-twice _ _ (λ y d e. d ∙ sym e) (slice_get named n) h k
 
   -- what fits is known
-  named-known : (named : List (List Tree)) (a : Arguments) (s : List Tree) → Named L named a s → NamedKnown L named a s
+  pub named-known : (named : List (List Tree)) (a : Arguments) (s : List Tree) → Named L named a s → NamedKnown L named a s
   unfolding Named NamedKnown Fits
   named-known named (given_arguments args) s h = h
   named-known named (of_header params hs gs) s h = h.0
@@ -139,7 +139,7 @@ module _ (L : Level) (c : IsConsistent L) where
   named-known named (followed_by n own) s h = h
 
   -- an entry that names a list doesn't name nothing
-  no_names_nothing : (named : List (List Tree)) (a : Arguments) (s : List Tree) → Named L named a s → NamesNothing L named a → ⊥
+  pub no_names_nothing : (named : List (List Tree)) (a : Arguments) (s : List Tree) → Named L named a s → NamesNothing L named a → ⊥
   unfolding Named NamesNothing
   no_names_nothing named (given_arguments args) s h k = k
   no_names_nothing named (of_header params hs gs) s h k = no_fit_and_clash L c params hs gs s h k
@@ -148,7 +148,7 @@ module _ (L : Level) (c : IsConsistent L) where
   no_names_nothing named (followed_by n own) s h k = k
 
   -- an expected term that is one is not none, and it is one term
-  no_term_none : (named : List (List Tree)) (e : ExpectedTerm) (u : Tree) → TermIs L named e u → NoTerm L named e → ⊥
+  pub no_term_none : (named : List (List Tree)) (e : ExpectedTerm) (u : Tree) → TermIs L named e u → NoTerm L named e → ⊥
   unfolding TermIs NoTerm
   no_term_none named (as_it_stands t) u h k = k
   no_term_none named (head_form_of t) u h k = no_head_form_refuted L c.no_term_refuted t u h k
@@ -156,7 +156,7 @@ module _ (L : Level) (c : IsConsistent L) where
       OfRow-twice _ _ (λ s d e. no_head_form_refuted L c.no_term_refuted (under s t) u d e) (slice_get named n) h k
   no_term_none named (chosen_by p t v) u h k = k
 
-  one_term_is : (named : List (List Tree)) (e : ExpectedTerm) (t u : Tree) → TermIs L named e t → TermIs L named e u → t ≡ u
+  pub one_term_is : (named : List (List Tree)) (e : ExpectedTerm) (t u : Tree) → TermIs L named e t → TermIs L named e u → t ≡ u
   unfolding TermIs
   one_term_is named (as_it_stands v) t u h k = h ∙ sym k
   one_term_is named (head_form_of v) t u h k = one_head_form L c.one_term v t u h k

@@ -40,7 +40,7 @@ no_access : {A B : Type 0} {x : A} {xs : List A} → x ∷ xs ≡ [] → B
 no_access h = absurd (cc)
 
 -- the list of an impl, by its polarity
-polarity-same : (m : TypingMode) → is_headline m ≡ true → (x : ImplPolarity) (es : List Entry) → list_by_polarity m x es ≡ list_by_polarity mode.ErasedNotCoherence x es
+pub polarity-same : (m : TypingMode) → is_headline m ≡ true → (x : ImplPolarity) (es : List Entry) → list_by_polarity m x es ≡ list_by_polarity mode.ErasedNotCoherence x es
 unfolding list_by_polarity
 polarity-same m e polarity.Positive es = refl
 polarity-same m e polarity.Negative es = refl
@@ -79,7 +79,7 @@ module _ (S : Setting) (m : TypingMode) (headline : is_headline m ≡ true) wher
     value-same d (value.Term e) = ap (taken_entries r p (value.Term e)) (taken-same d.container)
     value-same d value.Evaluated = ap (taken_entries r p value.Evaluated) (taken-same d.container)
 
-    definition-same : (o : Option DefRow) → definition_entries (in_mode S m) r p itself o ≡ definition_entries (erased_setting S) r p itself o
+    pub definition-same : (o : Option DefRow) → definition_entries (in_mode S m) r p itself o ≡ definition_entries (erased_setting S) r p itself o
     definition-same None = refl
     definition-same (Some d) = value-same d d.value
 
@@ -120,7 +120,7 @@ module _ (S : Setting) (m : TypingMode) (headline : is_headline m ≡ true) wher
   projection_list-stands p itself error h = refl
 
   -- an alias that is no projection
-  inherent-same : (o : Option InherentRow) (args : List Tree) → inherent_alias_list (in_mode S m) o args ≡ inherent_alias_list (erased_setting S) o args
+  pub inherent-same : (o : Option InherentRow) (args : List Tree) → inherent_alias_list (in_mode S m) o args ≡ inherent_alias_list (erased_setting S) o args
   unfolding inherent_alias_list
   inherent-same o [] = refl
   inherent-same o (self ∷ own) = refl

@@ -30,7 +30,7 @@ use Rattle.goal_kinds.proofs.SaidLists.{impl-said}
 use Rattle.goal_kinds.proofs.TraitLists.{equation-holds, equation-refuted}
 
 -- whether an item is the one of a number
-item-tested : (i : ItemId) (o : Option ItemId) → (is_item i o ≡ true) ↔ (o ≡ Some i)
+pub item-tested : (i : ItemId) (o : Option ItemId) → (is_item i o ≡ true) ↔ (o ≡ Some i)
 item-tested i None = (λ e. absurd (false≢true e), λ e. absurd (cc))
 item-tested i (Some j) = (λ e. ap (λ n. Some (record { 0 = n })) (eqb-true j.0 i.0 e), λ e. let same : j ≡ i = cc in eq-eqb j.0 i.0 (ap (λ k. k.0) same))
 

@@ -1,5 +1,5 @@
 -- The entries of a rule's list, and what a list says one height above a level. What a goal has is without lifetimes; what a row has is as it stands there.
-use Rattle.std.specs.Prelude.{◌≡◌, ◌⊎◌, ℕ, List, [], ◌∷◌, ◌++◌, map, Option, Some, None, slice_get}
+use Rattle.std.specs.Prelude.{◌≡◌, ◌⊎◌, ℕ, List, [], ◌∷◌, ◌++◌, map, Option, Some, None, IfSome, slice_get}
 use Rattle.goal_terms.specs.Erased.{erased}
 use Rattle.goal_terms.specs.PredicateTrees.{PredicateTree}
 use Rattle.goal_terms.specs.Tree.{Tree}
@@ -158,3 +158,20 @@ premise_entry g (equation t u) = equal_terms (t ∷ []) (u ∷ [])
 
 abbrev pub premise_entries : GoalSource → List Premise → List Entry
 premise_entries g ps = map (premise_entry g) ps
+
+-- no term is expected by an entry, and by a list
+abbrev pub ExpectsNone : Entry → Type 0
+ExpectsNone (expected e) = ⊥
+ExpectsNone _ = Unit {0}
+
+unfoldable pub AsksNoTerm : List Entry → Type 0
+AsksNoTerm [] = Unit {0}
+AsksNoTerm (e ∷ es) = ExpectsNone e × AsksNoTerm es
+
+abbrev pub ListAsksNoTerm : Option (List Entry) → Type 0
+ListAsksNoTerm o = IfSome o AsksNoTerm
+
+-- all entries of a list hold with a term, wherever one is expected
+unfoldable pub ListHoldsWith : Level → Option (List Entry) → Tree → Type 0
+ListHoldsWith L None t = ⊥
+ListHoldsWith L (Some es) t = EntriesHold L (λ u. u ≡ t) (Unit {0}) [] es

@@ -41,3 +41,4 @@ pub mod AliasLists
 pub mod ListModes
 pub mod ListLaws
 pub mod ExampleLists
+pub mod InternedEntries

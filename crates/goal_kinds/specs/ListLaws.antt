@@ -14,7 +14,7 @@ use Rattle.goal_kinds.specs.Entries.{ListHolds, ListGives, ListRefuted}
 use Rattle.goal_kinds.specs.ImplTerms.{Projection}
 use Rattle.goal_kinds.specs.Level.{Level}
 use Rattle.goal_kinds.specs.Levels.{level}
-use Rattle.goal_kinds.specs.ListModes.{accesses_in, list_accesses, in_mode, erased_setting}
+use Rattle.goal_kinds.specs.ListModes.{accesses_in, list_accesses, in_mode, erased_setting, StandsIn, ListStandsIn}
 use Rattle.goal_kinds.specs.ProjectionLists.{projection_list, equation_list}
 use Rattle.goal_kinds.specs.Projections.{projected_item, CandidateGives, TermRefuted}
 use Rattle.goal_kinds.specs.Settings.{Setting, is_headline}
@@ -69,3 +69,10 @@ ProjectionListStands S m p itself c =
 
 abbrev pub AliasListStands : Setting → TypingMode → AliasTermKind → List Tree → Type 0
 AliasListStands S m k args = is_headline m ≡ true → accesses_in (alias_list (erased_setting S) k args) ≡ [] → alias_list (in_mode S m) k args ≡ alias_list (erased_setting S) k args
+
+-- as far as a list of the erased mode records no access, it is that of each headline mode
+abbrev pub ProjectionListStandsIn : Setting → TypingMode → Projection → Tree → Candidate → Type 0
+ProjectionListStandsIn S m p itself c = is_headline m ≡ true → ListStandsIn (projection_list (erased_setting S) p itself c) (projection_list (in_mode S m) p itself c)
+
+abbrev pub AliasListStandsIn : Setting → TypingMode → AliasTermKind → List Tree → Type 0
+AliasListStandsIn S m k args = is_headline m ≡ true → StandsIn (alias_list (erased_setting S) k args) (alias_list (in_mode S m) k args)

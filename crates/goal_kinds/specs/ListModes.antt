@@ -1,5 +1,5 @@
 -- What a list records, and that a list of the erased mode stands for headline modes.
-use Rattle.std.specs.Prelude.{List, [], ◌∷◌, ◌++◌, Option, Some, None}
+use Rattle.std.specs.Prelude.{◌≡◌, ◌⊎◌, List, [], ◌∷◌, ◌++◌, Option, Some, None}
 use Rattle.goal_terms.specs.declared.answers.DelayedFault.{DelayedFault}
 use Rattle.goal_terms.specs.declared.answers.OpaqueAccess.{OpaqueAccess}
 use Rattle.goal_terms.specs.declared.modes.TypingMode.{TypingMode}
@@ -36,3 +36,18 @@ in_mode S m = record S { mode = m }
 
 abbrev pub erased_setting : Setting → Setting
 erased_setting S = in_mode S mode.ErasedNotCoherence
+
+-- an entry reads the typing mode
+abbrev pub IsAccess : Entry → Type 0
+IsAccess (access a) = Unit {0}
+IsAccess _ = ⊥
+
+-- a list stands in for another one: they are the same as far as the first reads no mode
+unfoldable pub StandsIn : List Entry → List Entry → Type 0
+StandsIn [] fs = fs ≡ []
+StandsIn (e ∷ es) fs = IsAccess e ⊎ ((gs : List Entry) × (fs ≡ e ∷ gs) × StandsIn es gs)
+
+-- so does the list of a rule, if that isn't refused
+unfoldable pub ListStandsIn : Option (List Entry) → Option (List Entry) → Type 0
+ListStandsIn None o = o ≡ None
+ListStandsIn (Some es) o = (fs : List Entry) × (o ≡ Some fs) × StandsIn es fs

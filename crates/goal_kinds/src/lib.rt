@@ -8,4 +8,6 @@ pub mod fast_reject;
 pub mod faults;
 pub mod goal_kind;
 pub mod laws;
+pub mod lists;
 pub mod rules;
+pub mod term_errors;

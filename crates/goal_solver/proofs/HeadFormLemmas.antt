@@ -10,7 +10,6 @@ use Rattle.goal_terms.specs.declared.heads.Node.{Node}
 use Rattle.goal_terms.specs.declared.heads.Node.TheVariants as nodes
 use Rattle.goal_terms.specs.declared.term_nodes.TermId.{TermId}
 use Rattle.goal_terms.specs.declared.terms.AliasTermKind.{AliasTermKind}
-use Rattle.goal_kinds.specs.Headers.{under}
 use Rattle.goal_kinds.specs.Interned.{erased_at, erased_all, IsIn, AreIn}
 use Rattle.goal_kinds.specs.Level.{Level, HasHeadForm, HeadFormRefuted}
 use Rattle.goal_solver.specs.Outcomes.{SaysWhich}
@@ -65,8 +64,3 @@ pub parts_in : (T : List Tree) (ids parts : List TermId) (k : AliasTermKind) (n 
 parts_in T ids parts k n t x below earlier is fits trees same =
     let all : All IsArgument (parts_of t) = subst (λ y. Fits y (parts_of t)) is fits in
     subst (AreIn T) (sym same) (all_in T n below parts earlier (subst (All IsArgument) (sym trees) all))
-
--- the head form of a row's term, which is spelled otherwise
-pub form-spelled : (L : Level) (args : List Tree) (t u : Tree) (T : List Tree) (r : Result Found Stop) → t ≡ u →
-    IfOk r (SaysWhich (HasHeadForm L (under args t)) (HeadFormRefuted L (under args t)) T) → IfOk r (SaysWhich (HasHeadForm L (under args u)) (HeadFormRefuted L (under args u)) T)
-form-spelled L args t u T r e h = subst (λ x. IfOk r (SaysWhich (HasHeadForm L (under args x)) (HeadFormRefuted L (under args x)) T)) e h

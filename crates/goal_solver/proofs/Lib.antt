@@ -23,9 +23,7 @@ pub mod ProjectionGroupLemmas
 pub mod ConstOutcomeLemmas
 pub mod HeadFormLemmas
 pub mod RowTermLemmas
-pub mod CombinedLemmas
 pub mod AliasTermLemmas
-pub mod SaidLemmas
 pub mod HeaderPlaceLemmas
 pub mod HeaderClashLemmas
 pub mod HeaderArgLemmas
@@ -73,3 +71,9 @@ pub mod CollectedTermLemmas
 pub mod CollectedObjectLemmas
 mod OpenProjectionLemmas
 pub mod PromiseLemmas
+pub mod ListRunLemmas
+pub mod ListEntryLemmas
+pub mod ListAnswerLemmas
+pub mod AskedTraitLemmas
+pub mod HostEffectLemmas
+pub mod ListedTermLemmas

@@ -8,7 +8,6 @@ use Rattle.goal_kinds.specs.Words.{Each, Exists}
 use Rattle.goal_kinds.proofs.ContraryWords.{Exists-Each}
 use Rattle.goal_kinds.proofs.InternedLemmas.{in-grown, same-grown}
 use Rattle.goal_solver.specs.Outcomes.{Says, SaysWhich, FoundIn}
-use Rattle.goal_solver.specs.Combined.{found_behind as behind}
 use Rattle.goal_solver.specs.Joined.{both}
 use Rattle.goal_solver.specs.ProjectionParts.{MergesTo}
 use Rattle.goal_solver.specs.declared.eval.outcomes.Found as founds
@@ -49,24 +48,6 @@ both-says A R B Q never neither outcome.Holds outcome.Undecided h g = (λ x. g.0
 both-says A R B Q never neither outcome.Undecided outcome.Refuted h g = inr g
 both-says A R B Q never neither outcome.Undecided outcome.Holds h g = (λ x. h.0 x.0, λ r. ⊎_elim h.1 (λ x. neither g x) r)
 both-says A R B Q never neither outcome.Undecided outcome.Undecided h g = (λ x. h.0 x.0, λ r. ⊎_elim h.1 g.1 r)
-
--- a term behind a question that must hold
-pub behind-says : (A R : Type 0) (P : Tree → Type 0) (Q : Type 0) (T : List Tree) → (A → R → ⊥) → ((u : Tree) → P u → Q → ⊥) →
-    (a : outcomes.Outcome) (f : founds.Found) → Says A R a → SaysWhich P Q T f → SaysWhich (λ u. A × P u) (R ⊎ Q) T (behind a f)
-behind-says A R P Q T never neither outcome.Refuted f h g = inl h
-behind-says A R P Q T never neither outcome.Holds (found.Is id) h g = (h, g)
-behind-says A R P Q T never neither outcome.Holds found.Refuted h g = inr g
-behind-says A R P Q T never neither outcome.Holds found.Undecided h g = (λ u x. g.0 u x.1, λ r. ⊎_elim (λ x. never h x) g.1 r)
-behind-says A R P Q T never neither outcome.Undecided (found.Is id) h g = (λ u x. h.0 x.0, λ r. ⊎_elim h.1 (λ x. neither (erased_at T id) g x) r)
-behind-says A R P Q T never neither outcome.Undecided found.Refuted h g = inr g
-behind-says A R P Q T never neither outcome.Undecided found.Undecided h g = (λ u x. h.0 x.0, λ r. ⊎_elim h.1 g.1 r)
-
-pub behind-in : (T : List Tree) (a : outcomes.Outcome) (f : founds.Found) → FoundIn T f → FoundIn T (behind a f)
-behind-in T outcome.Refuted f h = tt
-behind-in T outcome.Holds f h = h
-behind-in T outcome.Undecided (found.Is id) h = tt
-behind-in T outcome.Undecided found.Refuted h = tt
-behind-in T outcome.Undecided found.Undecided h = tt
 
 -- what the elements before a place come to together, each of which may hold or be refuted; a refuted one ends the search
 abbrev pub HeldBefore : {A : Type 0} → (A → Type 0) → (A → Type 0) → outcomes.Outcome → List A → ℕ → Type 0

@@ -1,15 +1,13 @@
 -- Terms of rows under arguments that have numbers.
-use Rattle.std.proofs.Common.{◌≡◌, ◌<◌, ◌+◌, ◌++◌, ℕ, List, [], ◌∷◌, map, length, get_or, take, IfOk, Result, Ok, Err, Bool, true, false, refl, sym, ap, ◌∙◌, subst, arith}
-use Rattle.std.proofs.lemmas.List.{map-append, take_more, take_all}
-use Rattle.std.proofs.lemmas.List.Elements.{All-push, All-nil}
+use Rattle.std.proofs.Common.{◌≡◌, ◌<◌, ◌+◌, ◌++◌, ℕ, List, [], ◌∷◌, map, length, get_or, take, IfOk, Result, Ok, Err, true, refl, sym, ap, ◌∙◌, subst}
+use Rattle.std.proofs.lemmas.List.{map-append, take_more}
+use Rattle.std.proofs.lemmas.List.Elements.{All-push}
 use Rattle.goal_terms.specs.Erased.{erased, erased_row}
 use Rattle.goal_terms.specs.Folding.{instance}
 use Rattle.goal_terms.specs.Sorts.{IsArgument, is_argument_sort, is_term_sort, sort_of}
 use Rattle.goal_terms.specs.TableMeaning.{tree_at, Keeps}
 use Rattle.goal_terms.specs.Tree.{Tree, node, alias, more, forest, node_of}
 use Rattle.goal_terms.specs.TreeOf.{tree_of_arg, tree_of_ty, tree_of_term}
-use Rattle.goal_terms.specs.declared.heads.Head.{Head}
-use Rattle.goal_terms.specs.declared.heads.Head.TheVariants.{TyError, ConstError}
 use Rattle.goal_terms.specs.declared.term_nodes.OutOfMemory.{OutOfMemory}
 use Rattle.goal_terms.specs.declared.term_nodes.TermId.{TermId}
 use Rattle.goal_terms.specs.declared.terms.AliasTermKind.{AliasTermKind}
@@ -21,9 +19,8 @@ use Rattle.goal_terms.specs.declared.sorts.Sort.TheVariants as sorts
 use Rattle.goal_terms.specs.declared.terms.Term.{Term}
 use Rattle.goal_terms.proofs.SortLemmas.{ty_sort, term_sort}
 use Rattle.goal_terms.proofs.TreeLemmas.{tree_of_arg-Ty}
-use Rattle.goal_terms.proofs.InternLemmas.{keeps-refl, keeps-chain}
+use Rattle.goal_terms.proofs.InternLemmas.{keeps-chain}
 use Rattle.goal_kinds.specs.Headers.{under}
-use Rattle.goal_kinds.specs.ImplTerms.{error_term}
 use Rattle.goal_kinds.specs.Interned.{erased_at, erased_all, IsIn, AreIn}
 use Rattle.goal_kinds.proofs.InternedLemmas.{are_in-grown, all_same-grown}
 use Rattle.goal_kinds.proofs.UnderLemmas.{under-at, under-erased_term, instance-argument, are_in-arguments}
@@ -49,9 +46,6 @@ pub record AreInstances (T U : List Tree) (s : List Tree) (header : List Generic
   pub within : AreIn U made
   pub trees : erased_all U made ≡ map (under s) (header_terms (take n header))
 
-pub instances-none : (T s : List Tree) (header : List GenericArg) → AreInstances T T s header 0 []
-instances-none T s header = record { kept = keeps-refl T; within = All-nil (IsIn T); trees = refl }
-
 pub instances-more : (T U V s : List Tree) (header : List GenericArg) (n : ℕ) (made after : List TermId) (x : GenericArg) (id : TermId) →
     AreInstances T U s header n made → Keeps U V → n < length header → x ≡ get_or header n x → after ≡ made ++ id ∷ [] → IsIn V id →
     erased_at V id ≡ under s (tree_of_arg x) → AreInstances T V s header (n + 1) after
@@ -72,10 +66,6 @@ instances-more T U V s header n made after x id h k below is e within tree =
           ∙ sym (ap (λ xs. map (under s) (header_terms xs)) last ∙ spelled);
     }
 
-pub instances-all : (T U s : List Tree) (header : List GenericArg) (n : ℕ) (made : List TermId) → length header ≡ n → AreInstances T U s header n made →
-    erased_all U made ≡ map (under s) (header_terms header)
-instances-all T U s header n made e h = h.trees ∙ ap (λ xs. map (under s) (header_terms xs)) (take_all n header (omega arith))
-
 -- the arguments of an alias without lifetimes
 erased_row-forest : (ts : List Tree) → erased_row (forest ts) ≡ forest (map erased ts)
 unfolding erased_row
@@ -94,18 +84,6 @@ alias_is T U k args ids (Err e) same tree = tt
 -- a type as the one argument of a header
 pub header_of_type-is : (t u : Ty) (made : List GenericArg) → tree_of_ty u ≡ tree_of_ty t → made ≡ arg.Ty u ∷ [] → header_terms made ≡ erased (tree_of_ty t) ∷ []
 header_of_type-is t u made same e = ap header_terms e ∙ ap (λ x. erased x ∷ []) (tree_of_arg-Ty u ∙ same)
-
--- an error that was added
-abbrev pub error_head : Bool → ℕ → Head
-error_head true n = ConstError n
-error_head false n = TyError n
-
-pub error_is : (T U : List Tree) (b : Bool) (n : ℕ) (h : Head) (ids : List TermId) (r : Result TermId OutOfMemory) → h ≡ error_head b n → ids ≡ [] →
-    IfOk r (λ id. tree_at U id ≡ node h (forest (map (tree_at T) ids))) → IfOk r (λ id. erased_at U id ≡ error_term b n)
-unfolding erased
-error_is T U true n h ids (Ok id) same none tree = ap erased (tree ∙ ap (λ k. node k (forest (map (tree_at T) ids))) same) ∙ ap (λ xs. erased (node (ConstError n) (forest (map (tree_at T) xs)))) none
-error_is T U false n h ids (Ok id) same none tree = ap erased (tree ∙ ap (λ k. node k (forest (map (tree_at T) ids))) same) ∙ ap (λ xs. erased (node (TyError n) (forest (map (tree_at T) xs)))) none
-error_is T U b n h ids (Err e) same none tree = tt
 
 -- types and terms of rows are arguments
 pub type-argument : (t : Ty) → IsArgument (tree_of_ty t)

@@ -58,10 +58,17 @@ use Rattle.goal_solver.specs.declared.eval.outcomes.HeaderMatch.{HeaderMatch}
 use Rattle.goal_solver.specs.declared.eval.outcomes.HeaderMatch.TheVariants as match
 use Rattle.goal_solver.specs.declared.eval.outcomes.Stop.{Stop}
 use Rattle.goal_solver.proofs.RowTermLemmas.{type-argument, term-argument}
-use Rattle.goal_solver.proofs.SaidLemmas.{match-as}
+
+-- what a match of a header says, the header being spelled otherwise
+pub match-as : (L : Level) (params same : List ParamKind) (args other : List GenericArg) (gs T : List Tree) (m n : HeaderMatch) → same ≡ params → other ≡ args → m ≡ n →
+    SaysMatch L same (header_terms other) gs T m → SaysMatch L params (header_terms args) gs T n
+match-as L params same args other gs T m n e f g says =
+    let first : SaysMatch L params (header_terms other) gs T m = subst (λ ks. SaysMatch L ks (header_terms other) gs T m) e says in
+    let second : SaysMatch L params (header_terms args) gs T m = subst (λ xs. SaysMatch L params (header_terms xs) gs T m) f first in
+    subst (SaysMatch L params (header_terms args) gs T) g second
 
 -- a row that is missing has no property; one that never has it hasn't it
-no_row : {A : Type 0} (P : A → Type 0) (o : Option A) → None ≡ o → OfRow o P → ⊥
+pub no_row : {A : Type 0} (P : A → Type 0) (o : Option A) → None ≡ o → OfRow o P → ⊥
 unfolding OfRow
 no_row P None e h = h
 no_row P (Some x) e h = absurd (cc)
@@ -86,7 +93,7 @@ number-in T named n ids h e =
     subst (λ (w : Vec TermId Global). AreIn T w.items) (get_or_from_slice_get named n ids ids (sym e)) (h n ids (slice_get_within named n ids (sym e)))
 
 -- a match of a header, said of every substitution
-matched-of : (L : Level) → IsConsistent L → (params : List ParamKind) (hs gs T : List Tree) (r : HeaderMatch) → SaysMatch L params hs gs T r →
+pub matched-of : (L : Level) → IsConsistent L → (params : List ParamKind) (hs gs T : List Tree) (r : HeaderMatch) → SaysMatch L params hs gs T r →
     SaysMatched (Fits L params hs gs) (AllKnown L params hs gs) (Clashes L params hs gs) T r
 unfolding Fits
 matched-of L c params hs gs T (match.Fits s) h = h

@@ -390,7 +390,7 @@ unknown-leads S L p q a neither rest all h = (
 )
 
 -- one more list of arguments
-named-more : (T U : List Tree) → Keeps T U → (named more : List (Vec TermId Global)) (s : Vec TermId Global) → NamedIn T named → more ≡ named ++ s ∷ [] →
+pub named-more : (T U : List Tree) → Keeps T U → (named more : List (Vec TermId Global)) (s : Vec TermId Global) → NamedIn T named → more ≡ named ++ s ∷ [] →
     named_at U more ≡ named_at T named ++ erased_all U s.items ∷ []
 named-more T U k named more s i e =
     ap (named_at U) e ∙ map-append (λ (ids : Vec TermId Global). erased_all U ids.items) named (s ∷ [])
@@ -418,7 +418,7 @@ naming-leads S L c T U k r s i a match.Clashes q says on =
 naming-leads S L c T U k r s i a match.Unknown q says on =
     subst (λ x. LeadsOn S L (progress_at T r) (entry.Arguments a) (progress_at U s) x) (sym on.0) (unknown-leads S L (progress_at T r) (progress_at U s) a says)
 
-named_in-more : (U : List Tree) (named more : List (Vec TermId Global)) (s : Vec TermId Global) → NamedIn U named → AreIn U s.items → more ≡ named ++ s ∷ [] → NamedIn U more
+pub named_in-more : (U : List Tree) (named more : List (Vec TermId Global)) (s : Vec TermId Global) → NamedIn U named → AreIn U s.items → more ≡ named ++ s ∷ [] → NamedIn U more
 named_in-more U named more s i h e =
     subst (NamedIn U) (sym e) (All-push (λ (ids : Vec TermId Global). AreIn U ids.items) named s i h)
 

@@ -43,16 +43,3 @@ abbrev pub fitting : Vec TermId Global → Outcome → HeaderMatch
 fitting s outcome.Holds = match.Fits s
 fitting s outcome.Refuted = match.Clashes
 fitting s outcome.Undecided = match.Known s
-
--- an impl whose header may fit under some terms, by its where clauses
-abbrev pub known_only : Vec TermId Global → Outcome → HeaderMatch
-known_only s outcome.Holds = match.Known s
-known_only s outcome.Refuted = match.Clashes
-known_only s outcome.Undecided = match.Known s
-
--- an impl under whichever terms
-abbrev pub impl_held : HeaderMatch → Outcome
-impl_held (match.Fits s) = outcome.Holds
-impl_held (match.Known s) = outcome.Undecided
-impl_held match.Clashes = outcome.Refuted
-impl_held match.Unknown = outcome.Undecided

@@ -11,9 +11,7 @@ pub mod Pending
 pub mod Joined
 pub mod TraitOutcomes
 pub mod ProjectionParts
-pub mod ConstParts
 pub mod Combined
-pub mod EligibleItems
 pub mod HeaderWords
 pub mod Relating
 pub mod Binding
@@ -32,3 +30,5 @@ pub mod Collecting
 pub mod OpenGoals
 pub mod OpenProjections
 pub mod Promises
+pub mod Lists
+pub mod AskedTraits

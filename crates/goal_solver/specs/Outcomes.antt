@@ -1,7 +1,6 @@
 -- What the outcomes of an evaluation say. Exactly one of three is said of each question: that it holds, that it is refuted, or neither.
 use Rattle.std.specs.Prelude.{◌≡◌, ◌⊎◌, ℕ, true, false, List, map}
 use Rattle.goal_terms.specs.Erased.{erased}
-use Rattle.goal_terms.specs.TableMeaning.{HasTerm}
 use Rattle.goal_terms.specs.Tree.{Tree}
 use Rattle.goal_terms.specs.TreeOf.{trees_of}
 use Rattle.goal_terms.specs.declared.answers.ParamKind.{ParamKind}
@@ -15,8 +14,6 @@ use Rattle.goal_kinds.specs.Interned.{erased_at, erased_all, IsIn, AreIn}
 use Rattle.goal_kinds.specs.Level.{Level}
 use Rattle.goal_kinds.specs.Levels.{level}
 use Rattle.goal_kinds.specs.Settings.{Setting, is_headline}
-use Rattle.goal_kinds.specs.TraitGoals.{ImplHoldsUnder, ImplRefuted, header_of}
-use Rattle.goal_tables.specs.declared.rows.ImplRow.{ImplRow}
 use Rattle.goal_solver.specs.declared.eval.outcomes.Setting as over
 use Rattle.goal_solver.specs.declared.eval.outcomes.Outcome as outcomes
 use Rattle.goal_solver.specs.declared.eval.outcomes.Outcome.TheVariants as outcome
@@ -64,12 +61,6 @@ FoundIn T (found.Is id) = IsIn T id
 FoundIn T found.Refuted = Unit {0}
 FoundIn T found.Undecided = Unit {0}
 
--- it is a type or a constant
-abbrev pub FoundTerm : List Tree → founds.Found → Type 0
-FoundTerm T (found.Is id) = HasTerm T id
-FoundTerm T found.Refuted = Unit {0}
-FoundTerm T found.Undecided = Unit {0}
-
 -- arguments of a header, without lifetimes
 abbrev pub header_terms : List GenericArg → List Tree
 header_terms args = map erased (trees_of args)
@@ -88,16 +79,6 @@ MatchIn T (match.Fits s) = AreIn T s.items
 MatchIn T (match.Known s) = AreIn T s.items
 MatchIn T match.Clashes = Unit {0}
 MatchIn T match.Unknown = Unit {0}
-
--- what an impl comes to: it holds under a substitution, or is refuted; where neither is so, its parameters may be known
-abbrev pub SaysImpl : Level → ImplRow → List Tree → List Tree → matches.HeaderMatch → Type 0
-SaysImpl L r gs T (match.Fits s) = ImplHoldsUnder L r gs (erased_all T s.items)
-SaysImpl L r gs T (match.Known s) =
-    AllKnown L r.params.items (header_of r) gs (erased_all T s.items)
-    × ((z : List Tree) → ImplHoldsUnder L r gs z → ⊥)
-    × (ImplRefuted L gs r → ⊥)
-SaysImpl L r gs T match.Clashes = ImplRefuted L gs r
-SaysImpl L r gs T match.Unknown = ((s : List Tree) → AllKnown L r.params.items (header_of r) gs s → ⊥) × (ImplRefuted L gs r → ⊥)
 
 -- a projection as it is asked
 abbrev pub projection_at : List Tree → projections.Projection → terms.Projection

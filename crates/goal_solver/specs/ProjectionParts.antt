@@ -31,19 +31,6 @@ MergesTo T (found.Is a) found.Refuted h = h ≡ found.Is a
 MergesTo T (found.Is a) (found.Is b) h =
     ((h ≡ found.Is a) × (erased_at T a ≡ erased_at T b)) ⊎ ((h ≡ found.Undecided) × (erased_at T a ≢ erased_at T b))
 
--- an alias projects an item
-abbrev pub ProjectsItem : ItemId → Tree → Type 0
-ProjectsItem i (alias k ts) = projected_item k ≡ Some i
-ProjectsItem i (node h ts) = ⊥
-ProjectsItem i (variable v) = ⊥
-
--- a clause's term is a projection's: the arguments are equal, the item's own where clauses hold, and the term has a head form
-abbrev pub EqualArgsGive : Level → Projection → List Tree → Tree → Tree → Type 0
-EqualArgsGive L p bs v u = Pairs L.equal bs p.args × PremisesHold L (own_clauses p) × HasHeadForm L v u
-
-abbrev pub EqualArgsRefuted : Level → Projection → List Tree → Tree → Type 0
-EqualArgsRefuted L p bs v = SomePair L.unequal bs p.args ⊎ PremisesRefuted L (own_clauses p) ⊎ HeadFormRefuted L v
-
 -- terms that have head forms; one of them has none
 abbrev pub IsFormed : Level → Tree → Type 0
 IsFormed L t = (f : Tree) × HasHeadForm L t f

@@ -17,6 +17,7 @@ ghost use Rattle.goal_solver.specs.Outcomes.{StandsFor};
 ghost use Rattle.goal_solver.specs.Promises.{AnswersGiven, AnswersTraitAbove, AppliesGiven, IsClosedGoal, IsUndecidedResponse, LeavesUndecided, Through as through, asked_through};
 ghost use Rattle.goal_solver.specs.State.{kinds_of};
 
+pub mod candidates;
 pub(crate) mod collecting;
 pub(crate) mod merged_rules;
 pub(crate) mod merging;

@@ -9,8 +9,7 @@ ghost use Rattle.goal_solver.specs.Outcomes.{StandsFor};
 ghost use Rattle.goal_solver.specs.Promises.{AnswersHostEffect, IsClosedHostEffect, LeavesUndecided, NoTwoDisagree, const_asked};
 ghost use Rattle.goal_solver.specs.State.{kinds_of};
 
-pub mod candidates;
-pub(crate) mod parts;
+pub mod evaluation;
 
 use crate::context::EvalCtxt;
 use crate::eval::closed_goals::has_variable;

@@ -1,7 +1,6 @@
 //! Evaluation: how deep a goal is gone into, what it comes to, and running the lists of rules.
 pub mod added_evaluation;
 pub(crate) mod closed_goals;
-pub(crate) mod combined;
 pub(crate) mod conclusions;
 pub(crate) mod evaluations;
 pub(crate) mod free_variables;
@@ -12,6 +11,7 @@ pub(crate) mod id_lists;
 pub(crate) mod instances;
 pub(crate) mod interning;
 pub mod joined;
+pub mod lists;
 pub(crate) mod mode_tests;
 pub(crate) mod open_terms;
 pub mod outcomes;
@@ -19,5 +19,4 @@ pub mod premises;
 pub mod run_rule;
 pub mod self_types;
 pub mod structural;
-pub mod term_errors;
 pub(crate) mod where_goals;

@@ -15,12 +15,10 @@ ghost use Rattle.goal_solver.specs.Outcomes.{StandsFor};
 ghost use Rattle.goal_solver.specs.Promises.{AnswersAlias, IsClosedNormalization, LeavesUndecided, MergesOpenProjection, NoTwoDisagree, term_asked};
 ghost use Rattle.goal_solver.specs.State.{kinds_of};
 
-pub mod aliases;
-pub(crate) mod asked_args;
-pub mod assoc_items;
-pub mod impl_terms;
+pub mod alias_terms;
 pub(crate) mod open;
 pub(crate) mod projection_args;
+pub mod projection_candidates;
 pub mod projections;
 pub(crate) mod proven_via;
 pub mod translate_args;

@@ -12,7 +12,7 @@ ghost use Rattle.goal_solver.specs.Outcomes.{StandsFor};
 ghost use Rattle.goal_solver.specs.Promises.{AnswersTrait, IsClosedTrait, LeavesUndecided, MergesOpenTrait, NoTwoDisagree, trait_asked, trait_question};
 ghost use Rattle.goal_solver.specs.State.{kinds_of};
 
-pub mod candidates;
+pub mod evaluation;
 pub(crate) mod open;
 
 use crate::context::EvalCtxt;

@@ -36,7 +36,7 @@ pub fn term_rule(
 }
 
 /// The self type of some arguments, and the others.
-fn split_self(args: &[TermId]) -> Option<(TermId, &[TermId])>
+pub(crate) fn split_self(args: &[TermId]) -> Option<(TermId, &[TermId])>
     ensures { MatchOption result (args.now ≡ []) (λ p. args.now ≡ p.0 ∷ p.1.now) }
 {
     match args {

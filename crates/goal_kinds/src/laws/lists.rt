@@ -8,13 +8,15 @@ ghost use Rattle.goal_terms.specs.declared.modes.TypingMode.{TypingMode};
 ghost use Rattle.goal_terms.specs.declared.predicates.BoundConstness.{BoundConstness};
 ghost use Rattle.goal_terms.specs.declared.terms.AliasTermKind.{AliasTermKind};
 ghost use Rattle.goal_kinds.specs.Candidates.{Candidate};
-ghost use Rattle.goal_kinds.specs.Entries.{Entry, ListHolds, ListGives, ListRefuted};
+ghost use Rattle.goal_kinds.specs.EffectLists.{effect_list};
+ghost use Rattle.goal_kinds.specs.Entries.{Entry, ListHolds, ListGives, ListRefuted, ListAsksNoTerm};
 ghost use Rattle.goal_kinds.specs.ImplTerms.{Projection};
 ghost use Rattle.goal_kinds.specs.Levels.{level};
 ghost use Rattle.goal_kinds.specs.ListLaws.{TraitListHolds, TraitListRefuted, EffectListHolds, EffectListRefuted, ProjectionListGives, ProjectionListRefuted};
 ghost use Rattle.goal_kinds.specs.ListLaws.{AliasListGives, AliasListRefuted, EquationListHolds, EquationListRefuted};
-ghost use Rattle.goal_kinds.specs.ListLaws.{TraitListStands, EffectListStands, ProjectionListStands, AliasListStands};
+ghost use Rattle.goal_kinds.specs.ListLaws.{TraitListStands, EffectListStands, ProjectionListStands, AliasListStands, ProjectionListStandsIn, AliasListStandsIn};
 ghost use Rattle.goal_kinds.specs.Settings.{Setting};
+ghost use Rattle.goal_kinds.specs.TraitLists.{trait_list};
 
 /// The list of a candidate for a trait goal holds, and is refuted, where the candidate is.
 pub fn trait_lists_say_what_candidates_do()
@@ -49,12 +51,20 @@ pub fn equation_lists_say_what_goals_do()
 {}
 
 /// A list of the erased mode that records no access is the list of each headline mode. Those of trait
-/// goals and of host effect goals never record one.
+/// goals and of host effect goals never record one. One that does is the same up to its first access.
 pub fn erased_lists_stand_for_headline_modes()
     ensures traits { (S : Setting) (m : TypingMode) (i : TraitId) (ts : List Tree) (c : Candidate) → TraitListStands S m i ts c }
     ensures effects { (S : Setting) (m : TypingMode) (b : BoundConstness) (i : TraitId) (ts : List Tree) (c : Candidate) → EffectListStands S m b i ts c }
     ensures projections { (S : Setting) (m : TypingMode) (p : Projection) (itself : Tree) (c : Candidate) → ProjectionListStands S m p itself c }
     ensures aliases { (S : Setting) (m : TypingMode) (k : AliasTermKind) (ts : List Tree) → AliasListStands S m k ts }
+    ensures projections_before { (S : Setting) (m : TypingMode) (p : Projection) (itself : Tree) (c : Candidate) → ProjectionListStandsIn S m p itself c }
+    ensures aliases_before { (S : Setting) (m : TypingMode) (k : AliasTermKind) (ts : List Tree) → AliasListStandsIn S m k ts }
+{}
+
+/// The lists of trait goals and of host effect goals ask for no term.
+pub fn lists_of_traits_ask_for_no_term()
+    ensures traits { (S : Setting) (i : TraitId) (ts : List Tree) (c : Candidate) → ListAsksNoTerm (trait_list S i ts c) }
+    ensures effects { (S : Setting) (b : BoundConstness) (i : TraitId) (ts : List Tree) (c : Candidate) → ListAsksNoTerm (effect_list S b i ts c) }
 {}
 
 /// A list that holds, gives a term or is refuted at a height does so at every greater one.

@@ -216,7 +216,7 @@ fn opaque_entries(
 }
 
 /// What a typing mode makes of an opaque type.
-fn use_of(mode: &TypingMode, row: &OpaqueRow) -> OpaqueUse
+pub(crate) fn use_of(mode: &TypingMode, row: &OpaqueRow) -> OpaqueUse
     ensures { result ≡ opaque_use mode.now row.now }
 {
     match mode {

@@ -1,33 +1,23 @@
-use Rattle.goal_terms.specs.declared.answers.TraitGoalProvenVia.TheVariants as class
-use Rattle.goal_kinds.specs.Builtins.{trait_rule, term_rule}
 use Rattle.goal_kinds.specs.Level.{HasHeadForm, HeadFormRefuted}
-use Rattle.goal_solver.specs.declared.eval.outcomes.HeaderMatch.TheVariants as match
 use Rattle.goal_kinds.proofs.InternedLemmas.{are_in-grown, all_same-grown, same-grown, in-grown}
-use Rattle.goal_solver.proofs.TraitOutcomeLemmas.{assumption-candidate, implied-candidate, impl-candidate, rule-candidate, error-candidate, candidates-start, candidates-step, candidates-held, candidates-end, candidate-in, class-says, class-grown, undecided-refuted, environment-decides, bounds-decide, rest-decides, none-decides, impl-negative, impl-clashes, impl-unknown, impl-fitting, impl-known, matched, clauses-of, rule-none, rule-some, trait-ground, trait-bare, trait-unformed, trait-formless, trait-formed, replaced-in, replaced-formed, CandidatesSay, other-assumption, other-trait, same-trait}
-use Rattle.goal_kinds.specs.Interned.{AreIn, erased_at, erased_all, predicate_at, premise_at, candidate_at, IsIn, listed_at, trait_at, const_rule_at}
+use Rattle.goal_solver.proofs.TraitOutcomeLemmas.{candidate-in, undecided-refuted, environment-decides, bounds-decide, rest-decides, none-decides, trait-ground, trait-bare, trait-unformed, trait-formless, trait-formed, replaced-in, replaced-formed}
+use Rattle.goal_kinds.specs.Interned.{AreIn, erased_at, erased_all, predicate_at, premise_at, candidate_at, IsIn, trait_at, CandidateIn}
 use Rattle.goal_solver.proofs.PremiseOutcomes.{PremisesSay, SaysClause, const-predicate, equation-predicate, equation-premise, predicate-premise, premise-at, premises-end, premises-refuted, premises-start, premises-step, trait-predicate, conditions-step, conditions-refuted, conditions-end, condition-at, condition_at, equation-ground, equation-result}
-use Rattle.goal_solver.specs.Joined.{both, one_of}
-use Rattle.goal_solver.specs.Outcomes.{setting_in, level_in, SaysWhich, FoundIn, MatchIn, SaysMatch, Says, projection_at, header_terms, SaysImpl}
+use Rattle.goal_solver.specs.Joined.{both}
+use Rattle.goal_solver.specs.Outcomes.{setting_in, level_in, SaysWhich, FoundIn, Says, projection_at, header_terms}
 use Rattle.goal_terms.proofs.InternLemmas.{keeps-chain, keeps-refl}
-use Rattle.std.proofs.Common.{◌-◌, arith, ap, map, subst, sym, ◌+◌, ◌∙◌, true, false, refl, ◌∷◌, [], ◌++◌, length, rules, get_or, ◌<◌, inl, inr, true≢false}
-use Rattle.std.proofs.lemmas.List.Elements.{All-head, All-tail, All-push, All-nil, All-get_or, All-same}
+use Rattle.std.proofs.Common.{◌-◌, arith, ap, map, subst, sym, ◌+◌, ◌∙◌, true, false, refl, ◌∷◌, ◌++◌, length, rules, get_or, ◌<◌, ◌≡◌, ⊎_elim, Some}
+use Rattle.std.proofs.lemmas.List.Elements.{All-push, All-nil, All-get_or, All-same}
 use Rattle.goal_terms.specs.Sorts.{IsArgument}
-use Rattle.goal_terms.specs.TreeOf.{tree_of_ty, tree_of_term, trees_of}
+use Rattle.goal_terms.specs.TreeOf.{trees_of}
 use Rattle.goal_terms.specs.TableMeaning.{tree_at, Keeps}
 use Rattle.goal_terms.specs.View.{tree_of_ref}
-use Rattle.goal_tables.specs.Rows.{free_of, inherent_of, opaque_of, impl_of}
-use Rattle.goal_kinds.specs.Aliases.{FreeGives, FreeRefuted, self_header, OpaqueGives, OpaqueRefuted}
 use Rattle.goal_kinds.proofs.ConsistentLemmas.{each_level_is_consistent}
-use Rattle.goal_solver.proofs.HeadFormLemmas.{form-spelled, own_form, alias_found, parts_in}
-use Rattle.goal_solver.proofs.RowTermLemmas.{type-argument, term-argument}
-use Rattle.goal_solver.proofs.AliasTermLemmas.{depth-zero, opaque-above, projection-above, inherent-above, free-above, unevaluated, row-missing, free-there, inherent-no_row, inherent-no_impl, inherent-no_args, inherent-there, inherent-fits, inherent-known, inherent-clashes, inherent-unknown, same_shown, opaque-shown, opaque-hidden, value-missing, value-there, value-behind, found_in-behind}
-use Rattle.goal_kinds.specs.Premises.{PremisesHold, PremisesRefuted, clauses_under}
-use Rattle.goal_solver.proofs.SaidLemmas.{behind-says, joined-terms, match-as, other-clashes, other-unknown, other-fits, other-known, translated-missing, translated-there, own-terms, taken-from_trait, taken-from_impl, taken-from_other, evaluated-says, value-fits, value-known, value-clashes, value-unknown, said-nothing, said-itself, said-error, own-behind, projection_same-grown, impl-fits, consider_projection_impl_candidate-known, consider_projection_impl_candidate-clashes, consider_projection_impl_candidate-unknown, trait-terms}
+use Rattle.goal_solver.proofs.HeadFormLemmas.{own_form, alias_found, parts_in}
+use Rattle.goal_solver.proofs.AliasTermLemmas.{depth-zero, projection-above}
+use Rattle.goal_kinds.specs.Premises.{clauses_under, conditions_as}
 use Rattle.goal_kinds.specs.Headers.{under}
 use Rattle.std.proofs.lemmas.List.{map-append, take_all, length_push}
-use Rattle.goal_kinds.specs.ImplTerms.{taken, Translated, KnownTranslated, TranslationRefuted}
-use Rattle.goal_solver.specs.Combined.{SaysMatched}
-use Rattle.goal_solver.specs.EligibleItems.{eligible_at}
 use Rattle.goal_solver.specs.HeaderWords.{AreFilled, KnownIn, OptionIn, known_trees, IsKnown, erased_ref, ClashAt, Fills}
 use Rattle.goal_solver.proofs.HeaderPlaceLemmas.{heads-same, heads-other, stand-arguments}
 use Rattle.goal_solver.proofs.HeaderPartLemmas.{behind-zero, behind-refuted, behind-undecided, behind-other, behind-form, found-is, found-refuted, found-undecided, among-known, known-start, known-more, known-all, known-same_given}
@@ -35,23 +25,40 @@ use Rattle.goal_kinds.proofs.UnderLemmas.{are_in-below, are_in-arguments}
 use Rattle.goal_solver.proofs.HeaderArgLemmas.{known_in-grown}
 use Rattle.goal_solver.proofs.HeaderOutcomeLemmas.{behind_clash-zero, behind_clash-refuted, behind_clash-undecided, behind_clash-other, behind_clash-form, any-found, any-more, any-none, any-end, asked-of, instance-unknown, instance-says}
 use Rattle.goal_kinds.specs.Words.{SomePair, Pairs}
-use Rattle.goal_solver.specs.declared.eval.outcomes.Outcome.TheVariants as outcome
 use Rattle.goal_solver.proofs.HeaderMatchLemmas.{fit-says, filled-fills, match-fits, match-clashes, match-known, match-unknown, known-outcome-grown, match-given, known-outcome-given, match-says}
-use Rattle.goal_solver.proofs.ProjectionTermLemmas.{assumption-const, assumption-equation, assumption-trait, candidate-assumption, candidate-built_in, candidate-error, candidate-impl, candidate-implied, consistent, equal_args-clauses, equal_args-says, equation-other, equation-says, formed-says, forms-end, forms-more, forms-refuted, forms-unknown, found_behind, group-back, group-end, group-more, group-stop, listed-back, listed-behind, listed-nothing, listed-rigid, premises-behind, same_element, sized-holds, sized-refuted, sized-says, sized-undecided}
-use Rattle.goal_kinds.specs.Candidates.{environment, second_group}
+use Rattle.goal_solver.proofs.ProjectionTermLemmas.{consistent, formed-says, forms-end, forms-more, forms-refuted, forms-unknown, group-back, group-end, group-more, group-stop, same_element}
+use Rattle.goal_kinds.specs.Candidates.{environment, second_group, class_of}
 use Rattle.goal_solver.proofs.ProjectionGroupLemmas.{environment-class, groups-by_environment, groups-by_later, groups-undecided, item-none, item-refuted, item-says, item-undecided, later-by_second, no_args, projection-says, projection-without_item, projection-without_trait, refuted-unformed, replaced-says, self_args-grown, some_args, through-says, through-unformed}
 use Rattle.goal_solver.proofs.MergingLemmas.{found_in-grown, merged-in}
-use Rattle.goal_solver.proofs.+closed.Goals.{normalizes_to::projections::head_forms_outcome-in-Is, normalizes_to::projections::head_forms_outcome-in-Undecided, effect_goals::candidates::match_assumption-then-not-is_trait-via-then-not-is_trait, effect_goals::candidates::match_assumption-then-not-is_trait-via-else-not-is_trait+then-not-satisfies}
-use Rattle.goal_solver.specs.declared.eval.outcomes.TraitOutcome.TheVariants as trait_outcome
+use Rattle.goal_solver.proofs.+closed.Goals.{normalizes_to::projections::head_forms_outcome-in-Is, normalizes_to::projections::head_forms_outcome-in-Undecided}
 use Rattle.std.proofs.lemmas.Bool.{false≢true}
 use Rattle.goal_terms.proofs.SameTermLemmas.{tops-same, tops-differ}
 use Rattle.goal_solver.specs.Pending.{IsOpen}
 use Rattle.goal_solver.proofs.FormLemmas.{pair-ground, pair-found_ok, pair-lacking, same-form, other-node, forms-compared, found-in, open-grown, narrows-more, narrows-end, narrows-refuted, left-over_ok}
 use Rattle.goal_solver.proofs.PartKinds.{parts-of_one_kind, lists-of_one_kind}
 use Rattle.goal_solver.proofs.TopLemmas.{nodes-same, nodes-differ}
-use Rattle.goal_solver.proofs.ConstOutcomeLemmas.{asked-say, clause-other, clause-unfit, clause-result, shows-clause, shows-implied, shows-impl, shows-rule, shows-error, so_far-start, so_far-more, so_far-shown, candidate-there, class-refuted, class-open, class-by_form, const-ground, const-no_self, const-refuted, const-open, const-held, rest-there, environment-says, groups-shown, groups-open, groups-second, impl-plain, const_impl-clashes, const_impl-unknown, const_impl-fitting, impl-known_only, implied-unfit, implied-say, const_rule-none, rule-result, second-says}
-use Rattle.std.specs.Option.{option_map}
-use Rattle.goal_kinds.specs.ConstRules.{const_rule}
+use Rattle.goal_solver.proofs.ConstOutcomeLemmas.{const-ground, const-no_self}
+use Rattle.std.specs.Option.{option_copied}
+use Rattle.goal_kinds.specs.InternedEntries.{list_at, arguments_at, term_at, entry_at, ArgumentsIn, header_trees, TermIn, value_tree}
+use Rattle.goal_solver.specs.Lists.{IsListFor, LeadsOn, progress_at, SaysRow, numbered_at, premises_of}
+use Rattle.goal_solver.proofs.ListAnswerLemmas.{none-says, list-says, runs-next, runs-refuted, runs-undecided, runs-end, entry-in}
+use Rattle.goal_solver.proofs.ListRunLemmas.{end-in, asking-leads, giving-leads, giving-in, naming-leads, naming-in, terms-ask, clause-asks, row-asks, conditions-ask, access-asks, fault-asks, evaluation-asks, ambiguous-asks, undecided-asks, refused-asks}
+use Rattle.std.specs.Prelude.{IfSome, slice_get}
+use Rattle.std.proofs.lemmas.Result.{IfOk-weaker}
+use Rattle.goal_solver.specs.RunRules.{NamedIn, named_at}
+use Rattle.goal_solver.proofs.RuleEntryLemmas.{pairs-says, followed-in}
+use Rattle.goal_solver.proofs.ListEntryLemmas.{given-named, header-named, other-unnamed, other-named, followed-unnamed, followed-named, row-unnamed, row-found, standing-found, head_form-found, value-unnamed, value-found, value-argument, chosen-found}
+use Rattle.goal_solver.specs.AskedTraits.{candidate_list, SaysCandidate}
+use Rattle.goal_solver.proofs.AskedTraitLemmas.{asked-says, asked_in-grown, asked-start, asked-more, asked-shown, asked-end, asked-listed, plain-class, groups-first, groups-second}
+use Rattle.goal_solver.proofs.HostEffectLemmas.{SaysHost, plain-decides, host-unformed, host-formed}
+use Rattle.goal_kinds.specs.AliasLists.{alias_list}
+use Rattle.goal_solver.proofs.ListedTermLemmas.{alias-says, no_item, candidate-says}
+use Rattle.goal_kinds.specs.ProjectionLists.{projection_list}
+use Rattle.std.specs.List.{All}
+use Rattle.goal_terms.specs.declared.answers.TraitGoalProvenVia.TheVariants as class
+use Rattle.goal_solver.specs.declared.eval.outcomes.Outcome.TheVariants as outcome
+use Rattle.goal_solver.specs.declared.eval.lists.entries.RowPremises.TheVariants as row
+use Rattle.goal_solver.specs.declared.eval.run_rule.progress.Reached.TheVariants as reached
 use Rattle.goal_solver.proofs.+closed.Goals as goal
 
 pub eval::premises::predicate_outcome-returns-in_ok-found-in-Trait-clause-says : goal.eval::premises::predicate_outcome-returns-in_ok-found-in-Trait-clause-says
@@ -113,321 +120,6 @@ eval::premises::premises_outcome-premise_outcome-requires t c = (
       c.loop-premise.invariant.kept c.requires (omega arith) c.premise-item.is).0,
 )
 
-pub trait_goals::candidates::consider_candidate-returns-in-Assumption-clause-says : goal.trait_goals::candidates::consider_candidate-returns-in-Assumption-clause-says
-trait_goals::candidates::consider_candidate-returns-in-Assumption-clause-says t c =
-    λ m s. assumption-candidate (setting_in c.args.setting.now m) (level_in c.args.setting.now m c.args.depth) c.args.trait_id (erased_all c.args.terms.now c.args.args.now) c.args.terms.now c.args.candidate.now c.in-Assumption.said c.match_assumption.result c.in-Assumption.is (c.match_assumption.ensures.says m s)
-
-pub trait_goals::candidates::consider_candidate-returns-in-ImpliedBound-clause-says : goal.trait_goals::candidates::consider_candidate-returns-in-ImpliedBound-clause-says
-trait_goals::candidates::consider_candidate-returns-in-ImpliedBound-clause-says t c =
-    λ m s. implied-candidate (setting_in c.args.setting.now m) (level_in c.args.setting.now m c.args.depth) c.args.trait_id (erased_all c.args.terms.now c.args.args.now) c.args.terms.now c.args.candidate.now c.in-ImpliedBound.field-0 c.in-ImpliedBound.field-1 c.in-ImpliedBound.is
-
-pub trait_goals::candidates::consider_candidate-returns-in_ok-matched-in-Impl-clause-says : goal.trait_goals::candidates::consider_candidate-returns-in_ok-matched-in-Impl-clause-says
-trait_goals::candidates::consider_candidate-returns-in_ok-matched-in-Impl-clause-says t c =
-    λ m s. impl-candidate (setting_in c.args.setting.now m) (level_in c.args.setting.now m c.args.depth) c.args.trait_id (erased_all c.args.terms.now c.args.args.now) c.args.terms.now c.consider_trait_impl_candidate.new.terms c.args.candidate.now c.in-Impl.row c.in_ok-matched-in-Impl.matched c.impl_held.result
-    c.in-Impl.is (c.in_ok-matched-in-Impl.ensures.says m s) c.impl_held.ensures
-
-pub trait_goals::candidates::consider_candidate-returns-in-BuiltIn-clause-says : goal.trait_goals::candidates::consider_candidate-returns-in-BuiltIn-clause-says
-trait_goals::candidates::consider_candidate-returns-in-BuiltIn-clause-says t c =
-    λ m s. rule-candidate (setting_in c.args.setting.now m) (level_in c.args.setting.now m c.args.depth) c.args.trait_id (erased_all c.args.terms.now c.args.args.now) c.args.terms.now c.args.candidate.now c.consider_builtin_candidate.result c.in-BuiltIn.is (c.consider_builtin_candidate.ensures.says m s)
-
-pub trait_goals::candidates::consider_candidate-returns-in-Error-clause-says : goal.trait_goals::candidates::consider_candidate-returns-in-Error-clause-says
-trait_goals::candidates::consider_candidate-returns-in-Error-clause-says t c =
-    λ m s. error-candidate (setting_in c.args.setting.now m) (level_in c.args.setting.now m c.args.depth) c.args.trait_id (erased_all c.args.terms.now c.args.args.now) c.args.terms.now c.args.candidate.now c.consider_error_guaranteed_candidate.result c.in-Error.is c.consider_error_guaranteed_candidate.ensures
-
-pub trait_goals::candidates::candidates_outcome-loop-candidate-init : goal.trait_goals::candidates::candidates_outcome-loop-candidate-init
-trait_goals::candidates::candidates_outcome-loop-candidate-init t c = record {
-  kept = keeps-refl c.args.terms.now;
-  so_far = candidates-start c.args.setting.now c.args.depth c.args.trait_id c.args.terms.now c.args.args.now c.args.candidates.now;
-}
-
-pub trait_goals::candidates::candidates_outcome-loop-candidate-preserved : goal.trait_goals::candidates::candidates_outcome-loop-candidate-preserved
-trait_goals::candidates::candidates_outcome-loop-candidate-preserved t c = record {
-  kept = keeps-chain c.args.terms.now c.loop-candidate.terms c.consider_candidate.new.terms c.loop-candidate.invariant.kept c.consider_candidate.ensures.kept;
-  so_far =
-      subst (CandidatesSay c.args.setting.now c.args.depth c.args.trait_id c.args.terms.now c.args.args.now c.args.candidates.now (c.loop-candidate.candidate-index + 1)) (sym c.or-found.ensures)
-      (candidates-step c.args.setting.now c.args.depth c.args.trait_id c.args.terms.now c.loop-candidate.terms c.args.args.now c.args.candidates.now c.loop-candidate.candidate-index c.candidate-item.result
-      c.loop-candidate.found c.in_ok-next.next c.loop-candidate.invariant.kept c.requires.args c.requires.candidates (omega arith) c.candidate-item.is c.loop-candidate.invariant.so_far c.in_ok-next.ensures.says);
-}
-
-pub trait_goals::candidates::candidates_outcome-returns-in-Holds-clause-says : goal.trait_goals::candidates::candidates_outcome-returns-in-Holds-clause-says
-trait_goals::candidates::candidates_outcome-returns-in-Holds-clause-says t c =
-    candidates-held c.args.setting.now c.args.depth c.args.trait_id c.args.terms.now c.args.args.now c.args.candidates.now (c.loop-candidate.candidate-index + 1) (one_of c.loop-candidate.found c.in_ok-next.next)
-    (sym c.or-found.ensures ∙ c.in-Holds.is)
-    (candidates-step c.args.setting.now c.args.depth c.args.trait_id c.args.terms.now c.loop-candidate.terms c.args.args.now c.args.candidates.now c.loop-candidate.candidate-index c.candidate-item.result
-    c.loop-candidate.found c.in_ok-next.next c.loop-candidate.invariant.kept c.requires.args c.requires.candidates (omega arith) c.candidate-item.is c.loop-candidate.invariant.so_far c.in_ok-next.ensures.says)
-
-pub trait_goals::candidates::candidates_outcome-returns-clause-says : goal.trait_goals::candidates::candidates_outcome-returns-clause-says
-trait_goals::candidates::candidates_outcome-returns-clause-says t c =
-    candidates-end c.args.setting.now c.args.depth c.args.trait_id c.args.terms.now c.args.args.now c.args.candidates.now c.loop-candidate.candidate-index c.loop-candidate.found (omega arith) c.loop-candidate.invariant.so_far
-
-pub trait_goals::candidates::candidates_outcome-consider_candidate-requires : goal.trait_goals::candidates::candidates_outcome-consider_candidate-requires
-trait_goals::candidates::candidates_outcome-consider_candidate-requires t c = (
-  omega arith,
-  (
-    are_in-grown c.args.terms.now c.loop-candidate.terms c.loop-candidate.invariant.kept c.args.args.now c.requires.args,
-    candidate-in c.args.terms.now c.loop-candidate.terms c.args.candidates.now c.loop-candidate.candidate-index c.candidate-item.result c.loop-candidate.invariant.kept c.requires.candidates (omega arith) c.candidate-item.is,
-  ),
-)
-
-pub trait_goals::candidates::class_outcome-returns-clause-says : goal.trait_goals::candidates::class_outcome-returns-clause-says
-trait_goals::candidates::class_outcome-returns-clause-says t c =
-    λ m s. class-says (setting_in c.args.setting.now m) (level_in c.args.setting.now m c.args.depth) c.args.trait_id c.args.terms.now c.candidates_of_class.new.terms (erased_at c.args.terms.now c.args.self_ty) c.args.args.now c.args.class (map (candidate_at c.candidates_of_class.new.terms) c.deref.result.now)
-    c.candidates_outcome.result c.candidates_of_class.ensures.kept c.requires.args
-    (ap (map (candidate_at c.candidates_of_class.new.terms)) c.deref.ensures.value ∙ c.in_ok-candidates.ensures.candidates m) (c.candidates_outcome.ensures.says m s)
-
-pub trait_goals::candidates::decide_trait-returns-in-Some-clause-says : goal.trait_goals::candidates::decide_trait-returns-in-Some-clause-says
-trait_goals::candidates::decide_trait-returns-in-Some-clause-says t c =
-    λ m s. environment-decides (setting_in c.args.setting.now m) c.args.depth c.args.trait_id (erased_at c.args.terms.now c.args.self_ty) (erased_all c.args.terms.now c.args.args.now) c.in_ok-environment.environment c.in-Some.decided (c.in_ok-environment.ensures.says m s) (sym c.through.ensures ∙ c.in-Some.is)
-
-pub trait_goals::candidates::decide_trait-returns-in-Some-through-clause-says : goal.trait_goals::candidates::decide_trait-returns-in-Some-through-clause-says
-trait_goals::candidates::decide_trait-returns-in-Some-through-clause-says t c =
-    λ m s. bounds-decide (setting_in c.args.setting.now m) c.args.depth c.args.trait_id (erased_at c.args.terms.now c.args.self_ty) (erased_all c.args.terms.now c.args.args.now) c.in_ok-environment.environment c.in_ok-bounds.bounds c.in-Some-through.decided
-    (undecided-refuted c.in_ok-environment.environment class.ParamEnv (λ d e. c.in_default.not-Some d (c.through.ensures ∙ e)))
-    (c.in_ok-environment.ensures.says m s)
-    (class-grown (setting_in c.args.setting.now m) (level_in c.args.setting.now m c.args.depth) c.args.trait_id c.args.terms.now c.class_outcome.new.terms c.args.self_ty c.args.args.now class.AliasBound c.in_ok-bounds.bounds c.class_outcome.ensures.kept c.requires.self_ty c.requires.args (c.in_ok-bounds.ensures.says m s))
-    (sym c.through-2.ensures ∙ c.in-Some-through.is)
-
-pub trait_goals::candidates::decide_trait-returns-in-Some-through-2-clause-says : goal.trait_goals::candidates::decide_trait-returns-in-Some-through-2-clause-says
-trait_goals::candidates::decide_trait-returns-in-Some-through-2-clause-says t c =
-    λ m s. rest-decides (setting_in c.args.setting.now m) c.args.depth c.args.trait_id (erased_at c.args.terms.now c.args.self_ty) (erased_all c.args.terms.now c.args.args.now) c.in_ok-environment.environment c.in_ok-bounds.bounds c.in_ok-rest.rest c.in-Some-through-2.decided
-    (undecided-refuted c.in_ok-environment.environment class.ParamEnv (λ d e. c.in_default.not-Some d (c.through.ensures ∙ e)))
-    (undecided-refuted c.in_ok-bounds.bounds class.AliasBound (λ d e. c.in_default-through.not-Some d (c.through-2.ensures ∙ e)))
-    (c.in_ok-environment.ensures.says m s)
-    (class-grown (setting_in c.args.setting.now m) (level_in c.args.setting.now m c.args.depth) c.args.trait_id c.args.terms.now c.class_outcome.new.terms c.args.self_ty c.args.args.now class.AliasBound c.in_ok-bounds.bounds c.class_outcome.ensures.kept c.requires.self_ty c.requires.args (c.in_ok-bounds.ensures.says m s))
-    (class-grown (setting_in c.args.setting.now m) (level_in c.args.setting.now m c.args.depth) c.args.trait_id c.args.terms.now c.class_outcome-2.new.terms c.args.self_ty c.args.args.now class.Misc c.in_ok-rest.rest (keeps-chain c.args.terms.now c.class_outcome.new.terms c.class_outcome-2.new.terms c.class_outcome.ensures.kept c.class_outcome-2.ensures.kept) c.requires.self_ty c.requires.args (c.in_ok-rest.ensures.says m s))
-    (sym c.through-3.ensures ∙ c.in-Some-through-2.is)
-
-pub trait_goals::candidates::decide_trait-returns-in-None-clause-says : goal.trait_goals::candidates::decide_trait-returns-in-None-clause-says
-trait_goals::candidates::decide_trait-returns-in-None-clause-says t c =
-    λ m s. none-decides (setting_in c.args.setting.now m) c.args.depth c.args.trait_id (erased_at c.args.terms.now c.args.self_ty) (erased_all c.args.terms.now c.args.args.now) c.in_ok-environment.environment c.in_ok-bounds.bounds c.in_ok-rest.rest
-    (undecided-refuted c.in_ok-environment.environment class.ParamEnv (λ d e. c.in_default.not-Some d (c.through.ensures ∙ e)))
-    (undecided-refuted c.in_ok-bounds.bounds class.AliasBound (λ d e. c.in_default-through.not-Some d (c.through-2.ensures ∙ e)))
-    (sym c.through-3.ensures ∙ c.in-None.is)
-    (c.in_ok-environment.ensures.says m s)
-    (class-grown (setting_in c.args.setting.now m) (level_in c.args.setting.now m c.args.depth) c.args.trait_id c.args.terms.now c.class_outcome.new.terms c.args.self_ty c.args.args.now class.AliasBound c.in_ok-bounds.bounds c.class_outcome.ensures.kept c.requires.self_ty c.requires.args (c.in_ok-bounds.ensures.says m s))
-    (class-grown (setting_in c.args.setting.now m) (level_in c.args.setting.now m c.args.depth) c.args.trait_id c.args.terms.now c.class_outcome-2.new.terms c.args.self_ty c.args.args.now class.Misc c.in_ok-rest.rest (keeps-chain c.args.terms.now c.class_outcome.new.terms c.class_outcome-2.new.terms c.class_outcome.ensures.kept c.class_outcome-2.ensures.kept) c.requires.self_ty c.requires.args (c.in_ok-rest.ensures.says m s))
-
-pub trait_goals::candidates::consider_trait_impl_candidate-returns-then-not-is_positive-clause-says : goal.trait_goals::candidates::consider_trait_impl_candidate-returns-then-not-is_positive-clause-says
-trait_goals::candidates::consider_trait_impl_candidate-returns-then-not-is_positive-clause-says t c =
-    λ m s. impl-negative (level_in c.args.setting.now m c.args.depth) (erased_all c.args.terms.now c.args.args.now) c.args.row.now (sym c.is_positive.ensures ∙ c.if-not-is_positive.true)
-
-pub trait_goals::candidates::consider_trait_impl_candidate-returns-in-Clashes-clause-says : goal.trait_goals::candidates::consider_trait_impl_candidate-returns-in-Clashes-clause-says
-trait_goals::candidates::consider_trait_impl_candidate-returns-in-Clashes-clause-says t c =
-    λ m s. impl-clashes (level_in c.args.setting.now m c.args.depth) (erased_all c.args.terms.now c.args.args.now) c.args.row.now (matched (level_in c.args.setting.now m c.args.depth) (erased_all c.args.terms.now c.args.args.now) c.match_header.new.terms c.args.row.now c.deref.result.now c.deref-2.result.now c.in_ok-match_header.field-0 match.Clashes c.deref.ensures.value c.deref-2.ensures.value c.in-Clashes.is (c.in_ok-match_header.ensures.says m s))
-
-pub trait_goals::candidates::consider_trait_impl_candidate-returns-in-Unknown-clause-says : goal.trait_goals::candidates::consider_trait_impl_candidate-returns-in-Unknown-clause-says
-trait_goals::candidates::consider_trait_impl_candidate-returns-in-Unknown-clause-says t c =
-    λ m s. impl-unknown (level_in c.args.setting.now m c.args.depth) (erased_all c.args.terms.now c.args.args.now) c.match_header.new.terms c.args.row.now (sym c.is_positive.ensures ∙ c.if-not-is_positive.false) (matched (level_in c.args.setting.now m c.args.depth) (erased_all c.args.terms.now c.args.args.now) c.match_header.new.terms c.args.row.now c.deref.result.now c.deref-2.result.now c.in_ok-match_header.field-0 match.Unknown c.deref.ensures.value c.deref-2.ensures.value c.in-Unknown.is (c.in_ok-match_header.ensures.says m s))
-
-pub trait_goals::candidates::consider_trait_impl_candidate-returns-in_ok-clauses-in-Fits-clause-says : goal.trait_goals::candidates::consider_trait_impl_candidate-returns-in_ok-clauses-in-Fits-clause-says
-trait_goals::candidates::consider_trait_impl_candidate-returns-in_ok-clauses-in-Fits-clause-says t c =
-    λ m s. impl-fitting (setting_in c.args.setting.now m) c.args.depth (erased_all c.args.terms.now c.args.args.now) c.match_header.new.terms c.clauses_outcome.new.terms c.args.row.now c.in-Fits.known c.in_ok-clauses-in-Fits.clauses c.fitting.result
-    c.clauses_outcome.ensures.kept (subst (MatchIn c.match_header.new.terms) c.in-Fits.is c.in_ok-match_header.ensures.within) c.fitting.ensures (sym c.is_positive.ensures ∙ c.if-not-is_positive.false)
-    (matched (level_in c.args.setting.now m c.args.depth) (erased_all c.args.terms.now c.args.args.now) c.match_header.new.terms c.args.row.now c.deref.result.now c.deref-2.result.now c.in_ok-match_header.field-0 (match.Fits c.in-Fits.known) c.deref.ensures.value c.deref-2.ensures.value c.in-Fits.is (c.in_ok-match_header.ensures.says m s))
-    (clauses-of (level_in c.args.setting.now m c.args.depth) c.match_header.new.terms c.args.row.now c.deref-in-Fits.result.now c.deref-in-Fits-2.result.now c.in-Fits.known.items c.in_ok-clauses-in-Fits.clauses
-    c.deref-in-Fits.ensures.value c.deref-in-Fits-2.ensures.value (c.in_ok-clauses-in-Fits.ensures.says m s))
-
-pub trait_goals::candidates::consider_trait_impl_candidate-returns-in_ok-clauses-in-Known-clause-says : goal.trait_goals::candidates::consider_trait_impl_candidate-returns-in_ok-clauses-in-Known-clause-says
-trait_goals::candidates::consider_trait_impl_candidate-returns-in_ok-clauses-in-Known-clause-says t c =
-    λ m s. impl-known (setting_in c.args.setting.now m) c.args.depth (erased_all c.args.terms.now c.args.args.now) c.match_header.new.terms c.clauses_outcome-in-Known.new.terms c.args.row.now c.in-Known.known c.in_ok-clauses-in-Known.clauses c.known_only.result
-    c.clauses_outcome-in-Known.ensures.kept (subst (MatchIn c.match_header.new.terms) c.in-Known.is c.in_ok-match_header.ensures.within) c.known_only.ensures (sym c.is_positive.ensures ∙ c.if-not-is_positive.false)
-    (matched (level_in c.args.setting.now m c.args.depth) (erased_all c.args.terms.now c.args.args.now) c.match_header.new.terms c.args.row.now c.deref.result.now c.deref-2.result.now c.in_ok-match_header.field-0 (match.Known c.in-Known.known) c.deref.ensures.value c.deref-2.ensures.value c.in-Known.is (c.in_ok-match_header.ensures.says m s))
-    (clauses-of (level_in c.args.setting.now m c.args.depth) c.match_header.new.terms c.args.row.now c.deref-in-Known.result.now c.deref-in-Known-2.result.now c.in-Known.known.items c.in_ok-clauses-in-Known.clauses
-    c.deref-in-Known.ensures.value c.deref-in-Known-2.ensures.value (c.in_ok-clauses-in-Known.ensures.says m s))
-
-pub trait_goals::candidates::consider_builtin_candidate-returns-in-None-clause-says : goal.trait_goals::candidates::consider_builtin_candidate-returns-in-None-clause-says
-trait_goals::candidates::consider_builtin_candidate-returns-in-None-clause-says t c =
-    λ m s. rule-none (level_in c.args.setting.now m c.args.depth) c.trait_rule.new.terms c.in_ok-trait_rule.field-0 (trait_rule c.args.setting.now.rows.now c.args.trait_id (erased_all c.args.terms.now c.args.args.now)) c.in-None.is c.in_ok-trait_rule.ensures.premises
-
-pub trait_goals::candidates::consider_builtin_candidate-returns-in-Some-clause-says : goal.trait_goals::candidates::consider_builtin_candidate-returns-in-Some-clause-says
-trait_goals::candidates::consider_builtin_candidate-returns-in-Some-clause-says t c =
-    λ m s. rule-some (level_in c.args.setting.now m c.args.depth) c.trait_rule.new.terms c.in_ok-trait_rule.field-0 (trait_rule c.args.setting.now.rows.now c.args.trait_id (erased_all c.args.terms.now c.args.args.now)) c.in-Some.premises c.deref.result.now c.premises_outcome.result
-    c.in-Some.is c.in_ok-trait_rule.ensures.premises c.deref.ensures.value (c.premises_outcome.ensures.says m s)
-
-pub trait_goals::candidates::evaluate_trait_goal-returns-then-depth-eq0-clause-says : goal.trait_goals::candidates::evaluate_trait_goal-returns-then-depth-eq0-clause-says
-trait_goals::candidates::evaluate_trait_goal-returns-then-depth-eq0-clause-says t c =
-    λ m s. trait-ground (setting_in c.args.setting.now m) c.args.depth c.args.trait_id (erased_all c.args.terms.now c.args.args.now) c.if-depth-eq0.true
-
-pub trait_goals::candidates::evaluate_trait_goal-returns-in_default-clause-says : goal.trait_goals::candidates::evaluate_trait_goal-returns-in_default-clause-says
-trait_goals::candidates::evaluate_trait_goal-returns-in_default-clause-says t c =
-    λ m s. trait-bare (setting_in c.args.setting.now m) c.args.depth c.args.trait_id (erased_all c.args.terms.now c.args.args.now) c.if-depth-eq0.false (ap (erased_all c.args.terms.now) c.in_default.ensures)
-
-pub trait_goals::candidates::evaluate_trait_goal-returns-in-Undecided-clause-says : goal.trait_goals::candidates::evaluate_trait_goal-returns-in-Undecided-clause-says
-trait_goals::candidates::evaluate_trait_goal-returns-in-Undecided-clause-says t c =
-    λ m s. trait-unformed (setting_in c.args.setting.now m) c.args.depth c.args.trait_id (erased_at c.args.terms.now c.in-Some.first) (erased_all c.args.terms.now c.in-Some.rest.now) (erased_all c.args.terms.now c.args.args.now) c.if-depth-eq0.false (ap (erased_all c.args.terms.now) c.in-Some.ensures)
-    (subst (SaysWhich (HasHeadForm (level_in c.args.setting.now m (c.args.depth - 1)) (erased_at c.args.terms.now c.in-Some.first)) (HeadFormRefuted (level_in c.args.setting.now m (c.args.depth - 1)) (erased_at c.args.terms.now c.in-Some.first)) c.head_form.new.terms) c.in-Undecided.is (c.in_ok-head_form.ensures.says m s))
-
-pub trait_goals::candidates::evaluate_trait_goal-returns-in-Refuted-clause-says : goal.trait_goals::candidates::evaluate_trait_goal-returns-in-Refuted-clause-says
-trait_goals::candidates::evaluate_trait_goal-returns-in-Refuted-clause-says t c =
-    λ m s. trait-formless (setting_in c.args.setting.now m) c.args.depth c.args.trait_id (erased_at c.args.terms.now c.in-Some.first) (erased_all c.args.terms.now c.in-Some.rest.now) (erased_all c.args.terms.now c.args.args.now) c.if-depth-eq0.false (ap (erased_all c.args.terms.now) c.in-Some.ensures)
-    (subst (SaysWhich (HasHeadForm (level_in c.args.setting.now m (c.args.depth - 1)) (erased_at c.args.terms.now c.in-Some.first)) (HeadFormRefuted (level_in c.args.setting.now m (c.args.depth - 1)) (erased_at c.args.terms.now c.in-Some.first)) c.head_form.new.terms) c.in-Refuted.is (c.in_ok-head_form.ensures.says m s))
-
-pub trait_goals::candidates::evaluate_trait_goal-decide_trait-requires : goal.trait_goals::candidates::evaluate_trait_goal-decide_trait-requires
-trait_goals::candidates::evaluate_trait_goal-decide_trait-requires t c = (
-  omega arith,
-  (
-    subst (FoundIn c.head_form.new.terms) c.in-Is.is c.in_ok-head_form.ensures.within,
-    replaced-in c.args.terms.now c.head_form.new.terms c.in-Is.self_ty c.in-Some.first c.in-Some.rest.now c.deref.result.now c.head_form.ensures.kept (subst (AreIn c.args.terms.now) c.in-Some.ensures c.requires) (subst (FoundIn c.head_form.new.terms) c.in-Is.is c.in_ok-head_form.ensures.within) (c.deref.ensures.value ∙ c.in_ok-replaced-in-Is.ensures),
-  ),
-)
-
-pub trait_goals::candidates::evaluate_trait_goal-returns-in_ok-replaced-in-Is-clause-says : goal.trait_goals::candidates::evaluate_trait_goal-returns-in_ok-replaced-in-Is-clause-says
-trait_goals::candidates::evaluate_trait_goal-returns-in_ok-replaced-in-Is-clause-says t c =
-    λ m s. trait-formed (setting_in c.args.setting.now m) c.args.depth c.args.trait_id (erased_at c.args.terms.now c.in-Some.first) (erased_at c.head_form.new.terms c.in-Is.self_ty) (erased_all c.args.terms.now c.in-Some.rest.now) (erased_all c.args.terms.now c.args.args.now) c.decide_trait.result c.if-depth-eq0.false (ap (erased_all c.args.terms.now) c.in-Some.ensures)
-    (subst (SaysWhich (HasHeadForm (level_in c.args.setting.now m (c.args.depth - 1)) (erased_at c.args.terms.now c.in-Some.first)) (HeadFormRefuted (level_in c.args.setting.now m (c.args.depth - 1)) (erased_at c.args.terms.now c.in-Some.first)) c.head_form.new.terms) c.in-Is.is (c.in_ok-head_form.ensures.says m s))
-    (replaced-formed (setting_in c.args.setting.now m) (level_in c.args.setting.now m (c.args.depth - 1)) c.args.trait_id c.args.terms.now c.head_form.new.terms c.in-Is.self_ty c.in-Some.first c.in-Some.rest.now c.deref.result.now c.decide_trait.result c.head_form.ensures.kept (subst (AreIn c.args.terms.now) c.in-Some.ensures c.requires) (c.deref.ensures.value ∙ c.in_ok-replaced-in-Is.ensures) (c.decide_trait.ensures.says m s))
-
-pub normalizes_to::aliases::alias_term-returns-then-depth-eq0-clause-says : goal.normalizes_to::aliases::alias_term-returns-then-depth-eq0-clause-says
-normalizes_to::aliases::alias_term-returns-then-depth-eq0-clause-says t c =
-    λ m s. depth-zero (setting_in c.args.setting.now m) c.args.depth c.args.kind (erased_all c.args.terms.now c.args.args.now) c.if-depth-eq0.true
-
-pub normalizes_to::aliases::alias_term-returns-in-OpaqueTy-clause-says : goal.normalizes_to::aliases::alias_term-returns-in-OpaqueTy-clause-says
-normalizes_to::aliases::alias_term-returns-in-OpaqueTy-clause-says t c =
-    λ m s. opaque-above (setting_in c.args.setting.now m) c.args.depth (c.args.depth - 1) c.args.kind c.in-OpaqueTy.id (erased_all c.args.terms.now c.args.args.now)
-    c.normalize_opaque_type.new.terms c.normalize_opaque_type.result (omega arith) c.in-OpaqueTy.is (c.normalize_opaque_type.ensures.says m s)
-
-pub normalizes_to::aliases::alias_term-returns-in-UnevaluatedConst-clause-says : goal.normalizes_to::aliases::alias_term-returns-in-UnevaluatedConst-clause-says
-normalizes_to::aliases::alias_term-returns-in-UnevaluatedConst-clause-says t c =
-    λ m s. unevaluated (setting_in c.args.setting.now m) c.args.depth c.args.kind _ (erased_all c.args.terms.now c.args.args.now) c.in-UnevaluatedConst.is
-
-pub normalizes_to::aliases::alias_term-returns-in-FreeTy-clause-says : goal.normalizes_to::aliases::alias_term-returns-in-FreeTy-clause-says
-normalizes_to::aliases::alias_term-returns-in-FreeTy-clause-says t c =
-    λ m s. free-above (setting_in c.args.setting.now m) c.args.depth (c.args.depth - 1) c.args.kind c.in-FreeTy.id (erased_all c.args.terms.now c.args.args.now)
-    c.normalize_free_alias.new.terms c.normalize_free_alias.result (omega arith) c.in-FreeTy.is (c.normalize_free_alias.ensures.says m s)
-
-pub normalizes_to::aliases::alias_term-returns-in-InherentTy-clause-says : goal.normalizes_to::aliases::alias_term-returns-in-InherentTy-clause-says
-normalizes_to::aliases::alias_term-returns-in-InherentTy-clause-says t c =
-    λ m s. inherent-above (setting_in c.args.setting.now m) c.args.depth (c.args.depth - 1) c.args.kind c.in-InherentTy.id (erased_all c.args.terms.now c.args.args.now)
-    c.normalize_inherent_associated_term.new.terms c.normalize_inherent_associated_term.result (omega arith) c.in-InherentTy.is (c.normalize_inherent_associated_term.ensures.says m s)
-
-pub normalizes_to::aliases::alias_term-returns-in-ProjectionTy-clause-says : goal.normalizes_to::aliases::alias_term-returns-in-ProjectionTy-clause-says
-normalizes_to::aliases::alias_term-returns-in-ProjectionTy-clause-says t c =
-    λ m s. projection-above (setting_in c.args.setting.now m) c.args.depth (c.args.depth - 1) c.args.kind c.in-ProjectionTy.kind c.in-ProjectionTy.item (erased_all c.args.terms.now c.args.args.now)
-    c.projection_term.new.terms c.projection_term.result (omega arith) c.in-ProjectionTy.is c.in-ProjectionTy.kind-is (c.projection_term.ensures.says m s)
-
-pub normalizes_to::aliases::normalize_free_alias-returns-in_default-clause-says : goal.normalizes_to::aliases::normalize_free_alias-returns-in_default-clause-says
-normalizes_to::aliases::normalize_free_alias-returns-in_default-clause-says t c =
-    λ m s. row-missing (free_of c.args.setting.now.rows.now c.args.id) (FreeGives (level_in c.args.setting.now m c.args.depth) (erased_all c.args.terms.now c.args.args.now))
-    (FreeRefuted (level_in c.args.setting.now m c.args.depth) (erased_all c.args.terms.now c.args.args.now)) c.in_default.ensures
-
-pub normalizes_to::aliases::normalize_free_alias-returns-clause-says : goal.normalizes_to::aliases::normalize_free_alias-returns-clause-says
-normalizes_to::aliases::normalize_free_alias-returns-clause-says t c =
-    λ m s. free-there (level_in c.args.setting.now m c.args.depth) (erased_all c.args.terms.now c.args.args.now) (free_of c.args.setting.now.rows.now c.args.id) c.in-Some.row.now
-    c.deref.result.now c.value_behind.new.terms c.value_behind.result c.in-Some.ensures c.deref.ensures.value (c.value_behind.ensures.says m s)
-
-pub normalizes_to::aliases::inherent_by_impl-returns-in-Clashes-clause-says : goal.normalizes_to::aliases::inherent_by_impl-returns-in-Clashes-clause-says
-normalizes_to::aliases::inherent_by_impl-returns-in-Clashes-clause-says t c =
-    λ m s. inherent-clashes (level_in c.args.setting.now m c.args.depth) (erased_at c.args.terms.now c.args.self_ty) (erased_all c.args.terms.now c.args.own.now) c.args.row.now c.args.inherent_impl.now
-    (subst (SaysMatch (level_in c.args.setting.now m c.args.depth) c.args.inherent_impl.now.params.items (self_header c.args.inherent_impl.now) (erased_at c.args.terms.now c.args.self_ty ∷ []) c.self_match.new.terms) c.in-Clashes.is (c.in_ok-self_match.ensures.says m s))
-
-pub normalizes_to::aliases::inherent_by_impl-returns-in-Unknown-clause-says : goal.normalizes_to::aliases::inherent_by_impl-returns-in-Unknown-clause-says
-normalizes_to::aliases::inherent_by_impl-returns-in-Unknown-clause-says t c =
-    λ m s. inherent-unknown (level_in c.args.setting.now m c.args.depth) (erased_at c.args.terms.now c.args.self_ty) (erased_all c.args.terms.now c.args.own.now) c.args.row.now c.args.inherent_impl.now
-    (subst (SaysMatch (level_in c.args.setting.now m c.args.depth) c.args.inherent_impl.now.params.items (self_header c.args.inherent_impl.now) (erased_at c.args.terms.now c.args.self_ty ∷ []) c.self_match.new.terms) c.in-Unknown.is (c.in_ok-self_match.ensures.says m s))
-
-pub normalizes_to::aliases::inherent_by_impl-returns-in-Fits-clause-says : goal.normalizes_to::aliases::inherent_by_impl-returns-in-Fits-clause-says
-normalizes_to::aliases::inherent_by_impl-returns-in-Fits-clause-says t c =
-    λ m s. inherent-fits (level_in c.args.setting.now m c.args.depth) (each_level_is_consistent (setting_in c.args.setting.now m) c.args.depth)
-    (erased_at c.args.terms.now c.args.self_ty) (erased_all c.args.terms.now c.args.own.now) c.args.row.now c.args.inherent_impl.now
-    (erased_all c.self_match.new.terms c.in-Fits.found.items) (erased_all c.self_match.new.terms c.deref.result.now) (erased_all c.self_match.new.terms c.args.own.now)
-    c.inherent_value.new.terms c.inherent_value.result (ap (erased_all c.self_match.new.terms) c.deref.ensures.value)
-    (all_same-grown c.args.terms.now c.self_match.new.terms c.self_match.ensures.kept c.args.own.now c.requires.own)
-    (subst (SaysMatch (level_in c.args.setting.now m c.args.depth) c.args.inherent_impl.now.params.items (self_header c.args.inherent_impl.now) (erased_at c.args.terms.now c.args.self_ty ∷ []) c.self_match.new.terms) c.in-Fits.is (c.in_ok-self_match.ensures.says m s))
-    (c.inherent_value.ensures.says m s)
-
-pub normalizes_to::aliases::inherent_by_impl-returns-in_ok-value-in-Known-clause-says : goal.normalizes_to::aliases::inherent_by_impl-returns-in_ok-value-in-Known-clause-says
-normalizes_to::aliases::inherent_by_impl-returns-in_ok-value-in-Known-clause-says t c =
-    λ m s. inherent-known (level_in c.args.setting.now m c.args.depth) (each_level_is_consistent (setting_in c.args.setting.now m) c.args.depth)
-    (erased_at c.args.terms.now c.args.self_ty) (erased_all c.args.terms.now c.args.own.now) c.args.row.now c.args.inherent_impl.now
-    (erased_all c.self_match.new.terms c.in-Known.found.items) (erased_all c.self_match.new.terms c.deref-in-Known.result.now) (erased_all c.self_match.new.terms c.args.own.now)
-    c.inherent_value-in-Known.new.terms c.in_ok-value-in-Known.value c.refuted_only.result (ap (erased_all c.self_match.new.terms) c.deref-in-Known.ensures.value)
-    (all_same-grown c.args.terms.now c.self_match.new.terms c.self_match.ensures.kept c.args.own.now c.requires.own) c.refuted_only.ensures
-    (subst (SaysMatch (level_in c.args.setting.now m c.args.depth) c.args.inherent_impl.now.params.items (self_header c.args.inherent_impl.now) (erased_at c.args.terms.now c.args.self_ty ∷ []) c.self_match.new.terms) c.in-Known.is (c.in_ok-self_match.ensures.says m s))
-    (c.in_ok-value-in-Known.ensures.says m s)
-
-pub normalizes_to::aliases::normalize_inherent_associated_term-returns-in_default-clause-says : goal.normalizes_to::aliases::normalize_inherent_associated_term-returns-in_default-clause-says
-normalizes_to::aliases::normalize_inherent_associated_term-returns-in_default-clause-says t c =
-    λ m s. inherent-no_row (setting_in c.args.setting.now m) (level_in c.args.setting.now m c.args.depth) (inherent_of c.args.setting.now.rows.now c.args.id) (erased_all c.args.terms.now c.args.args.now) c.in_default.ensures
-
-pub normalizes_to::aliases::normalize_inherent_associated_term-returns-in_default-inherent_impl_row-clause-says : goal.normalizes_to::aliases::normalize_inherent_associated_term-returns-in_default-inherent_impl_row-clause-says
-normalizes_to::aliases::normalize_inherent_associated_term-returns-in_default-inherent_impl_row-clause-says t c =
-    λ m s. inherent-no_impl (setting_in c.args.setting.now m) (level_in c.args.setting.now m c.args.depth) (inherent_of c.args.setting.now.rows.now c.args.id) c.in-Some.row.now
-    (erased_all c.args.terms.now c.args.args.now) c.in-Some.ensures c.in_default-inherent_impl_row.ensures
-
-pub normalizes_to::aliases::normalize_inherent_associated_term-returns-in_default-split_self_type-clause-says : goal.normalizes_to::aliases::normalize_inherent_associated_term-returns-in_default-split_self_type-clause-says
-normalizes_to::aliases::normalize_inherent_associated_term-returns-in_default-split_self_type-clause-says t c =
-    λ m s. inherent-no_args (setting_in c.args.setting.now m) (level_in c.args.setting.now m c.args.depth) (inherent_of c.args.setting.now.rows.now c.args.id) (erased_all c.args.terms.now c.args.args.now)
-    (ap (erased_all c.args.terms.now) c.in_default-split_self_type.ensures)
-
-pub normalizes_to::aliases::normalize_inherent_associated_term-inherent_by_impl-requires : goal.normalizes_to::aliases::normalize_inherent_associated_term-inherent_by_impl-requires
-normalizes_to::aliases::normalize_inherent_associated_term-inherent_by_impl-requires t c =
-    let are : AreIn c.args.terms.now (c.in-Some-split_self_type.self_ty ∷ c.in-Some-split_self_type.own.now) = subst (AreIn c.args.terms.now) c.in-Some-split_self_type.ensures c.requires in (
-      omega arith,
-      (
-        All-head (IsIn c.args.terms.now) c.in-Some-split_self_type.self_ty c.in-Some-split_self_type.own.now are,
-        All-tail (IsIn c.args.terms.now) c.in-Some-split_self_type.self_ty c.in-Some-split_self_type.own.now are,
-      ),
-    )
-
-pub normalizes_to::aliases::normalize_inherent_associated_term-returns-clause-says : goal.normalizes_to::aliases::normalize_inherent_associated_term-returns-clause-says
-normalizes_to::aliases::normalize_inherent_associated_term-returns-clause-says t c =
-    λ m s. inherent-there (setting_in c.args.setting.now m) (level_in c.args.setting.now m c.args.depth) (inherent_of c.args.setting.now.rows.now c.args.id) c.in-Some.row.now
-    c.in-Some-inherent_impl_row.inherent_impl.now (erased_at c.args.terms.now c.in-Some-split_self_type.self_ty) (erased_all c.args.terms.now c.in-Some-split_self_type.own.now)
-    (erased_all c.args.terms.now c.args.args.now) c.inherent_by_impl.new.terms c.inherent_by_impl.result c.in-Some.ensures c.in-Some-inherent_impl_row.ensures
-    (ap (erased_all c.args.terms.now) c.in-Some-split_self_type.ensures) (c.inherent_by_impl.ensures.says m s)
-
-pub normalizes_to::aliases::normalize_opaque_type-returns-in_default-clause-says : goal.normalizes_to::aliases::normalize_opaque_type-returns-in_default-clause-says
-normalizes_to::aliases::normalize_opaque_type-returns-in_default-clause-says t c =
-    λ m s. row-missing (opaque_of c.args.setting.now.rows.now c.args.id) (OpaqueGives (setting_in c.args.setting.now m) (level_in c.args.setting.now m c.args.depth) c.args.id (erased_all c.args.terms.now c.args.args.now))
-    (OpaqueRefuted (setting_in c.args.setting.now m) (level_in c.args.setting.now m c.args.depth) (erased_all c.args.terms.now c.args.args.now)) c.in_default.ensures
-
-pub normalizes_to::aliases::normalize_opaque_type-head_form_under-requires : goal.normalizes_to::aliases::normalize_opaque_type-head_form_under-requires
-normalizes_to::aliases::normalize_opaque_type-head_form_under-requires t c = (omega arith, (c.requires, type-argument c.in-Some.row.now.hidden))
-
-pub normalizes_to::aliases::normalize_opaque_type-returns-then-reveals-clause-says : goal.normalizes_to::aliases::normalize_opaque_type-returns-then-reveals-clause-says
-normalizes_to::aliases::normalize_opaque_type-returns-then-reveals-clause-says t c =
-    λ m s. opaque-shown (setting_in c.args.setting.now m) (level_in c.args.setting.now m c.args.depth) c.args.id (erased_all c.args.terms.now c.args.args.now)
-    (opaque_of c.args.setting.now.rows.now c.args.id) c.in-Some.row.now (tree_of_ty c.in-Some.row.now.hidden) c.head_form_under.new.terms c.head_form_under.result c.in-Some.ensures
-    (same_shown c.args.setting.now.typing_mode.now m c.in-Some.row.now true s (sym c.is_headline.ensures ∙ c.if-not-is_headline.false) (sym c.reveals.ensures ∙ c.if-reveals.true))
-    refl (c.head_form_under.ensures.says m s)
-
-pub normalizes_to::aliases::normalize_opaque_type-returns-clause-says : goal.normalizes_to::aliases::normalize_opaque_type-returns-clause-says
-normalizes_to::aliases::normalize_opaque_type-returns-clause-says t c =
-    λ m s. opaque-hidden (setting_in c.args.setting.now m) (level_in c.args.setting.now m c.args.depth) c.args.id (erased_all c.args.terms.now c.args.args.now)
-    (opaque_of c.args.setting.now.rows.now c.args.id) c.in-Some.row.now (erased_at c.alias_number.new.terms c.in_ok-rigid_alias.rigid_alias) c.in-Some.ensures
-    (same_shown c.args.setting.now.typing_mode.now m c.in-Some.row.now false s (sym c.is_headline.ensures ∙ c.if-not-is_headline.false) (sym c.reveals.ensures ∙ c.if-reveals.false))
-    c.in_ok-rigid_alias.ensures.tree
-
-pub normalizes_to::aliases::value_behind-returns : goal.normalizes_to::aliases::value_behind-returns
-normalizes_to::aliases::value_behind-returns t c = record {
-  kept = keeps-chain c.args.terms.now c.clauses_outcome.new.terms c.value_form.new.terms c.clauses_outcome.ensures.kept c.value_form.ensures.kept;
-  within = found_in-behind c.value_form.new.terms c.in_ok-outcome.outcome c.in_ok-found.found c.found_behind.result c.found_behind.ensures c.in_ok-found.ensures.within;
-  stops = λ h. tt;
-  says = λ m s.
-      value-behind (level_in c.args.setting.now m c.args.depth) (each_level_is_consistent (setting_in c.args.setting.now m) c.args.depth) c.args.clauses.now c.args.value.now
-      (erased_all c.args.terms.now c.args.args.now) (erased_all c.clauses_outcome.new.terms c.args.args.now) c.value_form.new.terms c.in_ok-outcome.outcome c.in_ok-found.found
-      c.found_behind.result (all_same-grown c.args.terms.now c.clauses_outcome.new.terms c.clauses_outcome.ensures.kept c.args.args.now c.requires) c.found_behind.ensures
-      (c.in_ok-outcome.ensures.says m s) (c.in_ok-found.ensures.says m s);
-}
-
-pub normalizes_to::aliases::value_form-returns-in-None-clause-says : goal.normalizes_to::aliases::value_form-returns-in-None-clause-says
-normalizes_to::aliases::value_form-returns-in-None-clause-says t c =
-    λ m s. value-missing (level_in c.args.setting.now m c.args.depth) (erased_all c.args.terms.now c.args.args.now) c.args.value.now c.in-None.is
-
-pub normalizes_to::aliases::value_form-returns-in-Some-clause-says : goal.normalizes_to::aliases::value_form-returns-in-Some-clause-says
-normalizes_to::aliases::value_form-returns-in-Some-clause-says t c =
-    λ m s. value-there (level_in c.args.setting.now m c.args.depth) (erased_all c.args.terms.now c.args.args.now) c.args.value.now c.in-Some.term (tree_of_term c.in-Some.term)
-    c.term_form.new.terms c.term_form.result c.in-Some.is refl (c.term_form.ensures.says m s)
-
-pub eval::head_forms::term_form-head_form_under-requires : goal.eval::head_forms::term_form-head_form_under-requires
-eval::head_forms::term_form-head_form_under-requires t c =
-    (omega arith, (c.requires, subst IsArgument (sym c.view.ensures) (term-argument c.args.term.now)))
-
-pub eval::head_forms::term_form-returns-clause-says : goal.eval::head_forms::term_form-returns-clause-says
-eval::head_forms::term_form-returns-clause-says t c =
-    λ m s. form-spelled (level_in c.args.setting.now m c.args.depth) (erased_all c.args.terms.now c.args.args.now) (tree_of_ref c.view.result) (tree_of_term c.args.term.now)
-    c.head_form_under.new.terms c.head_form_under.result c.view.ensures (c.head_form_under.ensures.says m s)
-
 pub eval::head_forms::head_form-returns-in_default : goal.eval::head_forms::head_form-returns-in_default
 eval::head_forms::head_form-returns-in_default t c = record {
   kept = keeps-refl c.args.terms.now;
@@ -448,177 +140,6 @@ eval::head_forms::head_form-returns-clause-says t c = λ m s.
     alias_found (level_in c.args.setting.now m c.args.depth) c.in-Alias.kind (tree_at c.args.terms.now c.args.id) c.args.terms.now c.alias_term.new.terms
     c.as_slice.result.now c.parts.result.now c.alias_term.result (sym c.node.ensures.top ∙ c.in-Alias.is) c.parts.ensures.trees
     (c.as_slice.ensures.value ∙ c.in_ok-args.ensures) (c.alias_term.ensures.says m s)
-
-pub normalizes_to::impl_terms::other_under-returns-clause-says : goal.normalizes_to::impl_terms::other_under-returns-clause-says
-normalizes_to::impl_terms::other_under-returns-clause-says t c =
-    λ m s. behind-says (PremisesHold (level_in c.args.setting.now m c.args.depth) (clauses_under (erased_all c.args.terms.now c.args.found.now) c.args.other.now.predicates.items))
-    (PremisesRefuted (level_in c.args.setting.now m c.args.depth) (clauses_under (erased_all c.args.terms.now c.args.found.now) c.args.other.now.predicates.items))
-    (erased_all c.args.terms.now c.args.found.now ++ erased_all c.args.terms.now c.args.own.now) c.clauses_outcome.new.terms c.in_ok-outcome.outcome c.in_ok-args.args c.match_behind.result
-    c.match_behind.ensures
-    (subst (λ cs. Says (PremisesHold (level_in c.args.setting.now m c.args.depth) (clauses_under (erased_all c.args.terms.now c.args.found.now) cs))
-    (PremisesRefuted (level_in c.args.setting.now m c.args.depth) (clauses_under (erased_all c.args.terms.now c.args.found.now) cs)) c.in_ok-outcome.outcome)
-    c.deref.ensures.value (c.in_ok-outcome.ensures.says m s))
-    (joined-terms c.args.terms.now c.clauses_outcome.new.terms c.clauses_outcome.ensures.kept c.args.found.now c.args.own.now c.in_ok-args.args.items c.in_ok-args.ensures
-    c.requires.found c.requires.own)
-
-pub normalizes_to::impl_terms::other_args-returns-in-Clashes-clause-says : goal.normalizes_to::impl_terms::other_args-returns-in-Clashes-clause-says
-normalizes_to::impl_terms::other_args-returns-in-Clashes-clause-says t c =
-    λ m s. other-clashes (level_in c.args.setting.now m c.args.depth) (erased_all c.args.terms.now c.args.header.now) c.args.other.now
-    (match-as (level_in c.args.setting.now m c.args.depth) c.args.other.now.params.items c.deref.result.now c.args.other.now.trait_args.items c.deref-2.result.now (erased_all c.args.terms.now c.args.header.now) c.match_header.new.terms
-    c.in_ok-match_header.field-0 match.Clashes c.deref.ensures.value c.deref-2.ensures.value c.in-Clashes.is (c.in_ok-match_header.ensures.says m s))
-
-pub normalizes_to::impl_terms::other_args-returns-in-Unknown-clause-says : goal.normalizes_to::impl_terms::other_args-returns-in-Unknown-clause-says
-normalizes_to::impl_terms::other_args-returns-in-Unknown-clause-says t c =
-    λ m s. other-unknown (level_in c.args.setting.now m c.args.depth) (erased_all c.args.terms.now c.args.header.now) (erased_all c.args.terms.now c.args.own.now) c.args.other.now
-    (match-as (level_in c.args.setting.now m c.args.depth) c.args.other.now.params.items c.deref.result.now c.args.other.now.trait_args.items c.deref-2.result.now (erased_all c.args.terms.now c.args.header.now) c.match_header.new.terms
-    c.in_ok-match_header.field-0 match.Unknown c.deref.ensures.value c.deref-2.ensures.value c.in-Unknown.is (c.in_ok-match_header.ensures.says m s))
-
-pub normalizes_to::impl_terms::other_args-returns-in-Fits-clause-says : goal.normalizes_to::impl_terms::other_args-returns-in-Fits-clause-says
-normalizes_to::impl_terms::other_args-returns-in-Fits-clause-says t c =
-    λ m s. other-fits (level_in c.args.setting.now m c.args.depth) (each_level_is_consistent (setting_in c.args.setting.now m) c.args.depth) (erased_all c.args.terms.now c.args.header.now) (erased_all c.args.terms.now c.args.own.now) c.args.other.now
-    (erased_all c.match_header.new.terms c.in-Fits.found.items) (erased_all c.match_header.new.terms c.deref-in-Fits.result.now) (erased_all c.match_header.new.terms c.args.own.now)
-    c.other_under.new.terms c.other_under.result (ap (erased_all c.match_header.new.terms) c.deref-in-Fits.ensures.value)
-    (all_same-grown c.args.terms.now c.match_header.new.terms c.match_header.ensures.kept c.args.own.now c.requires.own)
-    (match-as (level_in c.args.setting.now m c.args.depth) c.args.other.now.params.items c.deref.result.now c.args.other.now.trait_args.items c.deref-2.result.now (erased_all c.args.terms.now c.args.header.now) c.match_header.new.terms
-    c.in_ok-match_header.field-0 (match.Fits c.in-Fits.found) c.deref.ensures.value c.deref-2.ensures.value c.in-Fits.is (c.in_ok-match_header.ensures.says m s))
-    (c.other_under.ensures.says m s)
-
-pub normalizes_to::impl_terms::other_args-returns-in_ok-args-in-Known-clause-says : goal.normalizes_to::impl_terms::other_args-returns-in_ok-args-in-Known-clause-says
-normalizes_to::impl_terms::other_args-returns-in_ok-args-in-Known-clause-says t c =
-    λ m s. other-known (level_in c.args.setting.now m c.args.depth) (each_level_is_consistent (setting_in c.args.setting.now m) c.args.depth) (erased_all c.args.terms.now c.args.header.now) (erased_all c.args.terms.now c.args.own.now) c.args.other.now
-    (erased_all c.match_header.new.terms c.in-Known.found.items) (erased_all c.match_header.new.terms c.deref-in-Known.result.now) (erased_all c.match_header.new.terms c.args.own.now)
-    c.other_under-in-Known.new.terms c.in_ok-args-in-Known.args c.known_only.result (ap (erased_all c.match_header.new.terms) c.deref-in-Known.ensures.value)
-    (all_same-grown c.args.terms.now c.match_header.new.terms c.match_header.ensures.kept c.args.own.now c.requires.own) c.known_only.ensures
-    (match-as (level_in c.args.setting.now m c.args.depth) c.args.other.now.params.items c.deref.result.now c.args.other.now.trait_args.items c.deref-2.result.now (erased_all c.args.terms.now c.args.header.now) c.match_header.new.terms
-    c.in_ok-match_header.field-0 (match.Known c.in-Known.found) c.deref.ensures.value c.deref-2.ensures.value c.in-Known.is (c.in_ok-match_header.ensures.says m s))
-    (c.in_ok-args-in-Known.ensures.says m s)
-
-pub normalizes_to::impl_terms::translated_to-returns-in_default-clause-says : goal.normalizes_to::impl_terms::translated_to-returns-in_default-clause-says
-normalizes_to::impl_terms::translated_to-returns-in_default-clause-says t c =
-    λ m s. translated-missing (level_in c.args.setting.now m c.args.depth) c.args.row.now (erased_all c.args.terms.now c.args.found.now) (projection_at c.args.terms.now c.args.projection.now) (impl_of c.args.setting.now.rows.now c.args.id) c.in_default.ensures
-
-pub normalizes_to::impl_terms::translated_to-returns-clause-says : goal.normalizes_to::impl_terms::translated_to-returns-clause-says
-normalizes_to::impl_terms::translated_to-returns-clause-says t c =
-    λ m s. translated-there (level_in c.args.setting.now m c.args.depth) c.args.row.now (erased_all c.args.terms.now c.args.found.now) (projection_at c.args.terms.now c.args.projection.now) (impl_of c.args.setting.now.rows.now c.args.id) c.in-Some.other.now
-    (erased_all c.instances_of.new.terms c.deref-2.result.now) (erased_all c.instances_of.new.terms c.own_args.result.now) c.other_args.new.terms c.other_args.result c.in-Some.ensures
-    (ap (erased_all c.instances_of.new.terms) c.deref-2.ensures.value ∙ c.in_ok-header.ensures.trees ∙ ap (λ xs. map (under (erased_all c.args.terms.now c.args.found.now)) (header_terms xs)) c.deref.ensures.value)
-    (own-terms c.args.terms.now c.instances_of.new.terms c.instances_of.ensures.kept c.args.projection.now.trait_params c.args.projection.now.args.now c.own_args.result.now c.requires.projection.0
-    c.own_args.ensures)
-    (c.other_args.ensures.says m s)
-
-pub normalizes_to::impl_terms::translated-returns-then-id-row-clause-says : goal.normalizes_to::impl_terms::translated-returns-then-id-row-clause-says
-normalizes_to::impl_terms::translated-returns-then-id-row-clause-says t c =
-    λ m s. taken-from_impl (setting_in c.args.setting.now m) (level_in c.args.setting.now m c.args.depth) c.args.row.now (erased_all c.args.terms.now c.args.found.now) (projection_at c.args.terms.now c.args.projection.now) c.args.place c.in-Impl.id (erased_all c.args.terms.now c.in_ok-args-in-Impl.args.items) c.in-Impl.is c.if-id-row.true
-    (ap (erased_all c.args.terms.now) c.in_ok-args-in-Impl.ensures ∙ map-append (erased_at c.args.terms.now) c.args.found.now c.own_args.result.now
-    ∙ ap (λ a. (erased_all c.args.terms.now c.args.found.now) ++ a)
-    (own-terms c.args.terms.now c.args.terms.now (keeps-refl c.args.terms.now) c.args.projection.now.trait_params c.args.projection.now.args.now c.own_args.result.now c.requires.projection.0 c.own_args.ensures))
-
-pub normalizes_to::impl_terms::translated-returns-in_ok-args-in-Trait-clause-says : goal.normalizes_to::impl_terms::translated-returns-in_ok-args-in-Trait-clause-says
-normalizes_to::impl_terms::translated-returns-in_ok-args-in-Trait-clause-says t c =
-    λ m s. taken-from_trait (setting_in c.args.setting.now m) (level_in c.args.setting.now m c.args.depth) c.args.row.now (erased_all c.args.terms.now c.args.found.now) (projection_at c.args.terms.now c.args.projection.now) c.args.place c.in-Trait.field-0 (erased_all c.args.terms.now c.in_ok-args-in-Trait.args.items) c.in-Trait.is
-    (ap (erased_all c.args.terms.now) c.in_ok-args-in-Trait.ensures)
-
-pub normalizes_to::impl_terms::translated-returns-else-id-row-clause-says : goal.normalizes_to::impl_terms::translated-returns-else-id-row-clause-says
-normalizes_to::impl_terms::translated-returns-else-id-row-clause-says t c =
-    λ m s. taken-from_other (setting_in c.args.setting.now m) (level_in c.args.setting.now m c.args.depth) c.args.row.now (erased_all c.args.terms.now c.args.found.now) (projection_at c.args.terms.now c.args.projection.now) c.args.place c.in-Impl.id c.translated_to.new.terms c.translated_to.result c.in-Impl.is c.if-id-row.false
-    (c.translated_to.ensures.says m s)
-
-pub normalizes_to::impl_terms::evaluated_term-returns-clause-says : goal.normalizes_to::impl_terms::evaluated_term-returns-clause-says
-normalizes_to::impl_terms::evaluated_term-returns-clause-says t c =
-    λ m s. evaluated-says (setting_in c.args.setting.now m) (level_in c.args.setting.now m c.args.depth) (each_level_is_consistent (setting_in c.args.setting.now m) c.args.depth) c.args.row.now (erased_all c.args.terms.now c.args.found.now) (projection_at c.args.terms.now c.args.projection.now) (erased_at c.args.terms.now c.args.projection.now.rigid_alias) c.args.place c.translated.new.terms c.in_ok-args.args c.refuted_clash.result c.refuted_clash.ensures
-    (c.in_ok-args.ensures.says m s)
-
-pub normalizes_to::impl_terms::value_term-returns-in-Clashes-clause-says : goal.normalizes_to::impl_terms::value_term-returns-in-Clashes-clause-says
-normalizes_to::impl_terms::value_term-returns-in-Clashes-clause-says t c =
-    λ m s. value-clashes (setting_in c.args.setting.now m) (level_in c.args.setting.now m c.args.depth) c.args.row.now (erased_all c.args.terms.now c.args.found.now) (projection_at c.args.terms.now c.args.projection.now) c.args.place (tree_of_term c.args.value.now)
-    (subst (SaysMatched (Translated (level_in c.args.setting.now m c.args.depth) c.args.row.now (erased_all c.args.terms.now c.args.found.now) (projection_at c.args.terms.now c.args.projection.now) (taken (setting_in c.args.setting.now m) c.args.row.now c.args.place)) (KnownTranslated (level_in c.args.setting.now m c.args.depth) c.args.row.now (erased_all c.args.terms.now c.args.found.now) (projection_at c.args.terms.now c.args.projection.now) (taken (setting_in c.args.setting.now m) c.args.row.now c.args.place)) (TranslationRefuted (level_in c.args.setting.now m c.args.depth) c.args.row.now (erased_all c.args.terms.now c.args.found.now) (taken (setting_in c.args.setting.now m) c.args.row.now c.args.place)) c.translated.new.terms) c.in-Clashes.is (c.in_ok-translated.ensures.says m s))
-
-pub normalizes_to::impl_terms::value_term-returns-in-Unknown-clause-says : goal.normalizes_to::impl_terms::value_term-returns-in-Unknown-clause-says
-normalizes_to::impl_terms::value_term-returns-in-Unknown-clause-says t c =
-    λ m s. value-unknown (setting_in c.args.setting.now m) (level_in c.args.setting.now m c.args.depth) c.args.row.now (erased_all c.args.terms.now c.args.found.now) (projection_at c.args.terms.now c.args.projection.now) (erased_at c.args.terms.now c.args.projection.now.rigid_alias) c.args.place (tree_of_term c.args.value.now)
-    (subst (SaysMatched (Translated (level_in c.args.setting.now m c.args.depth) c.args.row.now (erased_all c.args.terms.now c.args.found.now) (projection_at c.args.terms.now c.args.projection.now) (taken (setting_in c.args.setting.now m) c.args.row.now c.args.place)) (KnownTranslated (level_in c.args.setting.now m c.args.depth) c.args.row.now (erased_all c.args.terms.now c.args.found.now) (projection_at c.args.terms.now c.args.projection.now) (taken (setting_in c.args.setting.now m) c.args.row.now c.args.place)) (TranslationRefuted (level_in c.args.setting.now m c.args.depth) c.args.row.now (erased_all c.args.terms.now c.args.found.now) (taken (setting_in c.args.setting.now m) c.args.row.now c.args.place)) c.translated.new.terms) c.in-Unknown.is (c.in_ok-translated.ensures.says m s))
-
-pub normalizes_to::impl_terms::value_term-returns-in-Fits-clause-says : goal.normalizes_to::impl_terms::value_term-returns-in-Fits-clause-says
-normalizes_to::impl_terms::value_term-returns-in-Fits-clause-says t c =
-    λ m s. value-fits (setting_in c.args.setting.now m) (level_in c.args.setting.now m c.args.depth) (each_level_is_consistent (setting_in c.args.setting.now m) c.args.depth) c.args.row.now (erased_all c.args.terms.now c.args.found.now) (projection_at c.args.terms.now c.args.projection.now) (erased_at c.args.terms.now c.args.projection.now.rigid_alias) c.args.place (tree_of_term c.args.value.now) (tree_of_term c.args.value.now)
-    (erased_all c.translated.new.terms c.in-Fits.args.items) (erased_all c.translated.new.terms c.deref.result.now) c.term_form.new.terms c.term_form.result
-    refl (ap (erased_all c.translated.new.terms) c.deref.ensures.value)
-    (subst (SaysMatched (Translated (level_in c.args.setting.now m c.args.depth) c.args.row.now (erased_all c.args.terms.now c.args.found.now) (projection_at c.args.terms.now c.args.projection.now) (taken (setting_in c.args.setting.now m) c.args.row.now c.args.place)) (KnownTranslated (level_in c.args.setting.now m c.args.depth) c.args.row.now (erased_all c.args.terms.now c.args.found.now) (projection_at c.args.terms.now c.args.projection.now) (taken (setting_in c.args.setting.now m) c.args.row.now c.args.place)) (TranslationRefuted (level_in c.args.setting.now m c.args.depth) c.args.row.now (erased_all c.args.terms.now c.args.found.now) (taken (setting_in c.args.setting.now m) c.args.row.now c.args.place)) c.translated.new.terms) c.in-Fits.is (c.in_ok-translated.ensures.says m s))
-    (c.term_form.ensures.says m s)
-
-pub normalizes_to::impl_terms::value_term-returns-in_ok-form-in-Known-clause-says : goal.normalizes_to::impl_terms::value_term-returns-in_ok-form-in-Known-clause-says
-normalizes_to::impl_terms::value_term-returns-in_ok-form-in-Known-clause-says t c =
-    λ m s. value-known (setting_in c.args.setting.now m) (level_in c.args.setting.now m c.args.depth) (each_level_is_consistent (setting_in c.args.setting.now m) c.args.depth) c.args.row.now (erased_all c.args.terms.now c.args.found.now) (projection_at c.args.terms.now c.args.projection.now) (erased_at c.args.terms.now c.args.projection.now.rigid_alias) c.args.place (tree_of_term c.args.value.now) (tree_of_term c.args.value.now)
-    (erased_all c.translated.new.terms c.in-Known.args.items) (erased_all c.translated.new.terms c.deref-in-Known.result.now) c.term_form-in-Known.new.terms c.in_ok-form-in-Known.form
-    c.refuted_only.result refl (ap (erased_all c.translated.new.terms) c.deref-in-Known.ensures.value) c.refuted_only.ensures
-    (subst (SaysMatched (Translated (level_in c.args.setting.now m c.args.depth) c.args.row.now (erased_all c.args.terms.now c.args.found.now) (projection_at c.args.terms.now c.args.projection.now) (taken (setting_in c.args.setting.now m) c.args.row.now c.args.place)) (KnownTranslated (level_in c.args.setting.now m c.args.depth) c.args.row.now (erased_all c.args.terms.now c.args.found.now) (projection_at c.args.terms.now c.args.projection.now) (taken (setting_in c.args.setting.now m) c.args.row.now c.args.place)) (TranslationRefuted (level_in c.args.setting.now m c.args.depth) c.args.row.now (erased_all c.args.terms.now c.args.found.now) (taken (setting_in c.args.setting.now m) c.args.row.now c.args.place)) c.translated.new.terms) c.in-Known.is (c.in_ok-translated.ensures.says m s))
-    (c.in_ok-form-in-Known.ensures.says m s)
-
-pub normalizes_to::impl_terms::eligible_term-returns-in-Nothing-clause-says : goal.normalizes_to::impl_terms::eligible_term-returns-in-Nothing-clause-says
-normalizes_to::impl_terms::eligible_term-returns-in-Nothing-clause-says t c =
-    λ m s. said-nothing (setting_in c.args.setting.now m) (level_in c.args.setting.now m c.args.depth) c.args.row.now (erased_all c.args.terms.now c.args.found.now) (projection_at c.args.terms.now c.args.projection.now) (erased_at c.args.terms.now c.args.projection.now.rigid_alias) (eligible_at c.in_ok-fetch_eligible_assoc_item.field-0) (c.in_ok-fetch_eligible_assoc_item.ensures.says m s) (ap eligible_at c.in-Nothing.is)
-
-pub normalizes_to::impl_terms::eligible_term-returns-in-RigidAlias-clause-says : goal.normalizes_to::impl_terms::eligible_term-returns-in-RigidAlias-clause-says
-normalizes_to::impl_terms::eligible_term-returns-in-RigidAlias-clause-says t c =
-    λ m s. said-itself (setting_in c.args.setting.now m) (level_in c.args.setting.now m c.args.depth) c.args.row.now (erased_all c.args.terms.now c.args.found.now) (projection_at c.args.terms.now c.args.projection.now) (erased_at c.args.terms.now c.args.projection.now.rigid_alias) (eligible_at c.in_ok-fetch_eligible_assoc_item.field-0) (c.in_ok-fetch_eligible_assoc_item.ensures.says m s) (ap eligible_at c.in-RigidAlias.is)
-
-pub normalizes_to::impl_terms::eligible_term-returns-in_ok-error-in-Error-clause-says : goal.normalizes_to::impl_terms::eligible_term-returns-in_ok-error-in-Error-clause-says
-normalizes_to::impl_terms::eligible_term-returns-in_ok-error-in-Error-clause-says t c =
-    λ m s. said-error (setting_in c.args.setting.now m) (level_in c.args.setting.now m c.args.depth) c.args.row.now (erased_all c.args.terms.now c.args.found.now) (projection_at c.args.terms.now c.args.projection.now) (erased_at c.args.terms.now c.args.projection.now.rigid_alias) (eligible_at c.in_ok-fetch_eligible_assoc_item.field-0) c.in-Error.number (erased_at c.error_number.new.terms c.in_ok-error-in-Error.error)
-    (c.in_ok-fetch_eligible_assoc_item.ensures.says m s) (ap eligible_at c.in-Error.is) c.in_ok-error-in-Error.ensures.tree
-
-pub normalizes_to::impl_terms::eligible_term-returns-in_ok-error-in-Missing-clause-says : goal.normalizes_to::impl_terms::eligible_term-returns-in_ok-error-in-Missing-clause-says
-normalizes_to::impl_terms::eligible_term-returns-in_ok-error-in-Missing-clause-says t c =
-    λ m s. said-error (setting_in c.args.setting.now m) (level_in c.args.setting.now m c.args.depth) c.args.row.now (erased_all c.args.terms.now c.args.found.now) (projection_at c.args.terms.now c.args.projection.now) (erased_at c.args.terms.now c.args.projection.now.rigid_alias) (eligible_at c.in_ok-fetch_eligible_assoc_item.field-0) c.in-Missing.definition.0 (erased_at c.error_number-in-Missing.new.terms c.in_ok-error-in-Missing.error)
-    (c.in_ok-fetch_eligible_assoc_item.ensures.says m s) (ap eligible_at c.in-Missing.is) c.in_ok-error-in-Missing.ensures.tree
-
-pub normalizes_to::impl_terms::term_under-returns : goal.normalizes_to::impl_terms::term_under-returns
-normalizes_to::impl_terms::term_under-returns t c = record {
-  kept = keeps-chain c.args.terms.now c.clauses_outcome.new.terms c.eligible_term.new.terms c.clauses_outcome.ensures.kept c.eligible_term.ensures.kept;
-  within = found_in-behind c.eligible_term.new.terms c.in_ok-outcome.outcome c.in_ok-term.term c.found_behind.result c.found_behind.ensures c.in_ok-term.ensures.within;
-  stops = λ h. tt;
-  says = λ m s.
-      own-behind (setting_in c.args.setting.now m) (level_in c.args.setting.now m c.args.depth) (each_level_is_consistent (setting_in c.args.setting.now m) c.args.depth) c.args.row.now (projection_at c.args.terms.now c.args.projection.now) (projection_at c.clauses_outcome.new.terms c.args.projection.now) (erased_at c.args.terms.now c.args.projection.now.rigid_alias) (erased_at c.clauses_outcome.new.terms c.args.projection.now.rigid_alias)
-      (erased_all c.args.terms.now c.args.found.now) (erased_all c.clauses_outcome.new.terms c.args.found.now) c.eligible_term.new.terms c.in_ok-outcome.outcome c.in_ok-term.term c.found_behind.result
-      (projection_same-grown c.args.terms.now c.clauses_outcome.new.terms c.clauses_outcome.ensures.kept c.args.projection.now c.requires.projection)
-      (same-grown c.args.terms.now c.clauses_outcome.new.terms c.clauses_outcome.ensures.kept c.args.projection.now.rigid_alias c.requires.projection.1)
-      (all_same-grown c.args.terms.now c.clauses_outcome.new.terms c.clauses_outcome.ensures.kept c.args.found.now c.requires.found) c.found_behind.ensures
-      (subst (λ cs. Says (PremisesHold (level_in c.args.setting.now m c.args.depth) (clauses_under (erased_all c.args.terms.now c.args.projection.now.args.now) cs)) (PremisesRefuted (level_in c.args.setting.now m c.args.depth) (clauses_under (erased_all c.args.terms.now c.args.projection.now.args.now) cs)) c.in_ok-outcome.outcome)
-      c.deref.ensures.value (c.in_ok-outcome.ensures.says m s))
-      (c.in_ok-term.ensures.says m s);
-}
-
-pub normalizes_to::impl_terms::consider_projection_impl_candidate-returns-in-Clashes-clause-says : goal.normalizes_to::impl_terms::consider_projection_impl_candidate-returns-in-Clashes-clause-says
-normalizes_to::impl_terms::consider_projection_impl_candidate-returns-in-Clashes-clause-says t c =
-    λ m s. consider_projection_impl_candidate-clashes (setting_in c.args.setting.now m) (level_in c.args.setting.now m c.args.depth) c.args.row.now (projection_at c.args.terms.now c.args.projection.now) (erased_all c.args.terms.now c.trait_args.result.now) (trait-terms c.args.terms.now c.args.projection.now.trait_params c.args.projection.now.args.now c.trait_args.result.now c.trait_args.ensures)
-    (subst (SaysImpl (level_in c.args.setting.now m c.args.depth) c.args.row.now (erased_all c.args.terms.now c.trait_args.result.now) c.consider_trait_impl_candidate.new.terms) c.in-Clashes.is (c.in_ok-consider_trait_impl_candidate.ensures.says m s))
-
-pub normalizes_to::impl_terms::consider_projection_impl_candidate-returns-in-Unknown-clause-says : goal.normalizes_to::impl_terms::consider_projection_impl_candidate-returns-in-Unknown-clause-says
-normalizes_to::impl_terms::consider_projection_impl_candidate-returns-in-Unknown-clause-says t c =
-    λ m s. consider_projection_impl_candidate-unknown (setting_in c.args.setting.now m) (level_in c.args.setting.now m c.args.depth) c.args.row.now (projection_at c.args.terms.now c.args.projection.now) (erased_at c.args.terms.now c.args.projection.now.rigid_alias) (erased_all c.args.terms.now c.trait_args.result.now) (trait-terms c.args.terms.now c.args.projection.now.trait_params c.args.projection.now.args.now c.trait_args.result.now c.trait_args.ensures)
-    (subst (SaysImpl (level_in c.args.setting.now m c.args.depth) c.args.row.now (erased_all c.args.terms.now c.trait_args.result.now) c.consider_trait_impl_candidate.new.terms) c.in-Unknown.is (c.in_ok-consider_trait_impl_candidate.ensures.says m s))
-
-pub normalizes_to::impl_terms::consider_projection_impl_candidate-returns-in-Fits-clause-says : goal.normalizes_to::impl_terms::consider_projection_impl_candidate-returns-in-Fits-clause-says
-normalizes_to::impl_terms::consider_projection_impl_candidate-returns-in-Fits-clause-says t c =
-    λ m s. impl-fits (setting_in c.args.setting.now m) (level_in c.args.setting.now m c.args.depth) (each_level_is_consistent (setting_in c.args.setting.now m) c.args.depth) c.args.row.now (projection_at c.args.terms.now c.args.projection.now) (projection_at c.consider_trait_impl_candidate.new.terms c.args.projection.now) (erased_at c.args.terms.now c.args.projection.now.rigid_alias) (erased_at c.consider_trait_impl_candidate.new.terms c.args.projection.now.rigid_alias)
-    (erased_all c.args.terms.now c.trait_args.result.now) (erased_all c.consider_trait_impl_candidate.new.terms c.in-Fits.found.items) (erased_all c.consider_trait_impl_candidate.new.terms c.deref.result.now)
-    c.term_under.new.terms c.term_under.result
-    (projection_same-grown c.args.terms.now c.consider_trait_impl_candidate.new.terms c.consider_trait_impl_candidate.ensures.kept c.args.projection.now c.requires)
-    (same-grown c.args.terms.now c.consider_trait_impl_candidate.new.terms c.consider_trait_impl_candidate.ensures.kept c.args.projection.now.rigid_alias c.requires.1)
-    (ap (erased_all c.consider_trait_impl_candidate.new.terms) c.deref.ensures.value)
-    (trait-terms c.args.terms.now c.args.projection.now.trait_params c.args.projection.now.args.now c.trait_args.result.now c.trait_args.ensures)
-    (subst (SaysImpl (level_in c.args.setting.now m c.args.depth) c.args.row.now (erased_all c.args.terms.now c.trait_args.result.now) c.consider_trait_impl_candidate.new.terms) c.in-Fits.is (c.in_ok-consider_trait_impl_candidate.ensures.says m s)) (c.term_under.ensures.says m s)
-
-pub normalizes_to::impl_terms::consider_projection_impl_candidate-returns-in_ok-term-in-Known-clause-says : goal.normalizes_to::impl_terms::consider_projection_impl_candidate-returns-in_ok-term-in-Known-clause-says
-normalizes_to::impl_terms::consider_projection_impl_candidate-returns-in_ok-term-in-Known-clause-says t c =
-    λ m s. consider_projection_impl_candidate-known (setting_in c.args.setting.now m) (level_in c.args.setting.now m c.args.depth) (each_level_is_consistent (setting_in c.args.setting.now m) c.args.depth) c.args.row.now (projection_at c.args.terms.now c.args.projection.now) (projection_at c.consider_trait_impl_candidate.new.terms c.args.projection.now) (erased_at c.args.terms.now c.args.projection.now.rigid_alias) (erased_at c.consider_trait_impl_candidate.new.terms c.args.projection.now.rigid_alias)
-    (erased_all c.args.terms.now c.trait_args.result.now) (erased_all c.consider_trait_impl_candidate.new.terms c.in-Known.found.items) (erased_all c.consider_trait_impl_candidate.new.terms c.deref-in-Known.result.now)
-    c.term_under-in-Known.new.terms c.in_ok-term-in-Known.term c.refuted_only.result
-    (projection_same-grown c.args.terms.now c.consider_trait_impl_candidate.new.terms c.consider_trait_impl_candidate.ensures.kept c.args.projection.now c.requires)
-    (same-grown c.args.terms.now c.consider_trait_impl_candidate.new.terms c.consider_trait_impl_candidate.ensures.kept c.args.projection.now.rigid_alias c.requires.1)
-    (ap (erased_all c.consider_trait_impl_candidate.new.terms) c.deref-in-Known.ensures.value)
-    (trait-terms c.args.terms.now c.args.projection.now.trait_params c.args.projection.now.args.now c.trait_args.result.now c.trait_args.ensures) c.refuted_only.ensures
-    (subst (SaysImpl (level_in c.args.setting.now m c.args.depth) c.args.row.now (erased_all c.args.terms.now c.trait_args.result.now) c.consider_trait_impl_candidate.new.terms) c.in-Known.is (c.in_ok-consider_trait_impl_candidate.ensures.says m s)) (c.in_ok-term-in-Known.ensures.says m s)
 
 pub relate::header_parts::part_behind-returns-then-depth-eq0-clause-says : goal.relate::header_parts::part_behind-returns-then-depth-eq0-clause-says
 relate::header_parts::part_behind-returns-then-depth-eq0-clause-says t c =
@@ -930,70 +451,6 @@ relate::headers::match_header-match_known-requires t c = (
   ),
 )
 
-pub normalizes_to::projections::match_assumption-returns-in-Trait-clause-says :
-    goal.normalizes_to::projections::match_assumption-returns-in-Trait-clause-says
-normalizes_to::projections::match_assumption-returns-in-Trait-clause-says t c = λ m s.
-    assumption-trait (level_in c.args.setting.now m c.args.depth) (projection_at c.args.terms.now c.args.projection.now) c.args.terms.now c.args.predicate.now c.in-Trait.field-0 c.in-Trait.is
-
-pub normalizes_to::projections::match_assumption-returns-in-HostEffect-clause-says :
-    goal.normalizes_to::projections::match_assumption-returns-in-HostEffect-clause-says
-normalizes_to::projections::match_assumption-returns-in-HostEffect-clause-says t c = λ m s.
-    assumption-const (level_in c.args.setting.now m c.args.depth) (projection_at c.args.terms.now c.args.projection.now) c.args.terms.now c.args.predicate.now
-    c.in-HostEffect.field-0 c.in-HostEffect.field-1 c.in-HostEffect.is
-
-pub normalizes_to::projections::match_assumption-returns-in-Projection-clause-says :
-    goal.normalizes_to::projections::match_assumption-returns-in-Projection-clause-says
-normalizes_to::projections::match_assumption-returns-in-Projection-clause-says t c = λ m s.
-    assumption-equation (level_in c.args.setting.now m c.args.depth) (projection_at c.args.terms.now c.args.projection.now) c.args.terms.now c.equation_term.new.terms c.args.predicate.now
-    c.in-Projection.alias c.in-Projection.term c.in-Projection.is c.equation_term.result (c.equation_term.ensures.says m s)
-
-pub normalizes_to::projections::behind_term-returns-clause-within :
-    goal.normalizes_to::projections::behind_term-returns-clause-within
-normalizes_to::projections::behind_term-returns-clause-within t c = found_behind c.head_form.new.terms c.in_ok-hold.hold c.in_ok-found.found c.found_behind.result c.in_ok-found.ensures.within c.found_behind.ensures
-
-pub normalizes_to::projections::behind_term-returns-clause-says :
-    goal.normalizes_to::projections::behind_term-returns-clause-says
-normalizes_to::projections::behind_term-returns-clause-says t c = λ m s.
-    premises-behind (level_in c.args.setting.now m c.args.depth) (consistent c.args.setting.now m c.args.depth) c.args.premises.now c.args.term
-    c.args.terms.now c.premises_outcome.new.terms c.head_form.new.terms c.premises_outcome.ensures.kept c.requires.term c.in_ok-hold.hold c.in_ok-found.found c.found_behind.result
-    (c.in_ok-hold.ensures.says m s) (c.in_ok-found.ensures.says m s) c.found_behind.ensures
-
-pub normalizes_to::projections::consider_builtin_candidate-returns-clause-says :
-    goal.normalizes_to::projections::consider_builtin_candidate-returns-clause-says
-normalizes_to::projections::consider_builtin_candidate-returns-clause-says t c = λ m s.
-    listed-back (level_in c.args.setting.now m c.args.depth) c.args.terms.now c.term_rule.new.terms c.listed_term.new.terms c.term_rule.ensures.kept c.args.projection.now c.requires
-    (listed_at c.term_rule.new.terms c.in_ok-rule.rule) (term_rule c.args.setting.now.rows.now c.args.projection.now.item.now.id (erased_all c.args.terms.now c.args.projection.now.args.now))
-    c.in_ok-rule.ensures.listed c.listed_term.result (c.listed_term.ensures.says m s)
-
-pub normalizes_to::projections::candidate_term-returns-in-Assumption-clause-says :
-    goal.normalizes_to::projections::candidate_term-returns-in-Assumption-clause-says
-normalizes_to::projections::candidate_term-returns-in-Assumption-clause-says t c = λ m s.
-    candidate-assumption (setting_in c.args.setting.now m) (level_in c.args.setting.now m c.args.depth) c.args.terms.now c.match_assumption.new.terms c.args.projection.now c.args.candidate.now
-    c.in-Assumption.predicate c.in-Assumption.is c.match_assumption.result (c.match_assumption.ensures.says m s)
-
-pub normalizes_to::projections::candidate_term-returns-in-ImpliedBound-clause-says :
-    goal.normalizes_to::projections::candidate_term-returns-in-ImpliedBound-clause-says
-normalizes_to::projections::candidate_term-returns-in-ImpliedBound-clause-says t c = λ m s.
-    candidate-implied (setting_in c.args.setting.now m) (level_in c.args.setting.now m c.args.depth) c.args.terms.now c.args.projection.now c.args.candidate.now
-    c.in-ImpliedBound.field-0 c.in-ImpliedBound.field-1 c.in-ImpliedBound.is
-
-pub normalizes_to::projections::candidate_term-returns-in-Impl-clause-says :
-    goal.normalizes_to::projections::candidate_term-returns-in-Impl-clause-says
-normalizes_to::projections::candidate_term-returns-in-Impl-clause-says t c = λ m s.
-    candidate-impl (setting_in c.args.setting.now m) (level_in c.args.setting.now m c.args.depth) c.args.terms.now c.consider_projection_impl_candidate.new.terms c.args.projection.now c.args.candidate.now
-    c.in-Impl.row c.in-Impl.is c.consider_projection_impl_candidate.result (c.consider_projection_impl_candidate.ensures.says m s)
-
-pub normalizes_to::projections::candidate_term-returns-in-BuiltIn-clause-says :
-    goal.normalizes_to::projections::candidate_term-returns-in-BuiltIn-clause-says
-normalizes_to::projections::candidate_term-returns-in-BuiltIn-clause-says t c = λ m s.
-    candidate-built_in (setting_in c.args.setting.now m) (level_in c.args.setting.now m c.args.depth) c.args.terms.now c.consider_builtin_candidate.new.terms c.args.projection.now c.args.candidate.now
-    c.in-BuiltIn.is c.consider_builtin_candidate.result (c.consider_builtin_candidate.ensures.says m s)
-
-pub normalizes_to::projections::candidate_term-returns-in-Error-clause-says :
-    goal.normalizes_to::projections::candidate_term-returns-in-Error-clause-says
-normalizes_to::projections::candidate_term-returns-in-Error-clause-says t c = λ m s.
-    candidate-error (setting_in c.args.setting.now m) (level_in c.args.setting.now m c.args.depth) c.args.terms.now c.args.projection.now c.args.candidate.now c.in-Error.is
-
 pub normalizes_to::projections::environment_term-returns-clause-says :
     goal.normalizes_to::projections::environment_term-returns-clause-says
 normalizes_to::projections::environment_term-returns-clause-says t c = λ m s.
@@ -1002,39 +459,6 @@ normalizes_to::projections::environment_term-returns-clause-says t c = λ m s.
     (ap (map (candidate_at c.candidates_of_class.new.terms)) c.as_slice.ensures.value ∙ c.in_ok-candidates.ensures.candidates m
     ∙ environment-class (setting_in c.args.setting.now m) c.args.projection.now.item.now.trait_id (erased_at c.args.terms.now c.args.self_ty))
     c.group_term.result (c.group_term.ensures.says m s)
-
-pub normalizes_to::projections::equal_args_term-returns-in-Refuted-hold-clause-says :
-    goal.normalizes_to::projections::equal_args_term-returns-in-Refuted-hold-clause-says
-normalizes_to::projections::equal_args_term-returns-in-Refuted-hold-clause-says t c = λ m s.
-    equal_args-clauses (level_in c.args.setting.now m c.args.depth) c.args.projection.now c.args.args.now c.args.term c.args.terms.now c.compare_lists.new.terms c.compare_lists.ensures.kept c.requires.projection
-    c.as_slice-clauses.result.now c.as_slice-clauses.ensures.value (rw c.in-Refuted-hold.is at (c.in_ok-hold.ensures.says m s))
-
-pub normalizes_to::projections::equal_args_term-returns-clause-within :
-    goal.normalizes_to::projections::equal_args_term-returns-clause-within
-normalizes_to::projections::equal_args_term-returns-clause-within t c = found_behind c.head_form.new.terms c.and.result c.in_ok-found.found c.found_behind.result c.in_ok-found.ensures.within c.found_behind.ensures
-
-pub normalizes_to::projections::equal_args_term-returns-clause-says :
-    goal.normalizes_to::projections::equal_args_term-returns-clause-says
-normalizes_to::projections::equal_args_term-returns-clause-says t c = λ m s.
-    equal_args-says (level_in c.args.setting.now m c.args.depth) (consistent c.args.setting.now m c.args.depth) c.args.projection.now c.args.args.now c.args.term
-    c.args.terms.now c.compare_lists.new.terms c.clauses_outcome.new.terms c.head_form.new.terms c.compare_lists.ensures.kept
-    (keeps-chain c.args.terms.now c.compare_lists.new.terms c.clauses_outcome.new.terms c.compare_lists.ensures.kept c.clauses_outcome.ensures.kept)
-    c.requires.projection c.requires.term c.as_slice-clauses.result.now c.as_slice-clauses.ensures.value c.in_ok-equal.equal c.in_ok-hold.hold c.and.result c.in_ok-found.found c.found_behind.result
-    (c.in_ok-equal.ensures.says m s) (c.in_ok-hold.ensures.says m s) (c.in_ok-found.ensures.says m s) c.and.ensures c.found_behind.ensures
-
-pub normalizes_to::projections::equation_term-returns-in_default-clause-says :
-    goal.normalizes_to::projections::equation_term-returns-in_default-clause-says
-normalizes_to::projections::equation_term-returns-in_default-clause-says t c = λ m s.
-    equation-other (level_in c.args.setting.now m c.args.depth) (projection_at c.args.terms.now c.args.projection.now) (erased_at c.args.terms.now c.args.alias) (erased_at c.args.terms.now c.args.term)
-    (rw c.in_default.is at c.in_ok-args.ensures)
-
-pub normalizes_to::projections::equation_term-returns-clause-says :
-    goal.normalizes_to::projections::equation_term-returns-clause-says
-normalizes_to::projections::equation_term-returns-clause-says t c = λ m s.
-    let h = rw c.in-Some.is at c.in_ok-args.ensures in
-    equation-says (level_in c.args.setting.now m c.args.depth) (projection_at c.args.terms.now c.args.projection.now) (erased_at c.args.terms.now c.args.alias) (erased_at c.args.terms.now c.args.term)
-    (erased_all c.args.terms.now c.as_slice.result.now) c.equal_args_term.new.terms h.0 (h.2 ∙ ap (erased_all c.args.terms.now) (sym c.as_slice.ensures.value)) c.equal_args_term.result
-    (c.equal_args_term.ensures.says m s)
 
 pub normalizes_to::projections::own_args_normalized-returns-in-Undecided-clause-says :
     goal.normalizes_to::projections::own_args_normalized-returns-in-Undecided-clause-says
@@ -1188,21 +612,6 @@ normalizes_to::projections::later_term-returns-in_default-class-clause-says t c 
     (second_group (setting_in c.args.setting.now m) c.args.projection.now.item.now.trait_id (erased_at c.args.terms.now c.args.self_ty) c.args.class) (erased_at c.second_term.new.terms c.in-Is.term)
     c.in_default-class.not-Misc (rw c.in-Is.is at (c.in_ok-second_term.ensures.says m s)) c.own_args_normalized.result (c.own_args_normalized.ensures.says m s)
 
-pub normalizes_to::projections::listed_term-returns-in-Nothing-clause-says :
-    goal.normalizes_to::projections::listed_term-returns-in-Nothing-clause-says
-normalizes_to::projections::listed_term-returns-in-Nothing-clause-says t c = λ m s. listed-nothing (level_in c.args.setting.now m c.args.depth) c.args.terms.now c.args.rule.now c.in-Nothing.is
-
-pub normalizes_to::projections::listed_term-returns-in-Rigid-clause-says :
-    goal.normalizes_to::projections::listed_term-returns-in-Rigid-clause-says
-normalizes_to::projections::listed_term-returns-in-Rigid-clause-says t c = λ m s.
-    listed-rigid (level_in c.args.setting.now m c.args.depth) (projection_at c.args.terms.now c.args.projection.now) (erased_at c.args.terms.now c.args.projection.now.rigid_alias) c.args.terms.now c.args.rule.now c.in-Rigid.is
-
-pub normalizes_to::projections::listed_term-returns-in-Behind-clause-says :
-    goal.normalizes_to::projections::listed_term-returns-in-Behind-clause-says
-normalizes_to::projections::listed_term-returns-in-Behind-clause-says t c = λ m s.
-    listed-behind (level_in c.args.setting.now m c.args.depth) (projection_at c.args.terms.now c.args.projection.now) (erased_at c.args.terms.now c.args.projection.now.rigid_alias) c.args.terms.now c.behind_term.new.terms
-    c.args.rule.now c.in-Behind.premises c.in-Behind.term c.in-Behind.is c.as_slice.result.now c.as_slice.ensures.value c.behind_term.result (c.behind_term.ensures.says m s)
-
 pub normalizes_to::projections::projection_term-returns-in_default-clause-says :
     goal.normalizes_to::projections::projection_term-returns-in_default-clause-says
 normalizes_to::projections::projection_term-returns-in_default-clause-says t c = λ m s.
@@ -1260,31 +669,6 @@ normalizes_to::projections::second_term-returns-clause-says t c = λ m s.
     (second_group (setting_in c.args.setting.now m) c.args.projection.now.item.now.trait_id (erased_at c.args.terms.now c.args.self_ty) c.args.class)
     (ap (map (candidate_at c.second_group.new.terms)) c.as_slice.ensures.value ∙ c.in_ok-candidates.ensures.candidates m)
     c.group_term.result (c.group_term.ensures.says m s)
-
-pub normalizes_to::projections::sized_term-returns-in-Undecided-clause-says :
-    goal.normalizes_to::projections::sized_term-returns-in-Undecided-clause-says
-normalizes_to::projections::sized_term-returns-in-Undecided-clause-says t c = λ m s.
-    sized-undecided (level_in c.args.setting.now m c.args.depth) (projection_at c.args.terms.now c.args.projection.now) (erased_at c.args.terms.now c.args.projection.now.rigid_alias) c.args.sized
-    (sized-says (level_in c.args.setting.now m c.args.depth) (projection_at c.args.terms.now c.args.projection.now) (erased_at c.args.terms.now c.args.projection.now.rigid_alias) c.args.sized c.args.terms.now
-    c.args.projection.now.args.now c.first_args-self_args.result.now refl c.first_args-self_args.ensures trait_outcome.Undecided (rw c.in-Undecided.is at (c.in_ok-evaluate_trait_goal.ensures.says m s)))
-
-pub normalizes_to::projections::sized_term-returns-in-Refuted-clause-says :
-    goal.normalizes_to::projections::sized_term-returns-in-Refuted-clause-says
-normalizes_to::projections::sized_term-returns-in-Refuted-clause-says t c = λ m s.
-    sized-refuted (level_in c.args.setting.now m c.args.depth) (projection_at c.args.terms.now c.args.projection.now) (erased_at c.args.terms.now c.args.projection.now.rigid_alias) c.args.sized
-    (erased_at c.evaluate_trait_goal.new.terms c.args.projection.now.rigid_alias)
-    (sized-says (level_in c.args.setting.now m c.args.depth) (projection_at c.args.terms.now c.args.projection.now) (erased_at c.args.terms.now c.args.projection.now.rigid_alias) c.args.sized c.args.terms.now
-    c.args.projection.now.args.now c.first_args-self_args.result.now refl c.first_args-self_args.ensures trait_outcome.Refuted (rw c.in-Refuted.is at (c.in_ok-evaluate_trait_goal.ensures.says m s)))
-    (same-grown c.args.terms.now c.evaluate_trait_goal.new.terms c.evaluate_trait_goal.ensures.kept c.args.projection.now.rigid_alias c.requires.1)
-
-pub normalizes_to::projections::sized_term-returns-in_ok-unit-in-Holds-clause-says :
-    goal.normalizes_to::projections::sized_term-returns-in_ok-unit-in-Holds-clause-says
-normalizes_to::projections::sized_term-returns-in_ok-unit-in-Holds-clause-says t c = λ m s.
-    sized-holds (level_in c.args.setting.now m c.args.depth) (projection_at c.args.terms.now c.args.projection.now) (erased_at c.args.terms.now c.args.projection.now.rigid_alias) c.args.sized c.in-Holds.field-0
-    (erased_at c.intern_unit.new.terms c.in_ok-unit-in-Holds.unit)
-    (sized-says (level_in c.args.setting.now m c.args.depth) (projection_at c.args.terms.now c.args.projection.now) (erased_at c.args.terms.now c.args.projection.now.rigid_alias) c.args.sized c.args.terms.now
-    c.args.projection.now.args.now c.first_args-self_args.result.now refl c.first_args-self_args.ensures (trait_outcome.Holds c.in-Holds.field-0) (rw c.in-Holds.is at (c.in_ok-evaluate_trait_goal.ensures.says m s)))
-    c.in_ok-unit-in-Holds.ensures.tree
 
 pub normalizes_to::projections::term_proven_via-returns-in-Refuted-clause-says :
     goal.normalizes_to::projections::term_proven_via-returns-in-Refuted-clause-says
@@ -1450,230 +834,459 @@ eval::premises::equation_outcome-returns-clause-says t c =
     λ m s. equation-result (setting_in c.args.setting.now m) c.args.depth (erased_at c.args.terms.now c.args.alias) (erased_at c.args.terms.now c.args.term) c.compare_terms.result
     c.if-depth-eq0.false (c.compare_terms.ensures.says m s)
 
-pub trait_goals::candidates::match_assumption-returns-in_default : goal.trait_goals::candidates::match_assumption-returns-in_default
-trait_goals::candidates::match_assumption-returns-in_default t c = record {
-  kept = keeps-refl c.args.terms.now;
-  stops = λ h. tt;
-  says = λ m s. other-assumption (level_in c.args.setting.now m c.args.depth) c.args.terms.now c.args.trait_id (erased_all c.args.terms.now c.args.args.now) c.args.said.now c.in_default.not-Trait;
+pub eval::lists::run_list-returns-in-None-clause-says : goal.eval::lists::run_list-returns-in-None-clause-says
+eval::lists::run_list-returns-in-None-clause-says t c = λ m s q f.
+    none-says (level_in c.args.setting.now m c.args.depth) c.args.setting.now.typing_mode.now c.args.terms.now q
+    (subst (λ l. IsListFor c.args.setting.now.typing_mode.now (list_at c.args.terms.now l) q) c.in-None.is f)
+
+pub eval::lists::run_list-returns-in-Some-clause-says : goal.eval::lists::run_list-returns-in-Some-clause-says
+eval::lists::run_list-returns-in-Some-clause-says t c = λ m s.
+    list-says (level_in c.args.setting.now m c.args.depth) c.args.setting.now.typing_mode.now c.args.terms.now c.run_entries.new.terms c.args.list.now c.in-Some.entries
+    c.deref.result.now c.run_entries.result c.in-Some.is c.deref.ensures.value (c.run_entries.ensures.says m s)
+
+pub eval::lists::run_entries-loop-entry-preserved : goal.eval::lists::run_entries-loop-entry-preserved
+eval::lists::run_entries-loop-entry-preserved t c = record {
+  kept = keeps-chain c.args.terms.now c.loop-entry.terms c.run_entry.new.terms c.loop-entry.invariant.kept c.run_entry.ensures.kept;
+  within = c.in_ok-run_entry.ensures.within;
+  so_far = runs-next c.args.setting.now c.args.depth c.args.terms.now c.loop-entry.terms c.run_entry.new.terms c.loop-entry.invariant.kept c.args.entries.now c.requires
+      c.loop-entry.run c.run_entry.new.run c.loop-entry.entry-index c.entry-item.result c.in_ok-run_entry.field-0 (omega arith) c.entry-item.is c.loop-entry.invariant.so_far
+      c.in_ok-run_entry.ensures.reads c.in_ok-run_entry.ensures.says c.in-Next.is;
 }
 
-pub trait_goals::candidates::match_assumption-returns-then-held-trait_id-clause-says : goal.trait_goals::candidates::match_assumption-returns-then-held-trait_id-clause-says
-trait_goals::candidates::match_assumption-returns-then-held-trait_id-clause-says t c =
-    λ m s. other-trait (level_in c.args.setting.now m c.args.depth) c.args.terms.now c.args.trait_id (erased_all c.args.terms.now c.args.args.now) c.args.said.now c.in-Trait.held c.in-Trait.is
-    c.if-held-trait_id.true
+pub eval::lists::run_entries-returns-in-Refuted-clause-says : goal.eval::lists::run_entries-returns-in-Refuted-clause-says
+eval::lists::run_entries-returns-in-Refuted-clause-says t c =
+    runs-refuted c.args.setting.now c.args.depth c.args.terms.now c.loop-entry.terms c.run_entry.new.terms c.loop-entry.invariant.kept c.args.entries.now c.requires
+    c.loop-entry.run c.run_entry.new.run c.loop-entry.entry-index c.entry-item.result c.in_ok-run_entry.field-0 (omega arith) c.entry-item.is c.loop-entry.invariant.so_far
+    c.in_ok-run_entry.ensures.reads c.in_ok-run_entry.ensures.says c.in-Refuted.is c.run_entry.new.terms
 
-pub trait_goals::candidates::match_assumption-returns-clause-says : goal.trait_goals::candidates::match_assumption-returns-clause-says
-trait_goals::candidates::match_assumption-returns-clause-says t c =
-    λ m s. same-trait (level_in c.args.setting.now m c.args.depth) c.args.terms.now c.args.trait_id (erased_all c.args.terms.now c.args.args.now) c.args.said.now c.in-Trait.held
-    c.deref.result.now c.compare_lists.result c.in-Trait.is c.if-held-trait_id.false c.deref.ensures.value (c.compare_lists.ensures.says m s)
+pub eval::lists::run_entries-returns-in-Undecided-clause-says : goal.eval::lists::run_entries-returns-in-Undecided-clause-says
+eval::lists::run_entries-returns-in-Undecided-clause-says t c =
+    runs-undecided c.args.setting.now c.args.depth c.args.terms.now c.loop-entry.terms c.run_entry.new.terms c.loop-entry.invariant.kept c.args.entries.now c.requires
+    c.loop-entry.run c.run_entry.new.run c.loop-entry.entry-index c.entry-item.result c.in_ok-run_entry.field-0 (omega arith) c.entry-item.is c.loop-entry.invariant.so_far
+    c.in_ok-run_entry.ensures.reads c.in_ok-run_entry.ensures.says c.in-Undecided.is c.run_entry.new.terms
 
-pub effect_goals::candidates::asked_outcome-returns-clause-says : goal.effect_goals::candidates::asked_outcome-returns-clause-says
-effect_goals::candidates::asked_outcome-returns-clause-says t c =
-    λ m s. asked-say (setting_in c.args.setting.now m) c.args.depth c.args.constness c.args.terms.now c.premises_outcome.new.terms c.args.rule.now
-    c.deref.result.now c.deref-2.result.now c.in_ok-premises.premises c.in_ok-conditions.conditions c.and.result c.in_ok-premises.ensures.kept c.requires
-    c.deref.ensures.value c.deref-2.ensures.value c.and.ensures (c.in_ok-premises.ensures.says m s) (c.in_ok-conditions.ensures.says m s)
+pub eval::lists::run_entries-returns-clause-within : goal.eval::lists::run_entries-returns-clause-within
+eval::lists::run_entries-returns-clause-within t c = end-in c.loop-entry.terms c.loop-entry.run c.outcome.result c.loop-entry.invariant.within c.outcome.ensures.holds c.outcome.ensures.undecided
 
-pub effect_goals::candidates::match_assumption-returns-in_default-clause-says : goal.effect_goals::candidates::match_assumption-returns-in_default-clause-says
-effect_goals::candidates::match_assumption-returns-in_default-clause-says t c =
-    λ m s. clause-other (setting_in c.args.setting.now m) c.args.depth c.args.constness c.args.trait_id (erased_all c.args.terms.now c.args.args.now) c.args.terms.now
-    c.args.predicate.now c.in_default.not-HostEffect
+pub eval::lists::run_entries-returns-clause-says : goal.eval::lists::run_entries-returns-clause-says
+eval::lists::run_entries-returns-clause-says t c =
+    runs-end c.args.setting.now c.args.depth c.args.terms.now c.args.entries.now c.loop-entry.terms c.loop-entry.run c.loop-entry.entry-index c.outcome.result (omega arith)
+    c.loop-entry.invariant.so_far c.outcome.ensures.holds c.outcome.ensures.undecided
 
-pub effect_goals::candidates::match_assumption-returns-then-not-is_trait-clause-says : goal.effect_goals::candidates::match_assumption-returns-then-not-is_trait-clause-says
-effect_goals::candidates::match_assumption-returns-then-not-is_trait-clause-says t c =
-    λ m s. clause-unfit (setting_in c.args.setting.now m) c.args.depth c.args.constness c.in-HostEffect.held_as c.args.trait_id (erased_all c.args.terms.now c.args.args.now)
-    c.args.terms.now c.args.predicate.now c.in-HostEffect.held c.in-HostEffect.is
-    (elim c.then-not-is_trait.branch [
-      | effect_goals::candidates::match_assumption-then-not-is_trait-via-then-not-is_trait w ↦ inl (λ e. true≢false (sym (c.is_trait.ensures.1 e) ∙ w.if-not-is_trait.true))
-      | effect_goals::candidates::match_assumption-then-not-is_trait-via-else-not-is_trait+then-not-satisfies w ↦ inr (sym w.satisfies.ensures ∙ w.if-not-satisfies.true)
-    ])
+pub eval::lists::entries::run_entry-returns-in_ok-reached-in-Arguments-clause-within : goal.eval::lists::entries::run_entry-returns-in_ok-reached-in-Arguments-clause-within
+eval::lists::entries::run_entry-returns-in_ok-reached-in-Arguments-clause-within t c = naming-in c.args.terms.now c.arguments_match.new.terms c.arguments_match.ensures.kept c.args.run.now c.name.new.self c.requires.run c.in_ok-found-in-Arguments.found c.in_ok-reached-in-Arguments.reached c.in_ok-found-in-Arguments.ensures.within c.in_ok-reached-in-Arguments.ensures
 
-pub effect_goals::candidates::match_assumption-returns-clause-says : goal.effect_goals::candidates::match_assumption-returns-clause-says
-effect_goals::candidates::match_assumption-returns-clause-says t c =
-    λ m s. clause-result (setting_in c.args.setting.now m) c.args.depth c.args.constness c.in-HostEffect.held_as c.args.trait_id (erased_all c.args.terms.now c.args.args.now)
-    c.args.terms.now c.args.predicate.now c.in-HostEffect.held c.deref.result.now c.compare_lists.result c.in-HostEffect.is
-    (c.is_trait.ensures.0 c.if-not-is_trait.false) (sym c.satisfies.ensures ∙ c.if-not-satisfies.false) c.deref.ensures.value (c.compare_lists.ensures.says m s)
+pub eval::lists::entries::run_entry-returns-in_ok-reached-in-Arguments-clause-says : goal.eval::lists::entries::run_entry-returns-in_ok-reached-in-Arguments-clause-says
+eval::lists::entries::run_entry-returns-in_ok-reached-in-Arguments-clause-says t c = λ m s.
+    naming-leads (level_in c.args.setting.now m c.args.depth) (each_level_is_consistent (setting_in c.args.setting.now m) c.args.depth) c.args.terms.now c.arguments_match.new.terms c.arguments_match.ensures.kept c.args.run.now c.name.new.self c.requires.run
+    (entry_at c.args.terms.now c.args.entry.now) (arguments_at c.args.terms.now c.in-Arguments.arguments) (ap (entry_at c.args.terms.now) c.in-Arguments.is) c.deref.result.now c.deref.ensures.value
+    c.in_ok-found-in-Arguments.found c.in_ok-reached-in-Arguments.reached (c.in_ok-found-in-Arguments.ensures.says m s) c.in_ok-reached-in-Arguments.ensures
 
-pub effect_goals::candidates::consider_candidate-returns-in-Assumption-clause-says : goal.effect_goals::candidates::consider_candidate-returns-in-Assumption-clause-says
-effect_goals::candidates::consider_candidate-returns-in-Assumption-clause-says t c =
-    λ m s. shows-clause (setting_in c.args.setting.now m) c.args.depth c.args.constness c.args.trait_id (erased_all c.args.terms.now c.args.args.now) c.args.terms.now
-    c.args.candidate.now c.in-Assumption.predicate c.match_assumption.result c.in-Assumption.is (c.match_assumption.ensures.says m s)
+pub eval::lists::entries::run_entry-returns-in_ok-found-in-Expected-clause-within : goal.eval::lists::entries::run_entry-returns-in_ok-found-in-Expected-clause-within
+eval::lists::entries::run_entry-returns-in_ok-found-in-Expected-clause-within t c = giving-in c.args.terms.now c.term_found.new.terms c.term_found.ensures.kept c.args.run.now c.give.new.self c.requires.run c.in_ok-found-in-Expected.found c.in_ok-found-in-Expected.ensures.within c.give.ensures.run
 
-pub effect_goals::candidates::consider_candidate-returns-in-ImpliedBound-clause-says : goal.effect_goals::candidates::consider_candidate-returns-in-ImpliedBound-clause-says
-effect_goals::candidates::consider_candidate-returns-in-ImpliedBound-clause-says t c =
-    λ m s. shows-implied (setting_in c.args.setting.now m) c.args.depth c.args.constness c.args.trait_id (erased_all c.args.terms.now c.args.args.now) c.args.terms.now
-    c.args.candidate.now c.in-ImpliedBound.bound c.in-ImpliedBound.conditions c.deref.result.now c.consider_implied_clause.result c.in-ImpliedBound.is c.deref.ensures.value
-    (c.consider_implied_clause.ensures.says m s)
+pub eval::lists::entries::run_entry-returns-in_ok-found-in-Expected-clause-says : goal.eval::lists::entries::run_entry-returns-in_ok-found-in-Expected-clause-says
+eval::lists::entries::run_entry-returns-in_ok-found-in-Expected-clause-says t c = λ m s.
+    giving-leads (level_in c.args.setting.now m c.args.depth) (each_level_is_consistent (setting_in c.args.setting.now m) c.args.depth) c.args.terms.now c.term_found.new.terms c.term_found.ensures.kept c.args.run.now c.give.new.self c.requires.run
+    (entry_at c.args.terms.now c.args.entry.now) (term_at c.args.terms.now c.in-Expected.term) (ap (entry_at c.args.terms.now) c.in-Expected.is) c.deref-in-Expected.result.now c.deref-in-Expected.ensures.value
+    c.in_ok-found-in-Expected.found (c.in_ok-found-in-Expected.ensures.says m s) c.give.ensures.run c.give.result c.give.ensures.reached
 
-pub effect_goals::candidates::consider_candidate-returns-in-Impl-clause-says : goal.effect_goals::candidates::consider_candidate-returns-in-Impl-clause-says
-effect_goals::candidates::consider_candidate-returns-in-Impl-clause-says t c =
-    λ m s. shows-impl (setting_in c.args.setting.now m) c.args.depth c.args.constness c.args.trait_id (erased_all c.args.terms.now c.args.args.now) c.args.terms.now
-    c.args.candidate.now c.in-Impl.row c.consider_const_impl_candidate.result c.in-Impl.is (c.consider_const_impl_candidate.ensures.says m s)
+pub eval::lists::entries::run_entry-returns-in_ok-outcome-in-EqualTerms-clause-says : goal.eval::lists::entries::run_entry-returns-in_ok-outcome-in-EqualTerms-clause-says
+eval::lists::entries::run_entry-returns-in_ok-outcome-in-EqualTerms-clause-says t c = λ m s.
+    asking-leads (level_in c.args.setting.now m c.args.depth) c.args.terms.now c.compare_lists.new.terms c.compare_lists.ensures.kept c.args.run.now c.ask.new.self c.requires.run (entry_at c.args.terms.now c.args.entry.now) _ (ap (entry_at c.args.terms.now) c.in-EqualTerms.is) _ _
+    (terms-ask (level_in c.args.setting.now m c.args.depth) (each_level_is_consistent (setting_in c.args.setting.now m) c.args.depth) (named_at c.args.terms.now c.args.run.now.named.items) (erased_all c.args.terms.now c.in-EqualTerms.left.items) (erased_all c.args.terms.now c.in-EqualTerms.right.items))
+    c.in_ok-outcome-in-EqualTerms.outcome (pairs-says (level_in c.args.setting.now m c.args.depth) (erased_all c.args.terms.now c.deref-in-EqualTerms.result.now) (erased_all c.args.terms.now c.deref-in-EqualTerms-2.result.now) (erased_all c.args.terms.now c.in-EqualTerms.left.items) (erased_all c.args.terms.now c.in-EqualTerms.right.items) c.in_ok-outcome-in-EqualTerms.outcome
+    (ap (erased_all c.args.terms.now) c.deref-in-EqualTerms.ensures.value) (ap (erased_all c.args.terms.now) c.deref-in-EqualTerms-2.ensures.value) (c.in_ok-outcome-in-EqualTerms.ensures.says m s)) c.ask.ensures.run c.ask.result c.ask.ensures.reached
 
-pub effect_goals::candidates::consider_candidate-returns-in-BuiltIn-clause-says : goal.effect_goals::candidates::consider_candidate-returns-in-BuiltIn-clause-says
-effect_goals::candidates::consider_candidate-returns-in-BuiltIn-clause-says t c =
-    λ m s. shows-rule (setting_in c.args.setting.now m) c.args.depth c.args.constness c.args.trait_id (erased_all c.args.terms.now c.args.args.now) c.args.terms.now
-    c.args.candidate.now c.consider_builtin_candidate.result c.in-BuiltIn.is (c.consider_builtin_candidate.ensures.says m s)
+pub eval::lists::entries::run_entry-returns-in_ok-outcome-in-Clause-clause-says : goal.eval::lists::entries::run_entry-returns-in_ok-outcome-in-Clause-clause-says
+eval::lists::entries::run_entry-returns-in_ok-outcome-in-Clause-clause-says t c = λ m s.
+    asking-leads (level_in c.args.setting.now m c.args.depth) c.args.terms.now c.predicate_outcome.new.terms c.predicate_outcome.ensures.kept c.args.run.now c.ask-in-Clause.new.self c.requires.run (entry_at c.args.terms.now c.args.entry.now) _ (ap (entry_at c.args.terms.now) c.in-Clause.is) _ _
+    (clause-asks (level_in c.args.setting.now m c.args.depth) (each_level_is_consistent (setting_in c.args.setting.now m) c.args.depth) (named_at c.args.terms.now c.args.run.now.named.items) c.in-Clause.field-0 (predicate_at c.args.terms.now c.in-Clause.predicate))
+    c.in_ok-outcome-in-Clause.outcome (c.in_ok-outcome-in-Clause.ensures.says m s) c.ask-in-Clause.ensures.run c.ask-in-Clause.result c.ask-in-Clause.ensures.reached
 
-pub effect_goals::candidates::consider_candidate-returns-in-Error-clause-says : goal.effect_goals::candidates::consider_candidate-returns-in-Error-clause-says
-effect_goals::candidates::consider_candidate-returns-in-Error-clause-says t c =
-    λ m s. shows-error (setting_in c.args.setting.now m) c.args.depth c.args.constness c.args.trait_id (erased_all c.args.terms.now c.args.args.now) c.args.terms.now
-    c.args.candidate.now c.consider_error_guaranteed_candidate.result c.in-Error.is c.consider_error_guaranteed_candidate.ensures
+pub eval::lists::entries::run_entry-returns-in_ok-outcome-in-RowClauses-clause-says : goal.eval::lists::entries::run_entry-returns-in_ok-outcome-in-RowClauses-clause-says
+eval::lists::entries::run_entry-returns-in_ok-outcome-in-RowClauses-clause-says t c = λ m s.
+    asking-leads (level_in c.args.setting.now m c.args.depth) c.args.terms.now c.row_outcome.new.terms c.row_outcome.ensures.kept c.args.run.now c.ask-in-RowClauses.new.self c.requires.run (entry_at c.args.terms.now c.args.entry.now) _ (ap (entry_at c.args.terms.now) c.in-RowClauses.is) _ _
+    (row-asks (level_in c.args.setting.now m c.args.depth) (each_level_is_consistent (setting_in c.args.setting.now m) c.args.depth) (named_at c.args.terms.now c.args.run.now.named.items) c.in-RowClauses.clauses.now c.in-RowClauses.number)
+    c.in_ok-outcome-in-RowClauses.outcome (subst (λ o. SaysRow (level_in c.args.setting.now m c.args.depth) (row.Clauses c.in-RowClauses.clauses) o c.in_ok-outcome-in-RowClauses.outcome) (c.named_args-args.ensures.numbered c.args.terms.now ∙ ap (λ ns. slice_get (named_at c.args.terms.now ns) c.in-RowClauses.number) c.deref-in-RowClauses.ensures.value)
+    (c.in_ok-outcome-in-RowClauses.ensures.says m s)) c.ask-in-RowClauses.ensures.run c.ask-in-RowClauses.result c.ask-in-RowClauses.ensures.reached
 
-pub effect_goals::candidates::candidates_outcome-loop-candidate-init : goal.effect_goals::candidates::candidates_outcome-loop-candidate-init
-effect_goals::candidates::candidates_outcome-loop-candidate-init t c = record {
-  kept = keeps-refl c.args.terms.now;
-  so_far = λ m s. so_far-start (setting_in c.args.setting.now m) c.args.depth c.args.constness c.args.trait_id (erased_all c.args.terms.now c.args.args.now) c.args.terms.now c.args.candidates.now;
-}
-
-pub effect_goals::candidates::candidates_outcome-consider_candidate-requires : goal.effect_goals::candidates::candidates_outcome-consider_candidate-requires
-effect_goals::candidates::candidates_outcome-consider_candidate-requires t c = (
-  omega (arith, c.decreases),
-  (
-    are_in-grown c.args.terms.now c.loop-candidate.terms c.loop-candidate.invariant.kept c.args.args.now c.requires.args,
-    candidate-there c.args.terms.now c.loop-candidate.terms c.args.candidates.now c.loop-candidate.candidate-index c.candidate-item.result c.loop-candidate.invariant.kept c.requires.candidates
-        (omega arith) c.candidate-item.is,
-  ),
+pub eval::lists::entries::run_entry-row_outcome-requires : goal.eval::lists::entries::run_entry-row_outcome-requires
+eval::lists::entries::run_entry-row_outcome-requires t c = (
+  omega arith,
+  (λ x e.
+      subst (λ o. IfSome o (AreIn c.args.terms.now)) e (c.named_args-args.ensures.within c.args.terms.now (subst (NamedIn c.args.terms.now) (sym c.deref-in-RowClauses.ensures.value) c.requires.run.0))),
 )
 
-pub effect_goals::candidates::candidates_outcome-loop-candidate-preserved : goal.effect_goals::candidates::candidates_outcome-loop-candidate-preserved
-effect_goals::candidates::candidates_outcome-loop-candidate-preserved t c = record {
+pub eval::lists::entries::run_entry-returns-in_ok-outcome-in-RowConditions-clause-says : goal.eval::lists::entries::run_entry-returns-in_ok-outcome-in-RowConditions-clause-says
+eval::lists::entries::run_entry-returns-in_ok-outcome-in-RowConditions-clause-says t c = λ m s.
+    asking-leads (level_in c.args.setting.now m c.args.depth) c.args.terms.now c.row_outcome-in-RowConditions.new.terms c.row_outcome-in-RowConditions.ensures.kept c.args.run.now c.ask-in-RowConditions.new.self c.requires.run (entry_at c.args.terms.now c.args.entry.now) _ (ap (entry_at c.args.terms.now) c.in-RowConditions.is) _ _
+    (conditions-ask (level_in c.args.setting.now m c.args.depth) (each_level_is_consistent (setting_in c.args.setting.now m) c.args.depth) (named_at c.args.terms.now c.args.run.now.named.items) c.in-RowConditions.constness c.in-RowConditions.refs.now c.in-RowConditions.number)
+    c.in_ok-outcome-in-RowConditions.outcome (subst (λ o. SaysRow (level_in c.args.setting.now m c.args.depth) (row.Conditions c.in-RowConditions.constness c.in-RowConditions.refs) o c.in_ok-outcome-in-RowConditions.outcome) (c.named_args-args-in-RowConditions.ensures.numbered c.args.terms.now ∙ ap (λ ns. slice_get (named_at c.args.terms.now ns) c.in-RowConditions.number) c.deref-in-RowConditions.ensures.value)
+    (c.in_ok-outcome-in-RowConditions.ensures.says m s)) c.ask-in-RowConditions.ensures.run c.ask-in-RowConditions.result c.ask-in-RowConditions.ensures.reached
+
+pub eval::lists::entries::run_entry-row_outcome-requires-in-RowConditions : goal.eval::lists::entries::run_entry-row_outcome-requires-in-RowConditions
+eval::lists::entries::run_entry-row_outcome-requires-in-RowConditions t c = (
+  omega arith,
+  (λ x e.
+      subst (λ o. IfSome o (AreIn c.args.terms.now)) e (c.named_args-args-in-RowConditions.ensures.within c.args.terms.now (subst (NamedIn c.args.terms.now) (sym c.deref-in-RowConditions.ensures.value) c.requires.run.0))),
+)
+
+pub eval::lists::entries::run_entry-returns-in-Access-clause-says : goal.eval::lists::entries::run_entry-returns-in-Access-clause-says
+eval::lists::entries::run_entry-returns-in-Access-clause-says t c = λ m s.
+    IfOk-weaker c.reads_mode.result (λ x. x ≡ reached.Next) (LeadsOn (level_in c.args.setting.now m c.args.depth) (progress_at c.args.terms.now c.args.run.now) (entry_at c.args.terms.now c.args.entry.now) (progress_at c.args.terms.now c.args.run.now))
+    (λ x e. asking-leads (level_in c.args.setting.now m c.args.depth) c.args.terms.now c.args.terms.now (keeps-refl c.args.terms.now) c.args.run.now c.args.run.now c.requires.run (entry_at c.args.terms.now c.args.entry.now) _ (ap (entry_at c.args.terms.now) c.in-Access.is) _ _ (access-asks (level_in c.args.setting.now m c.args.depth) (named_at c.args.terms.now c.args.run.now.named.items) c.in-Access.access) outcome.Holds tt refl x e) c.reads_mode.ensures.next
+
+pub eval::lists::entries::run_entry-returns-in_ok-enter_fault-in-DelayedFault-clause-says : goal.eval::lists::entries::run_entry-returns-in_ok-enter_fault-in-DelayedFault-clause-says
+eval::lists::entries::run_entry-returns-in_ok-enter_fault-in-DelayedFault-clause-says t c = λ m s.
+    asking-leads (level_in c.args.setting.now m c.args.depth) c.args.terms.now c.args.terms.now (keeps-refl c.args.terms.now) c.args.run.now c.args.run.now c.requires.run (entry_at c.args.terms.now c.args.entry.now) _ (ap (entry_at c.args.terms.now) c.in-DelayedFault.is) _ _ (fault-asks (level_in c.args.setting.now m c.args.depth) (named_at c.args.terms.now c.args.run.now.named.items) c.in-DelayedFault.fault) outcome.Holds tt refl reached.Next refl
+
+pub eval::lists::entries::run_entry-returns-in-Evaluation-clause-says : goal.eval::lists::entries::run_entry-returns-in-Evaluation-clause-says
+eval::lists::entries::run_entry-returns-in-Evaluation-clause-says t c = λ m s.
+    asking-leads (level_in c.args.setting.now m c.args.depth) c.args.terms.now c.args.terms.now (keeps-refl c.args.terms.now) c.args.run.now c.args.run.now c.requires.run (entry_at c.args.terms.now c.args.entry.now) _ (ap (entry_at c.args.terms.now) c.in-Evaluation.is) _ _ (evaluation-asks (level_in c.args.setting.now m c.args.depth) (named_at c.args.terms.now c.args.run.now.named.items)) outcome.Holds tt refl reached.Next refl
+
+pub eval::lists::entries::run_entry-returns-in-Refused-clause-says : goal.eval::lists::entries::run_entry-returns-in-Refused-clause-says
+eval::lists::entries::run_entry-returns-in-Refused-clause-says t c = λ m s.
+    asking-leads (level_in c.args.setting.now m c.args.depth) c.args.terms.now c.args.terms.now (keeps-refl c.args.terms.now) c.args.run.now c.args.run.now c.requires.run (entry_at c.args.terms.now c.args.entry.now) _ (ap (entry_at c.args.terms.now) c.in-Refused.is) _ _ (refused-asks (level_in c.args.setting.now m c.args.depth) (named_at c.args.terms.now c.args.run.now.named.items)) outcome.Refuted tt refl reached.Refuted refl
+
+pub eval::lists::entries::run_entry-returns-in-Ambiguous-clause-says : goal.eval::lists::entries::run_entry-returns-in-Ambiguous-clause-says
+eval::lists::entries::run_entry-returns-in-Ambiguous-clause-says t c = λ m s.
+    ⊎_elim
+    (λ is. asking-leads (level_in c.args.setting.now m c.args.depth) c.args.terms.now c.args.terms.now (keeps-refl c.args.terms.now) c.args.run.now c.ask-in-Ambiguous.new.self c.requires.run (entry_at c.args.terms.now c.args.entry.now) _ (ap (entry_at c.args.terms.now) is) _ _ (ambiguous-asks (level_in c.args.setting.now m c.args.depth) (named_at c.args.terms.now c.args.run.now.named.items)) outcome.Undecided
+    ((λ x. x), (λ x. x)) c.ask-in-Ambiguous.ensures.run c.ask-in-Ambiguous.result c.ask-in-Ambiguous.ensures.reached)
+    (λ is. asking-leads (level_in c.args.setting.now m c.args.depth) c.args.terms.now c.args.terms.now (keeps-refl c.args.terms.now) c.args.run.now c.ask-in-Ambiguous.new.self c.requires.run (entry_at c.args.terms.now c.args.entry.now) _ (ap (entry_at c.args.terms.now) is) _ _ (undecided-asks (level_in c.args.setting.now m c.args.depth) (named_at c.args.terms.now c.args.run.now.named.items)) outcome.Undecided
+    ((λ x. x), (λ x. x)) c.ask-in-Ambiguous.ensures.run c.ask-in-Ambiguous.result c.ask-in-Ambiguous.ensures.reached) c.in-Ambiguous.is
+
+pub eval::lists::entries::arguments_match-returns-in_ok-args-in-Given-clause-says : goal.eval::lists::entries::arguments_match-returns-in_ok-args-in-Given-clause-says
+eval::lists::entries::arguments_match-returns-in_ok-args-in-Given-clause-says t c = λ m s.
+    given-named (level_in c.args.setting.now m c.args.depth) (named_at c.args.terms.now c.args.named.now) c.args.terms.now (arguments_at c.args.terms.now c.args.arguments.now)
+    (erased_all c.args.terms.now c.in-Given.ids.items) c.in_ok-args-in-Given.args (ap (arguments_at c.args.terms.now) c.in-Given.is)
+    (ap (erased_all c.args.terms.now) (c.in_ok-args-in-Given.ensures ∙ c.deref.ensures.value))
+
+pub eval::lists::entries::arguments_match-returns-in-OfHeader-clause-says : goal.eval::lists::entries::arguments_match-returns-in-OfHeader-clause-says
+eval::lists::entries::arguments_match-returns-in-OfHeader-clause-says t c = λ m s.
+    header-named (level_in c.args.setting.now m c.args.depth) (named_at c.args.terms.now c.args.named.now) c.header_match.new.terms (arguments_at c.args.terms.now c.args.arguments.now)
+    c.in-OfHeader.header.params.now (header_trees c.in-OfHeader.header.terms) (erased_all c.args.terms.now c.in-OfHeader.given.items) (ap (arguments_at c.args.terms.now) c.in-OfHeader.is)
+    (each_level_is_consistent (setting_in c.args.setting.now m) c.args.depth) (erased_all c.args.terms.now c.deref-in-OfHeader.result.now) c.header_match.result
+    (ap (erased_all c.args.terms.now) c.deref-in-OfHeader.ensures.value) (c.header_match.ensures.says m s)
+
+pub eval::lists::entries::arguments_match-returns-in_default-clause-says : goal.eval::lists::entries::arguments_match-returns-in_default-clause-says
+eval::lists::entries::arguments_match-returns-in_default-clause-says t c = λ m s.
+    other-unnamed (level_in c.args.setting.now m c.args.depth) (named_at c.args.terms.now c.args.named.now) c.args.terms.now (arguments_at c.args.terms.now c.args.arguments.now)
+    c.in-OfOtherHeader.header.params.now (header_trees c.in-OfOtherHeader.header.terms) (trees_of c.in-OfOtherHeader.of.now) c.in-OfOtherHeader.number
+    (ap (arguments_at c.args.terms.now) c.in-OfOtherHeader.is) (c.in_default.ensures.numbered c.args.terms.now)
+
+pub eval::lists::entries::arguments_match-instances_of-requires : goal.eval::lists::entries::arguments_match-instances_of-requires
+eval::lists::entries::arguments_match-instances_of-requires t c = c.in-Some.ensures.within c.args.terms.now c.requires.named
+
+pub eval::lists::entries::arguments_match-returns-in_ok-given-in-OfOtherHeader-clause-says : goal.eval::lists::entries::arguments_match-returns-in_ok-given-in-OfOtherHeader-clause-says
+eval::lists::entries::arguments_match-returns-in_ok-given-in-OfOtherHeader-clause-says t c = λ m s.
+    other-named (level_in c.args.setting.now m c.args.depth) (named_at c.args.terms.now c.args.named.now) c.header_match-in-OfOtherHeader.new.terms
+    (arguments_at c.args.terms.now c.args.arguments.now) c.in-OfOtherHeader.header.params.now (header_trees c.in-OfOtherHeader.header.terms) (trees_of c.in-OfOtherHeader.of.now)
+    c.in-OfOtherHeader.number (ap (arguments_at c.args.terms.now) c.in-OfOtherHeader.is) (each_level_is_consistent (setting_in c.args.setting.now m) c.args.depth)
+    (erased_all c.args.terms.now c.in-Some.args.now) (erased_all c.instances_of.new.terms c.deref-in-OfOtherHeader.result.now) c.header_match-in-OfOtherHeader.result
+    (c.in-Some.ensures.numbered c.args.terms.now)
+    (ap (erased_all c.instances_of.new.terms) c.deref-in-OfOtherHeader.ensures.value ∙ c.in_ok-given-in-OfOtherHeader.ensures.trees)
+    (c.header_match-in-OfOtherHeader.ensures.says m s)
+
+pub eval::lists::entries::arguments_match-returns-in_default-named_args-clause-says : goal.eval::lists::entries::arguments_match-returns-in_default-named_args-clause-says
+eval::lists::entries::arguments_match-returns-in_default-named_args-clause-says t c = λ m s.
+    followed-unnamed (level_in c.args.setting.now m c.args.depth) (named_at c.args.terms.now c.args.named.now) c.args.terms.now (arguments_at c.args.terms.now c.args.arguments.now)
+    c.in-FollowedBy.number (erased_all c.args.terms.now c.in-FollowedBy.own.items) (ap (arguments_at c.args.terms.now) c.in-FollowedBy.is)
+    (c.in_default-named_args.ensures.numbered c.args.terms.now)
+
+pub eval::lists::entries::arguments_match-returns-in_ok-all-in-FollowedBy-clause-within : goal.eval::lists::entries::arguments_match-returns-in_ok-all-in-FollowedBy-clause-within
+eval::lists::entries::arguments_match-returns-in_ok-all-in-FollowedBy-clause-within t c =
+    followed-in c.args.terms.now c.in-Some-named_args.args.now c.deref-in-FollowedBy.result.now c.in_ok-all-in-FollowedBy.all.items c.in_ok-all-in-FollowedBy.ensures
+    (c.in-Some-named_args.ensures.within c.args.terms.now c.requires.named)
+    (subst (AreIn c.args.terms.now) (sym c.deref-in-FollowedBy.ensures.value) (subst (ArgumentsIn c.args.terms.now) c.in-FollowedBy.is c.requires.arguments))
+
+pub eval::lists::entries::arguments_match-returns-in_ok-all-in-FollowedBy-clause-says : goal.eval::lists::entries::arguments_match-returns-in_ok-all-in-FollowedBy-clause-says
+eval::lists::entries::arguments_match-returns-in_ok-all-in-FollowedBy-clause-says t c = λ m s.
+    followed-named (level_in c.args.setting.now m c.args.depth) (named_at c.args.terms.now c.args.named.now) c.args.terms.now (arguments_at c.args.terms.now c.args.arguments.now)
+    c.in-FollowedBy.number (erased_all c.args.terms.now c.in-FollowedBy.own.items) (ap (arguments_at c.args.terms.now) c.in-FollowedBy.is)
+    (erased_all c.args.terms.now c.in-Some-named_args.args.now) c.in_ok-all-in-FollowedBy.all (c.in-Some-named_args.ensures.numbered c.args.terms.now)
+    (ap (erased_all c.args.terms.now) c.in_ok-all-in-FollowedBy.ensures ∙ map-append (erased_at c.args.terms.now) c.in-Some-named_args.args.now c.deref-in-FollowedBy.result.now
+    ∙ ap (λ xs. erased_all c.args.terms.now c.in-Some-named_args.args.now ++ erased_all c.args.terms.now xs) c.deref-in-FollowedBy.ensures.value)
+
+pub eval::lists::entries::row_outcome-returns-in_default-clause-says : goal.eval::lists::entries::row_outcome-returns-in_default-clause-says
+eval::lists::entries::row_outcome-returns-in_default-clause-says t c = λ m s.
+    row-unnamed (level_in c.args.setting.now m c.args.depth) c.args.row (numbered_at c.args.terms.now (option_copied c.args.args))
+    (ap (λ o. numbered_at c.args.terms.now (option_copied o)) c.in_default.is)
+
+pub eval::lists::entries::row_outcome-returns-in-Clauses-clause-says : goal.eval::lists::entries::row_outcome-returns-in-Clauses-clause-says
+eval::lists::entries::row_outcome-returns-in-Clauses-clause-says t c = λ m s.
+    row-found (level_in c.args.setting.now m c.args.depth) c.args.row (numbered_at c.args.terms.now (option_copied c.args.args))
+    (erased_all c.args.terms.now c.in-Some.args.now) (clauses_under (erased_all c.args.terms.now c.in-Some.args.now) c.in-Clauses.clauses.now) c.clauses_outcome.result
+    (ap (λ o. numbered_at c.args.terms.now (option_copied o)) c.in-Some.is)
+    (ap (λ w. premises_of w (erased_all c.args.terms.now c.in-Some.args.now)) (sym c.in-Clauses.is)) (c.clauses_outcome.ensures.says m s)
+
+pub eval::lists::entries::row_outcome-returns-in_ok-conditions-in-Conditions-clause-says : goal.eval::lists::entries::row_outcome-returns-in_ok-conditions-in-Conditions-clause-says
+eval::lists::entries::row_outcome-returns-in_ok-conditions-in-Conditions-clause-says t c = λ m s.
+    row-found (level_in c.args.setting.now m c.args.depth) c.args.row (numbered_at c.args.terms.now (option_copied c.args.args))
+    (erased_all c.args.terms.now c.in-Some.args.now) (conditions_as c.in-Conditions.constness (map (trait_at c.traits_under.new.terms) c.deref.result.now)) c.conditions_outcome.result
+    (ap (λ o. numbered_at c.args.terms.now (option_copied o)) c.in-Some.is)
+    (ap (λ rs. conditions_as c.in-Conditions.constness (map (trait_at c.traits_under.new.terms) rs)) c.deref.ensures.value
+    ∙ ap (conditions_as c.in-Conditions.constness) c.in_ok-conditions-in-Conditions.ensures.traits
+    ∙ ap (λ w. premises_of w (erased_all c.args.terms.now c.in-Some.args.now)) (sym c.in-Conditions.is)) (c.conditions_outcome.ensures.says m s)
+
+pub eval::lists::entries::term_found-returns-in-AsItStands-clause-says : goal.eval::lists::entries::term_found-returns-in-AsItStands-clause-says
+eval::lists::entries::term_found-returns-in-AsItStands-clause-says t c = λ m s.
+    standing-found (level_in c.args.setting.now m c.args.depth) (named_at c.args.terms.now c.args.named.now) c.args.terms.now (term_at c.args.terms.now c.args.term.now)
+    (erased_at c.args.terms.now c.in-AsItStands.id) c.in-AsItStands.id (ap (term_at c.args.terms.now) c.in-AsItStands.is) refl
+
+pub eval::lists::entries::term_found-returns-in-HeadFormOf-clause-says : goal.eval::lists::entries::term_found-returns-in-HeadFormOf-clause-says
+eval::lists::entries::term_found-returns-in-HeadFormOf-clause-says t c = λ m s.
+    head_form-found (level_in c.args.setting.now m c.args.depth) (named_at c.args.terms.now c.args.named.now) c.head_form.new.terms (term_at c.args.terms.now c.args.term.now)
+    (erased_at c.args.terms.now c.in-HeadFormOf.id) c.head_form.result (ap (term_at c.args.terms.now) c.in-HeadFormOf.is) (c.head_form.ensures.says m s)
+
+pub eval::lists::entries::term_found-returns-in_default-clause-says : goal.eval::lists::entries::term_found-returns-in_default-clause-says
+eval::lists::entries::term_found-returns-in_default-clause-says t c = λ m s.
+    value-unnamed (level_in c.args.setting.now m c.args.depth) (named_at c.args.terms.now c.args.named.now) c.args.terms.now (term_at c.args.terms.now c.args.term.now)
+    (value_tree c.in-ValueUnder.value) c.in-ValueUnder.number (ap (term_at c.args.terms.now) c.in-ValueUnder.is) (c.in_default.ensures.numbered c.args.terms.now)
+
+pub eval::lists::entries::term_found-returns-in-Some-clause-says : goal.eval::lists::entries::term_found-returns-in-Some-clause-says
+eval::lists::entries::term_found-returns-in-Some-clause-says t c = λ m s.
+    value-found (level_in c.args.setting.now m c.args.depth) (named_at c.args.terms.now c.args.named.now) c.head_form_under.new.terms (term_at c.args.terms.now c.args.term.now)
+    (value_tree c.in-ValueUnder.value) c.in-ValueUnder.number (ap (term_at c.args.terms.now) c.in-ValueUnder.is) (erased_all c.args.terms.now c.in-Some.args.now)
+    (tree_of_ref c.value_view-value.result) c.head_form_under.result (c.in-Some.ensures.numbered c.args.terms.now) c.value_view-value.ensures (c.head_form_under.ensures.says m s)
+
+pub eval::lists::entries::term_found-returns-in_ok-outcome-in-ChosenBy-clause-says : goal.eval::lists::entries::term_found-returns-in_ok-outcome-in-ChosenBy-clause-says
+eval::lists::entries::term_found-returns-in_ok-outcome-in-ChosenBy-clause-says t c = λ m s.
+    let within = subst (TermIn c.args.terms.now) c.in-ChosenBy.is c.requires.term in
+    chosen-found (level_in c.args.setting.now m c.args.depth) (named_at c.args.terms.now c.args.named.now) c.predicate_outcome.new.terms (term_at c.args.terms.now c.args.term.now)
+    (predicate_at c.args.terms.now c.in-ChosenBy.predicate) (erased_at c.args.terms.now c.in-ChosenBy.first) (erased_at c.args.terms.now c.in-ChosenBy.second) c.in-ChosenBy.first
+    c.in-ChosenBy.second c.in_ok-outcome-in-ChosenBy.outcome c.chosen.result (ap (term_at c.args.terms.now) c.in-ChosenBy.is)
+    (same-grown c.args.terms.now c.predicate_outcome.new.terms c.predicate_outcome.ensures.kept c.in-ChosenBy.first within.1)
+    (same-grown c.args.terms.now c.predicate_outcome.new.terms c.predicate_outcome.ensures.kept c.in-ChosenBy.second within.2)
+    c.chosen.ensures (c.in_ok-outcome-in-ChosenBy.ensures.says m s)
+
+pub assembly::candidates::consider_candidate-returns-clause-says : goal.assembly::candidates::consider_candidate-returns-clause-says
+assembly::candidates::consider_candidate-returns-clause-says t c m s =
+    subst (SaysCandidate (setting_in c.args.setting.now m) (level_in c.args.setting.now m c.args.depth) c.args.terms.now c.args.asked.now (candidate_at c.args.terms.now c.args.candidate.now))
+    (sym c.held.ensures)
+    (asked-says (setting_in c.args.setting.now m) s.0 (level_in c.args.setting.now m c.args.depth) c.args.terms.now c.run_list.new.terms c.args.asked.now
+    (candidate_at c.args.terms.now c.args.candidate.now) c.in_ok-found.found
+    (c.in_ok-found.ensures.says m s (candidate_list (setting_in c.args.setting.now m) c.args.terms.now c.args.asked.now (candidate_at c.args.terms.now c.args.candidate.now))
+    (c.in_ok-list.ensures.list m s)))
+
+pub assembly::candidates::candidates_outcome-loop-candidate-init : goal.assembly::candidates::candidates_outcome-loop-candidate-init
+assembly::candidates::candidates_outcome-loop-candidate-init t c = record {
+  kept = keeps-refl c.args.terms.now;
+  so_far = asked-start c.args.setting.now c.args.depth c.args.terms.now c.args.asked.now c.args.candidates.now;
+}
+
+pub assembly::candidates::candidates_outcome-consider_candidate-requires : goal.assembly::candidates::candidates_outcome-consider_candidate-requires
+assembly::candidates::candidates_outcome-consider_candidate-requires t c = (
+  omega arith,
+  ((
+    asked_in-grown c.args.terms.now c.loop-candidate.terms c.args.asked.now c.loop-candidate.invariant.kept c.requires.asked,
+    candidate-in c.args.terms.now c.loop-candidate.terms c.args.candidates.now c.loop-candidate.candidate-index c.candidate-item.result c.loop-candidate.invariant.kept
+        c.requires.candidates (omega arith) c.candidate-item.is,
+  )),
+)
+
+pub assembly::candidates::candidates_outcome-loop-candidate-preserved : goal.assembly::candidates::candidates_outcome-loop-candidate-preserved
+assembly::candidates::candidates_outcome-loop-candidate-preserved t c = record {
   kept = keeps-chain c.args.terms.now c.loop-candidate.terms c.consider_candidate.new.terms c.loop-candidate.invariant.kept c.in_ok-next.ensures.kept;
-  so_far = λ m s. so_far-more (setting_in c.args.setting.now m) c.args.depth c.args.constness c.args.trait_id c.args.terms.now c.loop-candidate.terms c.args.args.now c.args.candidates.now
-      c.loop-candidate.candidate-index c.candidate-item.result c.loop-candidate.found c.in_ok-next.next c.or-found.result c.loop-candidate.invariant.kept c.requires.args c.requires.candidates
-      (omega arith) c.candidate-item.is c.or-found.ensures (c.loop-candidate.invariant.so_far m s) (c.in_ok-next.ensures.says m s);
+  so_far = asked-more c.args.setting.now c.args.depth c.args.terms.now c.loop-candidate.terms c.args.asked.now c.args.candidates.now c.loop-candidate.candidate-index c.candidate-item.result
+      c.loop-candidate.found c.in_ok-next.next c.or-found.result c.loop-candidate.invariant.kept c.requires.asked c.requires.candidates (omega arith) c.candidate-item.is c.or-found.ensures
+      c.loop-candidate.invariant.so_far c.in_ok-next.ensures.says;
 }
 
-pub effect_goals::candidates::candidates_outcome-returns-in-Holds-clause-says : goal.effect_goals::candidates::candidates_outcome-returns-in-Holds-clause-says
-effect_goals::candidates::candidates_outcome-returns-in-Holds-clause-says t c =
-    λ m s. so_far-shown (setting_in c.args.setting.now m) c.args.depth c.args.constness c.args.trait_id (erased_all c.args.terms.now c.args.args.now) c.args.terms.now
-    c.args.candidates.now (c.loop-candidate.candidate-index + 1) c.or-found.result c.in-Holds.is
-    (so_far-more (setting_in c.args.setting.now m) c.args.depth c.args.constness c.args.trait_id c.args.terms.now c.loop-candidate.terms c.args.args.now c.args.candidates.now
-    c.loop-candidate.candidate-index c.candidate-item.result c.loop-candidate.found c.in_ok-next.next c.or-found.result c.loop-candidate.invariant.kept c.requires.args c.requires.candidates
-    (omega arith) c.candidate-item.is c.or-found.ensures (c.loop-candidate.invariant.so_far m s) (c.in_ok-next.ensures.says m s))
+pub assembly::candidates::candidates_outcome-returns-in-Holds-clause-says : goal.assembly::candidates::candidates_outcome-returns-in-Holds-clause-says
+assembly::candidates::candidates_outcome-returns-in-Holds-clause-says t c =
+    asked-shown c.args.setting.now c.args.depth c.args.terms.now c.args.asked.now c.args.candidates.now (c.loop-candidate.candidate-index + 1) c.or-found.result c.in-Holds.is
+    (asked-more c.args.setting.now c.args.depth c.args.terms.now c.loop-candidate.terms c.args.asked.now c.args.candidates.now c.loop-candidate.candidate-index c.candidate-item.result
+    c.loop-candidate.found c.in_ok-next.next c.or-found.result c.loop-candidate.invariant.kept c.requires.asked c.requires.candidates (omega arith) c.candidate-item.is c.or-found.ensures
+    c.loop-candidate.invariant.so_far c.in_ok-next.ensures.says)
 
-pub effect_goals::candidates::class_outcome-returns-in-Refuted-clause-says : goal.effect_goals::candidates::class_outcome-returns-in-Refuted-clause-says
-effect_goals::candidates::class_outcome-returns-in-Refuted-clause-says t c =
-    λ m s. class-refuted (setting_in c.args.setting.now m) c.args.depth c.args.constness c.args.trait_id c.args.class (erased_at c.args.terms.now c.args.self_ty)
-    (erased_all c.args.terms.now c.args.rest.now) c.head_form.new.terms c.in_ok-found.found c.in-Refuted.is (c.in_ok-found.ensures.says m s)
+pub assembly::candidates::candidates_outcome-returns-clause-says : goal.assembly::candidates::candidates_outcome-returns-clause-says
+assembly::candidates::candidates_outcome-returns-clause-says t c =
+    asked-end c.args.setting.now c.args.depth c.args.terms.now c.args.asked.now c.args.candidates.now c.loop-candidate.candidate-index c.loop-candidate.found (omega arith)
+    c.loop-candidate.invariant.so_far
 
-pub effect_goals::candidates::class_outcome-returns-in-Undecided-clause-says : goal.effect_goals::candidates::class_outcome-returns-in-Undecided-clause-says
-effect_goals::candidates::class_outcome-returns-in-Undecided-clause-says t c =
-    λ m s. class-open (setting_in c.args.setting.now m) c.args.depth c.args.constness c.args.trait_id c.args.class (erased_at c.args.terms.now c.args.self_ty)
-    (erased_all c.args.terms.now c.args.rest.now) c.head_form.new.terms c.in_ok-found.found c.in-Undecided.is (c.in_ok-found.ensures.says m s)
+pub assembly::candidates::class_outcome-returns-clause-says : goal.assembly::candidates::class_outcome-returns-clause-says
+assembly::candidates::class_outcome-returns-clause-says t c m s =
+    asked-listed (setting_in c.args.setting.now m) (level_in c.args.setting.now m c.args.depth) c.args.terms.now c.candidates_of_class.new.terms c.args.asked.now
+    (map (candidate_at c.candidates_of_class.new.terms) c.deref.result.now) (class_of (setting_in c.args.setting.now m) c.args.asked.now.trait_id (erased_at c.args.terms.now c.args.asked.now.self_ty) c.args.class)
+    c.candidates_outcome.result c.in_ok-candidates.ensures.kept c.requires
+    (ap (map (candidate_at c.candidates_of_class.new.terms)) c.deref.ensures.value ∙ c.in_ok-candidates.ensures.candidates m) (c.candidates_outcome.ensures.says m s)
 
-pub effect_goals::candidates::class_outcome-returns-in_ok-args-in-Is-clause-says : goal.effect_goals::candidates::class_outcome-returns-in_ok-args-in-Is-clause-says
-effect_goals::candidates::class_outcome-returns-in_ok-args-in-Is-clause-says t c =
-    λ m s. class-by_form (setting_in c.args.setting.now m) c.args.depth c.args.constness c.args.trait_id c.args.class c.args.terms.now c.head_form.new.terms c.args.self_ty c.in-Is.form
-    c.args.rest.now c.as_slice.result.now c.in_ok-found.found c.groups_outcome.result c.in_ok-found.ensures.kept c.requires.others c.in-Is.is (c.as_slice.ensures.value ∙ c.in_ok-args-in-Is.ensures)
-    (c.in_ok-found.ensures.says m s) (c.groups_outcome.ensures.says m s)
+pub trait_goals::evaluation::evaluate_trait_goal-returns-then-depth-eq0-clause-says : goal.trait_goals::evaluation::evaluate_trait_goal-returns-then-depth-eq0-clause-says
+trait_goals::evaluation::evaluate_trait_goal-returns-then-depth-eq0-clause-says t c m s = trait-ground (setting_in c.args.setting.now m) c.args.depth c.args.trait_id (erased_all c.args.terms.now c.args.args.now) c.if-depth-eq0.true
 
-pub effect_goals::candidates::evaluate_host_effect_goal-returns-then-depth-eq0-clause-says : goal.effect_goals::candidates::evaluate_host_effect_goal-returns-then-depth-eq0-clause-says
-effect_goals::candidates::evaluate_host_effect_goal-returns-then-depth-eq0-clause-says t c =
-    λ m s. const-ground (setting_in c.args.setting.now m) c.args.depth c.args.constness c.args.trait_id (erased_all c.args.terms.now c.args.args.now) c.if-depth-eq0.true
+pub trait_goals::evaluation::evaluate_trait_goal-returns-in_default-clause-says : goal.trait_goals::evaluation::evaluate_trait_goal-returns-in_default-clause-says
+trait_goals::evaluation::evaluate_trait_goal-returns-in_default-clause-says t c m s =
+    trait-bare (setting_in c.args.setting.now m) c.args.depth c.args.trait_id (erased_all c.args.terms.now c.args.args.now) c.if-depth-eq0.false (ap (erased_all c.args.terms.now) c.in_default.ensures)
 
-pub effect_goals::candidates::evaluate_host_effect_goal-returns-in_default-clause-says : goal.effect_goals::candidates::evaluate_host_effect_goal-returns-in_default-clause-says
-effect_goals::candidates::evaluate_host_effect_goal-returns-in_default-clause-says t c =
-    λ m s. const-no_self (setting_in c.args.setting.now m) c.args.depth c.args.constness c.args.trait_id c.args.terms.now c.args.args.now c.in_default.ensures
+pub trait_goals::evaluation::evaluate_trait_goal-returns-in-Undecided-clause-says : goal.trait_goals::evaluation::evaluate_trait_goal-returns-in-Undecided-clause-says
+trait_goals::evaluation::evaluate_trait_goal-returns-in-Undecided-clause-says t c m s =
+    trait-unformed (setting_in c.args.setting.now m) c.args.depth c.args.trait_id (erased_at c.args.terms.now c.in-Some.first) (erased_all c.args.terms.now c.in-Some.rest.now)
+    (erased_all c.args.terms.now c.args.args.now) c.if-depth-eq0.false (ap (erased_all c.args.terms.now) c.in-Some.ensures)
+    (subst (SaysWhich (HasHeadForm (level_in c.args.setting.now m (c.args.depth - 1)) (erased_at c.args.terms.now c.in-Some.first)) (HeadFormRefuted (level_in c.args.setting.now m (c.args.depth - 1)) (erased_at c.args.terms.now c.in-Some.first)) c.head_form.new.terms)
+    c.in-Undecided.is (c.in_ok-head_form.ensures.says m s))
 
-pub effect_goals::candidates::evaluate_host_effect_goal-class_outcome-requires : goal.effect_goals::candidates::evaluate_host_effect_goal-class_outcome-requires
-effect_goals::candidates::evaluate_host_effect_goal-class_outcome-requires t c = (
-  omega (arith, c.decreases),
-  (
-    search rules,
-    rest-there c.args.terms.now c.evaluate_trait_goal.new.terms c.in-Some.self_ty c.in-Some.rest.now c.args.args.now c.in_ok-plain.ensures.kept c.requires c.in-Some.ensures,
-  ),
+pub trait_goals::evaluation::evaluate_trait_goal-returns-in-Refuted-clause-says : goal.trait_goals::evaluation::evaluate_trait_goal-returns-in-Refuted-clause-says
+trait_goals::evaluation::evaluate_trait_goal-returns-in-Refuted-clause-says t c m s =
+    trait-formless (setting_in c.args.setting.now m) c.args.depth c.args.trait_id (erased_at c.args.terms.now c.in-Some.first) (erased_all c.args.terms.now c.in-Some.rest.now)
+    (erased_all c.args.terms.now c.args.args.now) c.if-depth-eq0.false (ap (erased_all c.args.terms.now) c.in-Some.ensures)
+    (subst (SaysWhich (HasHeadForm (level_in c.args.setting.now m (c.args.depth - 1)) (erased_at c.args.terms.now c.in-Some.first)) (HeadFormRefuted (level_in c.args.setting.now m (c.args.depth - 1)) (erased_at c.args.terms.now c.in-Some.first)) c.head_form.new.terms)
+    c.in-Refuted.is (c.in_ok-head_form.ensures.says m s))
+
+pub trait_goals::evaluation::evaluate_trait_goal-returns-in_ok-replaced-in-Is-clause-says : goal.trait_goals::evaluation::evaluate_trait_goal-returns-in_ok-replaced-in-Is-clause-says
+trait_goals::evaluation::evaluate_trait_goal-returns-in_ok-replaced-in-Is-clause-says t c m s =
+    trait-formed (setting_in c.args.setting.now m) c.args.depth c.args.trait_id (erased_at c.args.terms.now c.in-Some.first) (erased_at c.head_form.new.terms c.in-Is.self_ty)
+    (erased_all c.args.terms.now c.in-Some.rest.now) (erased_all c.args.terms.now c.args.args.now) c.decide_trait.result c.if-depth-eq0.false (ap (erased_all c.args.terms.now) c.in-Some.ensures)
+    (subst (SaysWhich (HasHeadForm (level_in c.args.setting.now m (c.args.depth - 1)) (erased_at c.args.terms.now c.in-Some.first)) (HeadFormRefuted (level_in c.args.setting.now m (c.args.depth - 1)) (erased_at c.args.terms.now c.in-Some.first)) c.head_form.new.terms)
+    c.in-Is.is (c.in_ok-head_form.ensures.says m s))
+    (replaced-formed (setting_in c.args.setting.now m) (level_in c.args.setting.now m (c.args.depth - 1)) c.args.trait_id c.args.terms.now c.head_form.new.terms c.in-Is.self_ty c.in-Some.first
+    c.in-Some.rest.now c.as_slice.result.now c.decide_trait.result c.head_form.ensures.kept (subst (AreIn c.args.terms.now) c.in-Some.ensures c.requires)
+    (c.as_slice.ensures.value ∙ c.in_ok-replaced-in-Is.ensures) (c.decide_trait.ensures.says m s))
+
+pub trait_goals::evaluation::decide_trait-returns-in-Some-clause-says : goal.trait_goals::evaluation::decide_trait-returns-in-Some-clause-says
+trait_goals::evaluation::decide_trait-returns-in-Some-clause-says t c m s =
+    environment-decides (setting_in c.args.setting.now m) c.args.depth c.args.asked.now.trait_id (erased_at c.args.terms.now c.args.asked.now.self_ty) (erased_all c.args.terms.now c.args.asked.now.args.now)
+    c.in_ok-environment.environment c.in-Some.decided
+    (plain-class (setting_in c.args.setting.now m) (level_in c.args.setting.now m c.args.depth) c.args.terms.now c.args.terms.now c.args.asked.now class.ParamEnv c.in_ok-environment.environment
+    (keeps-refl c.args.terms.now) c.requires.asked c.requires.plain (c.in_ok-environment.ensures.says m s))
+    (sym c.through.ensures ∙ c.in-Some.is)
+
+pub trait_goals::evaluation::decide_trait-returns-in-Some-through-clause-says : goal.trait_goals::evaluation::decide_trait-returns-in-Some-through-clause-says
+trait_goals::evaluation::decide_trait-returns-in-Some-through-clause-says t c m s =
+    bounds-decide (setting_in c.args.setting.now m) c.args.depth c.args.asked.now.trait_id (erased_at c.args.terms.now c.args.asked.now.self_ty) (erased_all c.args.terms.now c.args.asked.now.args.now)
+    c.in_ok-environment.environment c.in_ok-bounds.bounds c.in-Some-through.decided
+    (undecided-refuted c.in_ok-environment.environment class.ParamEnv (λ d e. c.in_default.not-Some d (c.through.ensures ∙ e)))
+    (plain-class (setting_in c.args.setting.now m) (level_in c.args.setting.now m c.args.depth) c.args.terms.now c.args.terms.now c.args.asked.now class.ParamEnv c.in_ok-environment.environment
+    (keeps-refl c.args.terms.now) c.requires.asked c.requires.plain (c.in_ok-environment.ensures.says m s))
+    (plain-class (setting_in c.args.setting.now m) (level_in c.args.setting.now m c.args.depth) c.args.terms.now c.class_outcome.new.terms c.args.asked.now class.AliasBound c.in_ok-bounds.bounds
+    c.class_outcome.ensures.kept c.requires.asked c.requires.plain (c.in_ok-bounds.ensures.says m s))
+    (sym c.through-2.ensures ∙ c.in-Some-through.is)
+
+pub trait_goals::evaluation::decide_trait-returns-in-Some-through-2-clause-says : goal.trait_goals::evaluation::decide_trait-returns-in-Some-through-2-clause-says
+trait_goals::evaluation::decide_trait-returns-in-Some-through-2-clause-says t c m s =
+    rest-decides (setting_in c.args.setting.now m) c.args.depth c.args.asked.now.trait_id (erased_at c.args.terms.now c.args.asked.now.self_ty) (erased_all c.args.terms.now c.args.asked.now.args.now)
+    c.in_ok-environment.environment c.in_ok-bounds.bounds c.in_ok-rest.rest c.in-Some-through-2.decided
+    (undecided-refuted c.in_ok-environment.environment class.ParamEnv (λ d e. c.in_default.not-Some d (c.through.ensures ∙ e)))
+    (undecided-refuted c.in_ok-bounds.bounds class.AliasBound (λ d e. c.in_default-through.not-Some d (c.through-2.ensures ∙ e)))
+    (plain-class (setting_in c.args.setting.now m) (level_in c.args.setting.now m c.args.depth) c.args.terms.now c.args.terms.now c.args.asked.now class.ParamEnv c.in_ok-environment.environment
+    (keeps-refl c.args.terms.now) c.requires.asked c.requires.plain (c.in_ok-environment.ensures.says m s))
+    (plain-class (setting_in c.args.setting.now m) (level_in c.args.setting.now m c.args.depth) c.args.terms.now c.class_outcome.new.terms c.args.asked.now class.AliasBound c.in_ok-bounds.bounds
+    c.class_outcome.ensures.kept c.requires.asked c.requires.plain (c.in_ok-bounds.ensures.says m s))
+    (plain-class (setting_in c.args.setting.now m) (level_in c.args.setting.now m c.args.depth) c.args.terms.now c.class_outcome-2.new.terms c.args.asked.now class.Misc c.in_ok-rest.rest
+    (keeps-chain c.args.terms.now c.class_outcome.new.terms c.class_outcome-2.new.terms c.class_outcome.ensures.kept c.class_outcome-2.ensures.kept) c.requires.asked c.requires.plain
+    (c.in_ok-rest.ensures.says m s))
+    (sym c.through-3.ensures ∙ c.in-Some-through-2.is)
+
+pub trait_goals::evaluation::decide_trait-returns-in-None-clause-says : goal.trait_goals::evaluation::decide_trait-returns-in-None-clause-says
+trait_goals::evaluation::decide_trait-returns-in-None-clause-says t c m s =
+    none-decides (setting_in c.args.setting.now m) c.args.depth c.args.asked.now.trait_id (erased_at c.args.terms.now c.args.asked.now.self_ty) (erased_all c.args.terms.now c.args.asked.now.args.now)
+    c.in_ok-environment.environment c.in_ok-bounds.bounds c.in_ok-rest.rest
+    (undecided-refuted c.in_ok-environment.environment class.ParamEnv (λ d e. c.in_default.not-Some d (c.through.ensures ∙ e)))
+    (undecided-refuted c.in_ok-bounds.bounds class.AliasBound (λ d e. c.in_default-through.not-Some d (c.through-2.ensures ∙ e)))
+    (sym c.through-3.ensures ∙ c.in-None.is)
+    (plain-class (setting_in c.args.setting.now m) (level_in c.args.setting.now m c.args.depth) c.args.terms.now c.args.terms.now c.args.asked.now class.ParamEnv c.in_ok-environment.environment
+    (keeps-refl c.args.terms.now) c.requires.asked c.requires.plain (c.in_ok-environment.ensures.says m s))
+    (plain-class (setting_in c.args.setting.now m) (level_in c.args.setting.now m c.args.depth) c.args.terms.now c.class_outcome.new.terms c.args.asked.now class.AliasBound c.in_ok-bounds.bounds
+    c.class_outcome.ensures.kept c.requires.asked c.requires.plain (c.in_ok-bounds.ensures.says m s))
+    (plain-class (setting_in c.args.setting.now m) (level_in c.args.setting.now m c.args.depth) c.args.terms.now c.class_outcome-2.new.terms c.args.asked.now class.Misc c.in_ok-rest.rest
+    (keeps-chain c.args.terms.now c.class_outcome.new.terms c.class_outcome-2.new.terms c.class_outcome.ensures.kept c.class_outcome-2.ensures.kept) c.requires.asked c.requires.plain
+    (c.in_ok-rest.ensures.says m s))
+
+pub effect_goals::evaluation::evaluate_host_effect_goal-returns-then-depth-eq0-clause-says : goal.effect_goals::evaluation::evaluate_host_effect_goal-returns-then-depth-eq0-clause-says
+effect_goals::evaluation::evaluate_host_effect_goal-returns-then-depth-eq0-clause-says t c m s =
+    const-ground (setting_in c.args.setting.now m) c.args.depth c.args.constness c.args.trait_id (erased_all c.args.terms.now c.args.args.now) c.if-depth-eq0.true
+
+pub effect_goals::evaluation::evaluate_host_effect_goal-returns-in_default-clause-says : goal.effect_goals::evaluation::evaluate_host_effect_goal-returns-in_default-clause-says
+effect_goals::evaluation::evaluate_host_effect_goal-returns-in_default-clause-says t c m s =
+    const-no_self (setting_in c.args.setting.now m) c.args.depth c.args.constness c.args.trait_id c.args.terms.now c.args.args.now c.in_default.ensures
+
+pub effect_goals::evaluation::evaluate_host_effect_goal-returns-in_default-plain-clause-says : goal.effect_goals::evaluation::evaluate_host_effect_goal-returns-in_default-plain-clause-says
+effect_goals::evaluation::evaluate_host_effect_goal-returns-in_default-plain-clause-says t c m s =
+    subst (SaysHost (setting_in c.args.setting.now m) c.args.depth c.args.constness c.args.trait_id (erased_all c.args.terms.now c.args.args.now)) (sym c.held.ensures)
+    (plain-decides (setting_in c.args.setting.now m) c.args.depth c.args.constness c.args.trait_id c.args.terms.now c.in-Some.first c.in-Some.rest.now c.args.args.now c.in_ok-plain.plain
+    c.if-depth-eq0.false c.in-Some.ensures c.in_default-plain.not-Holds (c.in_ok-plain.ensures.says m s))
+
+pub effect_goals::evaluation::evaluate_host_effect_goal-returns-in_default-found-clause-says : goal.effect_goals::evaluation::evaluate_host_effect_goal-returns-in_default-found-clause-says
+effect_goals::evaluation::evaluate_host_effect_goal-returns-in_default-found-clause-says t c m s =
+    host-unformed (setting_in c.args.setting.now m) c.args.depth c.args.constness c.args.trait_id c.in-Holds.class c.args.terms.now c.evaluate_trait_goal.new.terms c.in-Some.first
+    c.in-Some.rest.now c.args.args.now c.in_ok-plain.plain c.in_ok-plain.ensures.kept c.requires c.if-depth-eq0.false c.in-Some.ensures c.in-Holds.is (c.in_ok-plain.ensures.says m s)
+    c.head_form.new.terms c.in_ok-found.found c.in_default-found.not-Is (c.in_ok-found.ensures.says m s)
+
+pub effect_goals::evaluation::evaluate_host_effect_goal-groups_outcome-requires : goal.effect_goals::evaluation::evaluate_host_effect_goal-groups_outcome-requires
+effect_goals::evaluation::evaluate_host_effect_goal-groups_outcome-requires t c = (
+  omega arith,
+  (let form_in : IsIn c.head_form.new.terms c.in-Is.self_ty = subst (FoundIn c.head_form.new.terms) c.in-Is.is c.in_ok-found.ensures.within in
+      let args_in : AreIn c.evaluate_trait_goal.new.terms (c.in-Some.first ∷ c.in-Some.rest.now) =
+      are_in-grown c.args.terms.now c.evaluate_trait_goal.new.terms c.in_ok-plain.ensures.kept (c.in-Some.first ∷ c.in-Some.rest.now) (subst (AreIn c.args.terms.now) c.in-Some.ensures c.requires) in (
+        form_in,
+        replaced-in c.evaluate_trait_goal.new.terms c.head_form.new.terms c.in-Is.self_ty c.in-Some.first c.in-Some.rest.now c.as_slice.result.now c.in_ok-found.ensures.kept args_in form_in
+            (c.as_slice.ensures.value ∙ c.in_ok-replaced.ensures),
+      )),
 )
 
-pub effect_goals::candidates::evaluate_host_effect_goal-returns-in-Refuted-clause-says : goal.effect_goals::candidates::evaluate_host_effect_goal-returns-in-Refuted-clause-says
-effect_goals::candidates::evaluate_host_effect_goal-returns-in-Refuted-clause-says t c =
-    λ m s. const-refuted (setting_in c.args.setting.now m) c.args.depth c.args.constness c.args.trait_id c.args.terms.now c.in-Some.self_ty c.in-Some.rest.now c.args.args.now
-    c.in_ok-plain.plain c.if-depth-eq0.false c.in-Some.ensures c.in-Refuted.is (c.in_ok-plain.ensures.says m s)
+pub effect_goals::evaluation::evaluate_host_effect_goal-returns-clause-says : goal.effect_goals::evaluation::evaluate_host_effect_goal-returns-clause-says
+effect_goals::evaluation::evaluate_host_effect_goal-returns-clause-says t c m s =
+    host-formed (setting_in c.args.setting.now m) c.args.depth c.args.constness c.args.trait_id c.in-Holds.class c.args.terms.now c.evaluate_trait_goal.new.terms c.in-Some.first
+    c.in-Some.rest.now c.args.args.now c.in_ok-plain.plain c.in_ok-plain.ensures.kept c.requires c.if-depth-eq0.false c.in-Some.ensures c.in-Holds.is (c.in_ok-plain.ensures.says m s)
+    c.head_form.new.terms c.in-Is.self_ty c.as_slice.result c.in_ok-found.found c.groups_outcome.result c.in_ok-found.ensures.kept c.in-Is.is
+    (c.as_slice.ensures.value ∙ c.in_ok-replaced.ensures) (c.in_ok-found.ensures.says m s) (c.groups_outcome.ensures.says m s)
 
-pub effect_goals::candidates::evaluate_host_effect_goal-returns-in-Undecided-clause-says : goal.effect_goals::candidates::evaluate_host_effect_goal-returns-in-Undecided-clause-says
-effect_goals::candidates::evaluate_host_effect_goal-returns-in-Undecided-clause-says t c =
-    λ m s. const-open (setting_in c.args.setting.now m) c.args.depth c.args.constness c.args.trait_id c.args.terms.now c.in-Some.self_ty c.in-Some.rest.now c.args.args.now
-    c.in_ok-plain.plain c.if-depth-eq0.false c.in-Some.ensures c.in-Undecided.is (c.in_ok-plain.ensures.says m s)
+pub effect_goals::evaluation::groups_outcome-returns-in_default-clause-says : goal.effect_goals::evaluation::groups_outcome-returns-in_default-clause-says
+effect_goals::evaluation::groups_outcome-returns-in_default-clause-says t c m s =
+    groups-first (setting_in c.args.setting.now m) (level_in c.args.setting.now m c.args.depth) c.args.terms.now c.args.asked.now c.args.class c.in_ok-first.first c.in_default.not-Refuted
+    (c.in_ok-first.ensures.says m s)
 
-pub effect_goals::candidates::evaluate_host_effect_goal-returns-in-Holds-clause-says : goal.effect_goals::candidates::evaluate_host_effect_goal-returns-in-Holds-clause-says
-effect_goals::candidates::evaluate_host_effect_goal-returns-in-Holds-clause-says t c =
-    λ m s. const-held (setting_in c.args.setting.now m) c.args.depth c.args.constness c.args.trait_id c.in-Holds.class c.args.terms.now c.evaluate_trait_goal.new.terms c.in-Some.self_ty
-    c.in-Some.rest.now c.args.args.now c.in_ok-plain.plain c.class_outcome.result c.in_ok-plain.ensures.kept c.requires c.if-depth-eq0.false c.in-Some.ensures c.in-Holds.is
-    (c.in_ok-plain.ensures.says m s) (c.class_outcome.ensures.says m s)
+pub effect_goals::evaluation::groups_outcome-returns-clause-says : goal.effect_goals::evaluation::groups_outcome-returns-clause-says
+effect_goals::evaluation::groups_outcome-returns-clause-says t c m s =
+    groups-second (setting_in c.args.setting.now m) c.args.depth c.args.terms.now c.class_outcome.new.terms c.second_group.new.terms c.args.asked.now c.args.class c.in_ok-first.first
+    (map (candidate_at c.second_group.new.terms) c.deref.result.now) c.candidates_outcome.result c.class_outcome.ensures.kept
+    (keeps-chain c.args.terms.now c.class_outcome.new.terms c.second_group.new.terms c.class_outcome.ensures.kept c.second_group.ensures.kept) c.requires c.in-Refuted.is
+    (ap (map (candidate_at c.second_group.new.terms)) c.deref.ensures.value ∙ c.in_ok-candidates.ensures.candidates m) (c.in_ok-first.ensures.says m s) (c.candidates_outcome.ensures.says m s)
 
-pub effect_goals::candidates::environment_outcome-returns-clause-says : goal.effect_goals::candidates::environment_outcome-returns-clause-says
-effect_goals::candidates::environment_outcome-returns-clause-says t c =
-    λ m s. environment-says (setting_in c.args.setting.now m) c.args.depth c.args.constness c.args.trait_id c.args.terms.now c.candidates_of_class.new.terms c.args.self_ty c.args.args.now
-    c.in_ok-candidates.candidates.items c.deref.result.now c.candidates_outcome.result c.in_ok-candidates.ensures.kept c.requires.all c.deref.ensures.value
-    (c.in_ok-candidates.ensures.candidates m) (c.candidates_outcome.ensures.says m s)
+pub normalizes_to::alias_terms::alias_term-returns-then-depth-eq0-clause-says : goal.normalizes_to::alias_terms::alias_term-returns-then-depth-eq0-clause-says
+normalizes_to::alias_terms::alias_term-returns-then-depth-eq0-clause-says t c =
+    λ m s. depth-zero (setting_in c.args.setting.now m) c.args.depth c.args.kind (erased_all c.args.terms.now c.args.args.now) c.if-depth-eq0.true
 
-pub effect_goals::candidates::groups_outcome-returns-in-Holds-clause-says : goal.effect_goals::candidates::groups_outcome-returns-in-Holds-clause-says
-effect_goals::candidates::groups_outcome-returns-in-Holds-clause-says t c =
-    λ m s. groups-shown (setting_in c.args.setting.now m) c.args.depth c.args.constness c.args.trait_id c.args.class (erased_at c.args.terms.now c.args.self_ty)
-    (erased_all c.args.terms.now c.args.args.now) c.in_ok-first.first c.in-Holds.is (c.in_ok-first.ensures.says m s)
+pub normalizes_to::alias_terms::alias_term-returns-in-ProjectionTy-clause-says : goal.normalizes_to::alias_terms::alias_term-returns-in-ProjectionTy-clause-says
+normalizes_to::alias_terms::alias_term-returns-in-ProjectionTy-clause-says t c =
+    λ m s. projection-above (setting_in c.args.setting.now m) c.args.depth (c.args.depth - 1) c.args.kind c.in-ProjectionTy.kind c.in-ProjectionTy.item (erased_all c.args.terms.now c.args.args.now)
+    c.projection_term.new.terms c.projection_term.result (omega arith) c.in-ProjectionTy.is c.in-ProjectionTy.kind-is (c.projection_term.ensures.says m s)
 
-pub effect_goals::candidates::groups_outcome-returns-in-Undecided-clause-says : goal.effect_goals::candidates::groups_outcome-returns-in-Undecided-clause-says
-effect_goals::candidates::groups_outcome-returns-in-Undecided-clause-says t c =
-    λ m s. groups-open (setting_in c.args.setting.now m) c.args.depth c.args.constness c.args.trait_id c.args.class (erased_at c.args.terms.now c.args.self_ty)
-    (erased_all c.args.terms.now c.args.args.now) c.in_ok-first.first c.in-Undecided.is (c.in_ok-first.ensures.says m s)
+pub normalizes_to::alias_terms::alias_term-returns-in_ok-outcome-in_default-clause-says : goal.normalizes_to::alias_terms::alias_term-returns-in_ok-outcome-in_default-clause-says
+normalizes_to::alias_terms::alias_term-returns-in_ok-outcome-in_default-clause-says t c = λ m s.
+    let args = erased_all c.args.terms.now c.args.args.now in
+    alias-says (setting_in c.args.setting.now m) s.0 (c.args.depth - 1) c.args.depth (omega arith) c.args.kind (no_item c.args.kind c.in_default.not-ProjectionTy c.in_default.not-ProjectionConst)
+    args c.run_list.new.terms c.in_ok-outcome-in_default.outcome c.term.result c.term.ensures
+    (c.in_ok-outcome-in_default.ensures.says m s (Some (alias_list (setting_in c.args.setting.now m) c.args.kind args)) (c.in_ok-list-in_default.ensures.list m s))
 
-pub effect_goals::candidates::groups_outcome-returns-in-Refuted-clause-says : goal.effect_goals::candidates::groups_outcome-returns-in-Refuted-clause-says
-effect_goals::candidates::groups_outcome-returns-in-Refuted-clause-says t c =
-    λ m s. groups-second (setting_in c.args.setting.now m) c.args.depth c.args.constness c.args.trait_id c.args.class c.args.terms.now c.environment_outcome.new.terms c.args.self_ty
-    c.args.args.now c.in_ok-first.first c.second_outcome.result c.in_ok-first.ensures.kept c.requires.first c.requires.all c.in-Refuted.is (c.in_ok-first.ensures.says m s)
-    (c.second_outcome.ensures.says m s)
+pub normalizes_to::projection_candidates::candidate_term-returns-clause-says : goal.normalizes_to::projection_candidates::candidate_term-returns-clause-says
+normalizes_to::projection_candidates::candidate_term-returns-clause-says t c = λ m s.
+    let p = projection_at c.args.terms.now c.args.projection.now in
+    let itself = erased_at c.args.terms.now c.args.projection.now.rigid_alias in
+    let candidate = candidate_at c.args.terms.now c.args.candidate.now in
+    candidate-says (setting_in c.args.setting.now m) s.0 c.args.depth p itself candidate c.run_list.new.terms c.in_ok-outcome.outcome c.term-found.result c.term-found.ensures
+    (c.in_ok-outcome.ensures.says m s (projection_list (setting_in c.args.setting.now m) p itself candidate) (c.in_ok-list.ensures.list m s))
 
-pub effect_goals::candidates::consider_const_impl_candidate-returns-then-not-row-clause-says : goal.effect_goals::candidates::consider_const_impl_candidate-returns-then-not-row-clause-says
-effect_goals::candidates::consider_const_impl_candidate-returns-then-not-row-clause-says t c =
-    λ m s. impl-plain (setting_in c.args.setting.now m) c.args.depth c.args.constness (erased_all c.args.terms.now c.args.args.now) c.args.row.now c.if-not-row.true
+pub eval::lists::run_entries-run_entry-requires : goal.eval::lists::run_entries-run_entry-requires
+eval::lists::run_entries-run_entry-requires t c = (omega arith, (c.loop-entry.invariant.within, (entry-in c.args.terms.now c.loop-entry.terms c.loop-entry.invariant.kept c.args.entries.now c.loop-entry.entry-index c.entry-item.result c.requires (omega arith) c.entry-item.is)))
 
-pub effect_goals::candidates::consider_const_impl_candidate-returns-in-Clashes-clause-says : goal.effect_goals::candidates::consider_const_impl_candidate-returns-in-Clashes-clause-says
-effect_goals::candidates::consider_const_impl_candidate-returns-in-Clashes-clause-says t c =
-    λ m s. const_impl-clashes (setting_in c.args.setting.now m) c.args.depth c.args.constness (erased_all c.args.terms.now c.args.args.now) c.consider_trait_impl_candidate.new.terms c.args.row.now
-    c.in_ok-matched.matched c.in-Clashes.is (c.in_ok-matched.ensures.says m s)
+pub eval::lists::entries::term_found-head_form_under-requires : goal.eval::lists::entries::term_found-head_form_under-requires
+eval::lists::entries::term_found-head_form_under-requires t c = (omega arith, ((c.in-Some.ensures.within c.args.terms.now c.requires.named), (subst IsArgument (sym c.value_view-value.ensures) (value-argument c.in-ValueUnder.value))))
 
-pub effect_goals::candidates::consider_const_impl_candidate-returns-in-Unknown-clause-says : goal.effect_goals::candidates::consider_const_impl_candidate-returns-in-Unknown-clause-says
-effect_goals::candidates::consider_const_impl_candidate-returns-in-Unknown-clause-says t c =
-    λ m s. const_impl-unknown (setting_in c.args.setting.now m) c.args.depth c.args.constness (erased_all c.args.terms.now c.args.args.now) c.consider_trait_impl_candidate.new.terms c.args.row.now
-    c.in_ok-matched.matched c.if-not-row.false c.in-Unknown.is (c.in_ok-matched.ensures.says m s)
+pub assembly::candidates::class_outcome-candidates_outcome-requires : goal.assembly::candidates::class_outcome-candidates_outcome-requires
+assembly::candidates::class_outcome-candidates_outcome-requires t c = (omega arith, ((asked_in-grown c.args.terms.now c.candidates_of_class.new.terms c.args.asked.now c.in_ok-candidates.ensures.kept c.requires), subst (All (CandidateIn c.candidates_of_class.new.terms)) (sym c.deref.ensures.value) c.in_ok-candidates.ensures.within))
 
-pub effect_goals::candidates::consider_const_impl_candidate-returns-in-Fits-clause-says : goal.effect_goals::candidates::consider_const_impl_candidate-returns-in-Fits-clause-says
-effect_goals::candidates::consider_const_impl_candidate-returns-in-Fits-clause-says t c =
-    λ m s. const_impl-fitting (setting_in c.args.setting.now m) c.args.depth c.args.constness (erased_all c.args.terms.now c.args.args.now) c.consider_trait_impl_candidate.new.terms c.args.row.now
-    c.in_ok-matched.matched c.in-Fits.known c.deref.result.now c.impl_conditions_outcome.result c.if-not-row.false c.in-Fits.is c.deref.ensures.value
-    (c.in_ok-matched.ensures.says m s) (c.impl_conditions_outcome.ensures.says m s)
-
-pub effect_goals::candidates::consider_const_impl_candidate-returns-in_ok-conditions_held-in-Known-clause-says : goal.effect_goals::candidates::consider_const_impl_candidate-returns-in_ok-conditions_held-in-Known-clause-says
-effect_goals::candidates::consider_const_impl_candidate-returns-in_ok-conditions_held-in-Known-clause-says t c =
-    λ m s. impl-known_only (setting_in c.args.setting.now m) c.args.depth c.args.constness (erased_all c.args.terms.now c.args.args.now) c.consider_trait_impl_candidate.new.terms c.args.row.now
-    c.in_ok-matched.matched c.in-Known.known c.deref-in-Known.result.now c.in_ok-conditions_held-in-Known.conditions_held c.and.result c.if-not-row.false c.in-Known.is c.deref-in-Known.ensures.value
-    c.and.ensures (c.in_ok-matched.ensures.says m s) (c.in_ok-conditions_held-in-Known.ensures.says m s)
-
-pub effect_goals::candidates::consider_implied_clause-returns-then-not-is_trait-clause-says : goal.effect_goals::candidates::consider_implied_clause-returns-then-not-is_trait-clause-says
-effect_goals::candidates::consider_implied_clause-returns-then-not-is_trait-clause-says t c =
-    λ m s. implied-unfit (setting_in c.args.setting.now m) c.args.depth c.args.constness c.args.trait_id (erased_all c.args.terms.now c.args.args.now) c.args.terms.now
-    c.args.bound.now (map (trait_at c.args.terms.now) c.args.conditions.now) (λ e. true≢false (sym (c.is_trait.ensures.1 e) ∙ c.if-not-is_trait.true))
-
-pub effect_goals::candidates::consider_implied_clause-returns-clause-says : goal.effect_goals::candidates::consider_implied_clause-returns-clause-says
-effect_goals::candidates::consider_implied_clause-returns-clause-says t c =
-    λ m s. implied-say (setting_in c.args.setting.now m) c.args.depth c.args.constness c.args.trait_id (erased_all c.args.terms.now c.args.args.now) c.args.terms.now
-    c.compare_lists.new.terms c.args.bound.now c.args.conditions.now c.deref.result.now c.in_ok-matched.matched c.in_ok-conditions_held.conditions_held c.and.result
-    c.in_ok-matched.ensures.kept c.requires.conditions (c.is_trait.ensures.0 c.if-not-is_trait.false) c.deref.ensures.value c.and.ensures
-    (c.in_ok-matched.ensures.says m s) (c.in_ok-conditions_held.ensures.says m s)
-
-pub effect_goals::candidates::consider_builtin_candidate-returns-in-None-clause-says : goal.effect_goals::candidates::consider_builtin_candidate-returns-in-None-clause-says
-effect_goals::candidates::consider_builtin_candidate-returns-in-None-clause-says t c =
-    λ m s. const_rule-none (setting_in c.args.setting.now m) c.args.depth c.args.constness
-    (const_rule c.args.setting.now.rows.now c.args.trait_id (erased_all c.args.terms.now c.args.args.now))
-    (ap (option_map (const_rule_at c.const_rule.new.terms)) (sym c.in-None.is) ∙ c.in_ok-found.ensures.rule)
-
-pub effect_goals::candidates::consider_builtin_candidate-returns-in-Some-clause-says : goal.effect_goals::candidates::consider_builtin_candidate-returns-in-Some-clause-says
-effect_goals::candidates::consider_builtin_candidate-returns-in-Some-clause-says t c =
-    λ m s. rule-result (setting_in c.args.setting.now m) c.args.depth c.args.constness
-    (const_rule c.args.setting.now.rows.now c.args.trait_id (erased_all c.args.terms.now c.args.args.now)) (const_rule_at c.const_rule.new.terms c.in-Some.rule) c.asked_outcome.result
-    (ap (option_map (const_rule_at c.const_rule.new.terms)) (sym c.in-Some.is) ∙ c.in_ok-found.ensures.rule) (c.asked_outcome.ensures.says m s)
-
-pub effect_goals::candidates::second_outcome-returns-clause-says : goal.effect_goals::candidates::second_outcome-returns-clause-says
-effect_goals::candidates::second_outcome-returns-clause-says t c =
-    λ m s. second-says (setting_in c.args.setting.now m) c.args.depth c.args.constness c.args.trait_id c.args.class c.args.terms.now c.second_group.new.terms c.args.self_ty c.args.args.now
-    c.in_ok-candidates.candidates.items c.deref.result.now c.candidates_outcome.result c.in_ok-candidates.ensures.kept c.requires.all c.deref.ensures.value
-    (c.in_ok-candidates.ensures.candidates m) (c.candidates_outcome.ensures.says m s)
+pub trait_goals::evaluation::evaluate_trait_goal-decide_trait-requires : goal.trait_goals::evaluation::evaluate_trait_goal-decide_trait-requires
+trait_goals::evaluation::evaluate_trait_goal-decide_trait-requires t c = (
+  omega arith,
+  (
+    ((
+      subst (FoundIn c.head_form.new.terms) c.in-Is.is c.in_ok-head_form.ensures.within,
+      replaced-in c.args.terms.now c.head_form.new.terms c.in-Is.self_ty c.in-Some.first c.in-Some.rest.now c.as_slice.result.now c.head_form.ensures.kept
+          (subst (AreIn c.args.terms.now) c.in-Some.ensures c.requires) (subst (FoundIn c.head_form.new.terms) c.in-Is.is c.in_ok-head_form.ensures.within)
+          (c.as_slice.ensures.value ∙ c.in_ok-replaced-in-Is.ensures),
+    )),
+    refl,
+  ),
+)

@@ -2,7 +2,6 @@ use Rattle.std.proofs.Common.{◌+◌, ◌*◌, length, ◌≡◌, take, drop}
 use Rattle.goal_terms.specs.TableMeaning.{Keeps}
 use Rattle.goal_kinds.specs.Interned.{premise_at, erased_all, erased_at}
 use Rattle.goal_solver.proofs.PremiseOutcomes.{PremisesSay, condition_at}
-use Rattle.goal_solver.proofs.TraitOutcomeLemmas.{CandidatesSay}
 use Rattle.goal_solver.specs.Outcomes.{header_terms, setting_in, level_in, StandsFor, FoundIn}
 use Rattle.goal_solver.specs.HeaderWords.{KnownIn, known_trees, KnownOutcome, ClashAt}
 use Rattle.goal_terms.specs.declared.modes.TypingMode.{TypingMode}
@@ -12,7 +11,9 @@ use Rattle.goal_solver.proofs.ProjectionTermLemmas.{GivesOf, NoneOf}
 use Rattle.goal_kinds.specs.Level.{HeadFormRefuted}
 use Rattle.goal_solver.specs.ProjectionParts.{IsFormed}
 use Rattle.goal_solver.proofs.FormLemmas.{Narrows}
-use Rattle.goal_solver.proofs.ConstOutcomeLemmas.{SoFar}
+use Rattle.goal_solver.specs.Lists.{RunIn}
+use Rattle.goal_solver.proofs.ListAnswerLemmas.{RunsSoFar}
+use Rattle.goal_solver.proofs.AskedTraitLemmas.{AskedSoFar}
 use Rattle.goal_solver.proofs.+closed.Given as goal
 
 abbrev pub decreases-relate::equality::compare_pair : goal.decreases-relate::equality::compare_pair
@@ -96,134 +97,17 @@ decreases-eval::premises::premises_outcome l = 40 * l.depth + 4
 abbrev pub decreases-eval::premises::clauses_outcome : goal.decreases-eval::premises::clauses_outcome
 decreases-eval::premises::clauses_outcome l = 40 * l.depth + 5
 
-abbrev pub decreases-trait_goals::candidates::evaluate_trait_goal : goal.decreases-trait_goals::candidates::evaluate_trait_goal
-decreases-trait_goals::candidates::evaluate_trait_goal l = 40 * l.depth + 0
-
-abbrev pub decreases-trait_goals::candidates::match_assumption : goal.decreases-trait_goals::candidates::match_assumption
-decreases-trait_goals::candidates::match_assumption l = 40 * l.depth + 3
-
-abbrev pub decreases-trait_goals::candidates::consider_builtin_candidate : goal.decreases-trait_goals::candidates::consider_builtin_candidate
-decreases-trait_goals::candidates::consider_builtin_candidate l = 40 * l.depth + 5
-
-abbrev pub decreases-trait_goals::candidates::consider_trait_impl_candidate : goal.decreases-trait_goals::candidates::consider_trait_impl_candidate
-decreases-trait_goals::candidates::consider_trait_impl_candidate l = 40 * l.depth + 10
-
-abbrev pub decreases-trait_goals::candidates::consider_candidate : goal.decreases-trait_goals::candidates::consider_candidate
-decreases-trait_goals::candidates::consider_candidate l = 40 * l.depth + 11
-
-abbrev pub decreases-trait_goals::candidates::candidates_outcome : goal.decreases-trait_goals::candidates::candidates_outcome
-decreases-trait_goals::candidates::candidates_outcome l = 40 * l.depth + 12
-
-abbrev pub decreases-trait_goals::candidates::class_outcome : goal.decreases-trait_goals::candidates::class_outcome
-decreases-trait_goals::candidates::class_outcome l = 40 * l.depth + 13
-
-abbrev pub decreases-trait_goals::candidates::decide_trait : goal.decreases-trait_goals::candidates::decide_trait
-decreases-trait_goals::candidates::decide_trait l = 40 * l.depth + 14
-
-abbrev pub decreases-effect_goals::candidates::evaluate_host_effect_goal : goal.decreases-effect_goals::candidates::evaluate_host_effect_goal
-decreases-effect_goals::candidates::evaluate_host_effect_goal l = 40 * l.depth + 0
-
-abbrev pub decreases-effect_goals::candidates::impl_conditions_outcome : goal.decreases-effect_goals::candidates::impl_conditions_outcome
-decreases-effect_goals::candidates::impl_conditions_outcome l = 40 * l.depth + 2
-
-abbrev pub decreases-effect_goals::candidates::consider_implied_clause : goal.decreases-effect_goals::candidates::consider_implied_clause
-decreases-effect_goals::candidates::consider_implied_clause l = 40 * l.depth + 3
-
-abbrev pub decreases-effect_goals::candidates::match_assumption : goal.decreases-effect_goals::candidates::match_assumption
-decreases-effect_goals::candidates::match_assumption l = 40 * l.depth + 3
-
-abbrev pub decreases-effect_goals::candidates::asked_outcome : goal.decreases-effect_goals::candidates::asked_outcome
-decreases-effect_goals::candidates::asked_outcome l = 40 * l.depth + 5
-
-abbrev pub decreases-effect_goals::candidates::consider_builtin_candidate : goal.decreases-effect_goals::candidates::consider_builtin_candidate
-decreases-effect_goals::candidates::consider_builtin_candidate l = 40 * l.depth + 6
-
-abbrev pub decreases-effect_goals::candidates::consider_const_impl_candidate : goal.decreases-effect_goals::candidates::consider_const_impl_candidate
-decreases-effect_goals::candidates::consider_const_impl_candidate l = 40 * l.depth + 11
-
-abbrev pub decreases-effect_goals::candidates::consider_candidate : goal.decreases-effect_goals::candidates::consider_candidate
-decreases-effect_goals::candidates::consider_candidate l = 40 * l.depth + 12
-
-abbrev pub decreases-effect_goals::candidates::candidates_outcome : goal.decreases-effect_goals::candidates::candidates_outcome
-decreases-effect_goals::candidates::candidates_outcome l = 40 * l.depth + 13
-
-abbrev pub decreases-effect_goals::candidates::environment_outcome : goal.decreases-effect_goals::candidates::environment_outcome
-decreases-effect_goals::candidates::environment_outcome l = 40 * l.depth + 14
-
-abbrev pub decreases-effect_goals::candidates::second_outcome : goal.decreases-effect_goals::candidates::second_outcome
-decreases-effect_goals::candidates::second_outcome l = 40 * l.depth + 14
-
-abbrev pub decreases-effect_goals::candidates::groups_outcome : goal.decreases-effect_goals::candidates::groups_outcome
-decreases-effect_goals::candidates::groups_outcome l = 40 * l.depth + 15
-
-abbrev pub decreases-effect_goals::candidates::class_outcome : goal.decreases-effect_goals::candidates::class_outcome
-decreases-effect_goals::candidates::class_outcome l = 40 * l.depth + 16
-
 abbrev pub decreases-eval::head_forms::head_form : goal.decreases-eval::head_forms::head_form
 decreases-eval::head_forms::head_form l = 40 * l.depth + 1
 
 abbrev pub decreases-eval::head_forms::head_form_under : goal.decreases-eval::head_forms::head_form_under
 decreases-eval::head_forms::head_form_under l = 40 * l.depth + 2
 
-abbrev pub decreases-eval::head_forms::term_form : goal.decreases-eval::head_forms::term_form
-decreases-eval::head_forms::term_form l = 40 * l.depth + 3
-
-abbrev pub decreases-normalizes_to::aliases::alias_term : goal.decreases-normalizes_to::aliases::alias_term
-decreases-normalizes_to::aliases::alias_term l = 40 * l.depth + 0
-
-abbrev pub decreases-normalizes_to::aliases::normalize_opaque_type : goal.decreases-normalizes_to::aliases::normalize_opaque_type
-decreases-normalizes_to::aliases::normalize_opaque_type l = 40 * l.depth + 3
-
-abbrev pub decreases-normalizes_to::aliases::value_form : goal.decreases-normalizes_to::aliases::value_form
-decreases-normalizes_to::aliases::value_form l = 40 * l.depth + 4
-
-abbrev pub decreases-normalizes_to::aliases::value_behind : goal.decreases-normalizes_to::aliases::value_behind
-decreases-normalizes_to::aliases::value_behind l = 40 * l.depth + 6
-
-abbrev pub decreases-normalizes_to::aliases::inherent_value : goal.decreases-normalizes_to::aliases::inherent_value
-decreases-normalizes_to::aliases::inherent_value l = 40 * l.depth + 7
-
-abbrev pub decreases-normalizes_to::aliases::normalize_free_alias : goal.decreases-normalizes_to::aliases::normalize_free_alias
-decreases-normalizes_to::aliases::normalize_free_alias l = 40 * l.depth + 7
-
-abbrev pub decreases-normalizes_to::aliases::self_match : goal.decreases-normalizes_to::aliases::self_match
-decreases-normalizes_to::aliases::self_match l = 40 * l.depth + 10
-
-abbrev pub decreases-normalizes_to::aliases::inherent_by_impl : goal.decreases-normalizes_to::aliases::inherent_by_impl
-decreases-normalizes_to::aliases::inherent_by_impl l = 40 * l.depth + 11
-
-abbrev pub decreases-normalizes_to::aliases::normalize_inherent_associated_term : goal.decreases-normalizes_to::aliases::normalize_inherent_associated_term
-decreases-normalizes_to::aliases::normalize_inherent_associated_term l = 40 * l.depth + 12
-
-abbrev pub decreases-normalizes_to::projections::sized_term : goal.decreases-normalizes_to::projections::sized_term
-decreases-normalizes_to::projections::sized_term l = 40 * l.depth + 1
-
 abbrev pub decreases-normalizes_to::projections::head_forms_outcome : goal.decreases-normalizes_to::projections::head_forms_outcome
 decreases-normalizes_to::projections::head_forms_outcome l = 40 * l.depth + 2
 
 abbrev pub decreases-normalizes_to::projections::own_args_normalized : goal.decreases-normalizes_to::projections::own_args_normalized
 decreases-normalizes_to::projections::own_args_normalized l = 40 * l.depth + 3
-
-abbrev pub decreases-normalizes_to::projections::behind_term : goal.decreases-normalizes_to::projections::behind_term
-decreases-normalizes_to::projections::behind_term l = 40 * l.depth + 5
-
-abbrev pub decreases-normalizes_to::projections::listed_term : goal.decreases-normalizes_to::projections::listed_term
-decreases-normalizes_to::projections::listed_term l = 40 * l.depth + 6
-
-abbrev pub decreases-normalizes_to::projections::equal_args_term : goal.decreases-normalizes_to::projections::equal_args_term
-decreases-normalizes_to::projections::equal_args_term l = 40 * l.depth + 6
-
-abbrev pub decreases-normalizes_to::projections::equation_term : goal.decreases-normalizes_to::projections::equation_term
-decreases-normalizes_to::projections::equation_term l = 40 * l.depth + 7
-
-abbrev pub decreases-normalizes_to::projections::consider_builtin_candidate : goal.decreases-normalizes_to::projections::consider_builtin_candidate
-decreases-normalizes_to::projections::consider_builtin_candidate l = 40 * l.depth + 7
-
-abbrev pub decreases-normalizes_to::projections::match_assumption : goal.decreases-normalizes_to::projections::match_assumption
-decreases-normalizes_to::projections::match_assumption l = 40 * l.depth + 8
-
-abbrev pub decreases-normalizes_to::projections::candidate_term : goal.decreases-normalizes_to::projections::candidate_term
-decreases-normalizes_to::projections::candidate_term l = 40 * l.depth + 17
 
 abbrev pub decreases-normalizes_to::projections::group_term : goal.decreases-normalizes_to::projections::group_term
 decreases-normalizes_to::projections::group_term l = 40 * l.depth + 18
@@ -252,43 +136,10 @@ decreases-normalizes_to::projections::item_term l = 40 * l.depth + 24
 abbrev pub decreases-normalizes_to::projections::projection_term : goal.decreases-normalizes_to::projections::projection_term
 decreases-normalizes_to::projections::projection_term l = 40 * l.depth + 25
 
-abbrev pub decreases-normalizes_to::impl_terms::other_under : goal.decreases-normalizes_to::impl_terms::other_under
-decreases-normalizes_to::impl_terms::other_under l = 40 * l.depth + 6
-
-abbrev pub decreases-normalizes_to::impl_terms::other_args : goal.decreases-normalizes_to::impl_terms::other_args
-decreases-normalizes_to::impl_terms::other_args l = 40 * l.depth + 10
-
-abbrev pub decreases-normalizes_to::impl_terms::translated_to : goal.decreases-normalizes_to::impl_terms::translated_to
-decreases-normalizes_to::impl_terms::translated_to l = 40 * l.depth + 11
-
-abbrev pub decreases-normalizes_to::impl_terms::translated : goal.decreases-normalizes_to::impl_terms::translated
-decreases-normalizes_to::impl_terms::translated l = 40 * l.depth + 12
-
-abbrev pub decreases-normalizes_to::impl_terms::value_term : goal.decreases-normalizes_to::impl_terms::value_term
-decreases-normalizes_to::impl_terms::value_term l = 40 * l.depth + 13
-
-abbrev pub decreases-normalizes_to::impl_terms::evaluated_term : goal.decreases-normalizes_to::impl_terms::evaluated_term
-decreases-normalizes_to::impl_terms::evaluated_term l = 40 * l.depth + 13
-
-abbrev pub decreases-normalizes_to::impl_terms::eligible_term : goal.decreases-normalizes_to::impl_terms::eligible_term
-decreases-normalizes_to::impl_terms::eligible_term l = 40 * l.depth + 14
-
-abbrev pub decreases-normalizes_to::impl_terms::term_under : goal.decreases-normalizes_to::impl_terms::term_under
-decreases-normalizes_to::impl_terms::term_under l = 40 * l.depth + 15
-
-abbrev pub decreases-normalizes_to::impl_terms::consider_projection_impl_candidate : goal.decreases-normalizes_to::impl_terms::consider_projection_impl_candidate
-decreases-normalizes_to::impl_terms::consider_projection_impl_candidate l = 40 * l.depth + 16
-
 abbrev pub invariant-eval::premises::premises_outcome-loop-premise : goal.invariant-eval::premises::premises_outcome-loop-premise
 invariant-eval::premises::premises_outcome-loop-premise l = record {
   kept : Keeps l.fn.terms l.terms;
   so_far : PremisesSay l.setting l.depth (premise_at l.fn.terms) l.premises l.premise-index l.found;
-}
-
-abbrev pub invariant-trait_goals::candidates::candidates_outcome-loop-candidate : goal.invariant-trait_goals::candidates::candidates_outcome-loop-candidate
-invariant-trait_goals::candidates::candidates_outcome-loop-candidate l = record {
-  kept : Keeps l.fn.terms l.terms;
-  so_far : CandidatesSay l.setting l.depth l.trait_id l.fn.terms l.args l.candidates l.candidate-index l.found;
 }
 
 abbrev pub invariant-relate::header_parts::known_args-loop-i : goal.invariant-relate::header_parts::known_args-loop-i
@@ -336,9 +187,63 @@ invariant-eval::premises::conditions_outcome-loop-condition l = record {
   so_far : PremisesSay l.setting l.depth (condition_at l.constness l.fn.terms) l.conditions l.condition-index l.found;
 }
 
-abbrev pub invariant-effect_goals::candidates::candidates_outcome-loop-candidate : goal.invariant-effect_goals::candidates::candidates_outcome-loop-candidate
-invariant-effect_goals::candidates::candidates_outcome-loop-candidate l = record {
-  kept : Keeps l.initial.terms l.terms;
-  so_far : (m : TypingMode) → StandsFor l.setting.typing_mode.now m →
-      SoFar (setting_in l.setting m) l.depth l.constness l.trait_id (erased_all l.initial.terms l.args) l.initial.terms l.candidates l.candidate-index l.found;
+abbrev pub decreases-eval::lists::entries::term_found : goal.decreases-eval::lists::entries::term_found
+decreases-eval::lists::entries::term_found l = 40 * l.depth + 3
+
+abbrev pub decreases-eval::lists::entries::row_outcome : goal.decreases-eval::lists::entries::row_outcome
+decreases-eval::lists::entries::row_outcome l = 40 * l.depth + 6
+
+abbrev pub decreases-eval::lists::entries::header_match : goal.decreases-eval::lists::entries::header_match
+decreases-eval::lists::entries::header_match l = 40 * l.depth + 10
+
+abbrev pub decreases-eval::lists::entries::arguments_match : goal.decreases-eval::lists::entries::arguments_match
+decreases-eval::lists::entries::arguments_match l = 40 * l.depth + 11
+
+abbrev pub decreases-eval::lists::entries::run_entry : goal.decreases-eval::lists::entries::run_entry
+decreases-eval::lists::entries::run_entry l = 40 * l.depth + 12
+
+abbrev pub decreases-eval::lists::run_entries : goal.decreases-eval::lists::run_entries
+decreases-eval::lists::run_entries l = 40 * l.depth + 13
+
+abbrev pub decreases-eval::lists::run_list : goal.decreases-eval::lists::run_list
+decreases-eval::lists::run_list l = 40 * l.depth + 14
+
+abbrev pub decreases-assembly::candidates::consider_candidate : goal.decreases-assembly::candidates::consider_candidate
+decreases-assembly::candidates::consider_candidate l = 40 * l.depth + 15
+
+abbrev pub decreases-assembly::candidates::candidates_outcome : goal.decreases-assembly::candidates::candidates_outcome
+decreases-assembly::candidates::candidates_outcome l = 40 * l.depth + 16
+
+abbrev pub decreases-assembly::candidates::class_outcome : goal.decreases-assembly::candidates::class_outcome
+decreases-assembly::candidates::class_outcome l = 40 * l.depth + 17
+
+abbrev pub decreases-trait_goals::evaluation::decide_trait : goal.decreases-trait_goals::evaluation::decide_trait
+decreases-trait_goals::evaluation::decide_trait l = 40 * l.depth + 18
+
+abbrev pub decreases-effect_goals::evaluation::groups_outcome : goal.decreases-effect_goals::evaluation::groups_outcome
+decreases-effect_goals::evaluation::groups_outcome l = 40 * l.depth + 18
+
+abbrev pub decreases-trait_goals::evaluation::evaluate_trait_goal : goal.decreases-trait_goals::evaluation::evaluate_trait_goal
+decreases-trait_goals::evaluation::evaluate_trait_goal l = 40 * l.depth + 0
+
+abbrev pub decreases-effect_goals::evaluation::evaluate_host_effect_goal : goal.decreases-effect_goals::evaluation::evaluate_host_effect_goal
+decreases-effect_goals::evaluation::evaluate_host_effect_goal l = 40 * l.depth + 0
+
+abbrev pub decreases-normalizes_to::alias_terms::alias_term : goal.decreases-normalizes_to::alias_terms::alias_term
+decreases-normalizes_to::alias_terms::alias_term l = 40 * l.depth + 0
+
+abbrev pub decreases-normalizes_to::projection_candidates::candidate_term : goal.decreases-normalizes_to::projection_candidates::candidate_term
+decreases-normalizes_to::projection_candidates::candidate_term l = 40 * l.depth + 15
+
+abbrev pub invariant-eval::lists::run_entries-loop-entry : goal.invariant-eval::lists::run_entries-loop-entry
+invariant-eval::lists::run_entries-loop-entry l = record {
+  kept : Keeps l.fn.terms l.terms;
+  within : RunIn l.terms l.run;
+  so_far : RunsSoFar l.setting l.depth l.fn.terms l.entries l.terms l.run l.entry-index;
+}
+
+abbrev pub invariant-assembly::candidates::candidates_outcome-loop-candidate : goal.invariant-assembly::candidates::candidates_outcome-loop-candidate
+invariant-assembly::candidates::candidates_outcome-loop-candidate l = record {
+  kept : Keeps l.fn.terms l.terms;
+  so_far : AskedSoFar l.setting l.depth l.fn.terms l.asked l.candidates l.candidate-index l.found;
 }

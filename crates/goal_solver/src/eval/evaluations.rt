@@ -13,12 +13,12 @@ ghost use Rattle.goal_solver.specs.GoingBack.{GoesBack, evaluated};
 ghost use Rattle.goal_solver.specs.Outcomes.{StandsFor, level_in, Says, SaysThrough, SaysWhich, FoundIn};
 
 use crate::context::EvalCtxt;
-use crate::effect_goals::candidates::evaluate_host_effect_goal;
+use crate::effect_goals::evaluation::evaluate_host_effect_goal;
 use crate::eval::interning::{intern_args, intern_equation};
 use crate::eval::outcomes::{Found, Outcome, Setting, Stop, TraitOutcome};
 use crate::eval::premises::premise_outcome;
-use crate::normalizes_to::aliases::alias_term;
-use crate::trait_goals::candidates::evaluate_trait_goal;
+use crate::normalizes_to::alias_terms::alias_term;
+use crate::trait_goals::evaluation::evaluate_trait_goal;
 use goal_kinds::candidates::interned::{InternedPredicate, InternedPremise};
 use goal_terms::answers::DelayedFault;
 use goal_terms::ids::TraitId;

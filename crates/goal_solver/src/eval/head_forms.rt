@@ -3,7 +3,6 @@ ghost use Rattle.std.specs.Prelude.{◌≡◌, true, IfErr, IfOk};
 ghost use Rattle.goal_terms.specs.TableMeaning.{Keeps};
 ghost use Rattle.goal_terms.specs.declared.modes.TypingMode.{TypingMode};
 ghost use Rattle.goal_terms.specs.Sorts.{IsArgument};
-ghost use Rattle.goal_terms.specs.TreeOf.{tree_of_term};
 ghost use Rattle.goal_terms.specs.View.{tree_of_ref};
 ghost use Rattle.goal_kinds.specs.Headers.{under};
 ghost use Rattle.goal_kinds.specs.Interned.{IsIn, AreIn, erased_at, erased_all};
@@ -14,12 +13,11 @@ ghost use Rattle.goal_solver.specs.Outcomes.{StandsFor, level_in, SaysWhich, Fou
 use crate::eval::id_lists::own_list;
 use crate::eval::instances::instance_of;
 use crate::eval::outcomes::{Found, Setting, Stop};
-use crate::normalizes_to::aliases::alias_term;
+use crate::normalizes_to::alias_terms::alias_term;
 use goal_terms::answers::DelayedFault;
 use goal_terms::heads::Node;
 use goal_terms::term_nodes::TermId;
 use goal_terms::term_table::TermTable;
-use goal_terms::terms::Term;
 use goal_terms::view::TermRef;
 
 /// The head form of a term at a depth: what an alias normalizes to, and each other term itself.
@@ -63,23 +61,4 @@ pub(crate) fn head_form_under(
 {
     let id = instance_of(terms, term, args)?;
     head_form(setting, terms, faults, id, depth)
-}
-
-/// The head form at a depth of a row's type or constant under arguments.
-#[cycle(closed)]
-pub(crate) fn term_form(
-    setting: &Setting<'_>,
-    terms: &mut TermTable,
-    faults: &mut Vec<DelayedFault>,
-    term: &Term,
-    args: &[TermId],
-    depth: u32,
-) -> Result<Found, Stop>
-    requires { AreIn terms.old args.now }
-    ensures kept { Keeps terms.old terms.new }
-    ensures within { IfOk result (FoundIn terms.new) }
-    ensures stops { is_headline setting.now.typing_mode.now ≡ true → IfErr result (λ s. s ≡ Stop.OutOfMemory) }
-    ensures says { (m : TypingMode) → StandsFor setting.now.typing_mode.now m → IfOk result (SaysWhich (HasHeadForm (level_in setting.now m depth) (under (erased_all terms.old args.now) (tree_of_term term.now))) (HeadFormRefuted (level_in setting.now m depth) (under (erased_all terms.old args.now) (tree_of_term term.now))) terms.new) }
-{
-    head_form_under(setting, terms, faults, term.view(), args, depth)
 }

@@ -7,13 +7,12 @@ ghost use Rattle.goal_terms.specs.Tree.{alias, forest};
 ghost use Rattle.goal_terms.specs.TreeOf.{tree_of_ty};
 ghost use Rattle.goal_terms.specs.View.{tree_of_ref};
 ghost use Rattle.goal_kinds.specs.Headers.{under};
-ghost use Rattle.goal_kinds.specs.ImplTerms.{error_term};
 ghost use Rattle.goal_kinds.specs.Interned.{IsIn, AreIn, erased_at, erased_all};
 ghost use Rattle.goal_solver.specs.Outcomes.{header_terms};
 
 use crate::eval::id_lists::own_list;
 use crate::eval::outcomes::Setting;
-use goal_terms::heads::{Head, Node};
+use goal_terms::heads::Node;
 use goal_terms::term_nodes::{OutOfMemory, TermId};
 use goal_terms::term_table::TermTable;
 use goal_terms::terms::{AliasTermKind, GenericArg, Ty};
@@ -68,25 +67,6 @@ pub(crate) fn alias_number(
 {
     let parts = own_list(setting, args)?;
     terms.intern_node(Node::Alias(kind), parts)
-}
-
-/// The number of an error of a type's or a constant's sort.
-pub(crate) fn error_number(
-    setting: &Setting<'_>,
-    terms: &mut TermTable,
-    is_const: bool,
-    error: u32,
-) -> Result<TermId, OutOfMemory>
-    ensures kept { Keeps terms.old terms.new }
-    ensures within { IfOk result (IsIn terms.new) }
-    ensures tree { IfOk result (λ id. erased_at terms.new id ≡ error_term is_const error) }
-{
-    let head = if is_const {
-        Head::ConstError(error)
-    } else {
-        Head::TyError(error)
-    };
-    terms.intern_node(Node::Head(head), Vec::new(setting.allocator()))
 }
 
 /// A type as the one argument of a header.

@@ -1,10 +1,9 @@
 //! Outcomes of several questions, joined.
 ghost use Rattle.std.specs.Prelude.{◌≡◌};
-ghost use Rattle.goal_solver.specs.Joined.{both, one_of, held, fitting, known_only, impl_held, through};
+ghost use Rattle.goal_solver.specs.Joined.{both, one_of, held, through};
 
-use crate::eval::outcomes::{HeaderMatch, Outcome, TraitOutcome};
+use crate::eval::outcomes::{Outcome, TraitOutcome};
 use goal_terms::answers::TraitGoalProvenVia;
-use goal_terms::term_nodes::TermId;
 
 impl Outcome {
     /// What two questions come to together: refuted where one is refuted, else undecided where one is.
@@ -57,41 +56,6 @@ impl TraitOutcome {
             TraitOutcome::Holds(_) => Outcome::Holds,
             TraitOutcome::Refuted => Outcome::Refuted,
             TraitOutcome::Undecided => Outcome::Undecided,
-        }
-    }
-}
-
-impl HeaderMatch {
-    /// What an impl comes to whose header fits under these terms, by its where clauses.
-    pub fn fitting(known: Vec<TermId>, clauses: Outcome) -> HeaderMatch
-        ensures { result ≡ fitting known clauses }
-    {
-        match clauses {
-            Outcome::Holds => HeaderMatch::Fits(known),
-            Outcome::Refuted => HeaderMatch::Clashes,
-            Outcome::Undecided => HeaderMatch::Known(known),
-        }
-    }
-
-    /// What an impl comes to whose header may fit under these terms, by its where clauses.
-    pub fn known_only(known: Vec<TermId>, clauses: Outcome) -> HeaderMatch
-        ensures { result ≡ known_only known clauses }
-    {
-        match clauses {
-            Outcome::Refuted => HeaderMatch::Clashes,
-            _ => HeaderMatch::Known(known),
-        }
-    }
-
-    /// What an impl comes to, under whichever terms.
-    pub fn impl_held(&self) -> Outcome
-        ensures { result ≡ impl_held self.now }
-    {
-        match self {
-            HeaderMatch::Fits(_) => Outcome::Holds,
-            HeaderMatch::Known(_) => Outcome::Undecided,
-            HeaderMatch::Clashes => Outcome::Refuted,
-            HeaderMatch::Unknown => Outcome::Undecided,
         }
     }
 }

@@ -8,10 +8,10 @@ ghost use Rattle.goal_kinds.specs.Premises.{ClauseHolds, ClauseRefuted, PremiseH
 ghost use Rattle.goal_kinds.specs.Settings.{is_headline};
 ghost use Rattle.goal_solver.specs.Outcomes.{StandsFor, level_in, Says};
 
-use crate::effect_goals::candidates::evaluate_host_effect_goal;
+use crate::effect_goals::evaluation::evaluate_host_effect_goal;
 use crate::eval::outcomes::{Outcome, Setting, Stop};
 use crate::relate::equality::compare_terms;
-use crate::trait_goals::candidates::evaluate_trait_goal;
+use crate::trait_goals::evaluation::evaluate_trait_goal;
 use goal_kinds::candidates::interned::{InternedPredicate, InternedPremise, InternedTrait};
 use goal_kinds::candidates::premises::clauses_under;
 use goal_terms::answers::DelayedFault;
@@ -45,7 +45,7 @@ pub fn premise_outcome(
 
 /// Whether a predicate holds at a depth.
 #[cycle(closed)]
-fn predicate_outcome(
+pub fn predicate_outcome(
     setting: &Setting<'_>,
     terms: &mut TermTable,
     faults: &mut Vec<DelayedFault>,

@@ -1,33 +1,22 @@
 //! The terms of projections.
-ghost use Rattle.std.specs.Prelude.{true, IfErr, ◌≡◌, ◌⊎◌, IfOk, map};
+ghost use Rattle.std.specs.Prelude.{true, IfErr, ◌≡◌, IfOk, map};
 ghost use Rattle.std.specs.List.{All};
 ghost use Rattle.goal_terms.specs.TableMeaning.{Keeps};
 ghost use Rattle.goal_terms.specs.declared.modes.TypingMode.{TypingMode};
-ghost use Rattle.goal_kinds.specs.Builtins.{listed_by_size, term_rule};
 ghost use Rattle.goal_kinds.specs.Candidates.{environment, second_group};
-ghost use Rattle.goal_kinds.specs.Interned.{IsIn, AreIn, PredicateIn, PremiseIn, CandidateIn, ListedIn, erased_at, erased_all, predicate_at, premise_at, candidate_at, listed_at};
-ghost use Rattle.goal_kinds.specs.Level.{HasHeadForm, HeadFormRefuted};
-ghost use Rattle.goal_kinds.specs.Premises.{PremisesHold, PremisesRefuted};
-ghost use Rattle.goal_kinds.specs.Projections.{EquationGives, EquationRefuted, AssumptionGives, AssumptionTermRefuted, ListedGives, ListedRefuted, CandidateGives, TermRefuted, GroupGives, GroupRefuted, GroupsGive, GroupsRefuted, OwnUnformed, ItemGives, ItemRefuted, ProjectionGives, ProjectionRefuted};
+ghost use Rattle.goal_kinds.specs.Interned.{IsIn, AreIn, CandidateIn, erased_at, erased_all, candidate_at};
+ghost use Rattle.goal_kinds.specs.Projections.{GroupGives, GroupRefuted, GroupsGive, GroupsRefuted, OwnUnformed, ItemGives, ItemRefuted, ProjectionGives, ProjectionRefuted};
 ghost use Rattle.goal_kinds.specs.Settings.{is_headline};
 ghost use Rattle.goal_solver.specs.Outcomes.{StandsFor, setting_in, level_in, Says, SaysWhich, FoundIn, ProjectionIn, projection_at};
-ghost use Rattle.goal_solver.specs.ProjectionParts.{EqualArgsGive, EqualArgsRefuted, HaveHeadForms, SomeUnformed, FormedGives, LaterGives, LaterRefuted, ReplacedGives, ReplacedRefuted, ThroughGives, ThroughRefuted};
+ghost use Rattle.goal_solver.specs.ProjectionParts.{HaveHeadForms, SomeUnformed, FormedGives, LaterGives, LaterRefuted, ReplacedGives, ReplacedRefuted, ThroughGives, ThroughRefuted};
 
 use crate::assembly::merging::merge_terms;
-use crate::eval::combined::found_behind;
 use crate::eval::head_forms::head_form;
 use crate::eval::outcomes::{Found, Outcome, Projection, Setting, Stop, TraitOutcome};
-use crate::eval::premises::{clauses_outcome, premises_outcome};
-use crate::normalizes_to::impl_terms::consider_projection_impl_candidate;
-use crate::normalizes_to::projection_args::{
-    first_args, intern_alias, intern_unit, later_args, projected_args, with_self,
-};
-use crate::relate::equality::compare_lists;
-use crate::trait_goals::candidates::evaluate_trait_goal;
-use goal_kinds::builtin::terms::term_rule;
-use goal_kinds::candidates::interned::{
-    InternedCandidate, InternedPredicate, InternedPremise, ListedTerm,
-};
+use crate::normalizes_to::projection_args::{first_args, intern_alias, later_args, with_self};
+use crate::normalizes_to::projection_candidates::candidate_term;
+use crate::trait_goals::evaluation::evaluate_trait_goal;
+use goal_kinds::candidates::interned::InternedCandidate;
 use goal_kinds::candidates::lists::{candidates_of_class, second_group};
 use goal_tables::rows::{ItemRow, TraitRow};
 use goal_terms::answers::{DelayedFault, TraitGoalProvenVia};
@@ -385,225 +374,4 @@ fn group_term(
         }
     }
     Ok(found)
-}
-
-/// The term that a candidate gives a projection.
-#[cycle(closed)]
-fn candidate_term(
-    setting: &Setting<'_>,
-    terms: &mut TermTable,
-    faults: &mut Vec<DelayedFault>,
-    projection: &Projection<'_>,
-    candidate: &InternedCandidate<'_>,
-    depth: u32,
-) -> Result<Found, Stop>
-    requires projection { ProjectionIn terms.old projection.now }
-    requires candidate { CandidateIn terms.old candidate.now }
-    ensures kept { Keeps terms.old terms.new }
-    ensures within { IfOk result (FoundIn terms.new) }
-    ensures stops { is_headline setting.now.typing_mode.now ≡ true → IfErr result (λ s. s ≡ Stop.OutOfMemory) }
-    ensures says { (m : TypingMode) → StandsFor setting.now.typing_mode.now m → IfOk result (SaysWhich (λ u. CandidateGives (setting_in setting.now m) (level_in setting.now m depth) (projection_at terms.old projection.now) (erased_at terms.old projection.now.rigid_alias) u (candidate_at terms.old candidate.now)) (TermRefuted (setting_in setting.now m) (level_in setting.now m depth) (projection_at terms.old projection.now) (candidate_at terms.old candidate.now)) terms.new) }
-{
-    match candidate {
-        InternedCandidate::Assumption(predicate) => {
-            match_assumption(setting, terms, faults, projection, predicate, depth)
-        }
-        InternedCandidate::ImpliedBound(_, _) => Ok(Found::Refuted),
-        InternedCandidate::Impl(row) => consider_projection_impl_candidate(
-            setting, terms, faults, row, projection, depth,
-        ),
-        InternedCandidate::BuiltIn => consider_builtin_candidate(
-            setting, terms, faults, projection, depth,
-        ),
-        InternedCandidate::Error => Ok(Found::Refuted),
-    }
-}
-
-/// The term that a clause gives a projection.
-#[cycle(closed)]
-fn match_assumption(
-    setting: &Setting<'_>,
-    terms: &mut TermTable,
-    faults: &mut Vec<DelayedFault>,
-    projection: &Projection<'_>,
-    predicate: &InternedPredicate,
-    depth: u32,
-) -> Result<Found, Stop>
-    requires projection { ProjectionIn terms.old projection.now }
-    requires predicate { PredicateIn terms.old predicate.now }
-    ensures kept { Keeps terms.old terms.new }
-    ensures within { IfOk result (FoundIn terms.new) }
-    ensures stops { is_headline setting.now.typing_mode.now ≡ true → IfErr result (λ s. s ≡ Stop.OutOfMemory) }
-    ensures says { (m : TypingMode) → StandsFor setting.now.typing_mode.now m → IfOk result (SaysWhich (AssumptionGives (level_in setting.now m depth) (projection_at terms.old projection.now) (predicate_at terms.old predicate.now)) (AssumptionTermRefuted (level_in setting.now m depth) (projection_at terms.old projection.now) (predicate_at terms.old predicate.now)) terms.new) }
-{
-    match predicate {
-        InternedPredicate::Trait(_) => Ok(Found::Refuted),
-        InternedPredicate::HostEffect(_, _) => Ok(Found::Refuted),
-        InternedPredicate::Projection(alias, term) => {
-            equation_term(setting, terms, faults, projection, *alias, *term, depth)
-        }
-    }
-}
-
-/// The term that a clause that an alias and a term are equal gives a projection.
-#[cycle(closed)]
-fn equation_term(
-    setting: &Setting<'_>,
-    terms: &mut TermTable,
-    faults: &mut Vec<DelayedFault>,
-    projection: &Projection<'_>,
-    alias: TermId,
-    term: TermId,
-    depth: u32,
-) -> Result<Found, Stop>
-    requires projection { ProjectionIn terms.old projection.now }
-    requires alias { IsIn terms.old alias }
-    requires term { IsIn terms.old term }
-    ensures kept { Keeps terms.old terms.new }
-    ensures within { IfOk result (FoundIn terms.new) }
-    ensures stops { is_headline setting.now.typing_mode.now ≡ true → IfErr result (λ s. s ≡ Stop.OutOfMemory) }
-    ensures says { (m : TypingMode) → StandsFor setting.now.typing_mode.now m → IfOk result (SaysWhich (EquationGives (level_in setting.now m depth) (projection_at terms.old projection.now) (erased_at terms.old alias) (erased_at terms.old term)) (EquationRefuted (level_in setting.now m depth) (projection_at terms.old projection.now) (erased_at terms.old alias) (erased_at terms.old term)) terms.new) }
-{
-    let Some(args) = projected_args(setting.allocator(), terms, alias, projection.item.id)? else {
-        return Ok(Found::Refuted);
-    };
-    equal_args_term(
-        setting,
-        terms,
-        faults,
-        projection,
-        args.as_slice(),
-        term,
-        depth,
-    )
-}
-
-/// The term of a clause on a projection of the same item, by its arguments.
-#[cycle(closed)]
-fn equal_args_term(
-    setting: &Setting<'_>,
-    terms: &mut TermTable,
-    faults: &mut Vec<DelayedFault>,
-    projection: &Projection<'_>,
-    args: &[TermId],
-    term: TermId,
-    depth: u32,
-) -> Result<Found, Stop>
-    requires projection { ProjectionIn terms.old projection.now }
-    requires args { AreIn terms.old args.now }
-    requires term { IsIn terms.old term }
-    ensures kept { Keeps terms.old terms.new }
-    ensures within { IfOk result (FoundIn terms.new) }
-    ensures stops { is_headline setting.now.typing_mode.now ≡ true → IfErr result (λ s. s ≡ Stop.OutOfMemory) }
-    ensures says { (m : TypingMode) → StandsFor setting.now.typing_mode.now m → IfOk result (SaysWhich (EqualArgsGive (level_in setting.now m depth) (projection_at terms.old projection.now) (erased_all terms.old args.now) (erased_at terms.old term)) (EqualArgsRefuted (level_in setting.now m depth) (projection_at terms.old projection.now) (erased_all terms.old args.now) (erased_at terms.old term)) terms.new) }
-{
-    let equal = compare_lists(setting, terms, faults, args, projection.args, depth)?;
-    if let Outcome::Refuted = equal {
-        return Ok(Found::Refuted);
-    }
-    let clauses = projection.item.own_predicates.as_slice();
-    let hold = clauses_outcome(setting, terms, faults, clauses, projection.args, depth)?;
-    if let Outcome::Refuted = hold {
-        return Ok(Found::Refuted);
-    }
-    let found = head_form(setting, terms, faults, term, depth)?;
-    Ok(found_behind(equal.and(hold), found))
-}
-
-/// The term that a built-in rule gives a projection.
-#[cycle(closed)]
-fn consider_builtin_candidate(
-    setting: &Setting<'_>,
-    terms: &mut TermTable,
-    faults: &mut Vec<DelayedFault>,
-    projection: &Projection<'_>,
-    depth: u32,
-) -> Result<Found, Stop>
-    requires { ProjectionIn terms.old projection.now }
-    ensures kept { Keeps terms.old terms.new }
-    ensures within { IfOk result (FoundIn terms.new) }
-    ensures stops { is_headline setting.now.typing_mode.now ≡ true → IfErr result (λ s. s ≡ Stop.OutOfMemory) }
-    ensures says { (m : TypingMode) → StandsFor setting.now.typing_mode.now m → IfOk result (SaysWhich (ListedGives (level_in setting.now m depth) (projection_at terms.old projection.now) (erased_at terms.old projection.now.rigid_alias) (term_rule setting.now.rows.now projection.now.item.now.id (erased_all terms.old projection.now.args.now))) (ListedRefuted (level_in setting.now m depth) (term_rule setting.now.rows.now projection.now.item.now.id (erased_all terms.old projection.now.args.now))) terms.new) }
-{
-    let rule = term_rule(setting.rows, terms, projection.item.id, projection.args)?;
-    listed_term(setting, terms, faults, projection, &rule, depth)
-}
-
-/// The term that what a built-in rule lists gives a projection.
-#[cycle(closed)]
-fn listed_term(
-    setting: &Setting<'_>,
-    terms: &mut TermTable,
-    faults: &mut Vec<DelayedFault>,
-    projection: &Projection<'_>,
-    rule: &ListedTerm,
-    depth: u32,
-) -> Result<Found, Stop>
-    requires projection { ProjectionIn terms.old projection.now }
-    requires rule { ListedIn terms.old rule.now }
-    ensures kept { Keeps terms.old terms.new }
-    ensures within { IfOk result (FoundIn terms.new) }
-    ensures stops { is_headline setting.now.typing_mode.now ≡ true → IfErr result (λ s. s ≡ Stop.OutOfMemory) }
-    ensures says { (m : TypingMode) → StandsFor setting.now.typing_mode.now m → IfOk result (SaysWhich (ListedGives (level_in setting.now m depth) (projection_at terms.old projection.now) (erased_at terms.old projection.now.rigid_alias) (listed_at terms.old rule.now)) (ListedRefuted (level_in setting.now m depth) (listed_at terms.old rule.now)) terms.new) }
-{
-    match rule {
-        ListedTerm::Nothing => Ok(Found::Refuted),
-        ListedTerm::Rigid => Ok(Found::Is(projection.rigid_alias)),
-        ListedTerm::Behind(premises, term) => {
-            behind_term(setting, terms, faults, premises.as_slice(), *term, depth)
-        }
-        ListedTerm::BySize(sized) => sized_term(setting, terms, faults, projection, *sized, depth),
-    }
-}
-
-/// The head form of a term, behind premises.
-#[cycle(closed)]
-fn behind_term(
-    setting: &Setting<'_>,
-    terms: &mut TermTable,
-    faults: &mut Vec<DelayedFault>,
-    premises: &[InternedPremise],
-    term: TermId,
-    depth: u32,
-) -> Result<Found, Stop>
-    requires premises { All (PremiseIn terms.old) premises.now }
-    requires term { IsIn terms.old term }
-    ensures kept { Keeps terms.old terms.new }
-    ensures within { IfOk result (FoundIn terms.new) }
-    ensures stops { is_headline setting.now.typing_mode.now ≡ true → IfErr result (λ s. s ≡ Stop.OutOfMemory) }
-    ensures says { (m : TypingMode) → StandsFor setting.now.typing_mode.now m → IfOk result (SaysWhich (λ u. PremisesHold (level_in setting.now m depth) (map (premise_at terms.old) premises.now) × HasHeadForm (level_in setting.now m depth) (erased_at terms.old term) u) (PremisesRefuted (level_in setting.now m depth) (map (premise_at terms.old) premises.now) ⊎ HeadFormRefuted (level_in setting.now m depth) (erased_at terms.old term)) terms.new) }
-{
-    let hold = premises_outcome(setting, terms, faults, premises, depth)?;
-    if let Outcome::Refuted = hold {
-        return Ok(Found::Refuted);
-    }
-    let found = head_form(setting, terms, faults, term, depth)?;
-    Ok(found_behind(hold, found))
-}
-
-/// The term of a projection that is `()` where its self type is `Sized`, and else stays.
-#[cycle(closed)]
-fn sized_term(
-    setting: &Setting<'_>,
-    terms: &mut TermTable,
-    faults: &mut Vec<DelayedFault>,
-    projection: &Projection<'_>,
-    sized: TraitId,
-    depth: u32,
-) -> Result<Found, Stop>
-    requires { ProjectionIn terms.old projection.now }
-    ensures kept { Keeps terms.old terms.new }
-    ensures within { IfOk result (FoundIn terms.new) }
-    ensures stops { is_headline setting.now.typing_mode.now ≡ true → IfErr result (λ s. s ≡ Stop.OutOfMemory) }
-    ensures says { (m : TypingMode) → StandsFor setting.now.typing_mode.now m → IfOk result (SaysWhich (ListedGives (level_in setting.now m depth) (projection_at terms.old projection.now) (erased_at terms.old projection.now.rigid_alias) (listed_by_size sized)) (ListedRefuted (level_in setting.now m depth) (listed_by_size sized)) terms.new) }
-{
-    let self_args = first_args(projection.args, 1);
-    match evaluate_trait_goal(setting, terms, faults, sized, self_args, depth)? {
-        TraitOutcome::Undecided => Ok(Found::Undecided),
-        TraitOutcome::Refuted => Ok(Found::Is(projection.rigid_alias)),
-        TraitOutcome::Holds(_) => {
-            let unit = intern_unit(setting.allocator(), terms)?;
-            Ok(Found::Is(unit))
-        }
-    }
 }

@@ -1,0 +1,99 @@
+-- Entries in a table of terms stay there, and stay the same, when the table grows.
+use Rattle.std.proofs.Common.{◌≡◌, List, ap, ap₂, refl}
+use Rattle.std.specs.Prelude.{Option, Some, None, Vec}
+use Rattle.std.specs.Global.{Global}
+use Rattle.goal_terms.specs.TableMeaning.{Keeps}
+use Rattle.goal_terms.specs.Tree.{Tree}
+use Rattle.goal_kinds.specs.Entries.{given_arguments, of_header, followed_by, as_it_stands, head_form_of, arguments, equal_terms, clause, expected}
+use Rattle.goal_kinds.specs.InternedEntries.{header_trees, arguments_at, ArgumentsIn, term_at, TermIn, entry_at, EntryIn, entries_at, EntriesIn, list_at, ListIn, projection_at, ProjectionIn}
+use Rattle.goal_kinds.specs.declared.lists.AskedProjection.{AskedProjection}
+use Rattle.goal_kinds.specs.declared.lists.InternedArguments.{InternedArguments}
+use Rattle.goal_kinds.specs.declared.lists.InternedArguments.TheVariants as named
+use Rattle.goal_kinds.specs.declared.lists.InternedTerm.{InternedTerm}
+use Rattle.goal_kinds.specs.declared.lists.InternedTerm.TheVariants as terms
+use Rattle.goal_kinds.specs.declared.lists.InternedEntry.{InternedEntry}
+use Rattle.goal_kinds.specs.declared.lists.InternedEntry.TheVariants as entries
+use Rattle.goal_kinds.proofs.InternedLemmas.{all-grow, map-same, in-grown, same-grown, are_in-grown, all_same-grown, predicate_in-grown, predicate_same-grown}
+
+-- arguments that are named
+pub arguments_in-grown : (T U : List Tree) → Keeps T U → (a : InternedArguments) → ArgumentsIn T a → ArgumentsIn U a
+arguments_in-grown T U k (named.Given ids) h = are_in-grown T U k ids.items h
+arguments_in-grown T U k (named.OfHeader r ids) h = are_in-grown T U k ids.items h
+arguments_in-grown T U k (named.OfOtherHeader r args n) h = tt
+arguments_in-grown T U k (named.FollowedBy n ids) h = are_in-grown T U k ids.items h
+
+pub arguments_same-grown : (T U : List Tree) → Keeps T U → (a : InternedArguments) → ArgumentsIn T a → arguments_at U a ≡ arguments_at T a
+arguments_same-grown T U k (named.Given ids) h = ap given_arguments (all_same-grown T U k ids.items h)
+arguments_same-grown T U k (named.OfHeader r ids) h = ap (of_header r.params.now (header_trees r.terms)) (all_same-grown T U k ids.items h)
+arguments_same-grown T U k (named.OfOtherHeader r args n) h = refl
+arguments_same-grown T U k (named.FollowedBy n ids) h = ap (followed_by n) (all_same-grown T U k ids.items h)
+
+-- what the expected term is
+pub term_in-grown : (T U : List Tree) → Keeps T U → (e : InternedTerm) → TermIn T e → TermIn U e
+term_in-grown T U k (terms.AsItStands id) h = in-grown T U k id h
+term_in-grown T U k (terms.HeadFormOf id) h = in-grown T U k id h
+term_in-grown T U k (terms.ValueUnder v n) h = tt
+term_in-grown T U k (terms.ChosenBy p a b) h = (predicate_in-grown T U k p h.0, in-grown T U k a h.1, in-grown T U k b h.2)
+
+pub term_same-grown : (T U : List Tree) → Keeps T U → (e : InternedTerm) → TermIn T e → term_at U e ≡ term_at T e
+term_same-grown T U k (terms.AsItStands id) h = ap as_it_stands (same-grown T U k id h)
+term_same-grown T U k (terms.HeadFormOf id) h = ap head_form_of (same-grown T U k id h)
+term_same-grown T U k (terms.ValueUnder v n) h = refl
+term_same-grown T U k (terms.ChosenBy p a b) h =
+    let first = predicate_same-grown T U k p h.0 in
+    let second = same-grown T U k a h.1 in
+    let third = same-grown T U k b h.2 in
+    cc (first, second, third)
+
+-- an entry
+pub entry_in-grown : (T U : List Tree) → Keeps T U → (e : InternedEntry) → EntryIn T e → EntryIn U e
+entry_in-grown T U k (entries.Arguments a) h = arguments_in-grown T U k a h
+entry_in-grown T U k (entries.EqualTerms a b) h = (are_in-grown T U k a.items h.0, are_in-grown T U k b.items h.1)
+entry_in-grown T U k (entries.Clause g p) h = predicate_in-grown T U k p h
+entry_in-grown T U k (entries.RowClauses cs n) h = tt
+entry_in-grown T U k (entries.RowConditions c rs n) h = tt
+entry_in-grown T U k (entries.Expected e) h = term_in-grown T U k e h
+entry_in-grown T U k (entries.Access a) h = tt
+entry_in-grown T U k (entries.DelayedFault f) h = tt
+entry_in-grown T U k entries.Evaluation h = tt
+entry_in-grown T U k entries.Ambiguous h = tt
+entry_in-grown T U k entries.Undecided h = tt
+entry_in-grown T U k entries.Refused h = tt
+
+pub entry_same-grown : (T U : List Tree) → Keeps T U → (e : InternedEntry) → EntryIn T e → entry_at U e ≡ entry_at T e
+entry_same-grown T U k (entries.Arguments a) h = ap arguments (arguments_same-grown T U k a h)
+entry_same-grown T U k (entries.EqualTerms a b) h = ap₂ equal_terms (all_same-grown T U k a.items h.0) (all_same-grown T U k b.items h.1)
+entry_same-grown T U k (entries.Clause g p) h = ap (clause g) (predicate_same-grown T U k p h)
+entry_same-grown T U k (entries.RowClauses cs n) h = refl
+entry_same-grown T U k (entries.RowConditions c rs n) h = refl
+entry_same-grown T U k (entries.Expected e) h = ap expected (term_same-grown T U k e h)
+entry_same-grown T U k (entries.Access a) h = refl
+entry_same-grown T U k (entries.DelayedFault f) h = refl
+entry_same-grown T U k entries.Evaluation h = refl
+entry_same-grown T U k entries.Ambiguous h = refl
+entry_same-grown T U k entries.Undecided h = refl
+entry_same-grown T U k entries.Refused h = refl
+
+-- some entries
+pub entries_in-grown : (T U : List Tree) → Keeps T U → (es : List InternedEntry) → EntriesIn T es → EntriesIn U es
+entries_in-grown T U k es h = all-grow (EntryIn T) (EntryIn U) (entry_in-grown T U k) es h
+
+pub entries_same-grown : (T U : List Tree) → Keeps T U → (es : List InternedEntry) → EntriesIn T es → entries_at U es ≡ entries_at T es
+entries_same-grown T U k es h = map-same (EntryIn T) (entry_at U) (entry_at T) (entry_same-grown T U k) es h
+
+-- the list of a rule
+pub list_in-grown : (T U : List Tree) → Keeps T U → (o : Option (Vec InternedEntry Global)) → ListIn T o → ListIn U o
+list_in-grown T U k None h = tt
+list_in-grown T U k (Some es) h = entries_in-grown T U k es.items h
+
+pub list_same-grown : (T U : List Tree) → Keeps T U → (o : Option (Vec InternedEntry Global)) → ListIn T o → list_at U o ≡ list_at T o
+list_same-grown T U k None h = refl
+list_same-grown T U k (Some es) h = ap Some (entries_same-grown T U k es.items h)
+
+-- a projection as it is asked
+pub projection_in-grown : (T U : List Tree) → Keeps T U → (p : AskedProjection) → ProjectionIn T p → ProjectionIn U p
+projection_in-grown T U k p h = (are_in-grown T U k p.args.now h.0, in-grown T U k p.rigid_alias h.1)
+
+pub projection_same-grown : (T U : List Tree) → Keeps T U → (p : AskedProjection) → ProjectionIn T p → projection_at U p ≡ projection_at T p
+projection_same-grown T U k p h =
+    ap (λ ts. record { item = p.item.now; trait_params = p.trait_params; args = ts }) (all_same-grown T U k p.args.now h.0)

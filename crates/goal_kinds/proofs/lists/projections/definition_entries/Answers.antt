@@ -1,0 +1,25 @@
+use Rattle.std.proofs.Common.{ap, ◌∙◌}
+use Rattle.std.proofs.lemmas.Result.{IfOk-weaker}
+use Rattle.goal_kinds.specs.Interned.{erased_at}
+use Rattle.goal_kinds.specs.InternedEntries.{setting_at, projection_at}
+use Rattle.goal_kinds.specs.ProjectionLists.{definition_entries}
+use Rattle.goal_kinds.proofs.lists.projections.definition_entries.Goals as goal
+
+pub returns-in_default-clause-within : goal.returns-in_default-clause-within
+returns-in_default-clause-within c = c.undecided.ensures.within c.args.terms.now
+
+pub returns-in_default-clause-entries : goal.returns-in_default-clause-entries
+returns-in_default-clause-entries c env =
+    IfOk-weaker c.undecided.result _ _
+    (λ es made. made
+    ∙ ap (definition_entries (setting_at c.args.setting env) c.args.row.now (projection_at c.args.terms.now c.args.asked.now)
+    (erased_at c.args.terms.now c.args.asked.now.rigid_alias)) c.in_default.ensures)
+    (c.undecided.ensures.entries c.args.terms.now)
+
+pub returns-clause-entries : goal.returns-clause-entries
+returns-clause-entries c env =
+    IfOk-weaker c.value_entries.result _ _
+    (λ es made. made
+    ∙ ap (definition_entries (setting_at c.args.setting env) c.args.row.now (projection_at c.args.terms.now c.args.asked.now)
+    (erased_at c.args.terms.now c.args.asked.now.rigid_alias)) c.in-Some.ensures)
+    (c.value_entries.ensures.entries env)

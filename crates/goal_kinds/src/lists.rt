@@ -1,0 +1,151 @@
+//! Entries of lists whose terms are given by their numbers in a table. What is a row's is borrowed from
+//! the tables, and read under arguments when the list is run.
+pub mod aliases;
+pub mod effects;
+pub(crate) mod parts;
+pub mod projections;
+pub mod traits;
+
+use crate::candidates::interned::InternedPredicate;
+use goal_tables::lookup::IndexedTables;
+use goal_tables::rows::ItemRow;
+use goal_terms::answers::{DelayedFault, GoalSource, OpaqueAccess, ParamKind};
+use goal_terms::modes::TypingMode;
+use goal_terms::predicates::{BoundConstness, Clause, TraitRef};
+use goal_terms::term_nodes::TermId;
+use goal_terms::terms::{GenericArg, Term, Ty};
+
+/// What lists are made for: the tables, and a typing mode. An environment says nothing of them.
+#[derive(Clone, Copy)]
+pub struct ListSetting<'t, 'm> {
+    pub rows: &'t IndexedTables,
+    pub mode: &'m TypingMode,
+}
+
+/// A projection as it is asked: its item, how many arguments are the trait's, all arguments, the self type
+/// being a head form, and the alias itself, which has these arguments.
+#[derive(Clone, Copy)]
+pub struct AskedProjection<'t, 'a> {
+    pub item: &'t ItemRow,
+    pub trait_params: usize,
+    pub args: &'a [TermId],
+    pub rigid_alias: TermId,
+}
+
+/// The terms of a row's header: the arguments of a trait, or a self type alone.
+#[derive(Clone, Copy, Debug)]
+pub enum HeaderTerms<'t> {
+    Arguments(&'t [GenericArg]),
+    SelfType(&'t Ty),
+}
+
+/// A row's header, with the kinds of its parameters.
+#[derive(Clone, Copy, Debug)]
+pub struct RowHeader<'t> {
+    pub params: &'t [ParamKind],
+    pub terms: HeaderTerms<'t>,
+}
+
+/// A row's value.
+#[derive(Clone, Copy, Debug)]
+pub enum RowValueTerm<'t> {
+    Term(&'t Term),
+    Ty(&'t Ty),
+}
+
+/// Arguments that later entries take. Those that are named are counted from 0.
+#[derive(Debug)]
+pub enum InternedArguments<'t> {
+    /// These, as they stand.
+    Given(Vec<TermId>),
+    /// Those of a row's header, which is matched with given arguments.
+    OfHeader(RowHeader<'t>, Vec<TermId>),
+    /// Those of another impl's header, which is matched with the terms of a row's header under the
+    /// arguments of a number.
+    OfOtherHeader(RowHeader<'t>, &'t [GenericArg], usize),
+    /// Those of a number, and own ones behind them.
+    FollowedBy(usize, Vec<TermId>),
+}
+
+impl Drop for InternedArguments<'_> {
+    fn drop(self) {
+        match self {
+            InternedArguments::Given(_) => {}
+            InternedArguments::OfHeader(_, _) => {}
+            InternedArguments::OfOtherHeader(_, _, _) => {}
+            InternedArguments::FollowedBy(_, _) => {}
+        }
+    }
+}
+
+/// What the expected term is.
+#[derive(Debug)]
+pub enum InternedTerm<'t> {
+    /// This term, as it stands.
+    AsItStands(TermId),
+    /// The head form of this term.
+    HeadFormOf(TermId),
+    /// The head form of a row's value, under the arguments of a number.
+    ValueUnder(RowValueTerm<'t>, usize),
+    /// The first of two terms where a clause holds, the second where it is refuted.
+    ChosenBy(InternedPredicate, TermId, TermId),
+}
+
+impl Drop for InternedTerm<'_> {
+    fn drop(self) {
+        match self {
+            InternedTerm::AsItStands(_) => {}
+            InternedTerm::HeadFormOf(_) => {}
+            InternedTerm::ValueUnder(_, _) => {}
+            InternedTerm::ChosenBy(_, _, _) => {}
+        }
+    }
+}
+
+/// One thing that a rule asks for, or leaves behind.
+#[derive(Debug)]
+pub enum InternedEntry<'t> {
+    /// Arguments are named.
+    Arguments(InternedArguments<'t>),
+    /// Two lists of terms are equal, in pairs.
+    EqualTerms(Vec<TermId>, Vec<TermId>),
+    /// A clause holds.
+    Clause(GoalSource, InternedPredicate),
+    /// The clauses of a row hold, under the arguments of a number.
+    RowClauses(&'t [Clause], usize),
+    /// The const conditions of a row hold with a constness, under the arguments of a number.
+    RowConditions(BoundConstness, &'t [TraitRef], usize),
+    /// The goal's expected term.
+    Expected(InternedTerm<'t>),
+    /// An access to an opaque type is recorded.
+    Access(OpaqueAccess),
+    /// A delayed fault is recorded.
+    DelayedFault(DelayedFault),
+    /// What was asked for so far is evaluated before the rest is.
+    Evaluation,
+    /// The goal that is always ambiguous.
+    Ambiguous,
+    /// Nothing decides the rule here.
+    Undecided,
+    /// The rule doesn't stand.
+    Refused,
+}
+
+impl Drop for InternedEntry<'_> {
+    fn drop(self) {
+        match self {
+            InternedEntry::Arguments(_) => {}
+            InternedEntry::EqualTerms(_, _) => {}
+            InternedEntry::Clause(_, _) => {}
+            InternedEntry::RowClauses(_, _) => {}
+            InternedEntry::RowConditions(_, _, _) => {}
+            InternedEntry::Expected(_) => {}
+            InternedEntry::Access(_) => {}
+            InternedEntry::DelayedFault(_) => {}
+            InternedEntry::Evaluation => {}
+            InternedEntry::Ambiguous => {}
+            InternedEntry::Undecided => {}
+            InternedEntry::Refused => {}
+        }
+    }
+}

@@ -1,0 +1,139 @@
+//! The candidates for a trait that is asked, as it is or as a const trait: each is evaluated by its list.
+ghost use Rattle.std.specs.Prelude.{IfErr, ◌≡◌, true, IfOk, map};
+ghost use Rattle.std.specs.List.{All};
+ghost use Rattle.goal_terms.specs.TableMeaning.{Keeps};
+ghost use Rattle.goal_terms.specs.declared.modes.TypingMode.{TypingMode};
+ghost use Rattle.goal_kinds.specs.Candidates.{class_of};
+ghost use Rattle.goal_kinds.specs.Interned.{CandidateIn, erased_at, candidate_at};
+ghost use Rattle.goal_kinds.specs.InternedEntries.{ListIn, list_at};
+ghost use Rattle.goal_kinds.specs.Settings.{is_headline};
+ghost use Rattle.goal_solver.specs.AskedTraits.{AskedIn, candidate_list, SaysCandidate, SaysCandidates};
+ghost use Rattle.goal_solver.specs.Lists.{IsListFor};
+ghost use Rattle.goal_solver.specs.Outcomes.{StandsFor, setting_in, level_in};
+
+use crate::eval::lists::run_list;
+use crate::eval::outcomes::{Outcome, Setting, Stop};
+use goal_kinds::candidates::interned::InternedCandidate;
+use goal_kinds::candidates::lists::candidates_of_class;
+use goal_kinds::lists::InternedEntry;
+use goal_kinds::lists::effects::effect_list;
+use goal_kinds::lists::traits::trait_list;
+use goal_terms::answers::{DelayedFault, TraitGoalProvenVia};
+use goal_terms::ids::TraitId;
+use goal_terms::modes::TypingMode;
+use goal_terms::predicates::BoundConstness;
+use goal_terms::term_nodes::{OutOfMemory, TermId};
+use goal_terms::term_table::TermTable;
+
+/// A trait whose self type is a head form, which is the first of its arguments. It is asked as a const trait
+/// where a constness is.
+#[derive(Clone, Copy)]
+pub struct AskedTrait<'a> {
+    pub constness: Option<BoundConstness>,
+    pub trait_id: TraitId,
+    pub self_ty: TermId,
+    pub args: &'a [TermId],
+}
+
+/// The list of a candidate for a trait that is asked, or none where its rule is refused. Want of memory or
+/// of numbers is the only fault.
+fn candidate_list<'e>(
+    setting: &Setting<'e>,
+    terms: &mut TermTable,
+    asked: &AskedTrait<'_>,
+    candidate: &InternedCandidate<'e>,
+) -> Result<Option<Vec<InternedEntry<'e>>>, OutOfMemory>
+    requires asked { AskedIn terms.old asked.now }
+    requires candidate { CandidateIn terms.old candidate.now }
+    ensures kept { Keeps terms.old terms.new }
+    ensures within { IfOk result (ListIn terms.new) }
+    ensures list { (m : TypingMode) → StandsFor setting.now.typing_mode.now m → IfOk result (λ o. IsListFor setting.now.typing_mode.now (list_at terms.new o) (candidate_list (setting_in setting.now m) terms.old asked.now (candidate_at terms.old candidate.now))) }
+{
+    let erased = TypingMode::ErasedNotCoherence;
+    let lists = setting.of_lists(&erased);
+    match asked.constness {
+        None => trait_list(lists, terms, asked.trait_id, asked.args, candidate),
+        Some(constness) => effect_list(
+            lists,
+            terms,
+            constness,
+            asked.trait_id,
+            asked.args,
+            candidate,
+        ),
+    }
+}
+
+/// Whether a candidate shows at a depth that a trait holds.
+#[cycle(closed)]
+pub(crate) fn consider_candidate(
+    setting: &Setting<'_>,
+    terms: &mut TermTable,
+    faults: &mut Vec<DelayedFault>,
+    asked: &AskedTrait<'_>,
+    candidate: &InternedCandidate<'_>,
+    depth: u32,
+) -> Result<Outcome, Stop>
+    requires asked { AskedIn terms.old asked.now }
+    requires candidate { CandidateIn terms.old candidate.now }
+    ensures kept { Keeps terms.old terms.new }
+    ensures stops { is_headline setting.now.typing_mode.now ≡ true → IfErr result (λ s. s ≡ Stop.OutOfMemory) }
+    ensures says { (m : TypingMode) → StandsFor setting.now.typing_mode.now m → IfOk result (SaysCandidate (setting_in setting.now m) (level_in setting.now m depth) terms.old asked.now (candidate_at terms.old candidate.now)) }
+{
+    let list = candidate_list(&*setting, terms, asked, &*candidate)?;
+    let found = run_list(setting, terms, faults, &list, depth)?;
+    Ok(found.held())
+}
+
+/// Whether one of some candidates shows at a depth that a trait holds. They are refuted where each of them is.
+#[cycle(closed)]
+pub(crate) fn candidates_outcome(
+    setting: &Setting<'_>,
+    terms: &mut TermTable,
+    faults: &mut Vec<DelayedFault>,
+    asked: &AskedTrait<'_>,
+    candidates: &[InternedCandidate<'_>],
+    depth: u32,
+) -> Result<Outcome, Stop>
+    requires asked { AskedIn terms.old asked.now }
+    requires candidates { All (CandidateIn terms.old) candidates.now }
+    ensures kept { Keeps terms.old terms.new }
+    ensures stops { is_headline setting.now.typing_mode.now ≡ true → IfErr result (λ s. s ≡ Stop.OutOfMemory) }
+    ensures says { (m : TypingMode) → StandsFor setting.now.typing_mode.now m → IfOk result (SaysCandidates (setting_in setting.now m) (level_in setting.now m depth) terms.old asked.now (map (candidate_at terms.old) candidates.now)) }
+{
+    let mut found = Outcome::Refuted;
+    for candidate in candidates {
+        let next = consider_candidate(setting, terms, faults, asked, candidate, depth)?;
+        found = found.or(next);
+        if let Outcome::Holds = found {
+            return Ok(Outcome::Holds);
+        }
+    }
+    Ok(found)
+}
+
+/// Whether one of the candidates of a class shows at a depth that a trait holds.
+#[cycle(closed)]
+pub(crate) fn class_outcome(
+    setting: &Setting<'_>,
+    terms: &mut TermTable,
+    faults: &mut Vec<DelayedFault>,
+    asked: &AskedTrait<'_>,
+    class: TraitGoalProvenVia,
+    depth: u32,
+) -> Result<Outcome, Stop>
+    requires { AskedIn terms.old asked.now }
+    ensures kept { Keeps terms.old terms.new }
+    ensures stops { is_headline setting.now.typing_mode.now ≡ true → IfErr result (λ s. s ≡ Stop.OutOfMemory) }
+    ensures says { (m : TypingMode) → StandsFor setting.now.typing_mode.now m → IfOk result (SaysCandidates (setting_in setting.now m) (level_in setting.now m depth) terms.old asked.now (class_of (setting_in setting.now m) asked.now.trait_id (erased_at terms.old asked.now.self_ty) class)) }
+{
+    let candidates = candidates_of_class(
+        setting.rows,
+        setting.environment,
+        terms,
+        asked.trait_id,
+        asked.self_ty,
+        class,
+    )?;
+    candidates_outcome(setting, terms, faults, asked, &candidates, depth)
+}

@@ -1,0 +1,93 @@
+//! Host effect goals: whether a trait holds as a const trait.
+ghost use Rattle.std.specs.Prelude.{IfErr, ◌≡◌, true, IfOk};
+ghost use Rattle.goal_terms.specs.TableMeaning.{Keeps};
+ghost use Rattle.goal_terms.specs.declared.modes.TypingMode.{TypingMode};
+ghost use Rattle.goal_kinds.specs.Interned.{AreIn, erased_all};
+ghost use Rattle.goal_kinds.specs.Settings.{is_headline};
+ghost use Rattle.goal_solver.specs.AskedTraits.{AskedIn, SaysGroups};
+ghost use Rattle.goal_solver.specs.Outcomes.{StandsFor, setting_in, level_in, Says};
+
+use crate::assembly::candidates::{AskedTrait, candidates_outcome, class_outcome};
+use crate::eval::head_forms::head_form;
+use crate::eval::outcomes::{Found, Outcome, Setting, Stop, TraitOutcome};
+use crate::eval::self_types::{split_self_type, with_self_type};
+use crate::trait_goals::evaluation::evaluate_trait_goal;
+use goal_kinds::candidates::lists::second_group;
+use goal_terms::answers::{DelayedFault, TraitGoalProvenVia};
+use goal_terms::ids::TraitId;
+use goal_terms::predicates::BoundConstness;
+use goal_terms::term_nodes::TermId;
+use goal_terms::term_table::TermTable;
+
+/// Whether a trait holds at a depth as a const trait of a constness: where the plain goal holds, by the
+/// candidates for the head form of its self type.
+#[cycle(closed)]
+pub fn evaluate_host_effect_goal(
+    setting: &Setting<'_>,
+    terms: &mut TermTable,
+    faults: &mut Vec<DelayedFault>,
+    constness: BoundConstness,
+    trait_id: TraitId,
+    args: &[TermId],
+    depth: u32,
+) -> Result<Outcome, Stop>
+    requires { AreIn terms.old args.now }
+    ensures kept { Keeps terms.old terms.new }
+    ensures stops { is_headline setting.now.typing_mode.now ≡ true → IfErr result (λ s. s ≡ Stop.OutOfMemory) }
+    ensures says { (m : TypingMode) → StandsFor setting.now.typing_mode.now m → IfOk result (Says ((level_in setting.now m depth).const_holds constness trait_id (erased_all terms.old args.now)) ((level_in setting.now m depth).const_refuted constness trait_id (erased_all terms.old args.now))) }
+{
+    if depth == 0 {
+        return Ok(Outcome::Undecided);
+    }
+    let Some((first, rest)) = split_self_type(args) else {
+        return Ok(Outcome::Undecided);
+    };
+    let plain = evaluate_trait_goal(setting, terms, faults, trait_id, args, depth - 1)?;
+    let TraitOutcome::Holds(class) = plain else {
+        return Ok(plain.held());
+    };
+    let found = head_form(setting, terms, faults, first, depth - 1)?;
+    let Found::Is(self_ty) = found else {
+        return Ok(Outcome::Undecided);
+    };
+    let replaced = with_self_type(setting.rows, self_ty, rest)?;
+    let asked = AskedTrait {
+        constness: Some(constness),
+        trait_id,
+        self_ty,
+        args: replaced.as_slice(),
+    };
+    groups_outcome(setting, terms, faults, &asked, class, depth - 1)
+}
+
+/// Whether the candidates for a trait that holds through a class show at a depth that it does so as it is
+/// asked: those of the environment, and if these are refuted, those that go by the class.
+#[cycle(closed)]
+fn groups_outcome(
+    setting: &Setting<'_>,
+    terms: &mut TermTable,
+    faults: &mut Vec<DelayedFault>,
+    asked: &AskedTrait<'_>,
+    class: TraitGoalProvenVia,
+    depth: u32,
+) -> Result<Outcome, Stop>
+    requires { AskedIn terms.old asked.now }
+    ensures kept { Keeps terms.old terms.new }
+    ensures stops { is_headline setting.now.typing_mode.now ≡ true → IfErr result (λ s. s ≡ Stop.OutOfMemory) }
+    ensures says { (m : TypingMode) → StandsFor setting.now.typing_mode.now m → IfOk result (SaysGroups (setting_in setting.now m) (level_in setting.now m depth) terms.old asked.now class) }
+{
+    let environment = TraitGoalProvenVia::ParamEnv;
+    let first = class_outcome(setting, terms, faults, asked, environment, depth)?;
+    let Outcome::Refuted = first else {
+        return Ok(first);
+    };
+    let candidates = second_group(
+        setting.rows,
+        setting.environment,
+        terms,
+        asked.trait_id,
+        asked.self_ty,
+        class,
+    )?;
+    candidates_outcome(setting, terms, faults, asked, &candidates, depth)
+}

@@ -1,0 +1,122 @@
+//! Running a list of entries.
+ghost use Rattle.std.specs.Prelude.{◌≡◌, true, List, Option, IfErr, IfOk};
+ghost use Rattle.goal_terms.specs.TableMeaning.{Keeps};
+ghost use Rattle.goal_terms.specs.declared.modes.TypingMode.{TypingMode};
+ghost use Rattle.goal_kinds.specs.Entries.{Entry};
+ghost use Rattle.goal_kinds.specs.InternedEntries.{EntriesIn, entries_at, ListIn, list_at};
+ghost use Rattle.goal_kinds.specs.Settings.{is_headline};
+ghost use Rattle.goal_solver.specs.Lists.{list_mode, IsListFor, SaysList, SaysEntries, AtEachLevel, ListTermIn, list_held, list_term};
+ghost use Rattle.goal_solver.specs.Outcomes.{StandsFor, level_in};
+
+pub(crate) mod entries;
+pub(crate) mod progress;
+
+use crate::eval::lists::entries::run_entry;
+use crate::eval::lists::progress::ListRun;
+use crate::eval::mode_tests::is_headline;
+use crate::eval::outcomes::{Found, Outcome, Setting, Stop};
+use crate::eval::run_rule::progress::Reached;
+use goal_kinds::lists::{InternedEntry, ListSetting};
+use goal_terms::answers::DelayedFault;
+use goal_terms::modes::TypingMode;
+use goal_terms::term_nodes::TermId;
+use goal_terms::term_table::TermTable;
+
+/// What a list of entries comes to. Where it holds and asks for a term, this is the term.
+#[derive(Clone, Copy)]
+pub enum ListOutcome {
+    Holds(Option<TermId>),
+    Refuted,
+    Undecided,
+}
+
+impl ListOutcome {
+    /// Whether the list holds, with whichever term.
+    pub(crate) fn held(self) -> Outcome
+        ensures { result ≡ list_held self }
+    {
+        match self {
+            ListOutcome::Holds(_) => Outcome::Holds,
+            ListOutcome::Refuted => Outcome::Refuted,
+            ListOutcome::Undecided => Outcome::Undecided,
+        }
+    }
+
+    /// Which term the list gives; nothing is found where it asks for none.
+    pub(crate) fn term(self) -> Found
+        ensures { result ≡ list_term self }
+    {
+        match self {
+            ListOutcome::Holds(Some(id)) => Found::Is(id),
+            ListOutcome::Refuted => Found::Refuted,
+            ListOutcome::Holds(None) | ListOutcome::Undecided => Found::Undecided,
+        }
+    }
+}
+
+impl<'e> Setting<'e> {
+    /// What the lists of a run are made for. A mode that isn't of the headline goes by the lists of the erased
+    /// mode, which is handed in; they say where a mode is read.
+    pub(crate) fn of_lists<'m>(&'m self, erased: &'m TypingMode) -> ListSetting<'e, 'm>
+        requires { erased.now ≡ TypingMode.ErasedNotCoherence }
+        ensures rows { result.rows ≡ self.now.rows }
+        ensures mode { result.mode.now ≡ list_mode self.now.typing_mode.now }
+    {
+        let mode = if is_headline(self.typing_mode) {
+            self.typing_mode
+        } else {
+            erased
+        };
+        ListSetting {
+            rows: self.rows,
+            mode,
+        }
+    }
+}
+
+/// What a rule's list comes to at a depth; a rule that is refused has none, and is refuted.
+#[cycle(closed)]
+pub(crate) fn run_list(
+    setting: &Setting<'_>,
+    terms: &mut TermTable,
+    faults: &mut Vec<DelayedFault>,
+    list: &Option<Vec<InternedEntry<'_>>>,
+    depth: u32,
+) -> Result<ListOutcome, Stop>
+    requires { ListIn terms.old list.now }
+    ensures kept { Keeps terms.old terms.new }
+    ensures within { IfOk result (ListTermIn terms.new) }
+    ensures stops { is_headline setting.now.typing_mode.now ≡ true → IfErr result (λ s. s ≡ Stop.OutOfMemory) }
+    ensures says { (m : TypingMode) → StandsFor setting.now.typing_mode.now m → (q : Option (List Entry)) → IsListFor setting.now.typing_mode.now (list_at terms.old list.now) q → IfOk result (SaysList (level_in setting.now m depth) q terms.new) }
+{
+    match list {
+        None => Ok(ListOutcome::Refuted),
+        Some(entries) => run_entries(setting, terms, faults, entries, depth),
+    }
+}
+
+/// What a list of entries comes to at a depth.
+#[cycle(closed)]
+fn run_entries(
+    setting: &Setting<'_>,
+    terms: &mut TermTable,
+    faults: &mut Vec<DelayedFault>,
+    entries: &[InternedEntry<'_>],
+    depth: u32,
+) -> Result<ListOutcome, Stop>
+    requires { EntriesIn terms.old entries.now }
+    ensures kept { Keeps terms.old terms.new }
+    ensures within { IfOk result (ListTermIn terms.new) }
+    ensures stops { is_headline setting.now.typing_mode.now ≡ true → IfErr result (λ s. s ≡ Stop.OutOfMemory) }
+    ensures says { AtEachLevel setting.now depth (λ L. IfOk result (SaysEntries setting.now.typing_mode.now (entries_at terms.old entries.now) L terms.new)) }
+{
+    let mut run = ListRun::new(setting.allocator());
+    for entry in entries {
+        match run_entry(setting, terms, faults, &mut run, entry, depth)? {
+            Reached::Next => {}
+            Reached::Refuted => return Ok(ListOutcome::Refuted),
+            Reached::Undecided => return Ok(ListOutcome::Undecided),
+        }
+    }
+    Ok(run.outcome())
+}

@@ -1,0 +1,72 @@
+//! The terms that aliases stand for, by their lists.
+ghost use Rattle.std.specs.Prelude.{◌≡◌, true, Some, IfErr, IfOk};
+ghost use Rattle.goal_terms.specs.TableMeaning.{Keeps};
+ghost use Rattle.goal_terms.specs.declared.modes.TypingMode.{TypingMode as modes};
+ghost use Rattle.goal_kinds.specs.AliasLists.{alias_list};
+ghost use Rattle.goal_kinds.specs.Interned.{AreIn, erased_all};
+ghost use Rattle.goal_kinds.specs.InternedEntries.{EntriesIn, entries_at};
+ghost use Rattle.goal_kinds.specs.Settings.{is_headline};
+ghost use Rattle.goal_solver.specs.Lists.{IsListFor};
+ghost use Rattle.goal_solver.specs.Outcomes.{StandsFor, setting_in, level_in, SaysWhich, FoundIn};
+
+use crate::eval::instances::alias_number;
+use crate::eval::lists::run_list;
+use crate::eval::outcomes::{Found, Setting, Stop};
+use crate::normalizes_to::projections::projection_term;
+use goal_kinds::lists::InternedEntry;
+use goal_kinds::lists::aliases::alias_list;
+use goal_terms::answers::DelayedFault;
+use goal_terms::modes::TypingMode;
+use goal_terms::term_nodes::{OutOfMemory, TermId};
+use goal_terms::term_table::TermTable;
+use goal_terms::terms::AliasTermKind;
+
+/// The term that an alias has at a depth. Each alias but a projection is normalized by its list.
+#[cycle(closed)]
+pub fn alias_term(
+    setting: &Setting<'_>,
+    terms: &mut TermTable,
+    faults: &mut Vec<DelayedFault>,
+    kind: AliasTermKind,
+    args: &[TermId],
+    depth: u32,
+) -> Result<Found, Stop>
+    requires { AreIn terms.old args.now }
+    ensures kept { Keeps terms.old terms.new }
+    ensures within { IfOk result (FoundIn terms.new) }
+    ensures stops { is_headline setting.now.typing_mode.now ≡ true → IfErr result (λ s. s ≡ Stop.OutOfMemory) }
+    ensures says { (m : modes) → StandsFor setting.now.typing_mode.now m → IfOk result (SaysWhich ((level_in setting.now m depth).gives kind (erased_all terms.old args.now)) ((level_in setting.now m depth).gives_refuted kind (erased_all terms.old args.now)) terms.new) }
+{
+    if depth == 0 {
+        return Ok(Found::Undecided);
+    }
+    match kind {
+        AliasTermKind::ProjectionTy(item) | AliasTermKind::ProjectionConst(item) => {
+            projection_term(setting, terms, faults, kind, item, args, depth - 1)
+        }
+        _ => {
+            let list = list_of_alias(setting, terms, kind, args)?;
+            let outcome = run_list(setting, terms, faults, &Some(list), depth - 1)?;
+            Ok(outcome.term())
+        }
+    }
+}
+
+/// The list of an alias that is no projection, by which a run goes. The table gets the alias. Want of
+/// memory or of numbers is the only refusal.
+fn list_of_alias<'t>(
+    setting: &Setting<'t>,
+    terms: &mut TermTable,
+    kind: AliasTermKind,
+    args: &[TermId],
+) -> Result<Vec<InternedEntry<'t>>, OutOfMemory>
+    requires { AreIn terms.old args.now }
+    ensures kept { Keeps terms.old terms.new }
+    ensures within { IfOk result (λ es. EntriesIn terms.new es.items) }
+    ensures list { (m : modes) → StandsFor setting.now.typing_mode.now m → IfOk result (λ es. IsListFor setting.now.typing_mode.now (Some (entries_at terms.new es.items)) (Some (alias_list (setting_in setting.now m) kind (erased_all terms.old args.now)))) }
+{
+    let itself = alias_number(setting, terms, kind, args)?;
+    let erased = TypingMode::ErasedNotCoherence;
+    let of_lists = setting.of_lists(&erased);
+    alias_list(of_lists, setting.allocator(), kind, args, itself)
+}

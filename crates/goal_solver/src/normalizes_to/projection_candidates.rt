@@ -1,0 +1,95 @@
+//! The terms that candidates give projections, by their lists.
+ghost use Rattle.std.specs.Prelude.{◌≡◌, true, false, IfErr, IfOk};
+ghost use Rattle.goal_terms.specs.TableMeaning.{Keeps};
+ghost use Rattle.goal_terms.specs.declared.modes.TypingMode.{TypingMode as modes};
+ghost use Rattle.goal_kinds.specs.Interned.{CandidateIn, erased_at, candidate_at};
+ghost use Rattle.goal_kinds.specs.InternedEntries.{ListIn, list_at};
+ghost use Rattle.goal_kinds.specs.ProjectionLists.{projection_list};
+ghost use Rattle.goal_kinds.specs.Projections.{CandidateGives, TermRefuted};
+ghost use Rattle.goal_kinds.specs.Settings.{is_headline};
+ghost use Rattle.goal_solver.specs.Lists.{IsListFor};
+ghost use Rattle.goal_solver.specs.Outcomes.{StandsFor, setting_in, level_in, SaysWhich, FoundIn, ProjectionIn, projection_at};
+
+use crate::eval::lists::run_list;
+use crate::eval::mode_tests::is_coherence;
+use crate::eval::outcomes::{Found, Projection, Setting, Stop};
+use goal_kinds::candidates::interned::InternedCandidate;
+use goal_kinds::lists::projections::projection_list;
+use goal_kinds::lists::{AskedProjection, InternedEntry};
+use goal_terms::answers::{DelayedFault, OpaqueAccess};
+use goal_terms::modes::TypingMode;
+use goal_terms::term_nodes::{OutOfMemory, TermId};
+use goal_terms::term_table::TermTable;
+
+/// The term that a candidate gives a projection. In coherence an impl that leaves the alias as it is
+/// decides nothing.
+#[cycle(closed)]
+pub(crate) fn candidate_term(
+    setting: &Setting<'_>,
+    terms: &mut TermTable,
+    faults: &mut Vec<DelayedFault>,
+    projection: &Projection<'_>,
+    candidate: &InternedCandidate<'_>,
+    depth: u32,
+) -> Result<Found, Stop>
+    requires projection { ProjectionIn terms.old projection.now }
+    requires candidate { CandidateIn terms.old candidate.now }
+    ensures kept { Keeps terms.old terms.new }
+    ensures within { IfOk result (FoundIn terms.new) }
+    ensures stops { is_headline setting.now.typing_mode.now ≡ true → IfErr result (λ s. s ≡ Stop.OutOfMemory) }
+    ensures says { (m : modes) → StandsFor setting.now.typing_mode.now m → IfOk result (SaysWhich (λ u. CandidateGives (setting_in setting.now m) (level_in setting.now m depth) (projection_at terms.old projection.now) (erased_at terms.old projection.now.rigid_alias) u (candidate_at terms.old candidate.now)) (TermRefuted (setting_in setting.now m) (level_in setting.now m depth) (projection_at terms.old projection.now) (candidate_at terms.old candidate.now)) terms.new) }
+{
+    let list = candidate_list(&*setting, terms, &*projection, &*candidate)?;
+    let outcome = run_list(setting, terms, faults, &list, depth)?;
+    let found = outcome.term();
+    if stays_ambiguous(
+        setting.typing_mode,
+        candidate,
+        projection.rigid_alias,
+        found,
+    ) {
+        return Err(Stop::ReadsMode(OpaqueAccess::Always));
+    }
+    Ok(found)
+}
+
+/// The list of a candidate for a projection's term, by which a run goes, or none where its rule is refused.
+/// The table gets the terms. Want of memory or of numbers is the only fault.
+fn candidate_list<'t>(
+    setting: &Setting<'t>,
+    terms: &mut TermTable,
+    projection: &Projection<'t>,
+    candidate: &InternedCandidate<'t>,
+) -> Result<Option<Vec<InternedEntry<'t>>>, OutOfMemory>
+    requires projection { ProjectionIn terms.old projection.now }
+    requires candidate { CandidateIn terms.old candidate.now }
+    ensures kept { Keeps terms.old terms.new }
+    ensures within { IfOk result (ListIn terms.new) }
+    ensures list { (m : modes) → StandsFor setting.now.typing_mode.now m → IfOk result (λ o. IsListFor setting.now.typing_mode.now (list_at terms.new o) (projection_list (setting_in setting.now m) (projection_at terms.old projection.now) (erased_at terms.old projection.now.rigid_alias) (candidate_at terms.old candidate.now))) }
+{
+    let asked = AskedProjection {
+        item: projection.item,
+        trait_params: projection.trait_params,
+        args: projection.args,
+        rigid_alias: projection.rigid_alias,
+    };
+    let erased = TypingMode::ErasedNotCoherence;
+    projection_list(setting.of_lists(&erased), terms, &asked, candidate)
+}
+
+/// Whether an impl leaves a projection's alias as it is in coherence, where that is ambiguous.
+fn stays_ambiguous(
+    mode: &TypingMode,
+    candidate: &InternedCandidate<'_>,
+    rigid_alias: TermId,
+    found: Found,
+) -> bool
+    ensures { result ≡ true → is_headline mode.now ≡ false }
+{
+    match (candidate, found) {
+        (InternedCandidate::Impl(_), Found::Is(term)) => {
+            term == rigid_alias && is_coherence(mode)
+        }
+        _ => false,
+    }
+}

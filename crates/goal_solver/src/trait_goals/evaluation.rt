@@ -1,0 +1,89 @@
+//! Trait goals: by which class of candidates they hold.
+ghost use Rattle.std.specs.Prelude.{IfErr, ◌≡◌, true, None, IfOk};
+ghost use Rattle.goal_terms.specs.TableMeaning.{Keeps};
+ghost use Rattle.goal_terms.specs.declared.modes.TypingMode.{TypingMode};
+ghost use Rattle.goal_kinds.specs.Interned.{AreIn, erased_at, erased_all};
+ghost use Rattle.goal_kinds.specs.Settings.{is_headline};
+ghost use Rattle.goal_solver.specs.AskedTraits.{AskedIn};
+ghost use Rattle.goal_solver.specs.Outcomes.{StandsFor, setting_in, level_in, SaysThrough};
+ghost use Rattle.goal_solver.specs.TraitOutcomes.{SaysClasses};
+
+use crate::assembly::candidates::{AskedTrait, class_outcome};
+use crate::eval::head_forms::head_form;
+use crate::eval::outcomes::{Found, Setting, Stop, TraitOutcome};
+use crate::eval::self_types::{split_self_type, with_self_type};
+use goal_terms::answers::{DelayedFault, TraitGoalProvenVia};
+use goal_terms::ids::TraitId;
+use goal_terms::term_nodes::TermId;
+use goal_terms::term_table::TermTable;
+
+/// Whether a trait goal holds at a depth, and through which class.
+#[cycle(closed)]
+pub fn evaluate_trait_goal(
+    setting: &Setting<'_>,
+    terms: &mut TermTable,
+    faults: &mut Vec<DelayedFault>,
+    trait_id: TraitId,
+    args: &[TermId],
+    depth: u32,
+) -> Result<TraitOutcome, Stop>
+    requires { AreIn terms.old args.now }
+    ensures kept { Keeps terms.old terms.new }
+    ensures stops { is_headline setting.now.typing_mode.now ≡ true → IfErr result (λ s. s ≡ Stop.OutOfMemory) }
+    ensures says { (m : TypingMode) → StandsFor setting.now.typing_mode.now m → IfOk result (SaysThrough (λ c. (level_in setting.now m depth).through c trait_id (erased_all terms.old args.now)) ((level_in setting.now m depth).trait_refuted trait_id (erased_all terms.old args.now))) }
+{
+    if depth == 0 {
+        return Ok(TraitOutcome::Undecided);
+    }
+    let Some((first, rest)) = split_self_type(args) else {
+        return Ok(TraitOutcome::Undecided);
+    };
+    match head_form(setting, terms, faults, first, depth - 1)? {
+        Found::Undecided => Ok(TraitOutcome::Undecided),
+        Found::Refuted => Ok(TraitOutcome::Refuted),
+        Found::Is(self_ty) => {
+            let replaced = with_self_type(setting.rows, self_ty, rest)?;
+            let asked = AskedTrait {
+                constness: None,
+                trait_id,
+                self_ty,
+                args: replaced.as_slice(),
+            };
+            decide_trait(setting, terms, faults, &asked, depth - 1)
+        }
+    }
+}
+
+/// What a trait goal comes to at a depth, where its self type is a head form: the first class of candidates
+/// that isn't refuted decides.
+#[cycle(closed)]
+fn decide_trait(
+    setting: &Setting<'_>,
+    terms: &mut TermTable,
+    faults: &mut Vec<DelayedFault>,
+    asked: &AskedTrait<'_>,
+    depth: u32,
+) -> Result<TraitOutcome, Stop>
+    requires asked { AskedIn terms.old asked.now }
+    requires plain { asked.now.constness ≡ None }
+    ensures kept { Keeps terms.old terms.new }
+    ensures stops { is_headline setting.now.typing_mode.now ≡ true → IfErr result (λ s. s ≡ Stop.OutOfMemory) }
+    ensures says { (m : TypingMode) → StandsFor setting.now.typing_mode.now m → IfOk result (SaysClasses (setting_in setting.now m) (level_in setting.now m depth) asked.now.trait_id (erased_at terms.old asked.now.self_ty) (erased_all terms.old asked.now.args.now)) }
+{
+    let class = TraitGoalProvenVia::ParamEnv;
+    let environment = class_outcome(setting, terms, faults, asked, class, depth)?;
+    if let Some(decided) = environment.through(class) {
+        return Ok(decided);
+    }
+    let class = TraitGoalProvenVia::AliasBound;
+    let bounds = class_outcome(setting, terms, faults, asked, class, depth)?;
+    if let Some(decided) = bounds.through(class) {
+        return Ok(decided);
+    }
+    let class = TraitGoalProvenVia::Misc;
+    let rest = class_outcome(setting, terms, faults, asked, class, depth)?;
+    match rest.through(class) {
+        Some(decided) => Ok(decided),
+        None => Ok(TraitOutcome::Refuted),
+    }
+}
