@@ -126,3 +126,4 @@ pub mod FewEntries
 pub mod InherentListLemmas
 pub mod ClauseListLemmas
 pub mod ProjectionListLemmas
+pub mod RulesAsLists

@@ -42,3 +42,4 @@ pub mod ListModes
 pub mod ListLaws
 pub mod ExampleLists
 pub mod InternedEntries
+pub mod RuleLists

@@ -2,15 +2,14 @@
 use Rattle.std.proofs.Common.{◌≡◌, ◌<◌, ◌+◌, ◌++◌, ℕ, List, [], ◌∷◌, map, length, get_or, take, IfOk, Result, Ok, Err, true, refl, sym, ap, ◌∙◌, subst}
 use Rattle.std.proofs.lemmas.List.{map-append, take_more}
 use Rattle.std.proofs.lemmas.List.Elements.{All-push}
-use Rattle.goal_terms.specs.Erased.{erased, erased_row}
+use Rattle.goal_terms.specs.Erased.{erased}
 use Rattle.goal_terms.specs.Folding.{instance}
 use Rattle.goal_terms.specs.Sorts.{IsArgument, is_argument_sort, is_term_sort, sort_of}
 use Rattle.goal_terms.specs.TableMeaning.{tree_at, Keeps}
-use Rattle.goal_terms.specs.Tree.{Tree, node, alias, more, forest, node_of}
+use Rattle.goal_terms.specs.Tree.{Tree, node_of}
 use Rattle.goal_terms.specs.TreeOf.{tree_of_arg, tree_of_ty, tree_of_term}
 use Rattle.goal_terms.specs.declared.term_nodes.OutOfMemory.{OutOfMemory}
 use Rattle.goal_terms.specs.declared.term_nodes.TermId.{TermId}
-use Rattle.goal_terms.specs.declared.terms.AliasTermKind.{AliasTermKind}
 use Rattle.goal_terms.specs.declared.terms.GenericArg.{GenericArg}
 use Rattle.goal_terms.specs.declared.terms.GenericArg.TheVariants as arg
 use Rattle.goal_terms.specs.declared.terms.Ty.{Ty}
@@ -25,7 +24,6 @@ use Rattle.goal_kinds.specs.Interned.{erased_at, erased_all, IsIn, AreIn}
 use Rattle.goal_kinds.proofs.InternedLemmas.{are_in-grown, all_same-grown}
 use Rattle.goal_kinds.proofs.UnderLemmas.{under-at, under-erased_term, instance-argument, are_in-arguments}
 use Rattle.goal_solver.specs.Outcomes.{header_terms}
-use Rattle.goal_solver.proofs.HeadFormLemmas.{erased_all-trees}
 
 -- an instance is an argument in the table
 pub instance_in : (T U : List Tree) (t : Tree) (args : List TermId) (r : Result TermId OutOfMemory) → AreIn T args → IsArgument t →
@@ -65,21 +63,6 @@ instances-more T U V s header n made after x id h k below is e within tree =
           ∙ ap (λ t. map (under s) (header_terms (take n header)) ++ t ∷ []) (sym one)
           ∙ sym (ap (λ xs. map (under s) (header_terms xs)) last ∙ spelled);
     }
-
--- the arguments of an alias without lifetimes
-erased_row-forest : (ts : List Tree) → erased_row (forest ts) ≡ forest (map erased ts)
-unfolding erased_row
-erased_row-forest [] = refl
-erased_row-forest (t ∷ ts) = ap (λ us. more (erased t) us) (erased_row-forest ts)
-
--- an alias that was added
-pub alias_is : (T U : List Tree) (k : AliasTermKind) (args ids : List TermId) (r : Result TermId OutOfMemory) → ids ≡ args →
-    IfOk r (λ id. tree_at U id ≡ alias k (forest (map (tree_at T) ids))) → IfOk r (λ id. erased_at U id ≡ alias k (forest (erased_all T args)))
-unfolding erased
-alias_is T U k args ids (Ok id) same tree =
-    ap erased tree ∙ ap (alias k) (erased_row-forest (map (tree_at T) ids)) ∙ ap (λ us. alias k (forest us)) (sym (erased_all-trees T ids))
-    ∙ ap (λ xs. alias k (forest (erased_all T xs))) same
-alias_is T U k args ids (Err e) same tree = tt
 
 -- a type as the one argument of a header
 pub header_of_type-is : (t u : Ty) (made : List GenericArg) → tree_of_ty u ≡ tree_of_ty t → made ≡ arg.Ty u ∷ [] → header_terms made ≡ erased (tree_of_ty t) ∷ []

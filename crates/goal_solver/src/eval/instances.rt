@@ -3,19 +3,16 @@ ghost use Rattle.std.specs.Prelude.{◌≡◌, ◌∷◌, [], map, IfOk};
 ghost use Rattle.goal_terms.specs.Erased.{erased};
 ghost use Rattle.goal_terms.specs.Sorts.{IsArgument};
 ghost use Rattle.goal_terms.specs.TableMeaning.{Keeps};
-ghost use Rattle.goal_terms.specs.Tree.{alias, forest};
 ghost use Rattle.goal_terms.specs.TreeOf.{tree_of_ty};
 ghost use Rattle.goal_terms.specs.View.{tree_of_ref};
 ghost use Rattle.goal_kinds.specs.Headers.{under};
 ghost use Rattle.goal_kinds.specs.Interned.{IsIn, AreIn, erased_at, erased_all};
 ghost use Rattle.goal_solver.specs.Outcomes.{header_terms};
 
-use crate::eval::id_lists::own_list;
 use crate::eval::outcomes::Setting;
-use goal_terms::heads::Node;
 use goal_terms::term_nodes::{OutOfMemory, TermId};
 use goal_terms::term_table::TermTable;
-use goal_terms::terms::{AliasTermKind, GenericArg, Ty};
+use goal_terms::terms::{GenericArg, Ty};
 use goal_terms::view::TermRef;
 
 /// The number of a row's term under arguments.
@@ -51,22 +48,6 @@ pub(crate) fn instances_of(
         made.push(id)?;
     }
     Ok(made)
-}
-
-/// The number of an alias with these arguments.
-pub(crate) fn alias_number(
-    setting: &Setting<'_>,
-    terms: &mut TermTable,
-    kind: AliasTermKind,
-    args: &[TermId],
-) -> Result<TermId, OutOfMemory>
-    requires { AreIn terms.old args.now }
-    ensures kept { Keeps terms.old terms.new }
-    ensures within { IfOk result (IsIn terms.new) }
-    ensures tree { IfOk result (λ id. erased_at terms.new id ≡ alias kind (forest (erased_all terms.old args.now))) }
-{
-    let parts = own_list(setting, args)?;
-    terms.intern_node(Node::Alias(kind), parts)
 }
 
 /// A type as the one argument of a header.

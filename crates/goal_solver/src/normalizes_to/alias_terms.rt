@@ -9,9 +9,9 @@ ghost use Rattle.goal_kinds.specs.Settings.{is_headline};
 ghost use Rattle.goal_solver.specs.Lists.{IsListFor};
 ghost use Rattle.goal_solver.specs.Outcomes.{StandsFor, setting_in, level_in, SaysWhich, FoundIn};
 
-use crate::eval::instances::alias_number;
 use crate::eval::lists::run_list;
 use crate::eval::outcomes::{Found, Setting, Stop};
+use crate::normalizes_to::projection_args::intern_alias;
 use crate::normalizes_to::projections::projection_term;
 use goal_kinds::lists::InternedEntry;
 use goal_kinds::lists::aliases::alias_list;
@@ -65,8 +65,8 @@ fn list_of_alias<'t>(
     ensures within { IfOk result (λ es. EntriesIn terms.new es.items) }
     ensures list { (m : modes) → StandsFor setting.now.typing_mode.now m → IfOk result (λ es. IsListFor setting.now.typing_mode.now (Some (entries_at terms.new es.items)) (Some (alias_list (setting_in setting.now m) kind (erased_all terms.old args.now)))) }
 {
-    let itself = alias_number(setting, terms, kind, args)?;
+    let alloc = setting.allocator();
+    let rigid_alias = intern_alias(alloc, terms, kind, args)?;
     let erased = TypingMode::ErasedNotCoherence;
-    let of_lists = setting.of_lists(&erased);
-    alias_list(of_lists, setting.allocator(), kind, args, itself)
+    alias_list(setting.of_lists(&erased), alloc, kind, args, rigid_alias)
 }

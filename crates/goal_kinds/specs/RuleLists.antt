@@ -1,0 +1,90 @@
+-- The list of entries that a rule stands for over the tables, and what it means that both say the same.
+use Rattle.std.specs.Prelude.{◌↔◌, ℕ, Bool, true, false, List, [], ◌∷◌, Option, Some, None}
+use Rattle.std.specs.Option.{option_map, option_and_then}
+use Rattle.goal_terms.specs.Erased.{erased}
+use Rattle.goal_terms.specs.PredicateTrees.{tree_of_kind}
+use Rattle.goal_terms.specs.Tree.{Tree}
+use Rattle.goal_terms.specs.TreeOf.{trees_of, tree_of_ty, tree_of_term}
+use Rattle.goal_tables.specs.Rows.{impl_of, inherent_impl_of}
+use Rattle.goal_tables.specs.declared.rows.ImplRow.{ImplRow}
+use Rattle.goal_tables.specs.declared.rows.Tables.{Tables}
+use Rattle.goal_kinds.specs.Answers.{erased_predicate}
+use Rattle.goal_kinds.specs.Entries.{Arguments, given_arguments, of_header, of_other_header, followed_by, ExpectedTerm, as_it_stands, head_form_of, value_under, Entry, arguments, equal_terms, clause, row_clauses, expected, access, delayed_fault, evaluation, undecided, refused, ListHolds, ListGives, ListRefuted}
+use Rattle.goal_kinds.specs.Level.{Level}
+use Rattle.goal_kinds.specs.Rules.{given, clauses_in, value_in, RuleHolds, RuleGives, RuleRefuted}
+use Rattle.goal_kinds.specs.Settings.{Setting}
+use Rattle.goal_kinds.specs.declared.rules.Rule.{Rule}
+use Rattle.goal_kinds.specs.declared.rules.RuleArguments.{RuleArguments}
+use Rattle.goal_kinds.specs.declared.rules.RuleArguments.TheVariants as named
+use Rattle.goal_kinds.specs.declared.rules.RuleEntry.{RuleEntry}
+use Rattle.goal_kinds.specs.declared.rules.RuleEntry.TheVariants as entry
+use Rattle.goal_kinds.specs.declared.rules.RuleHeader.{RuleHeader}
+use Rattle.goal_kinds.specs.declared.rules.RuleHeader.TheVariants as header
+use Rattle.goal_kinds.specs.declared.rules.RuleTerm.{RuleTerm}
+use Rattle.goal_kinds.specs.declared.rules.RuleTerm.TheVariants as term
+
+-- the arguments of a row's header that is matched with given ones, if the row is there
+abbrev pub header_arguments : Tables → RuleHeader → List Tree → Option Arguments
+header_arguments t (header.Impl i) gs = option_map (λ r. of_header r.params.items (trees_of r.trait_args.items) gs) (impl_of t i)
+header_arguments t (header.InherentImpl i) gs = option_map (λ q. of_header q.params.items (tree_of_ty q.self_ty ∷ []) gs) (inherent_impl_of t i)
+
+-- those of an impl whose header is matched with that of a second one, under the arguments of a number
+abbrev pub other_arguments : Option ImplRow → Option ImplRow → ℕ → Option Arguments
+other_arguments q r n =
+    option_and_then (λ x. option_map (λ y. of_other_header x.params.items (trees_of x.trait_args.items) (trees_of y.trait_args.items) n) r) q
+
+-- arguments that later entries take, if their rows are there
+abbrev pub arguments_of : Tables → RuleArguments → Option Arguments
+arguments_of t (named.Given args) = Some (given_arguments (given args))
+arguments_of t (named.Header h args) = header_arguments t h (given args)
+arguments_of t (named.OtherImpl i j n) = other_arguments (impl_of t i) (impl_of t j) n
+arguments_of t (named.Followed n own) = Some (followed_by n (given own))
+
+-- what the expected term is, if its row is there and has a value
+abbrev pub expected_of : Tables → RuleTerm → Option ExpectedTerm
+expected_of t (term.AsItStands e) = Some (as_it_stands (erased (tree_of_term e)))
+expected_of t (term.Normalized e) = Some (head_form_of (erased (tree_of_term e)))
+expected_of t (term.Value v n) = option_map (λ e. value_under e n) (value_in t v)
+
+-- an entry, if its rows are there; the goal's variable for the expected term says nothing
+abbrev pub entry_of : Tables → RuleEntry → Option Entry
+entry_of t (entry.Arguments a) = option_map arguments (arguments_of t a)
+entry_of t (entry.Equation ts us) = Some (equal_terms (given ts) (given us))
+entry_of t (entry.Clause g k) = Some (clause g (erased_predicate (tree_of_kind k)))
+entry_of t (entry.RowClauses c n) = option_map (λ cs. row_clauses cs n) (clauses_in t c)
+entry_of t (entry.Term v e) = option_map expected (expected_of t e)
+entry_of t (entry.Access a) = Some (access a)
+entry_of t (entry.DelayedFault f) = Some (delayed_fault f)
+entry_of t entry.Evaluation = Some evaluation
+entry_of t entry.Undecided = Some undecided
+entry_of t entry.Refused = Some refused
+
+-- whether an entry names arguments, by which later ones are counted
+abbrev pub names_arguments : RuleEntry → Bool
+names_arguments (entry.Arguments a) = true
+names_arguments _ = false
+
+-- an entry and those behind it; one that is missing is undecided, and where it names arguments the list ends there
+abbrev pub before : Bool → Option Entry → List Entry → List Entry
+before b (Some e) es = e ∷ es
+before true None es = undecided ∷ []
+before false None es = undecided ∷ es
+
+-- the entries that those of a rule stand for
+unfoldable pub entries_of : Tables → List RuleEntry → List Entry
+entries_of t [] = []
+entries_of t (e ∷ es) = before (names_arguments e) (entry_of t e) (entries_of t es)
+
+-- the list of a rule
+abbrev pub list_of_rule : Tables → Rule → Option (List Entry)
+list_of_rule t r = Some (entries_of t r.entries.items)
+
+-- a rule and its list say the same: both hold, give a term, or are refuted
+abbrev pub RuleListHolds : Setting → Level → Rule → Type 0
+RuleListHolds S L r = ListHolds L (list_of_rule S.tables r) ↔ RuleHolds S L r
+
+abbrev pub RuleListGives : Setting → Level → Rule → Tree → Type 0
+RuleListGives S L r t = ListGives L (list_of_rule S.tables r) t ↔ RuleGives S L r t
+
+abbrev pub RuleListRefuted : Setting → Level → Rule → Type 0
+RuleListRefuted S L r = ListRefuted L (list_of_rule S.tables r) ↔ RuleRefuted S L r
