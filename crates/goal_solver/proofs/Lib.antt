@@ -48,7 +48,6 @@ pub mod RoundLemmas
 pub mod AsideLemmas
 pub mod GoalOutcomeLemmas
 pub mod SinceMarkLemmas
-pub mod RuleRunLemmas
 pub mod RuleEntryLemmas
 pub mod RuleAnswerLemmas
 pub mod OpenStepLemmas

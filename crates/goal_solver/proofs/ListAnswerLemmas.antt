@@ -13,16 +13,15 @@ use Rattle.goal_kinds.specs.ListModes.{IsAccess, StandsIn, ListStandsIn}
 use Rattle.goal_kinds.specs.Settings.{is_headline}
 use Rattle.goal_kinds.specs.declared.lists.InternedEntry.{InternedEntry}
 use Rattle.goal_kinds.proofs.GrowingEntries.{entry_in-grown, entry_same-grown}
-use Rattle.goal_solver.specs.Lists.{IsListFor, AreEntriesFor, SaysList, SaysEntries, progress_at, taken_at, IsRunning, Leads, LeadsOn}
+use Rattle.goal_solver.specs.Lists.{IsListFor, AreEntriesFor, SaysList, SaysEntries, named_at, progress_at, taken_at, IsRunning, Leads, LeadsOn}
 use Rattle.goal_solver.specs.Outcomes.{StandsFor, level_in}
-use Rattle.goal_solver.specs.RunRules.{named_at}
 use Rattle.goal_solver.specs.declared.eval.lists.ListOutcome.{ListOutcome}
 use Rattle.goal_solver.specs.declared.eval.lists.ListOutcome.TheVariants as list
 use Rattle.goal_solver.specs.declared.eval.lists.progress.ListRun.{ListRun}
 use Rattle.goal_solver.specs.declared.eval.outcomes.Setting as over
 use Rattle.goal_solver.specs.declared.eval.outcomes.Stop.{Stop}
-use Rattle.goal_solver.specs.declared.eval.run_rule.progress.Reached.{Reached}
-use Rattle.goal_solver.specs.declared.eval.run_rule.progress.Reached.TheVariants as reached
+use Rattle.goal_solver.specs.declared.eval.lists.progress.Reached.{Reached}
+use Rattle.goal_solver.specs.declared.eval.lists.progress.Reached.TheVariants as reached
 use Rattle.goal_solver.proofs.ListRunLemmas.{progress-same, start-running, end-says, refuted-says, unsettled-says}
 use Rattle.goal_solver.proofs.OutcomeLists.{All-at}
 
@@ -63,7 +62,7 @@ module _ (c : over.Setting) (n : ℕ) (T U V : List Tree) (kept : Keeps T U) (es
     (says : (m : TypingMode) → StandsFor c.typing_mode.now m → LeadsOn (level_in c m n) (progress_at U r) (entry_at U e) (progress_at V z) o) where
   -- an entry, with what comes before and behind it
   lead-here : (m : TypingMode) → StandsFor c.typing_mode.now m → (q : List Entry) → AreEntriesFor c.typing_mode.now (entries_at T es) q →
-      (gs : List Entry) × AreEntriesFor c.typing_mode.now (entries_at T (drop (i + 1) es)) gs × Leads (level_in c m n) (progress_at U r) (entry_at U e) gs q (progress_at V z) o
+      (gs : List Entry) × AreEntriesFor c.typing_mode.now (entries_at T (drop (i + 1) es)) gs × Leads (level_in c m n) (progress_at U r) (entry_at U e ∷ gs) gs q (progress_at V z) o
       × IsRunning (level_in c m n) (progress_at U r) (entry_at U e ∷ gs) q
   lead-here m s q f =
       let here = so_far m s q f in
@@ -78,20 +77,20 @@ module _ (c : over.Setting) (n : ℕ) (T U V : List Tree) (kept : Keeps T U) (es
   pub runs-next : o ≡ reached.Next → RunsSoFar c n T es V z (i + 1)
   runs-next is m s q f =
       let here = lead-here m s q f in
-      (here.0, here.1, subst (λ x. Leads (level_in c m n) (progress_at U r) (entry_at U e) here.0 q (progress_at V z) x) is here.2 here.3)
+      (here.0, here.1, subst (λ x. Leads (level_in c m n) (progress_at U r) (entry_at U e ∷ here.0) here.0 q (progress_at V z) x) is here.2 here.3)
 
   -- an entry that settles the list
   pub runs-refuted : o ≡ reached.Refuted → (W : List Tree) (m : TypingMode) → StandsFor c.typing_mode.now m → (q : List Entry) → AreEntriesFor c.typing_mode.now (entries_at T es) q →
       SaysList (level_in c m n) (Some q) W list.Refuted
   runs-refuted is W m s q f =
       let here = lead-here m s q f in
-      refuted-says (level_in c m n) W q (subst (λ x. Leads (level_in c m n) (progress_at U r) (entry_at U e) here.0 q (progress_at V z) x) is here.2 here.3)
+      refuted-says (level_in c m n) W q (subst (λ x. Leads (level_in c m n) (progress_at U r) (entry_at U e ∷ here.0) here.0 q (progress_at V z) x) is here.2 here.3)
 
   pub runs-undecided : o ≡ reached.Undecided → (W : List Tree) (m : TypingMode) → StandsFor c.typing_mode.now m → (q : List Entry) → AreEntriesFor c.typing_mode.now (entries_at T es) q →
       SaysList (level_in c m n) (Some q) W list.Undecided
   runs-undecided is W m s q f =
       let here = lead-here m s q f in
-      unsettled-says (level_in c m n) W q (subst (λ x. Leads (level_in c m n) (progress_at U r) (entry_at U e) here.0 q (progress_at V z) x) is here.2 here.3)
+      unsettled-says (level_in c m n) W q (subst (λ x. Leads (level_in c m n) (progress_at U r) (entry_at U e ∷ here.0) here.0 q (progress_at V z) x) is here.2 here.3)
 
 -- after the last entry
 pub runs-end : (c : over.Setting) (n : ℕ) (T : List Tree) (es : List InternedEntry) (U : List Tree) (r : ListRun) (i : ℕ) (o : ListOutcome) → length es ≤ i → RunsSoFar c n T es U r i →

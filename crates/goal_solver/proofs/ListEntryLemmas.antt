@@ -1,5 +1,6 @@
 -- What is found of the entries of a list, said as the meaning of lists says it.
 use Rattle.std.proofs.Common.{◌≡◌, ℕ, List, ◌++◌, Some, None, Option, Result, Ok, Err, inl, inr, sym, subst, ⊎_elim}
+use Rattle.std.proofs.lemmas.List.Elements.{All-append}
 use Rattle.std.specs.Prelude.{Vec, IfOk, map, slice_get}
 use Rattle.std.specs.Global.{Global}
 use Rattle.goal_terms.specs.Erased.{erased}
@@ -10,14 +11,15 @@ use Rattle.goal_terms.specs.declared.answers.ParamKind.{ParamKind}
 use Rattle.goal_terms.specs.declared.term_nodes.TermId.{TermId}
 use Rattle.goal_kinds.specs.Entries.{Arguments, given_arguments, of_header, of_other_header, followed_by, ExpectedTerm, as_it_stands, head_form_of, value_under, chosen_by, Named, NamedKnown, NamesNothing, TermIs, NoTerm}
 use Rattle.goal_kinds.specs.Headers.{under, AllKnown, Fits, Clashes}
-use Rattle.goal_kinds.specs.Interned.{erased_at, erased_all}
+use Rattle.goal_kinds.specs.Interned.{IsIn, AreIn, erased_at, erased_all}
 use Rattle.goal_kinds.specs.InternedEntries.{value_tree}
 use Rattle.goal_kinds.specs.Laws.{IsConsistent}
 use Rattle.goal_kinds.specs.Level.{Level, HasHeadForm, HeadFormRefuted}
 use Rattle.goal_kinds.specs.Premises.{Premise, ClauseHolds, ClauseRefuted, PremisesHold, PremisesRefuted}
-use Rattle.goal_kinds.specs.Words.{OfRow}
+use Rattle.goal_kinds.specs.Words.{OfRow, Pairs, SomePair}
 use Rattle.goal_kinds.specs.declared.lists.RowValueTerm.{RowValueTerm}
 use Rattle.goal_kinds.specs.declared.lists.RowValueTerm.TheVariants as value
+use Rattle.goal_kinds.proofs.SubstitutionLemmas.{one_substitution}
 use Rattle.goal_solver.specs.Combined.{SaysMatched}
 use Rattle.goal_solver.specs.Lists.{SaysNamed, SaysTerm, premises_of, SaysRow, chosen_term}
 use Rattle.goal_solver.specs.Outcomes.{Says, SaysWhich, SaysMatch}
@@ -30,7 +32,22 @@ use Rattle.goal_solver.specs.declared.eval.outcomes.HeaderMatch.{HeaderMatch}
 use Rattle.goal_solver.specs.declared.eval.outcomes.HeaderMatch.TheVariants as match
 use Rattle.goal_solver.specs.declared.eval.outcomes.Stop.{Stop}
 use Rattle.goal_solver.proofs.RowTermLemmas.{type-argument, term-argument}
-use Rattle.goal_solver.proofs.RuleEntryLemmas.{no_row, matched-of}
+
+-- a row that is missing has no property
+no_row : {A : Type 0} (P : A → Type 0) (o : Option A) → None ≡ o → OfRow o P → ⊥
+unfolding OfRow
+no_row P None e h = h
+no_row P (Some x) e h = absurd (cc)
+
+-- a match of a header, said of every substitution
+matched-of : (L : Level) → IsConsistent L → (params : List ParamKind) (hs gs T : List Tree) (r : HeaderMatch) → SaysMatch L params hs gs T r →
+    SaysMatched (Fits L params hs gs) (AllKnown L params hs gs) (Clashes L params hs gs) T r
+unfolding Fits
+matched-of L c params hs gs T (match.Fits s) h = h
+matched-of L c params hs gs T (match.Known s) h =
+    (h.0, (λ z f. h.1 (subst (Fits L params hs gs) (one_substitution L c params hs gs z (erased_all T s.items) f.0 h.0) f)), h.2)
+matched-of L c params hs gs T match.Clashes h = h
+matched-of L c params hs gs T match.Unknown h = h
 
 -- arguments that an entry names
 module _ (L : Level) (named : List (List Tree)) (T : List Tree) (a : Arguments) where
@@ -105,6 +122,16 @@ module _ (L : Level) (named : List (List Tree)) (T : List Tree) (a : Arguments) 
     unfolding Named OfRow
     followed-named z ids number e =
         subst (λ x. SaysNamed L named x T (match.Fits ids)) (sym is) (subst (λ o. OfRow o (λ y. erased_all T ids.items ≡ y ++ own)) number e)
+
+-- terms of numbers, with others behind them
+pub followed-in : (U : List Tree) (xs ys zs : List TermId) → zs ≡ xs ++ ys → AreIn U xs → AreIn U ys → AreIn U zs
+followed-in U xs ys zs e h i = subst (AreIn U) (sym e) (All-append (IsIn U) xs ys h i)
+
+-- lists of terms that are compared, spelled otherwise
+pub pairs-says : (L : Level) (ts us xs ys : List Tree) (o : Outcome) → ts ≡ xs → us ≡ ys → Says (Pairs L.equal ts us) (SomePair L.unequal ts us) o →
+    Says (Pairs L.equal xs ys) (SomePair L.unequal xs ys) o
+pairs-says L ts us xs ys o e f h =
+    subst (λ ls. Says (Pairs L.equal ls ys) (SomePair L.unequal ls ys) o) e (subst (λ bs. Says (Pairs L.equal ts bs) (SomePair L.unequal ts bs) o) f h)
 
 -- the expected term of an entry
 module _ (L : Level) (named : List (List Tree)) (T : List Tree) (e : ExpectedTerm) where

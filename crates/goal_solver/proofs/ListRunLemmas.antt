@@ -3,7 +3,8 @@ use Rattle.std.proofs.Common.{◌≡◌, ◌⊎◌, ℕ, Bool, true, false, List
 use Rattle.std.specs.Prelude.{Vec, map, slice_get}
 use Rattle.std.specs.Global.{Global}
 use Rattle.std.proofs.lemmas.Bool.{false≢true}
-use Rattle.std.proofs.lemmas.List.Elements.{All-nil}
+use Rattle.std.proofs.lemmas.List.{map-append}
+use Rattle.std.proofs.lemmas.List.Elements.{All-push, All-nil}
 use Rattle.goal_terms.specs.Erased.{erased}
 use Rattle.goal_terms.specs.PredicateTrees.{PredicateTree}
 use Rattle.goal_terms.specs.TableMeaning.{Keeps}
@@ -24,14 +25,13 @@ use Rattle.goal_kinds.specs.Premises.{ClauseHolds, ClauseRefuted, PremisesHold, 
 use Rattle.goal_kinds.specs.Words.{Pairs, SomePair}
 use Rattle.goal_kinds.proofs.CandidateLemmas.{no_pair_unequal}
 use Rattle.goal_kinds.proofs.ContraryWords.{OfRow-twice}
-use Rattle.goal_kinds.proofs.InternedLemmas.{in-grown, same-grown}
+use Rattle.goal_kinds.proofs.InternedLemmas.{all-grow, map-same, in-grown, same-grown, are_in-grown, all_same-grown}
 use Rattle.goal_kinds.proofs.ListHeights.{named-known, no_names_nothing, no_term_none, one_term_is}
 use Rattle.goal_kinds.proofs.ListTerms.{weaker}
 use Rattle.goal_kinds.proofs.PremiseLemmas.{no_clause_refuted, no_premises_refuted}
 use Rattle.goal_kinds.proofs.SubstitutionLemmas.{one_substitution}
-use Rattle.goal_solver.specs.Lists.{SaysList, ListTermIn, Progress, taken_at, TakenIn, progress_at, RunIn, at_start, HoldWith, AsksWith, IsRunning, IsUnsettled, LeadsOn, SaysNamed, SaysTerm, run_asking, TakesOn, GivesOn, NamesOn}
+use Rattle.goal_solver.specs.Lists.{SaysList, ListTermIn, Progress, taken_at, TakenIn, progress_at, RunIn, at_start, HoldWith, AsksWith, IsRunning, IsUnsettled, LeadsOn, named_at, NamedIn, SaysNamed, SaysTerm, run_asking, reached_asking, TakesOn, GivesOn, reached_giving, NamesOn}
 use Rattle.goal_solver.specs.Outcomes.{Says, FoundIn, MatchIn}
-use Rattle.goal_solver.specs.RunRules.{named_at, NamedIn, reached_asking, reached_giving}
 use Rattle.goal_solver.specs.declared.eval.lists.ListOutcome.{ListOutcome}
 use Rattle.goal_solver.specs.declared.eval.lists.ListOutcome.TheVariants as list
 use Rattle.goal_solver.specs.declared.eval.lists.progress.ListRun.{ListRun}
@@ -41,9 +41,8 @@ use Rattle.goal_solver.specs.declared.eval.outcomes.Found.{Found}
 use Rattle.goal_solver.specs.declared.eval.outcomes.Found.TheVariants as found
 use Rattle.goal_solver.specs.declared.eval.outcomes.HeaderMatch.{HeaderMatch}
 use Rattle.goal_solver.specs.declared.eval.outcomes.HeaderMatch.TheVariants as match
-use Rattle.goal_solver.specs.declared.eval.run_rule.progress.Reached.{Reached}
-use Rattle.goal_solver.specs.declared.eval.run_rule.progress.Reached.TheVariants as reached
-use Rattle.goal_solver.proofs.RuleRunLemmas.{named_same-grown, named_in-grown, named-more, named_in-more}
+use Rattle.goal_solver.specs.declared.eval.lists.progress.Reached.{Reached}
+use Rattle.goal_solver.specs.declared.eval.lists.progress.Reached.TheVariants as reached
 
 -- an entry is known to name one list only
 one_named : (L : Level) → IsConsistent L → (named : List (List Tree)) (a : Arguments) (s z : List Tree) → NamedKnown L named a s → NamedKnown L named a z → s ≡ z
@@ -53,6 +52,16 @@ one_named L c named (of_header params hs gs) s z h k = one_substitution L c para
 one_named L c named (of_other_header params hs gs n) s z h k =
     OfRow-twice _ _ (λ y d e. one_substitution L c params (map erased hs) (map (under y) (map erased gs)) s z d e) (slice_get named n) h k
 one_named L c named (followed_by n own) s z h k = OfRow-twice _ _ (λ y d e. d ∙ sym e) (slice_get named n) h k
+
+-- lists of arguments stay the same when the table grows
+named_same-grown : (T U : List Tree) → Keeps T U → (named : List (Vec TermId Global)) → NamedIn T named → named_at U named ≡ named_at T named
+named_same-grown T U k named h =
+    map-same (λ (ids : Vec TermId Global). AreIn T ids.items) (λ (ids : Vec TermId Global). erased_all U ids.items) (λ (ids : Vec TermId Global). erased_all T ids.items)
+    (λ ids i. all_same-grown T U k ids.items i) named h
+
+named_in-grown : (T U : List Tree) → Keeps T U → (named : List (Vec TermId Global)) → NamedIn T named → NamedIn U named
+named_in-grown T U k named h =
+    all-grow (λ (ids : Vec TermId Global). AreIn T ids.items) (λ (ids : Vec TermId Global). AreIn U ids.items) (λ ids i. are_in-grown T U k ids.items i) named h
 
 -- a term that was found stays the same when the table grows
 taken_same-grown : (T U : List Tree) → Keeps T U → (o : Option TermId) → TakenIn T o → taken_at U o ≡ taken_at T o
@@ -427,6 +436,16 @@ unknown-leads L c p q a neither rest all h = (
 )
 
 -- one more list of arguments
+named-more : (T U : List Tree) → Keeps T U → (named more : List (Vec TermId Global)) (s : Vec TermId Global) → NamedIn T named → more ≡ named ++ s ∷ [] →
+    named_at U more ≡ named_at T named ++ erased_all U s.items ∷ []
+named-more T U k named more s i e =
+    ap (named_at U) e ∙ map-append (λ (ids : Vec TermId Global). erased_all U ids.items) named (s ∷ [])
+    ∙ ap (λ ns. ns ++ erased_all U s.items ∷ []) (named_same-grown T U k named i)
+
+named_in-more : (U : List Tree) (named more : List (Vec TermId Global)) (s : Vec TermId Global) → NamedIn U named → AreIn U s.items → more ≡ named ++ s ∷ [] → NamedIn U more
+named_in-more U named more s i h e =
+    subst (NamedIn U) (sym e) (All-push (λ (ids : Vec TermId Global). AreIn U ids.items) named s i h)
+
 progress-named : (T U : List Tree) → Keeps T U → (r s : ListRun) → RunIn T r → (ids : Vec TermId Global) (b : Bool) → s.named.items ≡ r.named.items ++ ids ∷ [] → s.holds ≡ b →
     s.term ≡ r.term → progress_at U s ≡ progress_of (named_at T r.named.items ++ erased_all U ids.items ∷ []) b (taken_at T r.term)
 progress-named T U k r s i ids b named holds term =

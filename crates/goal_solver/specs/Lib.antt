@@ -21,6 +21,7 @@ pub mod FreeVariables
 pub mod AddedGoals
 pub mod Responses
 pub mod HeadForms
+pub mod Lists
 pub mod RunRules
 pub mod OpenRuns
 pub mod Refusals
@@ -30,5 +31,4 @@ pub mod Collecting
 pub mod OpenGoals
 pub mod OpenProjections
 pub mod Promises
-pub mod Lists
 pub mod AskedTraits

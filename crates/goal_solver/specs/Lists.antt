@@ -1,5 +1,7 @@
 -- Running a list of entries over numbers: how far it was run, and what it comes to.
-use Rattle.std.specs.Prelude.{◌≡◌, ◌⊎◌, ℕ, Bool, true, false, List, [], ◌∷◌, ◌++◌, map, Option, Some, None, if◌then◌else◌}
+use Rattle.std.specs.Prelude.{◌≡◌, ◌⊎◌, ℕ, Bool, true, false, List, [], ◌∷◌, ◌++◌, map, Option, Some, None, Vec, if◌then◌else◌}
+use Rattle.std.specs.Global.{Global}
+use Rattle.std.specs.List.{All}
 use Rattle.std.specs.Option.{option_map}
 use Rattle.goal_terms.specs.Erased.{erased}
 use Rattle.goal_terms.specs.Tree.{Tree}
@@ -7,7 +9,7 @@ use Rattle.goal_terms.specs.declared.modes.TypingMode.{TypingMode}
 use Rattle.goal_terms.specs.declared.modes.TypingMode.TheVariants as mode
 use Rattle.goal_terms.specs.declared.term_nodes.TermId.{TermId}
 use Rattle.goal_kinds.specs.Entries.{Arguments, ExpectedTerm, Entry, Named, NamedKnown, NamesNothing, TermIs, NoTerm, EntriesHold, EntriesRefuted, ListHolds, ListGives, ListRefuted, ListHoldsWith, AsksNoTerm, ListAsksNoTerm}
-use Rattle.goal_kinds.specs.Interned.{IsIn, erased_at, erased_all}
+use Rattle.goal_kinds.specs.Interned.{IsIn, AreIn, erased_at, erased_all}
 use Rattle.goal_kinds.specs.InternedEntries.{header_trees, entry_at}
 use Rattle.goal_kinds.specs.Level.{Level}
 use Rattle.goal_kinds.specs.ListModes.{StandsIn, ListStandsIn}
@@ -18,7 +20,6 @@ use Rattle.goal_kinds.specs.declared.lists.InternedEntry.{InternedEntry}
 use Rattle.goal_kinds.specs.declared.lists.RowHeader.{RowHeader}
 use Rattle.goal_solver.specs.Combined.{SaysMatched}
 use Rattle.goal_solver.specs.Outcomes.{StandsFor, level_in, Says, SaysWhich, SaysMatch}
-use Rattle.goal_solver.specs.RunRules.{named_at, NamedIn}
 use Rattle.goal_solver.specs.declared.eval.outcomes.Setting as over
 use Rattle.goal_solver.specs.declared.eval.outcomes.Outcome.{Outcome}
 use Rattle.goal_solver.specs.declared.eval.outcomes.Outcome.TheVariants as outcome
@@ -31,8 +32,8 @@ use Rattle.goal_solver.specs.declared.eval.lists.ListOutcome.TheVariants as list
 use Rattle.goal_solver.specs.declared.eval.lists.entries.RowPremises.{RowPremises}
 use Rattle.goal_solver.specs.declared.eval.lists.entries.RowPremises.TheVariants as row
 use Rattle.goal_solver.specs.declared.eval.lists.progress.ListRun.{ListRun}
-use Rattle.goal_solver.specs.declared.eval.run_rule.progress.Reached.{Reached}
-use Rattle.goal_solver.specs.declared.eval.run_rule.progress.Reached.TheVariants as reached
+use Rattle.goal_solver.specs.declared.eval.lists.progress.Reached.{Reached}
+use Rattle.goal_solver.specs.declared.eval.lists.progress.Reached.TheVariants as reached
 
 -- the mode whose lists a run goes by: its own if that is of the headline, and else the erased one, whose lists say where a mode is read
 abbrev pub list_mode : TypingMode → TypingMode
@@ -80,6 +81,13 @@ list_term (list.Holds (Some id)) = found.Is id
 list_term (list.Holds None) = found.Undecided
 list_term list.Refuted = found.Refuted
 list_term list.Undecided = found.Undecided
+
+-- lists of arguments, by their numbers
+abbrev pub named_at : List Tree → List (Vec TermId Global) → List (List Tree)
+named_at T named = map (λ (ids : Vec TermId Global). erased_all T ids.items) named
+
+abbrev pub NamedIn : List Tree → List (Vec TermId Global) → Type 0
+NamedIn T named = All (λ (ids : Vec TermId Global). AreIn T ids.items) named
 
 -- how far a list of entries was run: the arguments that were named, whether all entries so far hold, and the term that was found
 pub record Progress : Type 0 where
@@ -132,15 +140,15 @@ pub record IsRunning (L : Level) (p : Progress) (rest all : List Entry) : Type 0
 abbrev pub IsUnsettled : Level → List Entry → Type 0
 IsUnsettled L es = ((t : Tree) → HoldWith L [] t es → ⊥) × (EntriesRefuted L [] es → ⊥)
 
--- where an entry leads: to the next one, or to what the whole list comes to
-abbrev pub Leads : Level → Progress → Entry → List Entry → List Entry → Progress → Reached → Type 0
-Leads L p e rest all q reached.Next = IsRunning L p (e ∷ rest) all → IsRunning L q rest all
-Leads L p e rest all q reached.Refuted = IsRunning L p (e ∷ rest) all → EntriesRefuted L [] all
-Leads L p e rest all q reached.Undecided = IsRunning L p (e ∷ rest) all → IsUnsettled L all
+-- where what is left of a list leads: to its rest, or to what the whole list comes to
+abbrev pub Leads : Level → Progress → List Entry → List Entry → List Entry → Progress → Reached → Type 0
+Leads L p left rest all q reached.Next = IsRunning L p left all → IsRunning L q rest all
+Leads L p left rest all q reached.Refuted = IsRunning L p left all → EntriesRefuted L [] all
+Leads L p left rest all q reached.Undecided = IsRunning L p left all → IsUnsettled L all
 
--- whatever comes before and behind it
+-- where an entry leads, whatever comes before and behind it
 abbrev pub LeadsOn : Level → Progress → Entry → Progress → Reached → Type 0
-LeadsOn L p e q r = (rest all : List Entry) → Leads L p e rest all q r
+LeadsOn L p e q r = (rest all : List Entry) → Leads L p (e ∷ rest) rest all q r
 
 -- where an entry leads a run, by the numbers of their terms
 abbrev pub RunsOn : Level → List Tree → ListRun → InternedEntry → List Tree → ListRun → Reached → Type 0
@@ -183,6 +191,11 @@ run_asking outcome.Holds r = r
 run_asking outcome.Refuted r = r
 run_asking outcome.Undecided r = record r { holds = false }
 
+abbrev pub reached_asking : Outcome → Reached
+reached_asking outcome.Holds = reached.Next
+reached_asking outcome.Refuted = reached.Refuted
+reached_asking outcome.Undecided = reached.Next
+
 -- a run after a term: the first one is taken, and another one leaves the list undecided
 abbrev pub TakesOn : List Tree → TermId → Option TermId → ListRun → ListRun → Type 0
 TakesOn T id None a b = b ≡ record a { term = Some id }
@@ -193,6 +206,11 @@ abbrev pub GivesOn : List Tree → Found → ListRun → ListRun → Type 0
 GivesOn T (found.Is id) a b = TakesOn T id a.term a b
 GivesOn T found.Refuted a b = b ≡ a
 GivesOn T found.Undecided a b = b ≡ record a { holds = false }
+
+abbrev pub reached_giving : Found → Reached
+reached_giving (found.Is id) = reached.Next
+reached_giving found.Refuted = reached.Refuted
+reached_giving found.Undecided = reached.Next
 
 -- a run after an entry that names arguments: these come last
 abbrev pub NamesOn : HeaderMatch → ListRun → ListRun → Reached → Type 0

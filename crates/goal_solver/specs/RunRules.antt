@@ -1,6 +1,5 @@
 -- Running a rule's list of entries: how far it was run, and what the answer says.
-use Rattle.std.specs.Prelude.{◌≡◌, ◌⊎◌, ℕ, Bool, true, false, ◌||◌, List, [], ◌∷◌, ◌++◌, map, Option, Some, None, Result, Ok, Err, Vec}
-use Rattle.std.specs.Global.{Global}
+use Rattle.std.specs.Prelude.{◌≡◌, ◌⊎◌, ℕ, Bool, true, false, ◌||◌, List, [], ◌∷◌, ◌++◌, Option, Some, None, Result, Ok, Err}
 use Rattle.std.specs.List.{All, Contains, list_any}
 use Rattle.goal_terms.specs.NodeTests.{is_any_infer, some_node}
 use Rattle.goal_terms.specs.Sorts.{IsTerm}
@@ -13,17 +12,18 @@ use Rattle.goal_terms.specs.declared.answers.Response.{Response}
 use Rattle.goal_terms.specs.declared.heads.Node.{Node}
 use Rattle.goal_terms.specs.declared.modes.TypingMode.{TypingMode}
 use Rattle.goal_terms.specs.declared.predicates.Clause.{Clause}
-use Rattle.goal_terms.specs.declared.term_nodes.TermId.{TermId}
 use Rattle.goal_tables.specs.Predicates.{some_in_args, some_in_clause_kind, some_in_env}
+use Rattle.goal_tables.specs.declared.rows.Tables.{Tables}
 use Rattle.goal_kinds.specs.Answers.{setting_of}
-use Rattle.goal_kinds.specs.Headers.{AllKnown, Fits, Clashes}
-use Rattle.goal_kinds.specs.Interned.{IsIn, AreIn, erased_at, erased_all}
+use Rattle.goal_kinds.specs.Entries.{Arguments, of_header, Entry}
+use Rattle.goal_kinds.specs.InternedEntries.{header_trees}
 use Rattle.goal_kinds.specs.Level.{Level}
-use Rattle.goal_kinds.specs.Rules.{MatchedHeader, Names, NamesKnown, NamesNothing, EntriesHold, EntriesRefuted, has_term, RuleHolds, RuleGives, RuleRefuted}
+use Rattle.goal_kinds.specs.RuleLists.{names_arguments, entry_of, before}
+use Rattle.goal_kinds.specs.Rules.{has_term, RuleHolds, RuleGives, RuleRefuted}
 use Rattle.goal_kinds.specs.Settings.{Setting}
-use Rattle.goal_kinds.specs.Words.{OfRow}
 use Rattle.goal_kinds.specs.declared.faults.Fault.{Fault}
 use Rattle.goal_kinds.specs.declared.faults.Fault.TheVariants as fault
+use Rattle.goal_kinds.specs.declared.lists.RowHeader.{RowHeader}
 use Rattle.goal_kinds.specs.declared.rules.Candidate.{Candidate}
 use Rattle.goal_kinds.specs.declared.rules.Rule.{Rule}
 use Rattle.goal_kinds.specs.declared.rules.RuleArguments.{RuleArguments}
@@ -33,21 +33,16 @@ use Rattle.goal_kinds.specs.declared.rules.RuleEntry.TheVariants as entry
 use Rattle.goal_kinds.specs.declared.rules.RuleTerm.{RuleTerm}
 use Rattle.goal_kinds.specs.declared.rules.RuleTerm.TheVariants as term
 use Rattle.goal_solver.specs.Answers.{expected_variable, GivesTo}
-use Rattle.goal_solver.specs.Combined.{SaysMatched}
+use Rattle.goal_solver.specs.Lists.{list_held, progress_at, Leads}
 use Rattle.goal_solver.specs.State.{State}
-use Rattle.goal_solver.specs.declared.eval.outcomes.Outcome.{Outcome}
+use Rattle.goal_solver.specs.declared.eval.lists.ListOutcome.{ListOutcome}
+use Rattle.goal_solver.specs.declared.eval.lists.progress.ListRun.{ListRun}
+use Rattle.goal_solver.specs.declared.eval.lists.progress.Reached.{Reached}
 use Rattle.goal_solver.specs.declared.eval.outcomes.Outcome.TheVariants as outcome
-use Rattle.goal_solver.specs.declared.eval.outcomes.Found.{Found}
-use Rattle.goal_solver.specs.declared.eval.outcomes.Found.TheVariants as found
-use Rattle.goal_solver.specs.declared.eval.outcomes.HeaderMatch.{HeaderMatch}
-use Rattle.goal_solver.specs.declared.eval.outcomes.HeaderMatch.TheVariants as match
+use Rattle.goal_solver.specs.declared.eval.run_rule.asked.Asked.{Asked}
+use Rattle.goal_solver.specs.declared.eval.run_rule.asked.Asked.TheVariants as asked
 use Rattle.goal_solver.specs.declared.eval.run_rule.recorded.ToRecord.{ToRecord}
 use Rattle.goal_solver.specs.declared.eval.run_rule.recorded.ToRecord.TheVariants as recorded
-use Rattle.goal_solver.specs.declared.eval.run_rule.progress.RuleRun.{RuleRun}
-use Rattle.goal_solver.specs.declared.eval.run_rule.progress.Reached.{Reached}
-use Rattle.goal_solver.specs.declared.eval.run_rule.progress.Reached.TheVariants as reached
-use Rattle.goal_solver.specs.declared.eval.run_rule.progress.RuleOutcome.{RuleOutcome}
-use Rattle.goal_solver.specs.declared.eval.run_rule.progress.RuleOutcome.TheVariants as ruled
 
 -- whether something in the arguments that an entry names passes a test
 abbrev pub some_in_arguments : (Node → Bool) → RuleArguments → Bool
@@ -170,131 +165,32 @@ abbrev pub response_of : Result Candidate Fault → Result Response Fault
 response_of (Ok c) = Ok c.result
 response_of (Err f) = Err f
 
--- how far a list of entries was run: the arguments that were named, whether all entries so far hold, and the term that was found, with its variable
-pub record Progress : Type 0 where
-  pub named : List (List Tree)
-  pub holds : Bool
-  pub term : Option (ℕ × Tree)
+-- a row's header that is matched with given arguments
+abbrev pub header_at : List Tree → RowHeader → Arguments
+header_at gs h = of_header h.params.now (header_trees h.terms) gs
 
--- lists of arguments, by their numbers
-abbrev pub named_at : List Tree → List (Vec TermId Global) → List (List Tree)
-named_at T named = map (λ (ids : Vec TermId Global). erased_all T ids.items) named
+-- where an entry of a rule leads a run through the list that the rule stands for, by the numbers of their terms
+abbrev pub RuleRunsOn : Tables → Level → List Tree → ListRun → RuleEntry → List Tree → ListRun → Reached → Type 0
+RuleRunsOn t L T r e U s q = (rest all : List Entry) → Leads L (progress_at T r) (before (names_arguments e) (entry_of t e) rest) rest all (progress_at U s) q
 
-abbrev pub NamedIn : List Tree → List (Vec TermId Global) → Type 0
-NamedIn T named = All (λ (ids : Vec TermId Global). AreIn T ids.items) named
+-- for which variable a list has a term, by the expected variables of its terms
+abbrev pub asked_as : List (Option ℕ) → Asked
+asked_as [] = asked.Nothing
+asked_as (None ∷ os) = asked.Others
+asked_as (Some n ∷ []) = asked.Variable n
+asked_as (Some n ∷ o ∷ os) = asked.Others
 
--- a term and its variable, by its number
-abbrev pub term_at : List Tree → Option (ℕ × TermId) → Option (ℕ × Tree)
-term_at T None = None
-term_at T (Some x) = Some (x.0, erased_at T x.1)
+-- with one more of them, and with some more
+abbrev pub asked_and : Asked → Option ℕ → Asked
+asked_and asked.Nothing (Some n) = asked.Variable n
+asked_and asked.Nothing None = asked.Others
+asked_and (asked.Variable m) o = asked.Others
+asked_and asked.Others o = asked.Others
 
-abbrev pub TermIn : List Tree → Option (ℕ × TermId) → Type 0
-TermIn T None = Unit {0}
-TermIn T (Some x) = IsIn T x.1
+unfoldable pub asked_with : Asked → List (Option ℕ) → Asked
+asked_with a [] = a
+asked_with a (o ∷ os) = asked_with (asked_and a o) os
 
--- how far a run is, by the numbers of its terms
-abbrev pub progress_at : List Tree → RuleRun → Progress
-progress_at T r = record { named = named_at T r.named.items; holds = r.holds; term = term_at T r.term }
-
-abbrev pub RunIn : List Tree → RuleRun → Type 0
-RunIn T r = NamedIn T r.named.items × TermIn T r.term
-
--- where a run begins
-abbrev pub at_start : Progress
-at_start = record { named = []; holds = true; term = None }
-
--- a tree may be the term of a run
-abbrev pub MayBe : Option (ℕ × Tree) → Tree → Type 0
-MayBe None t = Unit {0}
-MayBe (Some x) t = t ≡ x.1
-
--- the variables of a term that was found
-abbrev pub found_for : Option (ℕ × Tree) → List (Option ℕ)
-found_for None = []
-found_for (Some x) = Some x.0 ∷ []
-
--- what is left of a list of entries says the same as the whole list, after so much of a run
-pub record IsRunning (S : Setting) (L : Level) (p : Progress) (rest all : List RuleEntry) : Type 0 where
-  pub refuted : EntriesRefuted S L p.named rest → EntriesRefuted S L [] all
-  pub refuted_back : EntriesRefuted S L [] all → EntriesRefuted S L p.named rest
-  pub holds : p.holds ≡ true → (t : Tree) → MayBe p.term t → EntriesHold S L (λ u. u ≡ t) p.named rest → EntriesHold S L (λ u. u ≡ t) [] all
-  pub holds_back : IsAskedOnce (asked_of all) → EntriesHold S L (λ u. Unit {0}) [] all → (p.holds ≡ true) × EntriesHold S L (λ u. Unit {0}) p.named rest
-  pub asked : p.holds ≡ true → asked_of all ≡ found_for p.term ++ asked_of rest
-
--- a list of entries that asks for one term at most doesn't hold, and none is refuted
-abbrev pub IsUnsettled : Setting → Level → List RuleEntry → Type 0
-IsUnsettled S L es = (IsAskedOnce (asked_of es) → EntriesHold S L (λ u. Unit {0}) [] es → ⊥) × (EntriesRefuted S L [] es → ⊥)
-
--- where an entry leads: to the next one, or to what the whole list comes to
-abbrev pub Leads : Setting → Level → Progress → RuleEntry → List RuleEntry → List RuleEntry → Progress → Reached → Type 0
-Leads S L p e rest all q reached.Next = IsRunning S L p (e ∷ rest) all → IsRunning S L q rest all
-Leads S L p e rest all q reached.Refuted = IsRunning S L p (e ∷ rest) all → EntriesRefuted S L [] all
-Leads S L p e rest all q reached.Undecided = IsRunning S L p (e ∷ rest) all → IsUnsettled S L all
-
--- whatever comes before and behind it
-abbrev pub LeadsOn : Setting → Level → Progress → RuleEntry → Progress → Reached → Type 0
-LeadsOn S L p e q r = (rest all : List RuleEntry) → Leads S L p e rest all q r
-
--- all entries hold
-abbrev pub IsHolding : RuleOutcome → Type 0
-IsHolding (ruled.Holds o) = Unit {0}
-IsHolding ruled.Refuted = ⊥
-IsHolding ruled.Undecided = ⊥
-
--- what a list of entries comes to
-abbrev pub SaysRule : Setting → Level → List RuleEntry → List Tree → RuleOutcome → Type 0
-SaysRule S L es T (ruled.Holds None) = EntriesHold S L (λ u. Unit {0}) [] es × (asked_of es ≡ [])
-SaysRule S L es T (ruled.Holds (Some x)) = EntriesHold S L (λ u. u ≡ erased_at T x.1) [] es × (asked_of es ≡ Some x.0 ∷ [])
-SaysRule S L es T ruled.Refuted = EntriesRefuted S L [] es
-SaysRule S L es T ruled.Undecided = IsUnsettled S L es
-
--- its term is in the table
-abbrev pub RuledIn : List Tree → RuleOutcome → Type 0
-RuledIn T (ruled.Holds o) = TermIn T o
-RuledIn T ruled.Refuted = Unit {0}
-RuledIn T ruled.Undecided = Unit {0}
-
--- what arguments that an entry names come to
-abbrev pub SaysNamed : Setting → Level → List (List Tree) → RuleArguments → List Tree → HeaderMatch → Type 0
-SaysNamed S L named a T r = SaysMatched (Names S L named a) (NamesKnown S L named a) (NamesNothing S L named a) T r
-
--- what a match of a row's header with given arguments comes to
-abbrev pub SaysHeader : Level → Option MatchedHeader → List Tree → List Tree → HeaderMatch → Type 0
-SaysHeader L o gs T r =
-    SaysMatched (λ s. OfRow o (λ m. Fits L m.params m.terms gs s)) (λ s. OfRow o (λ m. AllKnown L m.params m.terms gs s))
-    (OfRow o (λ m. Clashes L m.params m.terms gs)) T r
-
--- a run after an entry that has to hold
-abbrev pub run_asking : Outcome → RuleRun → RuleRun
-run_asking outcome.Holds r = r
-run_asking outcome.Refuted r = r
-run_asking outcome.Undecided r = record r { holds = false }
-
-abbrev pub reached_asking : Outcome → Reached
-reached_asking outcome.Holds = reached.Next
-reached_asking outcome.Refuted = reached.Refuted
-reached_asking outcome.Undecided = reached.Next
-
--- a run after an entry with a term: the first term that is found, for a general variable, is taken
-abbrev pub run_taking : Option ℕ → TermId → Option (ℕ × TermId) → RuleRun → RuleRun
-run_taking (Some n) id None r = record r { term = Some (n, id) }
-run_taking (Some n) id (Some x) r = record r { holds = false }
-run_taking None id None r = record r { holds = false }
-run_taking None id (Some x) r = record r { holds = false }
-
-abbrev pub run_giving : Option ℕ → Found → RuleRun → RuleRun
-run_giving o (found.Is id) r = run_taking o id r.term r
-run_giving o found.Refuted r = r
-run_giving o found.Undecided r = record r { holds = false }
-
-abbrev pub reached_giving : Found → Reached
-reached_giving (found.Is id) = reached.Next
-reached_giving found.Refuted = reached.Refuted
-reached_giving found.Undecided = reached.Next
-
--- a run after an entry that names arguments: these come last
-abbrev pub NamesOn : HeaderMatch → RuleRun → RuleRun → Reached → Type 0
-NamesOn (match.Fits s) a b r = (r ≡ reached.Next) × (b.named.items ≡ a.named.items ++ s ∷ []) × (b.holds ≡ a.holds) × (b.term ≡ a.term)
-NamesOn (match.Known s) a b r = (r ≡ reached.Next) × (b.named.items ≡ a.named.items ++ s ∷ []) × (b.holds ≡ false) × (b.term ≡ a.term)
-NamesOn match.Clashes a b r = (r ≡ reached.Refuted) × (b ≡ a)
-NamesOn match.Unknown a b r = (r ≡ reached.Undecided) × (b ≡ a)
+-- a list of entries that holds records all that it says to
+abbrev pub AreRecordedWhere : State → List RuleEntry → ListOutcome → Type 0
+AreRecordedWhere s es o = list_held o ≡ outcome.Holds → AreRecorded s es

@@ -40,14 +40,12 @@ use Rattle.goal_solver.proofs.TopLemmas.{nodes-same, nodes-differ}
 use Rattle.goal_solver.proofs.ConstOutcomeLemmas.{const-ground, const-no_self}
 use Rattle.std.specs.Option.{option_copied}
 use Rattle.goal_kinds.specs.InternedEntries.{list_at, arguments_at, term_at, entry_at, ArgumentsIn, header_trees, TermIn, value_tree}
-use Rattle.goal_solver.specs.Lists.{IsListFor, LeadsOn, progress_at, SaysRow, numbered_at, premises_of}
+use Rattle.goal_solver.specs.Lists.{IsListFor, LeadsOn, progress_at, SaysRow, numbered_at, premises_of, NamedIn, named_at}
 use Rattle.goal_solver.proofs.ListAnswerLemmas.{none-says, list-says, runs-next, runs-refuted, runs-undecided, runs-end, entry-in}
 use Rattle.goal_solver.proofs.ListRunLemmas.{end-in, asking-leads, giving-leads, giving-in, naming-leads, naming-in, terms-ask, clause-asks, row-asks, conditions-ask, access-asks, fault-asks, evaluation-asks, ambiguous-asks, undecided-asks, refused-asks}
 use Rattle.std.specs.Prelude.{IfSome, slice_get}
 use Rattle.std.proofs.lemmas.Result.{IfOk-weaker}
-use Rattle.goal_solver.specs.RunRules.{NamedIn, named_at}
-use Rattle.goal_solver.proofs.RuleEntryLemmas.{pairs-says, followed-in}
-use Rattle.goal_solver.proofs.ListEntryLemmas.{given-named, header-named, other-unnamed, other-named, followed-unnamed, followed-named, row-unnamed, row-found, standing-found, head_form-found, value-unnamed, value-found, value-argument, chosen-found}
+use Rattle.goal_solver.proofs.ListEntryLemmas.{given-named, header-named, other-unnamed, other-named, followed-unnamed, followed-named, row-unnamed, row-found, standing-found, head_form-found, value-unnamed, value-found, value-argument, chosen-found, followed-in, pairs-says}
 use Rattle.goal_solver.specs.AskedTraits.{candidate_list, SaysCandidate}
 use Rattle.goal_solver.proofs.AskedTraitLemmas.{asked-says, asked_in-grown, asked-start, asked-more, asked-shown, asked-end, asked-listed, plain-class, groups-first, groups-second}
 use Rattle.goal_solver.proofs.HostEffectLemmas.{SaysHost, plain-decides, host-unformed, host-formed}
@@ -58,7 +56,7 @@ use Rattle.std.specs.List.{All}
 use Rattle.goal_terms.specs.declared.answers.TraitGoalProvenVia.TheVariants as class
 use Rattle.goal_solver.specs.declared.eval.outcomes.Outcome.TheVariants as outcome
 use Rattle.goal_solver.specs.declared.eval.lists.entries.RowPremises.TheVariants as row
-use Rattle.goal_solver.specs.declared.eval.run_rule.progress.Reached.TheVariants as reached
+use Rattle.goal_solver.specs.declared.eval.lists.progress.Reached.TheVariants as reached
 use Rattle.goal_solver.proofs.+closed.Goals as goal
 
 pub eval::premises::predicate_outcome-returns-in_ok-found-in-Trait-clause-says : goal.eval::premises::predicate_outcome-returns-in_ok-found-in-Trait-clause-says

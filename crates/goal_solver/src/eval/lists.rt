@@ -12,10 +12,9 @@ pub(crate) mod entries;
 pub(crate) mod progress;
 
 use crate::eval::lists::entries::run_entry;
-use crate::eval::lists::progress::ListRun;
+use crate::eval::lists::progress::{ListRun, Reached};
 use crate::eval::mode_tests::is_headline;
 use crate::eval::outcomes::{Found, Outcome, Setting, Stop};
-use crate::eval::run_rule::progress::Reached;
 use goal_kinds::lists::{InternedEntry, ListSetting};
 use goal_terms::answers::DelayedFault;
 use goal_terms::modes::TypingMode;

@@ -1,33 +1,37 @@
 //! Running rules.
-ghost use Rattle.std.specs.Prelude.{◌≡◌, ◌⊎◌, ◌∷◌, [], true, length, IfOk, IfErr, OnOk};
+ghost use Rattle.std.specs.Prelude.{◌≡◌, ◌⊎◌, ◌∷◌, [], true, length, Some, IfOk, IfErr, OnOk};
 ghost use Rattle.std.specs.List.{Contains};
 ghost use Rattle.goal_terms.specs.TableMeaning.{Keeps};
 ghost use Rattle.goal_terms.specs.declared.answers.DelayedFault.{DelayedFault as Delayed};
 ghost use Rattle.goal_terms.specs.declared.modes.TypingMode.{TypingMode};
+ghost use Rattle.goal_kinds.specs.RuleLists.{entries_of};
 ghost use Rattle.goal_kinds.specs.Settings.{is_headline as is_of_headline};
 ghost use Rattle.goal_solver.specs.Answers.{IsOwed, level_over, IsMaybe, AnswersQuietly, IsFaultOf};
 ghost use Rattle.goal_solver.specs.Binding.{IsApplicable, CanBeListed};
 ghost use Rattle.goal_solver.specs.GoingBack.{GoesBack, restored};
 ghost use Rattle.goal_solver.specs.Added.{RecordsAccess};
+ghost use Rattle.goal_solver.specs.Lists.{ListTermIn, RunIn, SaysList};
 ghost use Rattle.goal_solver.specs.OpenRuns.{RunsOpen};
 ghost use Rattle.goal_solver.specs.Refusals.{WhenRefused, IsRefusedOpen};
 ghost use Rattle.goal_solver.specs.Outcomes.{StandsFor};
-ghost use Rattle.goal_solver.specs.RunRules.{setting_over, asked_of, IsAskedOnce, IsClosedRule, IsRuleAnswer, IsRuleOpen, IsRecorded, IsKept, AreRecorded, IsRecordedAnswer, AreListed, IsHolding, response_of, RunIn, progress_at, LeadsOn, SaysRule, RuledIn};
+ghost use Rattle.goal_solver.specs.RunRules.{setting_over, asked_of, IsAskedOnce, IsClosedRule, IsRuleAnswer, IsRuleOpen, IsRecorded, IsKept, AreRecorded, IsRecordedAnswer, AreRecordedWhere, AreListed, response_of, RuleRunsOn};
 ghost use Rattle.goal_solver.specs.State.{kinds_of};
 
-pub(crate) mod entries;
+pub(crate) mod asked;
+pub(crate) mod interned;
 pub(crate) mod open;
 pub(crate) mod open_arguments;
 pub(crate) mod open_entries;
-pub(crate) mod progress;
 pub(crate) mod recorded;
 pub(crate) mod variables;
 
 use crate::context::EvalCtxt;
+use crate::eval::lists::ListOutcome;
+use crate::eval::lists::progress::{ListRun, Reached};
 use crate::eval::mode_tests::is_headline;
 use crate::eval::outcomes::{Setting, Stop};
-use crate::eval::run_rule::entries::run_entry;
-use crate::eval::run_rule::progress::{Reached, RuleOutcome, RuleRun};
+use crate::eval::run_rule::asked::{Asked, asked_variable};
+use crate::eval::run_rule::interned::run_rule_entry;
 use crate::eval::run_rule::recorded::{ToRecord, to_record};
 use crate::eval::run_rule::variables::has_variable;
 use crate::faults::Fault;
@@ -95,10 +99,13 @@ impl EvalCtxt<'_> {
             return self.run_open(environment, &rule.entries);
         }
         match self.run_entries(environment, &rule.entries) {
-            Ok(RuleOutcome::Holds(None)) => Ok(self.respond(Certainty::Yes, None)),
-            Ok(RuleOutcome::Holds(Some((expected, id)))) => self.respond_found(expected, id),
-            Ok(RuleOutcome::Refuted) => self.refuted(),
-            Ok(RuleOutcome::Undecided) => Ok(self.respond(Certainty::Maybe, None)),
+            Ok(ListOutcome::Holds(found)) => match (asked_variable(&rule.entries), found) {
+                (Asked::Nothing, _) => Ok(self.respond(Certainty::Yes, None)),
+                (Asked::Variable(expected), Some(id)) => self.respond_found(expected, id),
+                _ => Ok(self.respond(Certainty::Maybe, None)),
+            },
+            Ok(ListOutcome::Refuted) => self.refuted(),
+            Ok(ListOutcome::Undecided) => Ok(self.respond(Certainty::Maybe, None)),
             Err(stop) => self.stopped(stop),
         }
     }
@@ -109,22 +116,22 @@ impl EvalCtxt<'_> {
         &mut self,
         environment: &[Clause],
         entries: &[RuleEntry],
-    ) -> Result<RuleOutcome, Stop>
-        ensures within { IfOk result (RuledIn self.new.terms) }
-        ensures recorded { IfOk result (λ o. IsHolding o → AreRecorded self.new entries.now) }
+    ) -> Result<ListOutcome, Stop>
+        ensures within { IfOk result (ListTermIn self.new.terms) }
+        ensures recorded { IfOk result (AreRecordedWhere self.new entries.now) }
         ensures listed { AreListed entries.now self.old self.new }
         ensures unchanged { self.new ≡ restored self.old self.new }
         ensures goes_back { GoesBack self.old self.new }
         ensures stops { is_of_headline self.old.typing_mode ≡ true → IfErr result (λ s. s ≡ Stop.OutOfMemory) }
-        ensures says { (m : TypingMode) → StandsFor self.old.typing_mode m → IfOk result (SaysRule (setting_over self.old m environment.now) (level_over self.old m environment.now) entries.now self.new.terms) }
+        ensures says { (m : TypingMode) → StandsFor self.old.typing_mode m → IfOk result (SaysList (level_over self.old m environment.now) (Some (entries_of self.old.tables entries.now)) self.new.terms) }
     {
-        let mut run = RuleRun::new(self.allocator());
+        let mut run = ListRun::new(self.allocator());
         for entry in entries {
             self.record_entry(entry)?;
             match self.reach(environment, &mut run, entry)? {
                 Reached::Next => {}
-                Reached::Refuted => return Ok(RuleOutcome::Refuted),
-                Reached::Undecided => return Ok(RuleOutcome::Undecided),
+                Reached::Refuted => return Ok(ListOutcome::Refuted),
+                Reached::Undecided => return Ok(ListOutcome::Undecided),
             }
         }
         Ok(run.outcome())
@@ -134,7 +141,7 @@ impl EvalCtxt<'_> {
     fn reach(
         &mut self,
         environment: &[Clause],
-        run: &mut RuleRun,
+        run: &mut ListRun,
         entry: &RuleEntry,
     ) -> Result<Reached, Stop>
         requires { RunIn self.old.terms run.old }
@@ -142,7 +149,7 @@ impl EvalCtxt<'_> {
         ensures unchanged { self.new ≡ record self.old { terms = self.new.terms } }
         ensures within { IfOk result (λ _. RunIn self.new.terms run.new) }
         ensures stops { is_of_headline self.old.typing_mode ≡ true → IfErr result (λ s. s ≡ Stop.OutOfMemory) }
-        ensures says { (m : TypingMode) → StandsFor self.old.typing_mode m → IfOk result (LeadsOn (setting_over self.old m environment.now) (level_over self.old m environment.now) (progress_at self.old.terms run.old) entry.now (progress_at self.new.terms run.new)) }
+        ensures says { (m : TypingMode) → StandsFor self.old.typing_mode m → IfOk result (RuleRunsOn self.old.tables (level_over self.old m environment.now) self.old.terms run.old entry.now self.new.terms run.new) }
     {
         let mut faults = Vec::new(self.allocator());
         let setting = Setting {
@@ -151,7 +158,7 @@ impl EvalCtxt<'_> {
             environment,
         };
         let depth = self.remaining_depth;
-        run_entry(&setting, &mut self.terms, &mut faults, run, entry, depth)
+        run_rule_entry(&setting, &mut self.terms, &mut faults, run, entry, depth)
     }
 
     /// Records what an entry says to record.

@@ -1,13 +1,11 @@
 //! How far a list of entries was run.
 ghost use Rattle.std.specs.Prelude.{◌≡◌, [], true, false, IfOk, None};
-ghost use Rattle.goal_solver.specs.Lists.{TakenIn, NamesOn, run_asking, TakesOn, GivesOn};
+ghost use Rattle.goal_solver.specs.Lists.{TakenIn, NamesOn, run_asking, reached_asking, TakesOn, GivesOn, reached_giving};
 ghost use Rattle.goal_kinds.specs.Interned.{IsIn};
 ghost use Rattle.goal_solver.specs.Outcomes.{FoundIn};
-ghost use Rattle.goal_solver.specs.RunRules.{reached_asking, reached_giving};
 
 use crate::eval::lists::ListOutcome;
 use crate::eval::outcomes::{Found, HeaderMatch, Outcome};
-use crate::eval::run_rule::progress::Reached;
 use goal_terms::term_nodes::{OutOfMemory, TermId};
 use goal_terms::term_table::TermTable;
 use std::alloc::Global;
@@ -19,6 +17,14 @@ pub struct ListRun {
     pub named: Vec<Vec<TermId>>,
     pub holds: bool,
     pub term: Option<TermId>,
+}
+
+/// Where an entry leads: to the next one, or to what the whole list comes to.
+#[derive(Clone, Copy)]
+pub enum Reached {
+    Next,
+    Refuted,
+    Undecided,
 }
 
 impl ListRun {

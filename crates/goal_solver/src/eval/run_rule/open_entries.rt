@@ -15,7 +15,7 @@ ghost use Rattle.goal_solver.specs.RunRules.{AreListed};
 
 use crate::context::EvalCtxt;
 use crate::context::instantiate::into_alias;
-use crate::eval::run_rule::entries::clauses_of;
+use crate::eval::run_rule::interned::clauses_of;
 use crate::eval::run_rule::open_arguments::{OpenRun, args_of_number};
 use crate::eval::where_goals::predicate_of;
 use crate::faults::Fault;

@@ -1,10 +1,11 @@
 use Rattle.std.proofs.Common.{ap, sym, subst, refl, arith}
 use Rattle.std.proofs.lemmas.List.Elements.{All-nil}
-use Rattle.goal_solver.specs.RunRules.{RunIn, IsRecorded}
+use Rattle.goal_solver.specs.Lists.{RunIn}
+use Rattle.goal_solver.specs.RunRules.{IsRecorded}
 use Rattle.goal_solver.specs.State.{State}
 use Rattle.goal_solver.proofs.GoingBackLemmas.{goes_back-same, goes_back-through}
 use Rattle.goal_solver.proofs.RecordedLemmas.{recorded-next, recorded-end, none-listed, listed-next, listed-grown}
-use Rattle.goal_solver.proofs.RuleRunLemmas.{end-in, start-in}
+use Rattle.goal_solver.proofs.ListRunLemmas.{end-in, start-in}
 use Rattle.goal_solver.proofs.RuleAnswerLemmas.{runs-start, runs-next, runs-refuted, runs-undecided, runs-end, restored-recorded, restored-grown, back-grown}
 use Rattle.goal_solver.proofs.context.EvalCtxt.run_entries.Goals as goal
 
@@ -33,12 +34,14 @@ pub reach-requires : goal.reach-requires
 reach-requires c = subst (λ T. RunIn T c.loop-entry.run) (sym (ap (λ (s : State). s.terms) c.record_entry.ensures.unchanged)) c.loop-entry.invariant.within
 
 pub returns-in-Refuted-clause-says : goal.returns-in-Refuted-clause-says
-returns-in-Refuted-clause-says c = runs-refuted c.args.self.now c.record_entry.new.self c.args.environment.now c.args.entries.now c.loop-entry.self.terms c.reach.new.self.terms c.loop-entry.run c.reach.new.run c.loop-entry.entry-index c.entry-item.result c.in_ok-reach.field-0 (goes_back-through c.args.self.now c.loop-entry.self c.record_entry.new.self c.loop-entry.invariant.back c.record_entry.ensures.goes_back)
-    (ap (λ (s : State). s.terms) c.record_entry.ensures.unchanged) (omega arith) c.entry-item.is c.loop-entry.invariant.so_far c.in_ok-reach.ensures.says c.in-Refuted.is
+returns-in-Refuted-clause-says c = λ m s.
+    runs-refuted c.args.self.now c.record_entry.new.self c.args.environment.now c.args.entries.now c.loop-entry.self.terms c.reach.new.self.terms c.loop-entry.run c.reach.new.run c.loop-entry.entry-index c.entry-item.result c.in_ok-reach.field-0 (goes_back-through c.args.self.now c.loop-entry.self c.record_entry.new.self c.loop-entry.invariant.back c.record_entry.ensures.goes_back)
+    (ap (λ (s : State). s.terms) c.record_entry.ensures.unchanged) (omega arith) c.entry-item.is c.loop-entry.invariant.so_far c.in_ok-reach.ensures.says c.in-Refuted.is m s c.reach.new.self.terms
 
 pub returns-in-Undecided-clause-says : goal.returns-in-Undecided-clause-says
-returns-in-Undecided-clause-says c = runs-undecided c.args.self.now c.record_entry.new.self c.args.environment.now c.args.entries.now c.loop-entry.self.terms c.reach.new.self.terms c.loop-entry.run c.reach.new.run c.loop-entry.entry-index c.entry-item.result c.in_ok-reach.field-0 (goes_back-through c.args.self.now c.loop-entry.self c.record_entry.new.self c.loop-entry.invariant.back c.record_entry.ensures.goes_back)
-    (ap (λ (s : State). s.terms) c.record_entry.ensures.unchanged) (omega arith) c.entry-item.is c.loop-entry.invariant.so_far c.in_ok-reach.ensures.says c.in-Undecided.is
+returns-in-Undecided-clause-says c = λ m s.
+    runs-undecided c.args.self.now c.record_entry.new.self c.args.environment.now c.args.entries.now c.loop-entry.self.terms c.reach.new.self.terms c.loop-entry.run c.reach.new.run c.loop-entry.entry-index c.entry-item.result c.in_ok-reach.field-0 (goes_back-through c.args.self.now c.loop-entry.self c.record_entry.new.self c.loop-entry.invariant.back c.record_entry.ensures.goes_back)
+    (ap (λ (s : State). s.terms) c.record_entry.ensures.unchanged) (omega arith) c.entry-item.is c.loop-entry.invariant.so_far c.in_ok-reach.ensures.says c.in-Undecided.is m s c.reach.new.self.terms
 
 pub returns-in-Refuted-clause-unchanged : goal.returns-in-Refuted-clause-unchanged
 returns-in-Refuted-clause-unchanged c = restored-grown c.args.self.now c.record_entry.new.self c.reach.new.self (restored-recorded c.args.self.now c.loop-entry.self c.record_entry.new.self c.loop-entry.invariant.unchanged c.record_entry.ensures.unchanged) c.reach.ensures.unchanged

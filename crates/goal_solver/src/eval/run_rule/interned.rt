@@ -1,0 +1,312 @@
+//! Entries of rules, with numbers for their terms and parts of rows for their ids.
+ghost use Rattle.std.specs.Prelude.{◌≡◌, List, true, IfOk, IfErr, IfSome};
+ghost use Rattle.std.specs.Option.{option_copied, option_map};
+ghost use Rattle.goal_terms.specs.PredicateTrees.{tree_of_kind};
+ghost use Rattle.goal_terms.specs.TableMeaning.{Keeps};
+ghost use Rattle.goal_terms.specs.Tree.{Tree};
+ghost use Rattle.goal_terms.specs.TreeOf.{trees_of, tree_of_term};
+ghost use Rattle.goal_tables.specs.Rows.{impl_of};
+ghost use Rattle.goal_kinds.specs.Answers.{erased_predicate};
+ghost use Rattle.goal_kinds.specs.Interned.{PredicateIn, predicate_at};
+ghost use Rattle.goal_kinds.specs.Entries.{equal_terms, row_clauses};
+ghost use Rattle.goal_kinds.specs.InternedEntries.{ArgumentsIn, TermIn, EntryIn, arguments_at, term_at, entry_at, header_trees, value_tree};
+ghost use Rattle.goal_kinds.specs.RuleLists.{header_arguments, other_arguments, arguments_of, expected_of, entry_of, names_arguments};
+ghost use Rattle.goal_kinds.specs.Rules.{clauses_in, value_in, value_term};
+ghost use Rattle.goal_kinds.specs.Settings.{is_headline};
+ghost use Rattle.goal_solver.specs.Lists.{AtEachLevel, RunIn};
+ghost use Rattle.goal_solver.specs.Outcomes.{header_terms};
+ghost use Rattle.goal_solver.specs.RunRules.{RuleRunsOn, header_at};
+
+use crate::eval::interning::{intern_args, intern_equation};
+use crate::eval::lists::entries::run_entry;
+use crate::eval::lists::progress::{ListRun, Reached};
+use crate::eval::outcomes::{Outcome, Setting, Stop};
+use crate::eval::run_rule::recorded::{ToRecord, to_record};
+use goal_kinds::candidates::interned::{InternedPredicate, InternedTrait};
+use goal_kinds::lists::{
+    HeaderTerms, InternedArguments, InternedEntry, InternedTerm, RowHeader, RowValueTerm,
+};
+use goal_kinds::rules::{RowClauses, RowValue, RuleArguments, RuleEntry, RuleHeader, RuleTerm};
+use goal_tables::lookup::IndexedTables;
+use goal_tables::rows::{DefValue, ImplRow};
+use goal_terms::answers::DelayedFault;
+use goal_terms::ids::ImplId;
+use goal_terms::predicates::{Clause, ClauseKind};
+use goal_terms::term_nodes::OutOfMemory;
+use goal_terms::term_table::TermTable;
+use goal_terms::terms::{GenericArg, Term};
+
+/// Runs an entry of a rule at a depth. One that says to record something asks for nothing; one whose row is
+/// missing is undecided, and ends the list where it names arguments.
+pub(crate) fn run_rule_entry(
+    setting: &Setting<'_>,
+    terms: &mut TermTable,
+    faults: &mut Vec<DelayedFault>,
+    run: &mut ListRun,
+    entry: &RuleEntry,
+    depth: u32,
+) -> Result<Reached, Stop>
+    requires { RunIn terms.old run.old }
+    ensures kept { Keeps terms.old terms.new }
+    ensures within { IfOk result (λ _. RunIn terms.new run.new) }
+    ensures stops { is_headline setting.now.typing_mode.now ≡ true → IfErr result (λ s. s ≡ Stop.OutOfMemory) }
+    ensures says { AtEachLevel setting.now depth (λ L. IfOk result (RuleRunsOn setting.now.rows.now L terms.old run.old entry.now terms.new run.new)) }
+{
+    match to_record(entry) {
+        ToRecord::Access(_) | ToRecord::DelayedFault(_) => return Ok(Reached::Next),
+        ToRecord::Nothing => {}
+    }
+    match interned_entry(setting, terms, entry)? {
+        Some(interned) => run_entry(setting, terms, faults, run, &interned, depth),
+        None if names_arguments(entry) => Ok(Reached::Undecided),
+        None => Ok(run.ask(Outcome::Undecided)),
+    }
+}
+
+/// Whether an entry names arguments.
+fn names_arguments(entry: &RuleEntry) -> bool
+    ensures { result ≡ names_arguments entry.now }
+{
+    matches!(entry, RuleEntry::Arguments(_))
+}
+
+/// An entry with numbers for its terms, which the table gets, and parts of rows for their ids; none where a
+/// row that it names isn't there, or has no value. Want of memory or of numbers is the only refusal.
+fn interned_entry<'t>(
+    setting: &Setting<'t>,
+    terms: &mut TermTable,
+    entry: &RuleEntry,
+) -> Result<Option<InternedEntry<'t>>, OutOfMemory>
+    ensures kept { Keeps terms.old terms.new }
+    ensures within { IfOk result (λ o. IfSome o (EntryIn terms.new)) }
+    ensures entry { IfOk result (λ o. option_map (entry_at terms.new) o ≡ entry_of setting.now.rows.now entry.now) }
+{
+    match entry {
+        RuleEntry::Arguments(arguments) => {
+            let Some(made) = interned_arguments(setting, terms, arguments)? else {
+                return Ok(None);
+            };
+            Ok(Some(InternedEntry::Arguments(made)))
+        }
+        RuleEntry::Equation(left, right) => {
+            let made = interned_equation(setting, terms, left, right)?;
+            Ok(Some(made))
+        }
+        RuleEntry::Clause(source, clause) => {
+            let made = interned_clause(setting, terms, clause)?;
+            Ok(Some(InternedEntry::Clause(*source, made)))
+        }
+        RuleEntry::RowClauses(row, number) => Ok(row_clauses(setting.rows, *row, *number)),
+        RuleEntry::Term(_, term) => {
+            let Some(made) = interned_term(setting, terms, term)? else {
+                return Ok(None);
+            };
+            Ok(Some(InternedEntry::Expected(made)))
+        }
+        RuleEntry::Access(access) => Ok(Some(InternedEntry::Access(*access))),
+        RuleEntry::DelayedFault(fault) => Ok(Some(InternedEntry::DelayedFault(*fault))),
+        RuleEntry::Evaluation => Ok(Some(InternedEntry::Evaluation)),
+        RuleEntry::Undecided => Ok(Some(InternedEntry::Undecided)),
+        RuleEntry::Refused => Ok(Some(InternedEntry::Refused)),
+    }
+}
+
+/// Arguments that an entry names, likewise.
+fn interned_arguments<'t>(
+    setting: &Setting<'t>,
+    terms: &mut TermTable,
+    arguments: &RuleArguments,
+) -> Result<Option<InternedArguments<'t>>, OutOfMemory>
+    ensures kept { Keeps terms.old terms.new }
+    ensures within { IfOk result (λ o. IfSome o (ArgumentsIn terms.new)) }
+    ensures arguments { IfOk result (λ o. option_map (arguments_at terms.new) o ≡ arguments_of setting.now.rows.now arguments.now) }
+{
+    match arguments {
+        RuleArguments::Given(args) => {
+            let ids = intern_args(setting.allocator(), terms, args)?;
+            Ok(Some(InternedArguments::Given(ids)))
+        }
+        RuleArguments::Header(header, args) => {
+            let Some(row) = row_header(setting.rows, *header) else {
+                return Ok(None);
+            };
+            let ids = intern_args(setting.allocator(), terms, args)?;
+            Ok(Some(InternedArguments::OfHeader(row, ids)))
+        }
+        RuleArguments::OtherImpl(other, of, number) => {
+            Ok(other_header(setting.rows, *other, *of, *number))
+        }
+        RuleArguments::Followed(number, own) => {
+            let ids = intern_args(setting.allocator(), terms, own)?;
+            Ok(Some(InternedArguments::FollowedBy(*number as usize, ids)))
+        }
+    }
+}
+
+/// The header of a row.
+fn row_header(rows: &IndexedTables, header: RuleHeader) -> Option<RowHeader<'_>>
+    ensures { (gs : List Tree) → option_map (header_at gs) result ≡ header_arguments rows.now header gs }
+{
+    match header {
+        RuleHeader::Impl(id) => Some(impl_header(rows.impl_row(id)?)),
+        RuleHeader::InherentImpl(id) => {
+            let row = rows.inherent_impl_row(id)?;
+            Some(RowHeader {
+                params: row.params.as_slice(),
+                terms: HeaderTerms::SelfType(&row.self_ty),
+            })
+        }
+    }
+}
+
+/// The header of an impl.
+fn impl_header(row: &ImplRow) -> RowHeader<'_>
+    ensures params { result.params.now ≡ row.now.params.items }
+    ensures terms { header_trees result.terms ≡ trees_of row.now.trait_args.items }
+{
+    RowHeader {
+        params: row.params.as_slice(),
+        terms: HeaderTerms::Arguments(row.trait_args.as_slice()),
+    }
+}
+
+/// The header of an impl, to be matched with that of a second one under the arguments of a number.
+fn other_header(
+    rows: &IndexedTables,
+    other: ImplId,
+    of: ImplId,
+    number: u32,
+) -> Option<InternedArguments<'_>>
+    ensures within { (T : List Tree) → IfSome result (ArgumentsIn T) }
+    ensures arguments { (T : List Tree) → option_map (arguments_at T) result ≡ other_arguments (impl_of rows.now other) (impl_of rows.now of) number }
+{
+    let header = impl_header(rows.impl_row(other)?);
+    let row = rows.impl_row(of)?;
+    Some(InternedArguments::OfOtherHeader(header, row.trait_args.as_slice(), number as usize))
+}
+
+/// That two lists of arguments are equal, with numbers for them.
+fn interned_equation<'t>(
+    setting: &Setting<'t>,
+    terms: &mut TermTable,
+    left: &[GenericArg],
+    right: &[GenericArg],
+) -> Result<InternedEntry<'t>, OutOfMemory>
+    ensures kept { Keeps terms.old terms.new }
+    ensures within { IfOk result (EntryIn terms.new) }
+    ensures entry { IfOk result (λ e. entry_at terms.new e ≡ equal_terms (header_terms left.now) (header_terms right.now)) }
+{
+    let first = intern_args(setting.allocator(), terms, left)?;
+    let second = intern_args(setting.allocator(), terms, right)?;
+    Ok(InternedEntry::EqualTerms(first, second))
+}
+
+/// What a clause says, as it stands.
+fn interned_clause(
+    setting: &Setting<'_>,
+    terms: &mut TermTable,
+    clause: &ClauseKind,
+) -> Result<InternedPredicate, OutOfMemory>
+    ensures kept { Keeps terms.old terms.new }
+    ensures within { IfOk result (PredicateIn terms.new) }
+    ensures tree { IfOk result (λ p. predicate_at terms.new p ≡ erased_predicate (tree_of_kind clause.now)) }
+{
+    match clause {
+        ClauseKind::Trait(held) => {
+            let def_id = held.trait_ref.def_id;
+            let args = intern_args(setting.allocator(), terms, &held.trait_ref.args)?;
+            Ok(InternedPredicate::Trait(InternedTrait { def_id, args }))
+        }
+        ClauseKind::Projection(equation) => {
+            let (alias, term) = intern_equation(terms, &equation.projection_term, &equation.term)?;
+            Ok(InternedPredicate::Projection(alias, term))
+        }
+        ClauseKind::HostEffect(held) => {
+            let def_id = held.trait_ref.def_id;
+            let args = intern_args(setting.allocator(), terms, &held.trait_ref.args)?;
+            let of = InternedTrait { def_id, args };
+            Ok(InternedPredicate::HostEffect(held.constness, of))
+        }
+    }
+}
+
+/// The clauses of a row, under the arguments of a number.
+fn row_clauses(rows: &IndexedTables, row: RowClauses, number: u32) -> Option<InternedEntry<'_>>
+    ensures within { (T : List Tree) → IfSome result (EntryIn T) }
+    ensures entry { (T : List Tree) → option_map (entry_at T) result ≡ option_map (λ cs. row_clauses cs number) (clauses_in rows.now row) }
+{
+    let clauses = clauses_of(rows, row)?;
+    Some(InternedEntry::RowClauses(clauses, number as usize))
+}
+
+/// The clauses of a row.
+pub(crate) fn clauses_of(rows: &IndexedTables, row: RowClauses) -> Option<&[Clause]>
+    ensures { option_copied result ≡ clauses_in rows.now row }
+{
+    match row {
+        RowClauses::Impl(id) => Some(rows.impl_row(id)?.predicates.as_slice()),
+        RowClauses::Item(id) => Some(rows.item_row(id)?.own_predicates.as_slice()),
+        RowClauses::Free(id) => Some(rows.free_row(id)?.predicates.as_slice()),
+        RowClauses::Inherent(id) => Some(rows.inherent_row(id)?.predicates.as_slice()),
+    }
+}
+
+/// What the expected term is, likewise.
+fn interned_term<'t>(
+    setting: &Setting<'t>,
+    terms: &mut TermTable,
+    term: &RuleTerm,
+) -> Result<Option<InternedTerm<'t>>, OutOfMemory>
+    ensures kept { Keeps terms.old terms.new }
+    ensures within { IfOk result (λ o. IfSome o (TermIn terms.new)) }
+    ensures term { IfOk result (λ o. option_map (term_at terms.new) o ≡ expected_of setting.now.rows.now term.now) }
+{
+    match term {
+        RuleTerm::AsItStands(term) => {
+            let id = terms.intern(term)?;
+            Ok(Some(InternedTerm::AsItStands(id)))
+        }
+        RuleTerm::Normalized(term) => {
+            let id = terms.intern(term)?;
+            Ok(Some(InternedTerm::HeadFormOf(id)))
+        }
+        RuleTerm::Value(value, number) => {
+            let Some(value) = value_of(setting.rows, *value) else {
+                return Ok(None);
+            };
+            Ok(Some(InternedTerm::ValueUnder(value, *number as usize)))
+        }
+    }
+}
+
+/// The value of a row, if it has one.
+fn value_of(rows: &IndexedTables, value: RowValue) -> Option<RowValueTerm<'_>>
+    ensures { option_map value_tree result ≡ value_in rows.now value }
+{
+    match value {
+        RowValue::Definition(id) => definition_value(&rows.definition_row(id)?.value),
+        RowValue::Free(id) => own_value(&rows.free_row(id)?.value),
+        RowValue::Inherent(id) => own_value(&rows.inherent_row(id)?.value),
+        RowValue::Opaque(id) => Some(RowValueTerm::Ty(&rows.opaque_row(id)?.hidden)),
+    }
+}
+
+/// The value of a definition, if it has one that is no constant to be evaluated.
+fn definition_value(value: &DefValue) -> Option<RowValueTerm<'_>>
+    ensures { option_map value_tree result ≡ value_term value.now }
+{
+    match value {
+        DefValue::Term(term) => Some(RowValueTerm::Term(term)),
+        DefValue::Missing | DefValue::Evaluated => None,
+    }
+}
+
+/// The value of an alias's row, if it has one.
+fn own_value(value: &Option<Term>) -> Option<RowValueTerm<'_>>
+    ensures { option_map value_tree result ≡ option_map tree_of_term value.now }
+{
+    match value {
+        Some(term) => Some(RowValueTerm::Term(term)),
+        None => None,
+    }
+}
