@@ -11,6 +11,7 @@ pub mod FormLemmas
 pub mod OutcomeLists
 pub mod PremiseOutcomes
 pub mod TermErrorLemmas
+pub mod RunModes
 pub mod TraitOutcomeLemmas
 pub mod BeforeLemmas
 pub mod ProjectionArgLemmas

@@ -42,7 +42,7 @@ use Rattle.goal_kinds.specs.Levels.{level}
 use Rattle.goal_kinds.specs.Settings.{Setting, is_headline}
 use Rattle.goal_kinds.specs.Words.{Pairs, SomePair}
 use Rattle.goal_solver.specs.GoingBack.{GoesBack}
-use Rattle.goal_solver.specs.Outcomes.{StandsFor}
+use Rattle.goal_solver.specs.Outcomes.{RunsFor, StandsFor}
 use Rattle.goal_solver.specs.Pending.{IsOfKind, AreListsOfOneKind}
 use Rattle.goal_solver.specs.Relating.{IsRelated, ChangesInference, AgreesWith, Identifies, all_replaced, all_bound, SaysEqual, IsFinalIn}
 use Rattle.goal_solver.specs.Settled.{AreSettled, AreSettledIn, outcome_in, IsPlainOrSame}
@@ -179,7 +179,7 @@ settled-in c s env b n ts us xs ys (Err x) a e f g h p q = tt
 settled-in c s env b n ts us xs ys (Ok o) a e f g h p q =
     let alike : (m : TypingMode) → setting_of c.rows.now m c.environment.now ≡ setting_of s.tables m env =
     λ m. ap (λ t. setting_of t m c.environment.now) e ∙ ap (setting_of s.tables m) g in
-    let stands : (m : TypingMode) → StandsFor s.typing_mode m → StandsFor c.typing_mode.now m = λ m. subst (λ r. StandsFor r m) (sym f) in
+    let stands : (m : TypingMode) → StandsFor s.typing_mode m → RunsFor c m = λ m. subst (λ r. StandsFor r m) (sym f) in
     let z : AreSettled c b n ts us o = subst (λ z. AreSettled c b n z us o) p (subst (λ z. AreSettled c b n xs z o) q a) in
     record {
       holds = λ held m st ρ. subst (λ S. Pairs (level S n).equal (all_replaced ρ ts) (all_replaced ρ us)) (alike m) (z.holds held m (stands m st) ρ);

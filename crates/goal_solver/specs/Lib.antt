@@ -29,6 +29,7 @@ pub mod TranslatedArgs
 pub mod Collecting
 pub mod OpenGoals
 pub mod OpenProjections
+pub mod Recording
 pub mod Promises
 pub mod Lists
 pub mod AskedTraits

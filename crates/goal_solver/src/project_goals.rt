@@ -5,7 +5,6 @@ ghost use Rattle.goal_kinds.specs.Answers.{whether};
 ghost use Rattle.goal_solver.specs.Answers.{IsOwed, level_over, IsPredicateAnswer, IsUndecided, IsMaybe, AnswersQuietly, IsFaultOf};
 ghost use Rattle.goal_solver.specs.Binding.{IsApplicable};
 ghost use Rattle.goal_solver.specs.GoingBack.{GoesBack, restored};
-ghost use Rattle.goal_solver.specs.Outcomes.{StandsFor};
 ghost use Rattle.goal_solver.specs.Promises.{AnswersProjection, IsClosedProjection, LeavesUndecided, NoTwoDisagree, equation_asked};
 ghost use Rattle.goal_solver.specs.State.{kinds_of};
 
@@ -43,7 +42,7 @@ impl EvalCtxt<'_> {
         &mut self,
         goal: &Goal<ProjectionPredicate>,
     ) -> Result<Response, Fault>
-        ensures sound { (m : TypingMode) → StandsFor self.old.typing_mode m → IsPredicateAnswer (level_over self.old m goal.now.param_env.items) (equation_asked goal.now.predicate) result }
+        ensures sound { (m : TypingMode) → IsOwed self.new m → IsPredicateAnswer (level_over self.old m goal.now.param_env.items) (equation_asked goal.now.predicate) result }
         ensures decided { (m : TypingMode) → IsOwed self.new m → IsClosedProjection goal.now → IsMaybe result → IsUndecided (level_over self.old m goal.now.param_env.items) (equation_asked goal.now.predicate) }
         ensures unchanged { self.new ≡ restored self.old self.new }
         ensures goes_back { GoesBack self.old self.new }

@@ -8,7 +8,6 @@ ghost use Rattle.goal_solver.specs.Answers.{IsOwed, level_over, erased_args, Are
 ghost use Rattle.goal_solver.specs.Binding.{IsApplicable};
 ghost use Rattle.goal_solver.specs.GoingBack.{GoesBack, restored};
 ghost use Rattle.goal_solver.specs.OpenGoals.{MergesTrait, WhenAnswered, at_depth};
-ghost use Rattle.goal_solver.specs.Outcomes.{StandsFor};
 ghost use Rattle.goal_solver.specs.Promises.{AnswersTrait, IsClosedTrait, LeavesUndecided, MergesOpenTrait, NoTwoDisagree, trait_asked, trait_question};
 ghost use Rattle.goal_solver.specs.State.{kinds_of};
 
@@ -57,7 +56,7 @@ impl EvalCtxt<'_> {
         &mut self,
         goal: &Goal<TraitPredicate>,
     ) -> Result<Response, Fault>
-        ensures sound { (m : TypingMode) → StandsFor self.old.typing_mode m → AreClosed goal.now.predicate.trait_ref.args.items goal.now.param_env.items → IsTraitAnswer (level_over self.old m goal.now.param_env.items) goal.now.predicate.trait_ref.def_id (erased_args goal.now.predicate.trait_ref.args.items) result }
+        ensures sound { (m : TypingMode) → IsOwed self.new m → AreClosed goal.now.predicate.trait_ref.args.items goal.now.param_env.items → IsTraitAnswer (level_over self.old m goal.now.param_env.items) goal.now.predicate.trait_ref.def_id (erased_args goal.now.predicate.trait_ref.args.items) result }
         ensures decided { (m : TypingMode) → IsOwed self.new m → AreClosed goal.now.predicate.trait_ref.args.items goal.now.param_env.items → IsMaybe result → IsOpen (level_over self.old m goal.now.param_env.items) goal.now.predicate.trait_ref.def_id (erased_args goal.now.predicate.trait_ref.args.items) }
         ensures unchanged { self.new ≡ restored self.old self.new }
         ensures goes_back { GoesBack self.old self.new }
@@ -90,7 +89,7 @@ impl EvalCtxt<'_> {
         environment: &[Clause],
         depth: u32,
     ) -> Result<Response, Fault>
-        ensures sound { (m : TypingMode) → StandsFor self.old.typing_mode m → IsTraitAnswer (level (setting_of self.old.tables m environment.now) depth) trait_id (erased_args args.now) result }
+        ensures sound { (m : TypingMode) → IsOwed self.new m → IsTraitAnswer (level (setting_of self.old.tables m environment.now) depth) trait_id (erased_args args.now) result }
         ensures decided { (m : TypingMode) → IsOwed self.new m → IsMaybe result → IsOpen (level (setting_of self.old.tables m environment.now) depth) trait_id (erased_args args.now) }
         ensures unchanged { self.new ≡ restored self.old self.new }
         ensures goes_back { GoesBack self.old self.new }
@@ -103,7 +102,7 @@ impl EvalCtxt<'_> {
         self.is_well_formed();
         match self.trait_outcome_at(trait_id, args, environment, depth) {
             Ok(TraitOutcome::Holds(class)) => Ok(self.respond(Certainty::Yes, Some(class))),
-            Ok(TraitOutcome::Refuted) => self.refuted(),
+            Ok(TraitOutcome::Refuted) => Err(Fault::NoSolution),
             Ok(TraitOutcome::Undecided) => Ok(self.respond(Certainty::Maybe, None)),
             Err(stop) => self.stopped(stop),
         }

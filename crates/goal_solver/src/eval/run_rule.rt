@@ -23,9 +23,10 @@ pub(crate) mod progress;
 pub(crate) mod recorded;
 pub(crate) mod variables;
 
+use crate::eval::effects::Effects;
 use crate::context::EvalCtxt;
 use crate::eval::mode_tests::is_headline;
-use crate::eval::outcomes::{Setting, Stop};
+use crate::eval::outcomes::{OnAccess, Setting, Stop};
 use crate::eval::run_rule::entries::run_entry;
 use crate::eval::run_rule::progress::{Reached, RuleOutcome, RuleRun};
 use crate::eval::run_rule::recorded::{ToRecord, to_record};
@@ -97,7 +98,7 @@ impl EvalCtxt<'_> {
         match self.run_entries(environment, &rule.entries) {
             Ok(RuleOutcome::Holds(None)) => Ok(self.respond(Certainty::Yes, None)),
             Ok(RuleOutcome::Holds(Some((expected, id)))) => self.respond_found(expected, id),
-            Ok(RuleOutcome::Refuted) => self.refuted(),
+            Ok(RuleOutcome::Refuted) => Err(Fault::NoSolution),
             Ok(RuleOutcome::Undecided) => Ok(self.respond(Certainty::Maybe, None)),
             Err(stop) => self.stopped(stop),
         }
@@ -144,14 +145,15 @@ impl EvalCtxt<'_> {
         ensures stops { is_of_headline self.old.typing_mode ≡ true → IfErr result (λ s. s ≡ Stop.OutOfMemory) }
         ensures says { (m : TypingMode) → StandsFor self.old.typing_mode m → IfOk result (LeadsOn (setting_over self.old m environment.now) (level_over self.old m environment.now) (progress_at self.old.terms run.old) entry.now (progress_at self.new.terms run.new)) }
     {
-        let mut faults = Vec::new(self.allocator());
+        let mut effects = Effects::new(self.allocator());
         let setting = Setting {
             rows: self.tables.rows(),
             typing_mode: &self.typing_mode,
+            on_access: OnAccess::Stop,
             environment,
         };
         let depth = self.remaining_depth;
-        run_entry(&setting, &mut self.terms, &mut faults, run, entry, depth)
+        run_entry(&setting, &mut self.terms, &mut effects, run, entry, depth)
     }
 
     /// Records what an entry says to record.

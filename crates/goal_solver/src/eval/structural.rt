@@ -15,9 +15,10 @@ ghost use Rattle.goal_solver.specs.HeadForms.{bound_term, IsClosedForm, IsFormAn
 ghost use Rattle.goal_solver.specs.Outcomes.{StandsFor, SaysWhich, FoundIn};
 ghost use Rattle.goal_solver.specs.Relating.{IsFaultFor};
 
+use crate::eval::effects::Effects;
 use crate::context::EvalCtxt;
 use crate::eval::head_forms::head_form;
-use crate::eval::outcomes::{Found, Setting, Stop};
+use crate::eval::outcomes::{Found, OnAccess, Setting, Stop};
 use crate::faults::Fault;
 use goal_infer::followed::follow;
 use goal_tables::predicate_terms::some_in_env;
@@ -125,16 +126,17 @@ impl EvalCtxt<'_> {
         ensures says { (m : modes) → StandsFor self.old.typing_mode m → IfOk result (SaysWhich (HasHeadForm (level_over self.old m environment.now) (erased_at self.old.terms id)) (HeadFormRefuted (level_over self.old m environment.now) (erased_at self.old.terms id)) self.new.terms) }
         ensures stops { is_headline self.old.typing_mode ≡ true → IfErr result (λ s. s ≡ Stop.OutOfMemory) }
     {
-        let mut faults = Vec::new(self.allocator());
+        let mut effects = Effects::new(self.allocator());
         let setting = Setting {
             rows: self.tables.rows(),
             typing_mode: &self.typing_mode,
+            on_access: OnAccess::Stop,
             environment,
         };
         head_form(
             &setting,
             &mut self.terms,
-            &mut faults,
+            &mut effects,
             id,
             self.remaining_depth,
         )

@@ -15,9 +15,10 @@ ghost use Rattle.goal_kinds.specs.Words.{Pairs, SomePair};
 ghost use Rattle.goal_kinds.specs.declared.rules.RuleArguments.TheVariants as arguments;
 ghost use Rattle.goal_kinds.specs.declared.rules.RuleHeader.TheVariants as of_header;
 ghost use Rattle.goal_kinds.specs.declared.rules.RuleTerm.TheVariants as of_term;
-ghost use Rattle.goal_solver.specs.Outcomes.{StandsFor, setting_in, level_in, header_terms, Says, SaysWhich, FoundIn, MatchIn};
+ghost use Rattle.goal_solver.specs.Outcomes.{RunsFor, setting_in, level_in, header_terms, Says, SaysWhich, FoundIn, MatchIn};
 ghost use Rattle.goal_solver.specs.RunRules.{NamedIn, RunIn, named_at, progress_at, LeadsOn, SaysNamed, SaysHeader};
 
+use crate::eval::effects::Effects;
 use crate::eval::head_forms::{head_form, head_form_under};
 use crate::eval::id_lists::joined;
 use crate::eval::instances::{header_of_type, instances_of};
@@ -45,7 +46,7 @@ use std::alloc::Global;
 pub(crate) fn run_entry(
     setting: &Setting<'_>,
     terms: &mut TermTable,
-    faults: &mut Vec<DelayedFault>,
+    effects: &mut Effects,
     run: &mut RuleRun,
     entry: &RuleEntry,
     depth: u32,
@@ -54,29 +55,29 @@ pub(crate) fn run_entry(
     ensures kept { Keeps terms.old terms.new }
     ensures within { IfOk result (λ _. RunIn terms.new run.new) }
     ensures stops { is_headline setting.now.typing_mode.now ≡ true → IfErr result (λ s. s ≡ Stop.OutOfMemory) }
-    ensures says { (m : TypingMode) → StandsFor setting.now.typing_mode.now m → IfOk result (LeadsOn (setting_in setting.now m) (level_in setting.now m depth) (progress_at terms.old run.old) entry.now (progress_at terms.new run.new)) }
+    ensures says { (m : TypingMode) → RunsFor setting.now m → IfOk result (LeadsOn (setting_in setting.now m) (level_in setting.now m depth) (progress_at terms.old run.old) entry.now (progress_at terms.new run.new)) }
 {
     match entry {
         RuleEntry::Arguments(arguments) => {
-            let found = arguments_match(setting, terms, faults, &run.named, arguments, depth)?;
+            let found = arguments_match(setting, terms, effects, &run.named, arguments, depth)?;
             let reached = run.name(found)?;
             Ok(reached)
         }
         RuleEntry::Term(expected, term) => {
-            let found = term_found(setting, terms, faults, &run.named, term, depth)?;
+            let found = term_found(setting, terms, effects, &run.named, term, depth)?;
             let variable = general_variable(expected.view().node());
             Ok(run.give(variable, found))
         }
         RuleEntry::Equation(left, right) => {
-            let outcome = equation_outcome(setting, terms, faults, left, right, depth)?;
+            let outcome = equation_outcome(setting, terms, effects, left, right, depth)?;
             Ok(run.ask(outcome))
         }
         RuleEntry::Clause(_, clause) => {
-            let outcome = clause_outcome(setting, terms, faults, clause, depth)?;
+            let outcome = clause_outcome(setting, terms, effects, clause, depth)?;
             Ok(run.ask(outcome))
         }
         RuleEntry::RowClauses(row, number) => {
-            let outcome = row_outcome(setting, terms, faults, &run.named, *row, *number, depth)?;
+            let outcome = row_outcome(setting, terms, effects, &run.named, *row, *number, depth)?;
             Ok(run.ask(outcome))
         }
         RuleEntry::Access(_) => Ok(run.ask(Outcome::Holds)),
@@ -98,7 +99,7 @@ fn named_args(named: &[Vec<TermId>], number: u32) -> Option<&Vec<TermId>>
 fn arguments_match(
     setting: &Setting<'_>,
     terms: &mut TermTable,
-    faults: &mut Vec<DelayedFault>,
+    effects: &mut Effects,
     named: &[Vec<TermId>],
     arguments: &RuleArguments,
     depth: u32,
@@ -107,7 +108,7 @@ fn arguments_match(
     ensures kept { Keeps terms.old terms.new }
     ensures within { IfOk result (MatchIn terms.new) }
     ensures stops { is_headline setting.now.typing_mode.now ≡ true → IfErr result (λ s. s ≡ Stop.OutOfMemory) }
-    ensures says { (m : TypingMode) → StandsFor setting.now.typing_mode.now m → IfOk result (SaysNamed (setting_in setting.now m) (level_in setting.now m depth) (named_at terms.old named.now) arguments.now terms.new) }
+    ensures says { (m : TypingMode) → RunsFor setting.now m → IfOk result (SaysNamed (setting_in setting.now m) (level_in setting.now m depth) (named_at terms.old named.now) arguments.now terms.new) }
 {
     match arguments {
         RuleArguments::Given(args) => {
@@ -115,10 +116,10 @@ fn arguments_match(
             Ok(HeaderMatch::Fits(ids))
         }
         RuleArguments::Header(header, args) => {
-            header_match(setting, terms, faults, *header, args, depth)
+            header_match(setting, terms, effects, *header, args, depth)
         }
         RuleArguments::OtherImpl(other, of, number) => {
-            other_match(setting, terms, faults, named, *other, *of, *number, depth)
+            other_match(setting, terms, effects, named, *other, *of, *number, depth)
         }
         RuleArguments::Followed(number, own) => {
             followed_args(setting, terms, named, *number, own)
@@ -130,7 +131,7 @@ fn arguments_match(
 fn header_match(
     setting: &Setting<'_>,
     terms: &mut TermTable,
-    faults: &mut Vec<DelayedFault>,
+    effects: &mut Effects,
     header: RuleHeader,
     args: &[GenericArg],
     depth: u32,
@@ -138,12 +139,12 @@ fn header_match(
     ensures kept { Keeps terms.old terms.new }
     ensures within { IfOk result (MatchIn terms.new) }
     ensures stops { is_headline setting.now.typing_mode.now ≡ true → IfErr result (λ s. s ≡ Stop.OutOfMemory) }
-    ensures says { (m : TypingMode) → StandsFor setting.now.typing_mode.now m → IfOk result (SaysHeader (level_in setting.now m depth) (header_in setting.now.rows.now header) (header_terms args.now) terms.new) }
+    ensures says { (m : TypingMode) → RunsFor setting.now m → IfOk result (SaysHeader (level_in setting.now m depth) (header_in setting.now.rows.now header) (header_terms args.now) terms.new) }
 {
     let given = intern_args(setting.allocator(), terms, args)?;
     match header {
-        RuleHeader::Impl(id) => impl_match(setting, terms, faults, id, &given, depth),
-        RuleHeader::InherentImpl(id) => inherent_match(setting, terms, faults, id, &given, depth),
+        RuleHeader::Impl(id) => impl_match(setting, terms, effects, id, &given, depth),
+        RuleHeader::InherentImpl(id) => inherent_match(setting, terms, effects, id, &given, depth),
     }
 }
 
@@ -151,7 +152,7 @@ fn header_match(
 fn impl_match(
     setting: &Setting<'_>,
     terms: &mut TermTable,
-    faults: &mut Vec<DelayedFault>,
+    effects: &mut Effects,
     id: ImplId,
     given: &[TermId],
     depth: u32,
@@ -160,7 +161,7 @@ fn impl_match(
     ensures kept { Keeps terms.old terms.new }
     ensures within { IfOk result (MatchIn terms.new) }
     ensures stops { is_headline setting.now.typing_mode.now ≡ true → IfErr result (λ s. s ≡ Stop.OutOfMemory) }
-    ensures says { (m : TypingMode) → StandsFor setting.now.typing_mode.now m → IfOk result (SaysHeader (level_in setting.now m depth) (header_in setting.now.rows.now (of_header.Impl id)) (erased_all terms.old given.now) terms.new) }
+    ensures says { (m : TypingMode) → RunsFor setting.now m → IfOk result (SaysHeader (level_in setting.now m depth) (header_in setting.now.rows.now (of_header.Impl id)) (erased_all terms.old given.now) terms.new) }
 {
     let Some(row) = setting.rows.impl_row(id) else {
         return Ok(HeaderMatch::Unknown);
@@ -168,7 +169,7 @@ fn impl_match(
     match_header(
         setting,
         terms,
-        faults,
+        effects,
         &row.params,
         &row.trait_args,
         given,
@@ -180,7 +181,7 @@ fn impl_match(
 fn inherent_match(
     setting: &Setting<'_>,
     terms: &mut TermTable,
-    faults: &mut Vec<DelayedFault>,
+    effects: &mut Effects,
     id: InherentImplId,
     given: &[TermId],
     depth: u32,
@@ -189,20 +190,20 @@ fn inherent_match(
     ensures kept { Keeps terms.old terms.new }
     ensures within { IfOk result (MatchIn terms.new) }
     ensures stops { is_headline setting.now.typing_mode.now ≡ true → IfErr result (λ s. s ≡ Stop.OutOfMemory) }
-    ensures says { (m : TypingMode) → StandsFor setting.now.typing_mode.now m → IfOk result (SaysHeader (level_in setting.now m depth) (header_in setting.now.rows.now (of_header.InherentImpl id)) (erased_all terms.old given.now) terms.new) }
+    ensures says { (m : TypingMode) → RunsFor setting.now m → IfOk result (SaysHeader (level_in setting.now m depth) (header_in setting.now.rows.now (of_header.InherentImpl id)) (erased_all terms.old given.now) terms.new) }
 {
     let Some(row) = setting.rows.inherent_impl_row(id) else {
         return Ok(HeaderMatch::Unknown);
     };
     let header = header_of_type(setting, &row.self_ty)?;
-    match_header(setting, terms, faults, &row.params, &header, given, depth)
+    match_header(setting, terms, effects, &row.params, &header, given, depth)
 }
 
 /// Whether the header of an impl fits that of another impl, under the arguments of a number.
 fn other_match(
     setting: &Setting<'_>,
     terms: &mut TermTable,
-    faults: &mut Vec<DelayedFault>,
+    effects: &mut Effects,
     named: &[Vec<TermId>],
     other: ImplId,
     of: ImplId,
@@ -213,7 +214,7 @@ fn other_match(
     ensures kept { Keeps terms.old terms.new }
     ensures within { IfOk result (MatchIn terms.new) }
     ensures stops { is_headline setting.now.typing_mode.now ≡ true → IfErr result (λ s. s ≡ Stop.OutOfMemory) }
-    ensures says { (m : TypingMode) → StandsFor setting.now.typing_mode.now m → IfOk result (SaysNamed (setting_in setting.now m) (level_in setting.now m depth) (named_at terms.old named.now) (arguments.OtherImpl other of number) terms.new) }
+    ensures says { (m : TypingMode) → RunsFor setting.now m → IfOk result (SaysNamed (setting_in setting.now m) (level_in setting.now m depth) (named_at terms.old named.now) (arguments.OtherImpl other of number) terms.new) }
 {
     let Some(fitting) = setting.rows.impl_row(other) else {
         return Ok(HeaderMatch::Unknown);
@@ -228,7 +229,7 @@ fn other_match(
     match_header(
         setting,
         terms,
-        faults,
+        effects,
         &fitting.params,
         &fitting.trait_args,
         &header,
@@ -248,7 +249,7 @@ fn followed_args(
     ensures kept { Keeps terms.old terms.new }
     ensures within { IfOk result (MatchIn terms.new) }
     ensures stops { is_headline setting.now.typing_mode.now ≡ true → IfErr result (λ s. s ≡ Stop.OutOfMemory) }
-    ensures says { (m : TypingMode) (n : ℕ) → StandsFor setting.now.typing_mode.now m → IfOk result (SaysNamed (setting_in setting.now m) (level_in setting.now m n) (named_at terms.old named.now) (arguments.Followed number own.now) terms.new) }
+    ensures says { (m : TypingMode) (n : ℕ) → RunsFor setting.now m → IfOk result (SaysNamed (setting_in setting.now m) (level_in setting.now m n) (named_at terms.old named.now) (arguments.Followed number own.now) terms.new) }
 {
     let Some(args) = named_args(named, number) else {
         return Ok(HeaderMatch::Unknown);
@@ -262,18 +263,18 @@ fn followed_args(
 fn equation_outcome(
     setting: &Setting<'_>,
     terms: &mut TermTable,
-    faults: &mut Vec<DelayedFault>,
+    effects: &mut Effects,
     left: &[GenericArg],
     right: &[GenericArg],
     depth: u32,
 ) -> Result<Outcome, Stop>
     ensures kept { Keeps terms.old terms.new }
     ensures stops { is_headline setting.now.typing_mode.now ≡ true → IfErr result (λ s. s ≡ Stop.OutOfMemory) }
-    ensures says { (m : TypingMode) → StandsFor setting.now.typing_mode.now m → IfOk result (Says (Pairs (level_in setting.now m depth).equal (header_terms left.now) (header_terms right.now)) (SomePair (level_in setting.now m depth).unequal (header_terms left.now) (header_terms right.now))) }
+    ensures says { (m : TypingMode) → RunsFor setting.now m → IfOk result (Says (Pairs (level_in setting.now m depth).equal (header_terms left.now) (header_terms right.now)) (SomePair (level_in setting.now m depth).unequal (header_terms left.now) (header_terms right.now))) }
 {
     let first = intern_args(setting.allocator(), terms, left)?;
     let second = intern_args(setting.allocator(), terms, right)?;
-    compare_lists(setting, terms, faults, &first, &second, depth)
+    compare_lists(setting, terms, effects, &first, &second, depth)
 }
 
 /// What a clause says, as it stands.
@@ -309,17 +310,17 @@ fn clause_given(
 fn clause_outcome(
     setting: &Setting<'_>,
     terms: &mut TermTable,
-    faults: &mut Vec<DelayedFault>,
+    effects: &mut Effects,
     clause: &ClauseKind,
     depth: u32,
 ) -> Result<Outcome, Stop>
     ensures kept { Keeps terms.old terms.new }
     ensures stops { is_headline setting.now.typing_mode.now ≡ true → IfErr result (λ s. s ≡ Stop.OutOfMemory) }
-    ensures says { (m : TypingMode) → StandsFor setting.now.typing_mode.now m → IfOk result (Says (ClauseHolds (level_in setting.now m depth) (erased_predicate (tree_of_kind clause.now))) (ClauseRefuted (level_in setting.now m depth) (erased_predicate (tree_of_kind clause.now)))) }
+    ensures says { (m : TypingMode) → RunsFor setting.now m → IfOk result (Says (ClauseHolds (level_in setting.now m depth) (erased_predicate (tree_of_kind clause.now))) (ClauseRefuted (level_in setting.now m depth) (erased_predicate (tree_of_kind clause.now)))) }
 {
     let predicate = clause_given(setting.allocator(), terms, clause)?;
     let premise = InternedPremise::Predicate(predicate);
-    premise_outcome(setting, terms, faults, &premise, depth)
+    premise_outcome(setting, terms, effects, &premise, depth)
 }
 
 /// The clauses of a row.
@@ -338,7 +339,7 @@ pub(crate) fn clauses_of(rows: &IndexedTables, row: RowClauses) -> Option<&[Clau
 fn row_outcome(
     setting: &Setting<'_>,
     terms: &mut TermTable,
-    faults: &mut Vec<DelayedFault>,
+    effects: &mut Effects,
     named: &[Vec<TermId>],
     row: RowClauses,
     number: u32,
@@ -347,7 +348,7 @@ fn row_outcome(
     requires { NamedIn terms.old named.now }
     ensures kept { Keeps terms.old terms.new }
     ensures stops { is_headline setting.now.typing_mode.now ≡ true → IfErr result (λ s. s ≡ Stop.OutOfMemory) }
-    ensures says { (m : TypingMode) → StandsFor setting.now.typing_mode.now m → IfOk result (Says (RowClausesHold (setting_in setting.now m) (level_in setting.now m depth) (named_at terms.old named.now) row number) (RowClausesRefuted (setting_in setting.now m) (level_in setting.now m depth) (named_at terms.old named.now) row number)) }
+    ensures says { (m : TypingMode) → RunsFor setting.now m → IfOk result (Says (RowClausesHold (setting_in setting.now m) (level_in setting.now m depth) (named_at terms.old named.now) row number) (RowClausesRefuted (setting_in setting.now m) (level_in setting.now m depth) (named_at terms.old named.now) row number)) }
 {
     let Some(clauses) = clauses_of(setting.rows, row) else {
         return Ok(Outcome::Undecided);
@@ -355,14 +356,14 @@ fn row_outcome(
     let Some(args) = named_args(named, number) else {
         return Ok(Outcome::Undecided);
     };
-    clauses_outcome(setting, terms, faults, clauses, args, depth)
+    clauses_outcome(setting, terms, effects, clauses, args, depth)
 }
 
 /// The term of an entry for the expected variable.
 fn term_found(
     setting: &Setting<'_>,
     terms: &mut TermTable,
-    faults: &mut Vec<DelayedFault>,
+    effects: &mut Effects,
     named: &[Vec<TermId>],
     term: &RuleTerm,
     depth: u32,
@@ -371,7 +372,7 @@ fn term_found(
     ensures kept { Keeps terms.old terms.new }
     ensures within { IfOk result (FoundIn terms.new) }
     ensures stops { is_headline setting.now.typing_mode.now ≡ true → IfErr result (λ s. s ≡ Stop.OutOfMemory) }
-    ensures says { (m : TypingMode) → StandsFor setting.now.typing_mode.now m → IfOk result (SaysWhich (TermIs (setting_in setting.now m) (level_in setting.now m depth) (named_at terms.old named.now) term.now) (TermIsNone (setting_in setting.now m) (level_in setting.now m depth) (named_at terms.old named.now) term.now) terms.new) }
+    ensures says { (m : TypingMode) → RunsFor setting.now m → IfOk result (SaysWhich (TermIs (setting_in setting.now m) (level_in setting.now m depth) (named_at terms.old named.now) term.now) (TermIsNone (setting_in setting.now m) (level_in setting.now m depth) (named_at terms.old named.now) term.now) terms.new) }
 {
     match term {
         RuleTerm::AsItStands(term) => {
@@ -380,10 +381,10 @@ fn term_found(
         }
         RuleTerm::Normalized(term) => {
             let id = terms.intern(term)?;
-            head_form(setting, terms, faults, id, depth)
+            head_form(setting, terms, effects, id, depth)
         }
         RuleTerm::Value(value, number) => {
-            value_found(setting, terms, faults, named, *value, *number, depth)
+            value_found(setting, terms, effects, named, *value, *number, depth)
         }
     }
 }
@@ -392,7 +393,7 @@ fn term_found(
 fn value_found(
     setting: &Setting<'_>,
     terms: &mut TermTable,
-    faults: &mut Vec<DelayedFault>,
+    effects: &mut Effects,
     named: &[Vec<TermId>],
     value: RowValue,
     number: u32,
@@ -402,7 +403,7 @@ fn value_found(
     ensures kept { Keeps terms.old terms.new }
     ensures within { IfOk result (FoundIn terms.new) }
     ensures stops { is_headline setting.now.typing_mode.now ≡ true → IfErr result (λ s. s ≡ Stop.OutOfMemory) }
-    ensures says { (m : TypingMode) → StandsFor setting.now.typing_mode.now m → IfOk result (SaysWhich (TermIs (setting_in setting.now m) (level_in setting.now m depth) (named_at terms.old named.now) (of_term.Value value number)) (TermIsNone (setting_in setting.now m) (level_in setting.now m depth) (named_at terms.old named.now) (of_term.Value value number)) terms.new) }
+    ensures says { (m : TypingMode) → RunsFor setting.now m → IfOk result (SaysWhich (TermIs (setting_in setting.now m) (level_in setting.now m depth) (named_at terms.old named.now) (of_term.Value value number)) (TermIsNone (setting_in setting.now m) (level_in setting.now m depth) (named_at terms.old named.now) (of_term.Value value number)) terms.new) }
 {
     let Some(term) = value_of(setting.rows, value) else {
         return Ok(Found::Undecided);
@@ -410,7 +411,7 @@ fn value_found(
     let Some(args) = named_args(named, number) else {
         return Ok(Found::Undecided);
     };
-    head_form_under(setting, terms, faults, term, args, depth)
+    head_form_under(setting, terms, effects, term, args, depth)
 }
 
 /// The value of a row, if it has one.

@@ -12,9 +12,9 @@ pub returns-in_default-clause-goes_back : goal.returns-in_default-clause-goes_ba
 returns-in_default-clause-goes_back g c = goes_back-same c.args.self.now
 
 pub returns-clause-sound_above : goal.returns-clause-sound_above
-returns-clause-sound_above g c = λ m p stands e holds closed.
-    answers-above c.args.self.now c.args.class c.in-Some.asked.now p c.deref-2.result.now c.args.goal.now.param_env.items c.answer_through.result
-    (c.in-Some.ensures ∙ e) c.deref-2.ensures.value c.answer_through.ensures.sound m stands holds
+returns-clause-sound_above g c = λ m p owed e holds closed.
+    answers-above c.args.self.now c.answer_through.new.self c.args.class c.in-Some.asked.now p c.deref-2.result.now c.args.goal.now.param_env.items c.answer_through.result
+    (c.in-Some.ensures ∙ e) c.deref-2.ensures.value c.answer_through.ensures.sound m owed holds
 
 pub returns-clause-decided_above : goal.returns-clause-decided_above
 returns-clause-decided_above g c = λ m p n owed e holds closed expected undecided.
