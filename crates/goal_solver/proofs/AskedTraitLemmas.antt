@@ -45,7 +45,7 @@ use Rattle.goal_kinds.proofs.TraitLists.{trait_list-holds, trait_list-refuted}
 use Rattle.goal_solver.specs.AskedTraits.{asked_list, candidate_list, AskedHolds, AskedRefuted, AskedIn, SaysCandidate, SaysCandidates, SaysGroups}
 use Rattle.goal_solver.specs.Joined.{one_of}
 use Rattle.goal_solver.specs.Lists.{list_mode, IsListFor, SaysList, list_held}
-use Rattle.goal_solver.specs.Outcomes.{RunsFor, StandsFor, setting_in, level_in, Says}
+use Rattle.goal_solver.specs.Outcomes.{RunsFor, setting_in, level_in, Says}
 use Rattle.goal_solver.specs.declared.assembly.candidates.AskedTrait.{AskedTrait}
 use Rattle.goal_solver.specs.declared.eval.lists.ListOutcome.{ListOutcome}
 use Rattle.goal_solver.specs.declared.eval.lists.ListOutcome.TheVariants as list

@@ -76,5 +76,6 @@ pub mod ListRunLemmas
 pub mod ListEntryLemmas
 pub mod ListAnswerLemmas
 pub mod AskedTraitLemmas
+pub mod RerunLemmas
 pub mod HostEffectLemmas
 pub mod ListedTermLemmas

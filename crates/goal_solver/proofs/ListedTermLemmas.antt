@@ -24,7 +24,7 @@ use Rattle.goal_kinds.proofs.ListStandIns.{projection_list-stands_in, alias_list
 use Rattle.goal_kinds.proofs.ListTerms.{asks_none-gives, gives-with}
 use Rattle.goal_kinds.proofs.ProjectionLists.{projection_list-gives, projection_list-refuted}
 use Rattle.goal_solver.specs.Lists.{list_mode, IsListFor, SaysList, list_term}
-use Rattle.goal_solver.specs.Outcomes.{RunsFor, StandsFor, setting_in, SaysWhich}
+use Rattle.goal_solver.specs.Outcomes.{RunsFor, setting_in, SaysWhich}
 use Rattle.goal_solver.specs.declared.eval.outcomes.Setting as over
 use Rattle.goal_solver.specs.declared.eval.outcomes.Found.{Found}
 use Rattle.goal_solver.specs.declared.eval.lists.ListOutcome.{ListOutcome}

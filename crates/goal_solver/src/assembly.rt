@@ -40,10 +40,10 @@ impl EvalCtxt<'_> {
     /// goal does hold through that class at the remaining depth, this is the alias's answer one above, as
     /// [`EvalCtxt::compute_normalizes_to_goal`] would give it. A projection with inference variables besides the
     /// expected one is answered by its candidates as that call does it once the trait goal holds. Without a class a
-    /// projection is `Maybe`, and so is a host effect goal so far. In a mode that isn't of the headline `Yes` and
-    /// `NoSolution` to a closed goal are right in every headline mode, and in coherence a refuted goal is `Maybe`.
-    /// The response to a closed goal lists the expected variable's value alone, and names no class but a trait
-    /// goal's. Inference state, added goals and storage are as before.
+    /// projection is `Maybe`, and so is a host effect goal so far. In the erased mode what is answered to a closed
+    /// goal is so of each headline mode, as long as no access is recorded. The response to a closed goal lists the
+    /// expected variable's value alone, and names no class but a trait goal's. Inference state, added goals and
+    /// storage are as before.
     pub fn assemble_and_merge_candidates<G: GoalKind + Drop>(
         &mut self,
         proven_via: Option<TraitGoalProvenVia>,

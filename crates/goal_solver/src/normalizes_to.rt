@@ -36,9 +36,13 @@ use goal_terms::term_nodes::TermId;
 impl EvalCtxt<'_> {
     /// The term that an alias normalizes to, as the value of the goal's expected variable. For a closed goal, `Yes`:
     /// a derivation no higher than the remaining depth gives the term. `NoSolution`: a refutation no higher shows
-    /// that there is none. In a mode that isn't of the headline both are right in every headline mode, and they stay
-    /// right at every greater depth. `Maybe`, in a headline mode, for a goal that
-    /// [`crate::eval::goals::check_goal`] accepts: there is neither. No two answers at any depths disagree.
+    /// that there is none. `Maybe`, for a goal that [`crate::eval::goals::check_goal`] accepts: there is neither.
+    /// What is decided stays so at every greater depth. That is so in a headline mode; in the erased mode it is so
+    /// of each headline mode, as long as no access is recorded. No two answers at any depths disagree.
+    ///
+    /// In the erased mode an access is recorded where a rule reads the mode, and an opaque type stays as it is. In
+    /// coherence, and where opaque types are being defined, the goal goes by what its candidates say in that mode;
+    /// that of an opaque type is `Maybe` in coherence.
     ///
     /// A projection with other inference variables is answered at one less of the depth. Its trait goal is answered
     /// first, as [`EvalCtxt::compute_trait_goal`] does it: a refusal is the answer, and where it is `Maybe` so is
@@ -51,10 +55,10 @@ impl EvalCtxt<'_> {
     /// refused it is `NoSolution` if the trait goal holds by the rest, and else the expected variable's value is the
     /// alias as it stands. An alias of another kind with such variables is `Maybe`.
     ///
-    /// In coherence a refuted goal is `Maybe`. Inference state, added goals and storage are as before: the answer
-    /// says what would change, and it can be applied, if the goal was accepted. The response to a closed goal lists the
-    /// expected variable's value alone, and names no class. At depth 0 it is `Maybe`, which takes no memory, and so it
-    /// is where the expected term is no general variable.
+    /// `RerunNonErased`: the erased mode doesn't suffice; an access is recorded. Inference state, added goals and
+    /// storage are as before: the answer says what would change, and it can be applied, if the goal was accepted. The
+    /// response to a closed goal lists the expected variable's value alone, and names no class. At depth 0 it is
+    /// `Maybe`, which takes no memory, and so it is where the expected term is no general variable.
     pub fn compute_normalizes_to_goal(
         &mut self,
         goal: &Goal<NormalizesTo>,

@@ -25,9 +25,12 @@ use goal_terms::terms::GenericArg;
 
 impl EvalCtxt<'_> {
     /// Whether a trait goal holds. For a closed goal, `Yes`: a derivation no higher than the remaining depth shows
-    /// it, through the class that the answer names. `NoSolution`: a refutation no higher does. In a mode that isn't
-    /// of the headline both are right in every headline mode, and they stay right at every greater depth. `Maybe`, in
-    /// a headline mode: there is neither. No two answers at any depths disagree.
+    /// it, through the class that the answer names. `NoSolution`: a refutation no higher does. `Maybe`: there is
+    /// neither. What is decided stays so at every greater depth. That is so in a headline mode; in the erased mode
+    /// it is so of each headline mode, as long as no access is recorded. No two answers at any depths disagree.
+    ///
+    /// In the erased mode an access is recorded where a rule reads the mode, and an opaque type stays as it is. In
+    /// coherence, and where opaque types are being defined, the goal goes by what its candidates say in that mode.
     ///
     /// A goal with inference variables is answered by its candidates at one less of the depth. Those of the
     /// environment come first, then the bounds of its self type, then the rest, each taken for the head form of
@@ -36,8 +39,9 @@ impl EvalCtxt<'_> {
     /// refused it is `NoSolution`. It is `Maybe` where the self type is a general variable, or an alias whose
     /// term isn't known.
     ///
-    /// In coherence a refuted goal is `Maybe`. Inference state, added goals and storage are as before; the answer
-    /// can be applied. The response to a closed goal lists nothing. At depth 0 it is `Maybe`, which takes no memory.
+    /// `RerunNonErased`: the erased mode doesn't suffice; an access is recorded. Inference state, added goals and
+    /// storage are as before; the answer can be applied. The response to a closed goal lists nothing. At depth 0 it
+    /// is `Maybe`, which takes no memory.
     pub fn compute_trait_goal(&mut self, goal: &Goal<TraitPredicate>) -> Result<Response, Fault>
         ensures closed { IsClosedTrait goal.now → AnswersTrait self.old self.new goal.now.param_env.items (trait_asked goal.now.predicate) result }
         ensures merged { (IsClosedTrait goal.now → ⊥) → MergesOpenTrait self.old self.new goal.now result }

@@ -42,7 +42,7 @@ impl EvalCtxt<'_> {
     /// higher than that depth; where the list has a term for an expected variable, the response lists just this
     /// term as the variable's value. `NoSolution`: a refutation no higher refutes an entry, all arguments that
     /// were named before it being known. `Maybe`, in a headline mode, where one term at most is asked for, for a
-    /// general variable: there is neither. A refuted list is `Maybe` in coherence.
+    /// general variable: there is neither.
     ///
     /// A list or an environment with inference variables is run in a trial, by one step for each entry, in order:
     /// arguments of a header are fresh variables and the header is equated with what it is matched with, two

@@ -16,3 +16,6 @@ returns-clause-merged c = λ variables n k expected above.
 
 pub returns-clause-agrees : goal.returns-clause-agrees
 returns-clause-agrees c = no-two-disagree c.args.self.now.tables c.args.goal.now.param_env.items (term_asked c.args.goal.now.predicate)
+
+pub returns-clause-ambiguous : goal.returns-clause-ambiguous
+returns-clause-ambiguous c = λ closed is. c.normalizes_to_response.ensures.ambiguous closed is

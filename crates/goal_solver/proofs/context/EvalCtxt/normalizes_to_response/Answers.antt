@@ -1,9 +1,11 @@
-use Rattle.std.proofs.Common.{arith, sym, ◌∙◌, ap, subst, ⊎_elim}
+use Rattle.std.proofs.Common.{arith, sym, ◌∙◌, ap, subst, ⊎_elim, true≢false}
 use Rattle.goal_terms.specs.NodeTests.{general_variable_at}
 use Rattle.goal_terms.specs.Tree.{node_of}
 use Rattle.goal_kinds.specs.Answers.{setting_of}
 use Rattle.goal_solver.specs.Outcomes.{FoundIn, SaysWhich}
-use Rattle.goal_solver.specs.Answers.{erased_args, level_over}
+use Rattle.goal_solver.specs.Answers.{erased_args, level_over, IsAliasOpen}
+use Rattle.goal_solver.specs.Promises.{term_asked}
+use Rattle.goal_solver.proofs.RerunLemmas.{ambiguous-never}
 use Rattle.goal_solver.proofs.AnswerLemmas.{alias-unsure, alias_open-ground}
 use Rattle.goal_solver.proofs.FoundAnswers.{found-sound, found-open}
 use Rattle.goal_kinds.proofs.ConsistentLemmas.{each_level_is_consistent}
@@ -11,7 +13,7 @@ use Rattle.goal_solver.proofs.GoingBackLemmas.{goes_back-same}
 use Rattle.std.specs.Prelude.{Ok, length}
 use Rattle.std.proofs.Common.{refl}
 use Rattle.goal_terms.specs.declared.modes.TypingMode.{TypingMode}
-use Rattle.goal_kinds.specs.Answers.{IsAnswer}
+use Rattle.goal_kinds.specs.Answers.{IsAnswer, maybe}
 use Rattle.goal_kinds.specs.Settings.{is_headline}
 use Rattle.goal_solver.specs.Answers.{AnswersQuietly, is_closed_alias}
 use Rattle.goal_solver.specs.Outcomes.{StandsFor}
@@ -184,3 +186,56 @@ returns-then-remaining_depth-eq0-clause-gives c = λ closed. maybe-lists c.args.
 
 pub returns-in-Ok-Undecided-clause-gives : goal.returns-in-Ok-Undecided-clause-gives
 returns-in-Ok-Undecided-clause-gives c = λ closed. maybe-lists c.args.goal.now.predicate.term c.respond-in-Ok-Undecided.result c.respond-in-Ok-Undecided.ensures.certainty
+
+pub returns-then-is_ambiguous-clause-goes_back : goal.returns-then-is_ambiguous-clause-goes_back
+returns-then-is_ambiguous-clause-goes_back c = goes_back-same c.args.self.now
+
+pub returns-then-is_ambiguous-clause-decided : goal.returns-then-is_ambiguous-clause-decided
+returns-then-is_ambiguous-clause-decided c = λ m n owed closed expected undecided.
+    ambiguous-never c.args.self.now c.args.goal.now.predicate.alias.kind m
+    (IsAliasOpen (level_over c.args.self.now m c.args.goal.now.param_env.items) c.args.goal.now.predicate.alias.kind (erased_args c.args.goal.now.predicate.alias.args.items))
+    (sym c.is_ambiguous.ensures ∙ c.if-is_ambiguous.true) owed
+
+pub returns-then-is_ambiguous-clause-whole : goal.returns-then-is_ambiguous-clause-whole
+returns-then-is_ambiguous-clause-whole c = λ m n owed ok closed expected undecided.
+    ambiguous-never c.args.self.now c.args.goal.now.predicate.alias.kind m
+    (IsAnswer (level_over c.args.self.now m c.args.goal.now.param_env.items) (term_asked c.args.goal.now.predicate) maybe)
+    (sym c.is_ambiguous.ensures ∙ c.if-is_ambiguous.true) owed
+
+pub returns-then-is_ambiguous-clause-applies : goal.returns-then-is_ambiguous-clause-applies
+returns-then-is_ambiguous-clause-applies c = λ ok.
+    nothing-applies c.args.self.now c.respond-then-is_ambiguous.result c.is_well_formed.ensures.storage c.respond-then-is_ambiguous.ensures.quiet c.respond-then-is_ambiguous.ensures.values
+
+pub returns-then-is_ambiguous-clause-at_once : goal.returns-then-is_ambiguous-clause-at_once
+returns-then-is_ambiguous-clause-at_once c = λ h.
+    leaves-undecided c.args.self.now c.respond-then-is_ambiguous.result c.respond-then-is_ambiguous.ensures.certainty c.respond-then-is_ambiguous.ensures.proven_via
+    c.respond-then-is_ambiguous.ensures.values c.respond-then-is_ambiguous.ensures.quiet
+
+pub returns-then-is_ambiguous-clause-gives : goal.returns-then-is_ambiguous-clause-gives
+returns-then-is_ambiguous-clause-gives c = λ closed. maybe-lists c.args.goal.now.predicate.term c.respond-then-is_ambiguous.result c.respond-then-is_ambiguous.ensures.certainty
+
+pub returns-then-is_ambiguous-clause-ambiguous : goal.returns-then-is_ambiguous-clause-ambiguous
+returns-then-is_ambiguous-clause-ambiguous c = λ closed is.
+    leaves-undecided c.args.self.now c.respond-then-is_ambiguous.result c.respond-then-is_ambiguous.ensures.certainty c.respond-then-is_ambiguous.ensures.proven_via
+    c.respond-then-is_ambiguous.ensures.values c.respond-then-is_ambiguous.ensures.quiet
+
+pub returns-in_default-clause-ambiguous : goal.returns-in_default-clause-ambiguous
+returns-in_default-clause-ambiguous c = λ closed is.
+    leaves-undecided c.args.self.now c.respond.result c.respond.ensures.certainty c.respond.ensures.proven_via c.respond.ensures.values c.respond.ensures.quiet
+
+pub returns-then-remaining_depth-eq0-clause-ambiguous : goal.returns-then-remaining_depth-eq0-clause-ambiguous
+returns-then-remaining_depth-eq0-clause-ambiguous c = λ closed is.
+    leaves-undecided c.args.self.now c.respond-then-remaining_depth-eq0.result c.respond-then-remaining_depth-eq0.ensures.certainty c.respond-then-remaining_depth-eq0.ensures.proven_via
+    c.respond-then-remaining_depth-eq0.ensures.values c.respond-then-remaining_depth-eq0.ensures.quiet
+
+pub returns-in-Ok-Is-clause-ambiguous : goal.returns-in-Ok-Is-clause-ambiguous
+returns-in-Ok-Is-clause-ambiguous c = λ closed is. absurd (true≢false (sym is ∙ sym c.is_ambiguous.ensures ∙ c.if-is_ambiguous.false))
+
+pub returns-in-Ok-Refuted-clause-ambiguous : goal.returns-in-Ok-Refuted-clause-ambiguous
+returns-in-Ok-Refuted-clause-ambiguous c = λ closed is. absurd (true≢false (sym is ∙ sym c.is_ambiguous.ensures ∙ c.if-is_ambiguous.false))
+
+pub returns-in-Ok-Undecided-clause-ambiguous : goal.returns-in-Ok-Undecided-clause-ambiguous
+returns-in-Ok-Undecided-clause-ambiguous c = λ closed is. absurd (true≢false (sym is ∙ sym c.is_ambiguous.ensures ∙ c.if-is_ambiguous.false))
+
+pub returns-in-Err-clause-ambiguous : goal.returns-in-Err-clause-ambiguous
+returns-in-Err-clause-ambiguous c = λ closed is. absurd (true≢false (sym is ∙ sym c.is_ambiguous.ensures ∙ c.if-is_ambiguous.false))
