@@ -42,4 +42,6 @@ assumed environment.HasTwoTerms = param_holds TR ∷ param_term uint.U8 ∷ para
 abbrev pub IsMode : Mode → TypingMode → Type 0
 IsMode mode.Analysis (typing.Analysis ids) = ids.items ≡ []
 IsMode mode.PostAnalysis typing.PostAnalysis = Unit {0}
+IsMode mode.Erased typing.ErasedNotCoherence = Unit {0}
+IsMode mode.ErasedThatStops typing.ErasedNotCoherence = Unit {0}
 IsMode p m = ⊥

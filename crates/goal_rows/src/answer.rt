@@ -6,14 +6,15 @@ use goal_terms::terms::Term;
 use goal_terms::text::Shown;
 use std::fmt;
 
-/// The answer of a row. A `Yes` has the type or constant that an alias stands for, and `Faults` the
-/// number of delayed faults.
+/// The answer of a row. A `Yes` has the type or constant that an alias stands for, `Faults` the number of
+/// delayed faults, and `Accesses` that of recorded accesses.
 #[derive(Drop)]
 pub enum Answer {
     Yes(Option<Term>),
     No,
     Maybe,
     Faults(usize),
+    Accesses(usize),
     Refused(Refusal),
 }
 
@@ -41,6 +42,7 @@ impl fmt::Display for Answer {
             Answer::No => write!(f, "no"),
             Answer::Maybe => write!(f, "maybe"),
             Answer::Faults(count) => write!(f, "faults {count}"),
+            Answer::Accesses(count) => write!(f, "accesses {count}"),
             Answer::Refused(refusal) => write!(f, "refused {refusal}"),
         }
     }

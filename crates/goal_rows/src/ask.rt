@@ -27,6 +27,8 @@ pub enum Asked {
     Term(AskedAlias),
     /// How many faults were delayed once it was asked what an alias stands for.
     DelayedFaults(AskedAlias),
+    /// How many opaque accesses were recorded then.
+    Accesses(AskedAlias),
     /// Whether an alias and a type are equal.
     Equal(AskedAlias, AskedType),
     /// Whether `TYPE: Tr` holds.
@@ -64,7 +66,8 @@ struct Asker<'t> {
 /// The answer to a question, over the tables of the program.
 pub fn ask(alloc: Global, tables: &CheckedTables, question: Question) -> Result<Answer, RowsFault> {
     let mode = question.mode.typing_mode(alloc);
-    let context = match EvalCtxt::new(tables, mode, question.limit, false) {
+    let stops = question.mode.stops_on_rerun();
+    let context = match EvalCtxt::new(tables, mode, question.limit, stops) {
         Ok(context) => context,
         Err(fault) => return Ok(Answer::Refused(Refusal::Depth(fault))),
     };
@@ -83,6 +86,7 @@ impl Asker<'_> {
         match asked {
             Asked::Term(alias) => self.ask_term(alias),
             Asked::DelayedFaults(alias) => self.ask_delayed_faults(alias),
+            Asked::Accesses(alias) => self.ask_accesses(alias),
             Asked::Equal(alias, ty) => self.ask_equation(alias, ty),
             Asked::Holds(ty) => self.ask_trait(ty),
             Asked::HoldsConst(ty) => self.ask_const(ty, BoundConstness::Const),
@@ -108,6 +112,12 @@ impl Asker<'_> {
     fn ask_delayed_faults(&mut self, asked: AskedAlias) -> Result<Answer, RowsFault> {
         let _ = self.ask_term(asked)?;
         Ok(Answer::Faults(self.context.delayed_faults().len()))
+    }
+
+    /// How many opaque accesses are recorded once it was asked what an alias stands for.
+    fn ask_accesses(&mut self, asked: AskedAlias) -> Result<Answer, RowsFault> {
+        let _ = self.ask_term(asked)?;
+        Ok(Answer::Accesses(self.context.opaque_accesses().len()))
     }
 
     /// Whether an alias and a type are equal.

@@ -1,7 +1,7 @@
 //! The rows: each asks one question of the program, and prints the answer.
 use crate::answer::Answer;
 use crate::ask::Asked::{
-    DelayedFaults, Equal, Holds, HoldsConst, HoldsMaybeConst, Limit, ProjectionImpl, Term,
+    Accesses, DelayedFaults, Equal, Holds, HoldsConst, HoldsMaybeConst, Limit, ProjectionImpl, Term,
     TwoArguments,
 };
 use crate::ask::{Asked, Question, ask};
@@ -15,7 +15,7 @@ use crate::faults::RowsFault;
 use crate::names::{FREE_A, FREE_B, FREE_C, HID, P, Q, W, X, Y, Z};
 use crate::program_tables::whole_tables;
 use crate::settings::Environment::{Empty, HasTwoTerms, IsMaybeConst, IsOwn, IsSized};
-use crate::settings::Mode::{Analysis, PostAnalysis};
+use crate::settings::Mode::{Analysis, Erased, ErasedThatStops, PostAnalysis};
 use crate::settings::{Environment, Mode};
 use goal_tables::checked::{CheckedTables, check_tables};
 use goal_tables::faults::TableFault;
@@ -25,7 +25,7 @@ use std::io;
 
 /// The rows, in the order in which they are printed: a label, what is asked, what is assumed, the phase
 /// of checking, and the limit on the depth.
-const ROWS: [(&str, Asked, Environment, Mode, u32); 52] = [
+const ROWS: [(&str, Asked, Environment, Mode, u32); 55] = [
     ("01a", Term(Metadata(Bool)), Empty, Analysis, 2),
     ("01b", Term(Metadata(Bool)), Empty, Analysis, 1),
     ("01c", Term(Metadata(Bool)), Empty, Analysis, 0),
@@ -57,6 +57,9 @@ const ROWS: [(&str, Asked, Environment, Mode, u32); 52] = [
     ("13b", HoldsConst(Param), IsMaybeConst, Analysis, 2),
     ("14a", Term(Opaque(HID)), Empty, Analysis, 1),
     ("14b", Term(Opaque(HID)), Empty, PostAnalysis, 1),
+    ("14c", Term(Opaque(HID)), Empty, Erased, 1),
+    ("14d", Accesses(Opaque(HID)), Empty, Erased, 1),
+    ("14e", Term(Opaque(HID)), Empty, ErasedThatStops, 1),
     ("15a", Term(TrA(Struct(W))), Empty, Analysis, 2),
     ("15b", DelayedFaults(TrA(Struct(W))), Empty, Analysis, 2),
     ("15c", Term(TrA(Str)), Empty, Analysis, 2),

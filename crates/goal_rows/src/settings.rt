@@ -33,6 +33,9 @@ pub enum Environment {
 pub enum Mode {
     Analysis,
     PostAnalysis,
+    Erased,
+    /// The erased mode, where a goal that reads the mode is to be run again in another one.
+    ErasedThatStops,
 }
 
 #[tactic(auto, using(goal_terms::proofs::TreeLemmas::tree_equations))]
@@ -61,7 +64,13 @@ impl Mode {
                 defining_opaque_types: Vec::new(alloc),
             },
             Mode::PostAnalysis => TypingMode::PostAnalysis,
+            Mode::Erased | Mode::ErasedThatStops => TypingMode::ErasedNotCoherence,
         }
+    }
+
+    /// Whether a goal that reads the mode is to be run again in another one.
+    pub fn stops_on_rerun(self) -> bool {
+        matches!(self, Mode::ErasedThatStops)
     }
 }
 

@@ -1,5 +1,5 @@
 -- What the calls answer at depth 0, and that no two answers disagree.
-use Rattle.std.proofs.Common.{◌≡◌, ◌≢◌, inl, inr, ℕ, zero, true, List, Result, Ok, Err, refl, subst, sym, ap, ◌∙◌}
+use Rattle.std.proofs.Common.{◌≡◌, ◌≢◌, inl, inr, ℕ, zero, true, List, [], ◌∷◌, Result, Ok, Err, refl, subst, sym, ap, ◌∙◌}
 use Rattle.std.specs.Prelude.{IfOk, IfErr}
 use Rattle.goal_terms.specs.declared.answers.Certainty.{Certainty}
 use Rattle.goal_terms.specs.declared.answers.Certainty.TheVariants as certainty
@@ -19,10 +19,13 @@ use Rattle.goal_kinds.specs.Settings.{Setting, is_headline}
 use Rattle.goal_kinds.specs.Level.{Level}
 use Rattle.goal_kinds.proofs.AnswerLaws.{answers-agree}
 use Rattle.goal_solver.specs.Answers.{IsOwed, level_over, IsMaybe, IsOpen, IsUndecided, IsAliasOpen, IsTraitResponse, IsTraitAnswer, IsAliasResponse, IsAliasAnswer, IsHoldingResponse, IsPredicateAnswer, IsConclusion}
-use Rattle.goal_solver.specs.GoingBack.{GoesBack, evaluated, restored}
-use Rattle.goal_solver.specs.Outcomes.{StandsFor, Says}
+use Rattle.goal_solver.specs.GoingBack.{BeginsWith, GoesBack, restored}
+use Rattle.goal_solver.specs.Outcomes.{RunsAs, StandsFor, Says}
+use Rattle.goal_solver.specs.Relating.{IsFinalIn}
 use Rattle.goal_kinds.specs.declared.faults.Fault.{Fault}
 use Rattle.goal_kinds.specs.declared.faults.Fault.TheVariants as fault
+use Rattle.goal_solver.specs.declared.eval.outcomes.OnAccess.{OnAccess}
+use Rattle.goal_solver.specs.declared.eval.outcomes.OnAccess.TheVariants as on_access
 use Rattle.goal_solver.specs.declared.eval.outcomes.Outcome.{Outcome}
 use Rattle.goal_solver.specs.declared.eval.outcomes.Outcome.TheVariants as outcome
 use Rattle.goal_solver.specs.declared.eval.outcomes.Stop.{Stop}
@@ -67,30 +70,73 @@ pub alias_open-ground : (S : Setting) (n : ℕ) → n ≡ zero → (k : AliasTer
 unfolding level
 alias_open-ground S n e k ts = subst (λ (j : ℕ). IsAliasOpen (level S j) k ts) (sym e) ((λ t u h. h), (λ h. h))
 
--- a mode that is owed an answer is one that the run stands for
-pub owed-stands : (a b z : State) (m : TypingMode) → b ≡ evaluated a b → z ≡ restored b z → IsOwed z m → StandsFor a.typing_mode m
-owed-stands a b z m e f owed =
-    let same : z.typing_mode ≡ a.typing_mode = ap (λ (s : State). s.typing_mode) f ∙ ap (λ (s : State). s.typing_mode) e in (
-      owed.0,
-      elim owed.1 [
-        | inl h ↦ inl (sym same ∙ h)
-        | inr h ↦ inr (ap is_headline (sym same ∙ h.0))
+-- what is owed after a call was owed before it
+begins-empty : {A : Type 0} (xs ys : List A) → BeginsWith ys xs → ys ≡ [] → xs ≡ []
+begins-empty [] ys b e = refl
+begins-empty (x ∷ xs) [] b e = absurd (cc)
+begins-empty (x ∷ xs) (y ∷ ys) b e = absurd (cc)
+
+pub owed-before : (b z : State) (m : TypingMode) → GoesBack b z → IsOwed z m → IsOwed b m
+owed-before b z m g owed = (
+  owed.0,
+  elim owed.1 [
+    | inl h ↦ inl (sym g.typing_mode ∙ h)
+    | inr h ↦ inr (sym g.typing_mode ∙ h.0, begins-empty b.accesses z.accesses g.accesses h.1)
+  ],
+)
+
+-- a mode that is owed an answer is final in the run's
+owed-final : (run : TypingMode) (z : State) (m : TypingMode) → z.typing_mode ≡ run → IsOwed z m → IsFinalIn run m
+owed-final run z m e owed = (
+  owed.0,
+  elim owed.1 [
+    | inl h ↦ inl (sym e ∙ h)
+    | inr h ↦ inr (sym e ∙ h.0)
+  ],
+)
+
+-- what only added terms stops at accesses
+pub owed-grown : (a b : State) (m : TypingMode) → b ≡ record a { terms = b.terms } → IsOwed b m → StandsFor a.typing_mode m
+owed-grown a b m e owed =
+    let final : IsFinalIn a.typing_mode m = owed-final a.typing_mode b m (ap (λ (s : State). s.typing_mode) e) owed in (
+      final.0,
+      elim final.1 [
+        | inl h ↦ inl h
+        | inr h ↦ inr (ap is_headline h)
       ],
     )
 
+-- a run that stops where it has to stands for each mode that is owed an answer
+pub owed-runs : (a z : State) (on : OnAccess) (m : TypingMode) → ((k : TypingMode) → IsFinalIn a.typing_mode k → on ≡ on_access.Stop) → z ≡ restored a z → IsOwed z m → RunsAs on a.typing_mode m
+owed-runs a z on m stops e owed =
+    let final : IsFinalIn a.typing_mode m = owed-final a.typing_mode z m (ap (λ (s : State). s.typing_mode) e) owed in (
+      final.0,
+      elim final.1 [
+        | inl h ↦ inl h
+        | inr h ↦ inr (ap is_headline h, stops m final)
+      ],
+    )
+
+-- so does a run that stops at accesses
+pub stops-runs : (on : OnAccess) (run m : TypingMode) → on ≡ on_access.Stop → StandsFor run m → RunsAs on run m
+stops-runs on run m e s = (
+  s.0,
+  elim s.1 [
+    | inl h ↦ inl h
+    | inr h ↦ inr (h, e)
+  ],
+)
+
+-- one that records stands for none that is owed an answer
+pub never-owed : (a b z : State) (m : TypingMode) (A : Type 0) → ((k : TypingMode) → IsOwed b k → ⊥) → GoesBack b z → IsOwed z m → A
+never-owed a b z m A never g owed = absurd (never m (owed-before b z m g owed))
+
+pub none-final : (a z : State) (on : OnAccess) (m : TypingMode) (A : Type 0) → ((k : TypingMode) → IsFinalIn a.typing_mode k → on ≡ on_access.Stop) → on ≡ on_access.Record → z ≡ restored a z → IsOwed z m → A
+none-final a z on m A stops records e owed =
+    let stop : on ≡ on_access.Stop = stops m (owed-final a.typing_mode z m (ap (λ (s : State). s.typing_mode) e) owed) in absurd (cc)
+
 yes_is_not_maybe : certainty.Yes ≡ certainty.Maybe → ⊥
 yes_is_not_maybe e = absurd (cc)
-
--- so it is where an evaluation came between
-pub owed-evaluated : (a b : State) (m : TypingMode) → b ≡ evaluated a b → IsOwed b m → StandsFor a.typing_mode m
-owed-evaluated a b m e owed = owed-stands a b b m e refl owed
-
--- and where only terms were added
-evaluated-grown : (a b : State) → b ≡ record a { terms = b.terms } → b ≡ evaluated a b
-evaluated-grown a b e = subst (λ (s : State). s ≡ evaluated a s) (sym e) refl
-
-pub owed-grown : (a b : State) (m : TypingMode) → b ≡ record a { terms = b.terms } → IsOwed b m → StandsFor a.typing_mode m
-owed-grown a b m e owed = owed-evaluated a b m (evaluated-grown a b e) owed
 
 -- what is answered yes holds, and what is refused is refuted
 yes-holds : (L : Level) (p : PredicateTree) (o : Result Outcome Stop) (x : Certainty) → IfOk o (Says (ClauseHolds L p) (ClauseRefuted L p)) →
@@ -139,40 +185,40 @@ concluded-open L p (Ok outcome.Undecided) r h c e = h
 concluded-open L p (Err s) r h c e = absurd (subst IsMaybe c e)
 
 -- what an evaluation says of a predicate before a conclusion
-abbrev pub SaysOf : State → List Clause → PredicateTree → Result Outcome Stop → Type 0
-SaysOf a env p o = (m : TypingMode) → StandsFor a.typing_mode m → IfOk o (Says (ClauseHolds (level_over a m env) p) (ClauseRefuted (level_over a m env) p))
+abbrev pub SaysOf : State → State → List Clause → PredicateTree → Result Outcome Stop → Type 0
+SaysOf a b env p o = (m : TypingMode) → IsOwed b m → IfOk o (Says (ClauseHolds (level_over a m env) p) (ClauseRefuted (level_over a m env) p))
 
 -- a conclusion is owed
 abbrev pub IsConcluded : State → State → Result Outcome Stop → Result Response Fault → Type 0
 IsConcluded b z o r = (m : TypingMode) → IsOwed z m → (is_headline b.typing_mode ≡ true → IfErr o (λ s. s ≡ stop.OutOfMemory)) → IsConclusion o r
 
 -- the run is only stopped for want of memory, where its mode is one of the headline
-stops-later : (a b : State) (o : Result Outcome Stop) → b ≡ evaluated a b → (is_headline a.typing_mode ≡ true → IfErr o (λ s. s ≡ stop.OutOfMemory)) →
+stops-later : (a b : State) (o : Result Outcome Stop) → b ≡ restored a b → (is_headline a.typing_mode ≡ true → IfErr o (λ s. s ≡ stop.OutOfMemory)) →
     is_headline b.typing_mode ≡ true → IfErr o (λ s. s ≡ stop.OutOfMemory)
 stops-later a b o e h k = h (ap (λ (s : State). is_headline s.typing_mode) (sym e) ∙ k)
 
--- the call answers soundly, in every mode, and leaves undecided only what is so
-pub predicate-sound : (a : State) (env : List Clause) (p : PredicateTree) (o : Result Outcome Stop) (r : Result Response Fault) → SaysOf a env p o →
+-- the call answers soundly where it owes an answer, and leaves undecided only what is so
+pub predicate-sound : (a b z : State) (env : List Clause) (p : PredicateTree) (o : Result Outcome Stop) (r : Result Response Fault) → GoesBack b z → SaysOf a b env p o →
     IfOk r (λ x. x.certainty ≡ certainty.Yes → o ≡ Ok outcome.Holds) → (r ≡ Err fault.NoSolution → o ≡ Ok outcome.Refuted) →
-    (m : TypingMode) → StandsFor a.typing_mode m → IsPredicateAnswer (level_over a m env) p r
-predicate-sound a env p o r says sure never m stands = answered-soundly (level_over a m env) p o r (says m stands) sure never
+    (m : TypingMode) → IsOwed z m → IsPredicateAnswer (level_over a m env) p r
+predicate-sound a b z env p o r g says sure never m owed = answered-soundly (level_over a m env) p o r (says m (owed-before b z m g owed)) sure never
 
-pub predicate-decided : (a b z : State) (env : List Clause) (p : PredicateTree) (o : Result Outcome Stop) (r : Result Response Fault) → b ≡ evaluated a b → z ≡ restored b z →
-    SaysOf a env p o → (is_headline a.typing_mode ≡ true → IfErr o (λ s. s ≡ stop.OutOfMemory)) → IsConcluded b z o r →
+pub predicate-decided : (a b z : State) (env : List Clause) (p : PredicateTree) (o : Result Outcome Stop) (r : Result Response Fault) → b ≡ restored a b → GoesBack b z →
+    SaysOf a b env p o → (is_headline a.typing_mode ≡ true → IfErr o (λ s. s ≡ stop.OutOfMemory)) → IsConcluded b z o r →
     (m : TypingMode) → IsOwed z m → IsMaybe r → IsUndecided (level_over a m env) p
-predicate-decided a b z env p o r e f says stops concluded m owed =
-    concluded-open (level_over a m env) p o r (says m (owed-stands a b z m e f owed)) (concluded m owed (stops-later a b o e stops))
+predicate-decided a b z env p o r e g says stops concluded m owed =
+    concluded-open (level_over a m env) p o r (says m (owed-before b z m g owed)) (concluded m owed (stops-later a b o e stops))
 
 -- what is said of const goals and of equations is said of their predicates
-pub const-says_of : (a : State) (env : List Clause) (c : BoundConstness) (i : TraitId) (ts : List Tree) (o : Result Outcome Stop) →
-    ((m : TypingMode) → StandsFor a.typing_mode m → IfOk o (Says ((level_over a m env).const_holds c i ts) ((level_over a m env).const_refuted c i ts))) → SaysOf a env (holds_const c i ts) o
+pub const-says_of : (a b : State) (env : List Clause) (c : BoundConstness) (i : TraitId) (ts : List Tree) (o : Result Outcome Stop) →
+    ((m : TypingMode) → IsOwed b m → IfOk o (Says ((level_over a m env).const_holds c i ts) ((level_over a m env).const_refuted c i ts))) → SaysOf a b env (holds_const c i ts) o
 unfolding ClauseHolds ClauseRefuted
-const-says_of a env c i ts o h = h
+const-says_of a b env c i ts o h = h
 
-pub equation-says_of : (a : State) (env : List Clause) (t u : Tree) (o : Result Outcome Stop) →
-    ((m : TypingMode) → StandsFor a.typing_mode m → IfOk o (Says ((level_over a m env).equation_holds t u) ((level_over a m env).equation_refuted t u))) → SaysOf a env (equals t u) o
+pub equation-says_of : (a b : State) (env : List Clause) (t u : Tree) (o : Result Outcome Stop) →
+    ((m : TypingMode) → IsOwed b m → IfOk o (Says ((level_over a m env).equation_holds t u) ((level_over a m env).equation_refuted t u))) → SaysOf a b env (equals t u) o
 unfolding ClauseHolds ClauseRefuted
-equation-says_of a env t u o h = h
+equation-says_of a b env t u o h = h
 
 -- no two answers disagree
 pub ruleset answering = (answers-agree)

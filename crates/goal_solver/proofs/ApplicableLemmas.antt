@@ -48,9 +48,11 @@ use Rattle.goal_kinds.proofs.PlacedLevels.{placed-given}
 use Rattle.goal_solver.specs.Answers.{IsQuiet, AnswersQuietly, ListsNothing, GivesTo, expected_variable, is_closed_alias, erased_args, IsAliasOpen}
 use Rattle.goal_solver.specs.Binding.{IsApplicable, IsFreeFor, CanBeListed, bound_term}
 use Rattle.goal_solver.specs.FreeVariables.{general_variable, reaches, is_bound, stands_in_storage, is_taken, lacks_free_variable}
-use Rattle.goal_solver.specs.GoingBack.{evaluated, restored}
+use Rattle.goal_solver.specs.GoingBack.{restored}
 use Rattle.goal_solver.specs.Goals.{IsAcceptedNormalization}
 use Rattle.goal_solver.specs.Outcomes.{StandsFor}
+use Rattle.goal_solver.specs.Recording.{FitsKind}
+use Rattle.goal_solver.specs.declared.eval.outcomes.Found.TheVariants as founds
 use Rattle.goal_solver.specs.State.{State, kinds_in, kinds_of}
 use Rattle.goal_solver.specs.Stored.{HasOneTypeAKey}
 use Rattle.goal_solver.specs.Variables.{with_variables}
@@ -233,48 +235,53 @@ differ-at : (q : NormalizesTo) (v : Variable) → node_of (tree_of_term q.term) 
 unfolding kinds_differ
 differ-at q v at h = subst (λ (x : Node). not (same_kind (kind_of_alias q.alias.kind) (kind_of x)) ≡ false) at h
 
--- the variable that an accepted goal expects its term for may be given the term
-expected-free : (a z : State) (m : TypingMode) (d : ℕ) (q : NormalizesTo) (env : List Clause) (n : ℕ) (u : Term) (t : Tree) → z.inference ≡ a.inference → IsChecked a.tables →
-    is_closed_alias q.alias env ≡ true → IsAcceptedNormalization a q env → (level (setting_of a.tables m env) d).gives q.alias.kind (erased_args q.alias.args.items) t → expected_variable q.term ≡ Some n →
-    erased (tree_of_term u) ≡ t → (v : Variable) × (number_of v ≡ n) × IsFreeFor z (tree_of_term u) v
-expected-free a z m d q env n u t e checked closed ok given expected same =
+-- the variable that an accepted goal expects its term for may be given a closed term of the alias's sort
+expected-free : (a z : State) (q : NormalizesTo) (env : List Clause) (n : ℕ) (u : Term) (t : Tree) → z.inference ≡ a.inference → IsAcceptedNormalization a q env →
+    some_node is_any_infer t ≡ false → sort_of (node_of t) ≡ sort_of (nodes.Alias q.alias.kind) → expected_variable q.term ≡ Some n → erased (tree_of_term u) ≡ t →
+    (v : Variable) × (number_of v ≡ n) × IsFreeFor z (tree_of_term u) v
+expected-free a z q env n u t e ok closed sort expected same =
     let asked : IsGeneral (node_of (tree_of_term q.term)) n = node-general (node_of (tree_of_term q.term)) n expected in
     let untaken : is_taken a asked.v q.alias env ≡ false = not_taken a (general_variable (node_of (tree_of_term q.term))) asked.v q.alias env (ap general_variable asked.at ∙ general-at asked) (ok ExpectedTermNotFree) in
-    let stays : bound_term z (tree_of_term u) ≡ t = ap (replaced (resolution z.terms z.inference)) same ∙ closed-replaced (resolution z.terms z.inference) t (closed-public_given a.tables m env d q.alias t checked closed given) in (
+    let stays : bound_term z (tree_of_term u) ≡ t = ap (replaced (resolution z.terms z.inference)) same ∙ closed-replaced (resolution z.terms z.inference) t closed in (
       asked.v,
       asked.number,
       record {
         made = subst (λ (i : Inference). IsTrue (is_made_in i asked.v)) (sym e) (made-by a asked.v (general-at asked) (subst (λ (x : Node). is_unmade (kinds_of a) x ≡ false) asked.at (top-fails (is_unmade (kinds_of a)) (tree_of_term q.term) (unmade-term a q env ok))));
         unbound = subst (λ (i : Inference). binding_of i asked.v ≡ None) (sym e) (taken-bound a asked.v q.alias env untaken);
         takes = subst (λ (x : Tree). IsTrue (takes asked.v (node_of x))) (sym stays)
-            (takes-by asked.v q.alias.kind (is_type_kind q.alias.kind) (node_of t) refl (general-at asked) (differ-at q asked.v asked.at (no_fault-kinds a.tables lies.WrongArgumentKind q.alias q.term env (ok WrongArgumentKind)))
-            (accepted-sort a m d q env t checked ok given));
-        absent = subst (λ (x : Tree). place_of asked.v x ≡ Nowhere) (sym stays) (closed-nowhere asked.v t (closed-public_given a.tables m env d q.alias t checked closed given));
+            (takes-by asked.v q.alias.kind (is_type_kind q.alias.kind) (node_of t) refl (general-at asked) (differ-at q asked.v asked.at (no_fault-kinds a.tables lies.WrongArgumentKind q.alias q.term env (ok WrongArgumentKind))) sort);
+        absent = subst (λ (x : Tree). place_of asked.v x ≡ Nowhere) (sym stays) (closed-nowhere asked.v t closed);
       },
     )
 
--- an answer that gives the term of an accepted goal can be applied
-alias-applies : (a z : State) (m : TypingMode) (d : ℕ) (q : NormalizesTo) (env : List Clause) (n : ℕ) (r : Response) (t : Tree) → z ≡ restored a z → IsChecked a.tables → HasOneTypeAKey a.storage →
-    is_closed_alias q.alias env ≡ true → IsAcceptedNormalization a q env → IsQuiet (length (kinds_of a)) r → (level (setting_of a.tables m env) d).gives q.alias.kind (erased_args q.alias.args.items) t →
+-- an answer that gives such a term to an accepted goal can be applied
+alias-applies : (a z : State) (q : NormalizesTo) (env : List Clause) (n : ℕ) (r : Response) (t : Tree) → z ≡ restored a z → HasOneTypeAKey a.storage → IsAcceptedNormalization a q env →
+    IsQuiet (length (kinds_of a)) r → some_node is_any_infer t ≡ false → sort_of (node_of t) ≡ sort_of (nodes.Alias q.alias.kind) →
     expected_variable q.term ≡ Some n → GivesTo n t r → IsApplicable z r
 unfolding CanBeListed
-alias-applies a z m d q env n r t e checked keyed closed ok quiet given expected gives =
+alias-applies a z q env n r t e keyed ok quiet closed sort expected gives =
     let inferred : z.inference ≡ a.inference = ap (λ (s : State). s.inference) e in
     let stored : z.storage ≡ a.storage = ap (λ (s : State). s.storage) e in
-    let free : (v : Variable) × (number_of v ≡ n) × IsFreeFor z (tree_of_term gives.0) v = expected-free a z m d q env n gives.0 t inferred checked closed ok given expected gives.2 in
+    let free : (v : Variable) × (number_of v ≡ n) × IsFreeFor z (tree_of_term gives.0) v = expected-free a z q env n gives.0 t inferred ok closed sort expected gives.2 in
     quiet-applies z r (subst HasOneTypeAKey (sym stored) keyed)
     (subst (λ (i : Inference). IsQuiet (length (kinds_in i.variables)) r) (sym inferred) quiet)
     (subst (CanBeListed (with_variables [] z)) (sym gives.1) (free.0, free.1, subst (λ (s : State). IsFreeFor s (tree_of_term gives.0) free.0) (sym (with_nothing z)) free.2, (λ w b. tt)))
 
--- the answer that is given to what is found can be applied
-pub found-applies : (a z : State) (m : TypingMode) (d : ℕ) (q : NormalizesTo) (env : List Clause) (T : List Tree) (id : TermId) (n : ℕ) (r : Result Response Fault) → z ≡ restored a z → IsChecked a.tables →
-    HasOneTypeAKey a.storage → is_closed_alias q.alias env ≡ true → IsAcceptedNormalization a q env → AnswersQuietly (length (kinds_of a)) r → id.0 < length T →
-    (level (setting_of a.tables m env) d).gives q.alias.kind (erased_args q.alias.args.items) (erased_at T id) → expected_variable q.term ≡ Some n →
+-- the answer that is given to what is found can be applied, if that fits the alias
+pub fitting-applies : (a z : State) (q : NormalizesTo) (env : List Clause) (T : List Tree) (id : TermId) (n : ℕ) (r : Result Response Fault) → z ≡ restored a z →
+    HasOneTypeAKey a.storage → IsAcceptedNormalization a q env → AnswersQuietly (length (kinds_of a)) r → id.0 < length T →
+    FitsKind q.alias.kind T (founds.Is id) → expected_variable q.term ≡ Some n →
     (HasTerm T id → IfOk r (λ x. (x.certainty ≡ certainty.Yes) × GivesTo n (erased_at T id) x)) → IfOk r (IsApplicable z)
-found-applies a z m d q env T id n (Ok x) e checked keyed closed ok quiet l given expected says =
-    alias-applies a z m d q env n x (erased_at T id) e checked keyed closed ok quiet given expected
-    (says (l, subst IsTrue (ap is_term_sort (sort-erased (tree_at T id))) (alias-is_term q.alias.kind (is_type_kind q.alias.kind) refl (erased_at T id) (accepted-sort a m d q env (erased_at T id) checked ok given)))).1
-found-applies a z m d q env T id n (Err f) e checked keyed closed ok quiet l given expected says = tt
+fitting-applies a z q env T id n (Ok x) e keyed ok quiet l fits expected says =
+    alias-applies a z q env n x (erased_at T id) e keyed ok quiet fits.0 fits.1 expected
+    (says (l, subst IsTrue (ap is_term_sort (sort-erased (tree_at T id))) (alias-is_term q.alias.kind (is_type_kind q.alias.kind) refl (erased_at T id) fits.1))).1
+fitting-applies a z q env T id n (Err f) e keyed ok quiet l fits expected says = tt
+
+-- the term of a closed alias of an accepted goal fits
+pub given-fits : (a : State) (m : TypingMode) (d : ℕ) (q : NormalizesTo) (env : List Clause) (T : List Tree) (id : TermId) → IsChecked a.tables → is_closed_alias q.alias env ≡ true → IsAcceptedNormalization a q env →
+    (level (setting_of a.tables m env) d).gives q.alias.kind (erased_args q.alias.args.items) (erased_at T id) → FitsKind q.alias.kind T (founds.Is id)
+given-fits a m d q env T id checked closed ok given =
+    (closed-public_given a.tables m env d q.alias (erased_at T id) checked closed given, accepted-sort a m d q env (erased_at T id) checked ok given)
 
 -- an answer without values can be applied to what a call left as it was
 pub nothing-applies-after : (a z : State) (r : Response) → z ≡ restored a z → HasOneTypeAKey a.storage → IsQuiet (length (kinds_of a)) r → r.var_values.items ≡ [] → IsApplicable z r
@@ -292,12 +299,8 @@ pub nothing-listed : (r : Result Response Fault) → ListsNothing r → IfOk r (
 nothing-listed (Ok x) h = h.1
 nothing-listed (Err f) h = tt
 
--- what an evaluation leaves is the context before, restored
-pub evaluated-restored : (a b : State) → b ≡ evaluated a b → b ≡ restored a b
-evaluated-restored a b e = subst (λ (s : State). s ≡ restored a s) (sym e) refl
-
 -- an answer without values can be applied to what a call left, where only an evaluation came before it
-pub nothing-applies-later : (a b z : State) (r : Result Response Fault) → b ≡ evaluated a b → z ≡ restored b z → HasOneTypeAKey a.storage →
+pub nothing-applies-later : (a b z : State) (r : Result Response Fault) → b ≡ restored a b → z ≡ restored b z → HasOneTypeAKey a.storage →
     AnswersQuietly (length (kinds_of b)) r → IfOk r (λ x. x.var_values.items ≡ []) → IfOk r (IsApplicable z)
 nothing-applies-later a b z r e f keyed quiet empty = nothing-applies-of b z r f (subst HasOneTypeAKey (sym (ap (λ (s : State). s.storage) e)) keyed) quiet empty
 

@@ -45,7 +45,7 @@ use Rattle.goal_kinds.proofs.TraitLists.{trait_list-holds, trait_list-refuted}
 use Rattle.goal_solver.specs.AskedTraits.{asked_list, candidate_list, AskedHolds, AskedRefuted, AskedIn, SaysCandidate, SaysCandidates, SaysGroups}
 use Rattle.goal_solver.specs.Joined.{one_of}
 use Rattle.goal_solver.specs.Lists.{list_mode, IsListFor, SaysList, list_held}
-use Rattle.goal_solver.specs.Outcomes.{StandsFor, setting_in, level_in, Says}
+use Rattle.goal_solver.specs.Outcomes.{RunsFor, setting_in, level_in, Says}
 use Rattle.goal_solver.specs.declared.assembly.candidates.AskedTrait.{AskedTrait}
 use Rattle.goal_solver.specs.declared.eval.lists.ListOutcome.{ListOutcome}
 use Rattle.goal_solver.specs.declared.eval.lists.ListOutcome.TheVariants as list
@@ -53,17 +53,8 @@ use Rattle.goal_solver.specs.declared.eval.outcomes.Outcome.{Outcome}
 use Rattle.goal_solver.specs.declared.eval.outcomes.Outcome.TheVariants as outcome
 use Rattle.goal_solver.specs.declared.eval.outcomes.Setting as over
 use Rattle.goal_solver.specs.declared.eval.outcomes.Stop.{Stop}
+use Rattle.goal_solver.proofs.RunModes.{list-for}
 use Rattle.goal_solver.proofs.OutcomeLists.{says-same, some-more, take-push, take-whole, Exists-taken, All-at}
-
--- what runs stand for: the lists of a run's mode are those of each mode for which it stands, as far as they read none
-by_mode : (f : TypingMode → Option (List Entry)) → ((m : TypingMode) → is_headline m ≡ true → f m ≡ f mode.ErasedNotCoherence) → (run m : TypingMode) (b : Bool) → b ≡ is_headline run →
-    StandsFor run m → (f m ≡ f (if b then run else mode.ErasedNotCoherence)) ⊎ ((is_headline run ≡ false) × ListStandsIn (f (if b then run else mode.ErasedNotCoherence)) (f m))
-by_mode f same run m true e s = inl (⊎_elim (λ h. sym (ap f h)) (λ h. absurd (true≢false (e ∙ h))) s.1)
-by_mode f same run m false e s = inr (sym e, list_stands_in-same (f mode.ErasedNotCoherence) (f m) (same m s.0))
-
-list-for : (f : TypingMode → Option (List Entry)) → ((m : TypingMode) → is_headline m ≡ true → f m ≡ f mode.ErasedNotCoherence) → (run m : TypingMode) → StandsFor run m →
-    IsListFor run (f (list_mode run)) (f m)
-list-for f same run m s = by_mode f same run m (is_headline run) refl s
 
 -- the list of a candidate for a trait that is asked doesn't read the mode
 asked-same : (S : Setting) (m : TypingMode) → is_headline m ≡ true → (o : Option BoundConstness) (i : TraitId) (args : List Tree) (x : Candidate) →
@@ -71,17 +62,18 @@ asked-same : (S : Setting) (m : TypingMode) → is_headline m ≡ true → (o : 
 asked-same S m e None i args x = trait_list-stands S m e i args x
 asked-same S m e (Some c) i args x = effect_list-stands S m e c i args x
 
-list_for-made : (c : over.Setting) (m : TypingMode) → StandsFor c.typing_mode.now m → (o : Option BoundConstness) (i : TraitId) (args : List Tree) (x : Candidate) (made : Option (List Entry)) →
-    made ≡ asked_list (setting_in c (list_mode c.typing_mode.now)) o i args x → IsListFor c.typing_mode.now made (asked_list (setting_in c m) o i args x)
+-- the list that is made for a run is that of a candidate
+list_for-made : (c : over.Setting) (m : TypingMode) → RunsFor c m → (o : Option BoundConstness) (i : TraitId) (args : List Tree) (x : Candidate) (made : Option (List Entry)) →
+    made ≡ asked_list (setting_in c (list_mode c)) o i args x → IsListFor c.typing_mode.now made (asked_list (setting_in c m) o i args x)
 list_for-made c m s o i args x made e =
-    subst (λ q. IsListFor c.typing_mode.now q (asked_list (setting_in c m) o i args x)) (sym e)
-    (list-for (λ k. asked_list (setting_in c k) o i args x) (λ k h. asked-same (setting_in c k) k h o i args x) c.typing_mode.now m s)
+    list-for (λ k. asked_list (setting_in c k) o i args x) c m made s e
+    (list_stands_in-same (asked_list (erased_setting (setting_in c m)) o i args x) (asked_list (setting_in c m) o i args x) (asked-same (setting_in c m) m s.0 o i args x))
 
 -- the list that is made is that of a candidate for what is asked
 module _ (c : over.Setting) (lists : ListSetting) (T U : List Tree) (asked : AskedTrait) where
-  made : lists.rows.now ≡ c.rows.now → lists.mode.now ≡ list_mode c.typing_mode.now → (o : Option BoundConstness) → asked.constness ≡ o → (x : Candidate)
+  made : lists.rows.now ≡ c.rows.now → lists.mode.now ≡ list_mode c → (o : Option BoundConstness) → asked.constness ≡ o → (x : Candidate)
       (res : Result (Option (Vec InternedEntry Global)) OutOfMemory) →
-      IfOk res (λ q. list_at U q ≡ asked_list (setting_at lists c.environment.now) o asked.trait_id (erased_all T asked.args.now) x) → (m : TypingMode) → StandsFor c.typing_mode.now m →
+      IfOk res (λ q. list_at U q ≡ asked_list (setting_at lists c.environment.now) o asked.trait_id (erased_all T asked.args.now) x) → (m : TypingMode) → RunsFor c m →
       IfOk res (λ q. IsListFor c.typing_mode.now (list_at U q) (candidate_list (setting_in c m) T asked x))
   made e f o g x res h m s =
       let args : List Tree = erased_all T asked.args.now in
@@ -90,14 +82,14 @@ module _ (c : over.Setting) (lists : ListSetting) (T U : List Tree) (asked : Ask
       list_for-made c m s asked.constness asked.trait_id args x (list_at U q)
       (k ∙ ap₂ (λ S y. asked_list S y asked.trait_id args x) (ap₂ (λ t k. setting_of t k c.environment.now) e f) (sym g))) h
 
-  pub made-plain : (x : Candidate) (res : Result (Option (Vec InternedEntry Global)) OutOfMemory) → lists.rows.now ≡ c.rows.now → lists.mode.now ≡ list_mode c.typing_mode.now → asked.constness ≡ None →
-      IfOk res (λ q. list_at U q ≡ trait_list (setting_at lists c.environment.now) asked.trait_id (erased_all T asked.args.now) x) → (m : TypingMode) → StandsFor c.typing_mode.now m →
+  pub made-plain : (x : Candidate) (res : Result (Option (Vec InternedEntry Global)) OutOfMemory) → lists.rows.now ≡ c.rows.now → lists.mode.now ≡ list_mode c → asked.constness ≡ None →
+      IfOk res (λ q. list_at U q ≡ trait_list (setting_at lists c.environment.now) asked.trait_id (erased_all T asked.args.now) x) → (m : TypingMode) → RunsFor c m →
       IfOk res (λ q. IsListFor c.typing_mode.now (list_at U q) (candidate_list (setting_in c m) T asked x))
   made-plain x res e f g h = made e f None g x res h
 
-  pub made-const : (b : BoundConstness) (x : Candidate) (res : Result (Option (Vec InternedEntry Global)) OutOfMemory) → lists.rows.now ≡ c.rows.now → lists.mode.now ≡ list_mode c.typing_mode.now →
+  pub made-const : (b : BoundConstness) (x : Candidate) (res : Result (Option (Vec InternedEntry Global)) OutOfMemory) → lists.rows.now ≡ c.rows.now → lists.mode.now ≡ list_mode c →
       asked.constness ≡ Some b → IfOk res (λ q. list_at U q ≡ effect_list (setting_at lists c.environment.now) b asked.trait_id (erased_all T asked.args.now) x) →
-      (m : TypingMode) → StandsFor c.typing_mode.now m → IfOk res (λ q. IsListFor c.typing_mode.now (list_at U q) (candidate_list (setting_in c m) T asked x))
+      (m : TypingMode) → RunsFor c m → IfOk res (λ q. IsListFor c.typing_mode.now (list_at U q) (candidate_list (setting_in c m) T asked x))
   made-const b x res e f g h = made e f (Some b) g x res h
 
 -- a list that asks for no term: some term stands for what it would ask for
@@ -152,7 +144,7 @@ asked_in-grown T U asked k h = (in-grown T U k asked.self_ty h.0, are_in-grown T
 
 -- what the candidates before a place come to, in each mode for which a run stands
 abbrev pub AskedSoFar : over.Setting → ℕ → List Tree → AskedTrait → List InternedCandidate → ℕ → Outcome → Type 0
-AskedSoFar c n T asked xs k o = (m : TypingMode) → StandsFor c.typing_mode.now m → SaysCandidates (setting_in c m) (level_in c m n) T asked (take k (map (candidate_at T) xs)) o
+AskedSoFar c n T asked xs k o = (m : TypingMode) → RunsFor c m → SaysCandidates (setting_in c m) (level_in c m n) T asked (take k (map (candidate_at T) xs)) o
 
 pub asked-start : (c : over.Setting) (n : ℕ) (T : List Tree) (asked : AskedTrait) (xs : List InternedCandidate) → AskedSoFar c n T asked xs 0 outcome.Refuted
 unfolding Each
@@ -161,7 +153,7 @@ asked-start c n T asked xs m s = tt
 -- one more candidate, of a table that has grown
 pub asked-more : (c : over.Setting) (n : ℕ) (T U : List Tree) (asked : AskedTrait) (xs : List InternedCandidate) (k : ℕ) (x : InternedCandidate) (found next o : Outcome) →
     Keeps T U → AskedIn T asked → All (CandidateIn T) xs → k < length xs → x ≡ get_or xs k x → o ≡ one_of found next → AskedSoFar c n T asked xs k found →
-    ((m : TypingMode) → StandsFor c.typing_mode.now m → SaysCandidate (setting_in c m) (level_in c m n) U asked (candidate_at U x) next) → AskedSoFar c n T asked xs (k + 1) o
+    ((m : TypingMode) → RunsFor c m → SaysCandidate (setting_in c m) (level_in c m n) U asked (candidate_at U x) next) → AskedSoFar c n T asked xs (k + 1) o
 asked-more c n T U asked xs k x found next o keeps within all l at e so_far here m s =
     let S : Setting = setting_in c m in
     let L : Level = level_in c m n in
@@ -178,14 +170,14 @@ asked-more c n T U asked xs k x found next o keeps within all l at e so_far here
 
 -- one that holds shows it
 pub asked-shown : (c : over.Setting) (n : ℕ) (T : List Tree) (asked : AskedTrait) (xs : List InternedCandidate) (k : ℕ) (o : Outcome) → o ≡ outcome.Holds → AskedSoFar c n T asked xs k o →
-    (m : TypingMode) → StandsFor c.typing_mode.now m → SaysCandidates (setting_in c m) (level_in c m n) T asked (map (candidate_at T) xs) outcome.Holds
+    (m : TypingMode) → RunsFor c m → SaysCandidates (setting_in c m) (level_in c m n) T asked (map (candidate_at T) xs) outcome.Holds
 asked-shown c n T asked xs k o e so_far m s =
     Exists-taken (AskedHolds (setting_in c m) (level_in c m n) asked.constness asked.trait_id (erased_all T asked.args.now)) k (map (candidate_at T) xs)
     (subst (AskedSoFar c n T asked xs k) e so_far m s)
 
 -- after the last place all have been asked
 pub asked-end : (c : over.Setting) (n : ℕ) (T : List Tree) (asked : AskedTrait) (xs : List InternedCandidate) (k : ℕ) (o : Outcome) → length xs ≤ k → AskedSoFar c n T asked xs k o →
-    (m : TypingMode) → StandsFor c.typing_mode.now m → SaysCandidates (setting_in c m) (level_in c m n) T asked (map (candidate_at T) xs) o
+    (m : TypingMode) → RunsFor c m → SaysCandidates (setting_in c m) (level_in c m n) T asked (map (candidate_at T) xs) o
 asked-end c n T asked xs k o l so_far m s =
     subst (λ ys. SaysCandidates (setting_in c m) (level_in c m n) T asked ys o) (take-whole (candidate_at T) xs k l) (so_far m s)
 

@@ -1,5 +1,5 @@
 -- Goals that were added, by the numbers of their terms.
-use Rattle.std.proofs.Common.{◌≡◌, ◌<◌, true, List, [], ◌∷◌, length, map, Result, sym, ap, ◌∙◌, subst}
+use Rattle.std.proofs.Common.{◌≡◌, ◌<◌, true, List, [], ◌∷◌, length, map, Result, refl, sym, ap, ◌∙◌, subst}
 use Rattle.std.specs.Prelude.{IfOk}
 use Rattle.std.proofs.lemmas.List.Elements.{All-nil, All-cons, All-head, All-tail}
 use Rattle.goal_terms.specs.Sorts.{IsArgument, sort_of, is_argument_sort}
@@ -21,13 +21,14 @@ use Rattle.goal_kinds.specs.Settings.{is_headline}
 use Rattle.goal_kinds.specs.declared.candidates.interned.InternedPredicate.{InternedPredicate}
 use Rattle.goal_solver.specs.Answers.{level_over}
 use Rattle.goal_solver.specs.GoingBack.{GoesBack}
-use Rattle.goal_solver.specs.Outcomes.{StandsFor, Says}
+use Rattle.goal_solver.specs.Outcomes.{RunsAs, StandsFor, Says}
 use Rattle.goal_solver.specs.Relating.{ChangesInference}
 use Rattle.goal_solver.specs.State.{State}
+use Rattle.goal_solver.specs.declared.eval.outcomes.OnAccess.TheVariants as on_access
 use Rattle.goal_solver.specs.declared.eval.outcomes.Outcome.{Outcome}
 use Rattle.goal_solver.specs.declared.eval.outcomes.Stop.{Stop}
 use Rattle.goal_solver.proofs.AddedGoalLemmas.{inference-through}
-use Rattle.goal_solver.proofs.AnswerLemmas.{goes_back-grown}
+use Rattle.goal_solver.proofs.AnswerLemmas.{goes_back-grown, stops-runs}
 use Rattle.goal_solver.proofs.GoingBackLemmas.{goes_back-through}
 use Rattle.goal_solver.proofs.InterningLemmas.{is_argument-term}
 
@@ -50,13 +51,13 @@ followed-all_in T U (id ∷ ids) (r ∷ rs) h b e =
 
 -- what is said of a premise over the context's tables is said of its predicate
 pub clause-says : (o s : State) (t : Tables) (env : List Clause) (p : InternedPredicate) (r : Result Outcome Stop) → o ≡ s → t ≡ o.tables →
-    ((m : TypingMode) → StandsFor o.typing_mode m →
+    ((m : TypingMode) → RunsAs on_access.Stop o.typing_mode m →
     IfOk r (Says (PremiseHolds (level (setting_of t m env) o.remaining_depth) (predicate (predicate_at o.terms p))) (PremiseRefuted (level (setting_of t m env) o.remaining_depth) (predicate (predicate_at o.terms p))))) →
     (m : TypingMode) → StandsFor s.typing_mode m → IfOk r (Says (ClauseHolds (level_over s m env) (predicate_at s.terms p)) (ClauseRefuted (level_over s m env) (predicate_at s.terms p)))
 unfolding PremiseHolds PremiseRefuted
 clause-says o s t env p r e f h m stands =
     subst (λ (a : State). StandsFor a.typing_mode m → IfOk r (Says (ClauseHolds (level_over a m env) (predicate_at a.terms p)) (ClauseRefuted (level_over a m env) (predicate_at a.terms p)))) e
-    (λ x. subst (λ (u : Tables). IfOk r (Says (ClauseHolds (level (setting_of u m env) o.remaining_depth) (predicate_at o.terms p)) (ClauseRefuted (level (setting_of u m env) o.remaining_depth) (predicate_at o.terms p)))) f (h m x))
+    (λ x. subst (λ (u : Tables). IfOk r (Says (ClauseHolds (level (setting_of u m env) o.remaining_depth) (predicate_at o.terms p)) (ClauseRefuted (level (setting_of u m env) o.remaining_depth) (predicate_at o.terms p)))) f (h m (stops-runs on_access.Stop o.typing_mode m refl x)))
     stands
 
 -- more terms, and nothing else

@@ -25,7 +25,7 @@ use Rattle.goal_kinds.proofs.SubstitutionLemmas.{one_part_among}
 use Rattle.goal_kinds.proofs.WithinLevels.{within-level_itself}
 use Rattle.goal_kinds.proofs.WithinWords.{some_pair-map}
 use Rattle.goal_solver.specs.HeaderWords.{IsKnown, known_trees, KnownIn, fill_with, AreFilled, Fills, is_complete, SaysPart, KnownFrom, Answers, TestOutcome, KnownOutcome, MatchOutcome}
-use Rattle.goal_solver.specs.Outcomes.{StandsFor, Says, SaysMatch, setting_in, level_in}
+use Rattle.goal_solver.specs.Outcomes.{RunsFor, Says, SaysMatch, setting_in, level_in}
 use Rattle.goal_solver.specs.declared.eval.outcomes.HeaderMatch.{HeaderMatch}
 use Rattle.goal_solver.specs.declared.eval.outcomes.HeaderMatch.TheVariants as match
 use Rattle.goal_solver.specs.declared.eval.outcomes.Outcome.{Outcome}
@@ -134,7 +134,7 @@ held_only P R outcome.Undecided f h = h.0
 -- a comparison of lists answers whether all pairs are equal
 pub fit-says : (c : over.Setting) (depth : ℕ) (T V : List Tree) (ids given : List TermId) (ts : List Tree) (ids' : List TermId) (o x : Outcome) →
     ids' ≡ ids → erased_all V ids ≡ ts → erased_all V given ≡ erased_all T given →
-    ((m : TypingMode) → StandsFor c.typing_mode.now m → Says (Pairs (level_in c m depth).equal (erased_all V ids') (erased_all V given)) (SomePair (level_in c m depth).unequal (erased_all V ids') (erased_all V given)) o) →
+    ((m : TypingMode) → RunsFor c m → Says (Pairs (level_in c m depth).equal (erased_all V ids') (erased_all V given)) (SomePair (level_in c m depth).unequal (erased_all V ids') (erased_all V given)) o) →
     o ≡ x → TestOutcome c depth (λ L. Pairs L.equal ts (erased_all T given)) (is_held x)
 fit-says c depth T V ids given ts ids' o x same trees here says is m s =
     let held : Answers (Pairs (level_in c m depth).equal (erased_all V ids') (erased_all V given)) (is_held o) =
@@ -186,7 +186,7 @@ match-clashes c depth T V U params hs given known b keeps within all k says e m 
 no_clashes : (c : over.Setting) (depth : ℕ) (T V : List Tree) (params : List ParamKind) (hs : List Tree) (given : List TermId) (known : List (Option TermId)) (b : Bool) → Keeps T V → AreIn T given → KnownIn T known →
     KnownOutcome c depth hs (erased_all T given) params (known_trees T known) →
     TestOutcome c depth (λ L. SomePair (L.clash (IsKnown (known_trees V known))) hs (erased_all V given)) b → b ≡ false →
-    (m : TypingMode) → StandsFor c.typing_mode.now m → Clashes (level_in c m depth) params hs (erased_all T given) → ⊥
+    (m : TypingMode) → RunsFor c m → Clashes (level_in c m depth) params hs (erased_all T given) → ⊥
 no_clashes c depth T V params hs given known b keeps within all k says e m s x =
     clash_in c depth T V hs given known b false keeps within all says e m s
     ((clashes-same (setting_in c m) depth hs (erased_all T given) params (known_trees T known) (k m s)).1 x)
@@ -238,6 +238,6 @@ match-given c depth params hs gs gs' U (Err x) e says = says
 
 -- in each mode
 pub match-says : (c : over.Setting) (depth : ℕ) (params : List ParamKind) (hs gs U : List Tree) (r : Result HeaderMatch Stop) → IfOk r (MatchOutcome c depth params hs gs U) →
-    (m : TypingMode) → StandsFor c.typing_mode.now m → IfOk r (SaysMatch (level_in c m depth) params hs gs U)
+    (m : TypingMode) → RunsFor c m → IfOk r (SaysMatch (level_in c m depth) params hs gs U)
 match-says c depth params hs gs U (Ok x) says m s = says m s
 match-says c depth params hs gs U (Err x) says m s = says

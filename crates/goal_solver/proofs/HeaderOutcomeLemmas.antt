@@ -30,7 +30,7 @@ use Rattle.goal_kinds.proofs.EqualLemmas.{one_head_form, no_head_form_refuted}
 use Rattle.goal_kinds.proofs.InstanceLemmas.{under_the_same}
 use Rattle.goal_kinds.proofs.InternedLemmas.{in-grown, same-grown}
 use Rattle.goal_solver.specs.HeaderWords.{erased_ref, is_any, is_whole, parameter_at, IsBehind, IsKnown, KnownIn, known_trees, is_unfilled, is_missing, is_unknown, Fills, ClashAt, QuestionIn, Answers, TestOutcome}
-use Rattle.goal_solver.specs.Outcomes.{StandsFor, Says, setting_in, level_in}
+use Rattle.goal_solver.specs.Outcomes.{RunsFor, Says, setting_in, level_in}
 use Rattle.goal_solver.specs.declared.relate.header_questions.Question.{Question}
 use Rattle.goal_solver.specs.declared.relate.header_questions.Question.TheVariants as question
 use Rattle.goal_solver.specs.declared.eval.outcomes.Outcome.{Outcome}
@@ -232,7 +232,7 @@ refuted_only P R outcome.Undecided f h = h.1
 pub instance-says : (c : over.Setting) (depth : ℕ) (T V : List Tree) (known : List (Option TermId)) (args : List TermId) (h : TermRef) (g inst : TermId) (b : Bool) (o x : Outcome) →
     is_whole (node_of (tree_of_ref h)) ≡ true → Fills known args → b ≡ some_node (is_unknown known) (tree_of_ref h) → b ≡ false →
     erased_at V inst ≡ under (erased_all T args) (erased_ref h) → erased_at V g ≡ erased_at T g →
-    ((m : TypingMode) → StandsFor c.typing_mode.now m → Says ((level_in c m depth).equal (erased_at V inst) (erased_at V g)) ((level_in c m depth).unequal (erased_at V inst) (erased_at V g)) o) → o ≡ x →
+    ((m : TypingMode) → RunsFor c m → Says ((level_in c m depth).equal (erased_at V inst) (erased_at V g)) ((level_in c m depth).unequal (erased_at V inst) (erased_at V g)) o) → o ≡ x →
     TestOutcome c depth (λ L. L.clash (IsKnown (known_trees T known)) (erased_ref h) (erased_at T g)) (is_refuted x)
 instance-says c depth T V known args h g inst b o x w fills e f tree given says is m s =
     let clash : (level_in c m depth).clash (IsKnown (known_trees T known)) (erased_ref h) (erased_at T g) ↔ (level_in c m depth).unequal (under (erased_all T args) (erased_ref h)) (erased_at T g) =
@@ -280,14 +280,14 @@ behinds c m depth d T ks h g b e =
 
 -- an alias without a head form clashes
 pub behind_clash-refuted : (c : over.Setting) (depth d : ℕ) (T : List Tree) (ks : List (Option Tree)) (h : TermRef) (g : TermId) → IsBehind T is_any h g → depth ≡ suc d →
-    ((m : TypingMode) → StandsFor c.typing_mode.now m → HeadFormRefuted (level_in c m d) (erased_at T g)) →
+    ((m : TypingMode) → RunsFor c m → HeadFormRefuted (level_in c m d) (erased_at T g)) →
     TestOutcome c depth (λ L. L.clash (IsKnown ks) (erased_ref h) (erased_at T g)) true
 unfolding ClashesBehind
 behind_clash-refuted c depth d T ks h g b e r m s = (behinds c m depth d T ks h g b e).1 (inl (r m s))
 
 -- one of which that is undecided isn't known to
 pub behind_clash-undecided : (c : over.Setting) (depth d : ℕ) (T : List Tree) (ks : List (Option Tree)) (h : TermRef) (g : TermId) → IsBehind T is_any h g → depth ≡ suc d →
-    ((m : TypingMode) → StandsFor c.typing_mode.now m → ((f : Tree) → HasHeadForm (level_in c m d) (erased_at T g) f → ⊥) × (HeadFormRefuted (level_in c m d) (erased_at T g) → ⊥)) →
+    ((m : TypingMode) → RunsFor c m → ((f : Tree) → HasHeadForm (level_in c m d) (erased_at T g) f → ⊥) × (HeadFormRefuted (level_in c m d) (erased_at T g) → ⊥)) →
     TestOutcome c depth (λ L. L.clash (IsKnown ks) (erased_ref h) (erased_at T g)) false
 unfolding ClashesBehind
 behind_clash-undecided c depth d T ks h g b e r m s x =
@@ -295,7 +295,7 @@ behind_clash-undecided c depth d T ks h g b e r m s x =
 
 -- one whose head form has another constructor clashes
 pub behind_clash-other : (c : over.Setting) (depth d : ℕ) (T V : List Tree) (ks : List (Option Tree)) (h : TermRef) (g form : TermId) → IsBehind T is_any h g → depth ≡ suc d →
-    ((m : TypingMode) → StandsFor c.typing_mode.now m → HasHeadForm (level_in c m d) (erased_at T g) (erased_at V form)) →
+    ((m : TypingMode) → RunsFor c m → HasHeadForm (level_in c m d) (erased_at T g) (erased_at V form)) →
     compared_node Forgotten (node_of (tree_of_ref h)) ≢ compared_node Forgotten (node_of (tree_at V form)) →
     TestOutcome c depth (λ L. L.clash (IsKnown ks) (erased_ref h) (erased_at T g)) true
 unfolding ClashesBehind
@@ -325,7 +325,7 @@ through_clash c m depth d T V ks h g form b e r same =
 
 pub behind_clash-form : (c : over.Setting) (depth d : ℕ) (T V : List Tree) (known : List (Option TermId)) (h : TermRef) (g form : TermId) (r : Result Bool Stop) →
     IsBehind T is_any h g → depth ≡ suc d → Keeps T V → KnownIn T known →
-    ((m : TypingMode) → StandsFor c.typing_mode.now m → HasHeadForm (level_in c m d) (erased_at T g) (erased_at V form)) →
+    ((m : TypingMode) → RunsFor c m → HasHeadForm (level_in c m d) (erased_at T g) (erased_at V form)) →
     compared_node Forgotten (node_of (tree_of_ref h)) ≡ compared_node Forgotten (node_of (tree_at V form)) →
     IfOk r (TestOutcome c d (λ L. L.clash (IsKnown (known_trees V known)) (erased_ref h) (erased_at V form))) →
     IfOk r (TestOutcome c depth (λ L. L.clash (IsKnown (known_trees T known)) (erased_ref h) (erased_at T g)))
@@ -376,8 +376,8 @@ any-found c depth T U known questions i q b l e keeps all within says w m s =
 pub any-more : (c : over.Setting) (depth : ℕ) (T U : List Tree) (known : List (Option TermId)) (questions : List Question) (i : ℕ) (q : Question) (b : Bool) →
     i < length questions → q ≡ get_or questions i q → Keeps T U → KnownIn T known → All (QuestionIn T) questions →
     TestOutcome c depth (λ L. ClashAt L (known_trees U known) U q) b → b ≡ false →
-    ((m : TypingMode) → StandsFor c.typing_mode.now m → Exists (ClashAt (level_in c m depth) (known_trees T known) T) (take i questions) → ⊥) →
-    (m : TypingMode) → StandsFor c.typing_mode.now m → Exists (ClashAt (level_in c m depth) (known_trees T known) T) (take (i + 1) questions) → ⊥
+    ((m : TypingMode) → RunsFor c m → Exists (ClashAt (level_in c m depth) (known_trees T known) T) (take i questions) → ⊥) →
+    (m : TypingMode) → RunsFor c m → Exists (ClashAt (level_in c m depth) (known_trees T known) T) (take (i + 1) questions) → ⊥
 any-more c depth T U known questions i q b l e keeps all within says w before m s x =
     let split : Exists (ClashAt (level_in c m depth) (known_trees T known) T) (take i questions) ⊎ ClashAt (level_in c m depth) (known_trees T known) T q =
     (exists-push (ClashAt (level_in c m depth) (known_trees T known) T) (take i questions) q).0
@@ -392,7 +392,7 @@ unfolding Exists
 any-none P x = x
 
 pub any-end : (c : over.Setting) (depth : ℕ) (T : List Tree) (ks : List (Option Tree)) (questions : List Question) (i : ℕ) → take i questions ≡ questions →
-    ((m : TypingMode) → StandsFor c.typing_mode.now m → Exists (ClashAt (level_in c m depth) ks T) (take i questions) → ⊥) →
+    ((m : TypingMode) → RunsFor c m → Exists (ClashAt (level_in c m depth) ks T) (take i questions) → ⊥) →
     TestOutcome c depth (λ L. Exists (ClashAt L ks T) questions) false
 any-end c depth T ks questions i e before m s x = before m s (subst (Exists (ClashAt (level_in c m depth) ks T)) (sym e) x)
 

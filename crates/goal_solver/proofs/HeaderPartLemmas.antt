@@ -27,7 +27,7 @@ use Rattle.goal_kinds.proofs.EqualLemmas.{one_head_form, no_head_form_refuted}
 use Rattle.goal_solver.specs.HeaderWords.{erased_ref, is_this, IsBehind, GivesPart, SaysPart, SaysKnown, KnownFrom, KnownIn, known_trees, PartOutcome, KnownOutcome}
 use Rattle.goal_solver.specs.declared.eval.outcomes.Found.{Found}
 use Rattle.goal_solver.specs.declared.eval.outcomes.Found.TheVariants as found
-use Rattle.goal_solver.specs.Outcomes.{StandsFor, SaysWhich, setting_in, level_in, header_terms}
+use Rattle.goal_solver.specs.Outcomes.{RunsFor, SaysWhich, setting_in, level_in, header_terms}
 use Rattle.goal_solver.specs.declared.relate.header_places.Place.{Place}
 use Rattle.goal_solver.specs.declared.eval.outcomes.Setting as over
 use Rattle.goal_solver.specs.declared.eval.outcomes.Stop.{Stop}
@@ -90,7 +90,7 @@ steps c m T n depth d h g b e p =
 
 -- there is none where the alias has no head form
 pub behind-refuted : (c : over.Setting) (T U : List Tree) (n depth d : ℕ) (h : TermRef) (g : TermId) → IsBehind T (is_this n) h g → depth ≡ suc d →
-    ((m : TypingMode) → StandsFor c.typing_mode.now m → HeadFormRefuted (level_in c m d) (erased_at T g)) →
+    ((m : TypingMode) → RunsFor c m → HeadFormRefuted (level_in c m d) (erased_at T g)) →
     PartOutcome c depth (λ L. L.part n (erased_ref h) (erased_at T g)) U None
 unfolding StepsTo
 behind-refuted c T U n depth d h g b e r m s p x =
@@ -99,7 +99,7 @@ behind-refuted c T U n depth d h g b e r m s p x =
 
 -- nor where that is undecided
 pub behind-undecided : (c : over.Setting) (T U : List Tree) (n depth d : ℕ) (h : TermRef) (g : TermId) → IsBehind T (is_this n) h g → depth ≡ suc d →
-    ((m : TypingMode) → StandsFor c.typing_mode.now m → ((f : Tree) → HasHeadForm (level_in c m d) (erased_at T g) f → ⊥) × (HeadFormRefuted (level_in c m d) (erased_at T g) → ⊥)) →
+    ((m : TypingMode) → RunsFor c m → ((f : Tree) → HasHeadForm (level_in c m d) (erased_at T g) f → ⊥) × (HeadFormRefuted (level_in c m d) (erased_at T g) → ⊥)) →
     PartOutcome c depth (λ L. L.part n (erased_ref h) (erased_at T g)) U None
 unfolding StepsTo
 behind-undecided c T U n depth d h g b e r m s p x =
@@ -108,7 +108,7 @@ behind-undecided c T U n depth d h g b e r m s p x =
 
 -- nor where its head form has another constructor
 pub behind-other : (c : over.Setting) (T V U : List Tree) (n depth d : ℕ) (h : TermRef) (g form : TermId) → IsBehind T (is_this n) h g → depth ≡ suc d →
-    ((m : TypingMode) → StandsFor c.typing_mode.now m → HasHeadForm (level_in c m d) (erased_at T g) (erased_at V form)) →
+    ((m : TypingMode) → RunsFor c m → HasHeadForm (level_in c m d) (erased_at T g) (erased_at V form)) →
     compared_node Forgotten (node_of (tree_of_ref h)) ≢ compared_node Forgotten (node_of (tree_at V form)) →
     PartOutcome c depth (λ L. L.part n (erased_ref h) (erased_at T g)) U None
 unfolding StepsTo
@@ -133,7 +133,7 @@ through_form c m T V n depth d h g form b e r same p =
 
 pub behind-form : (c : over.Setting) (T V U : List Tree) (n depth d : ℕ) (h : TermRef) (g form : TermId) (place : Place) (r : Result (Option TermId) Stop) →
     IsBehind T (is_this n) h g → depth ≡ suc d →
-    ((m : TypingMode) → StandsFor c.typing_mode.now m → HasHeadForm (level_in c m d) (erased_at T g) (erased_at V form)) →
+    ((m : TypingMode) → RunsFor c m → HasHeadForm (level_in c m d) (erased_at T g) (erased_at V form)) →
     compared_node Forgotten (node_of (tree_of_ref h)) ≡ compared_node Forgotten (node_of (tree_at V form)) →
     ((S : Setting) (k : ℕ) (p : Tree) → (level S k).part n (erased_ref h) (erased_at V form) p ↔ GivesPart (level S k) n V place p) →
     IfOk r (PartOutcome c d (λ L. GivesPart L n V place) U) →
@@ -180,7 +180,7 @@ known-start c depth hs gs T known e m s = known_none (level_in c m depth) hs gs 
 pub known-more : (c : over.Setting) (depth : ℕ) (hs gs T U : List Tree) (params : List ParamKind) (known new : List (Option TermId)) (next : Option TermId) (i : ℕ) (d : ParamKind) →
     i < length params → Keeps T U → KnownIn T known → new ≡ known ++ next ∷ [] →
     KnownOutcome c depth hs gs (take i params) (known_trees T known) →
-    ((m : TypingMode) → StandsFor c.typing_mode.now m → SaysKnown (level_in c m depth) hs gs (get_or params i d) i (option_map (erased_at U) next)) →
+    ((m : TypingMode) → RunsFor c m → SaysKnown (level_in c m depth) hs gs (get_or params i d) i (option_map (erased_at U) next)) →
     KnownOutcome c depth hs gs (take (i + 1) params) (known_trees U new)
 known-more c depth hs gs T U params known new next i d l keeps all e so_far here m s =
     let trees : known_trees U new ≡ known_trees T known ++ option_map (erased_at U) next ∷ [] =
@@ -193,22 +193,22 @@ known-all c depth hs gs params ks i e h m s = subst (λ ps. KnownFrom (level_in 
 
 -- what is said of a head form that was found
 pub found-is : (c : over.Setting) (d : ℕ) (T V : List Tree) (g form : TermId) (x : Found) →
-    ((m : TypingMode) → StandsFor c.typing_mode.now m → SaysWhich (HasHeadForm (level_in c m d) (erased_at T g)) (HeadFormRefuted (level_in c m d) (erased_at T g)) V x) → x ≡ found.Is form →
-    (m : TypingMode) → StandsFor c.typing_mode.now m → HasHeadForm (level_in c m d) (erased_at T g) (erased_at V form)
+    ((m : TypingMode) → RunsFor c m → SaysWhich (HasHeadForm (level_in c m d) (erased_at T g)) (HeadFormRefuted (level_in c m d) (erased_at T g)) V x) → x ≡ found.Is form →
+    (m : TypingMode) → RunsFor c m → HasHeadForm (level_in c m d) (erased_at T g) (erased_at V form)
 found-is c d T V g form x says e m s = subst (SaysWhich (HasHeadForm (level_in c m d) (erased_at T g)) (HeadFormRefuted (level_in c m d) (erased_at T g)) V) e (says m s)
 
 pub found-refuted : (c : over.Setting) (d : ℕ) (T V : List Tree) (g : TermId) (x : Found) →
-    ((m : TypingMode) → StandsFor c.typing_mode.now m → SaysWhich (HasHeadForm (level_in c m d) (erased_at T g)) (HeadFormRefuted (level_in c m d) (erased_at T g)) V x) → x ≡ found.Refuted →
-    (m : TypingMode) → StandsFor c.typing_mode.now m → HeadFormRefuted (level_in c m d) (erased_at T g)
+    ((m : TypingMode) → RunsFor c m → SaysWhich (HasHeadForm (level_in c m d) (erased_at T g)) (HeadFormRefuted (level_in c m d) (erased_at T g)) V x) → x ≡ found.Refuted →
+    (m : TypingMode) → RunsFor c m → HeadFormRefuted (level_in c m d) (erased_at T g)
 found-refuted c d T V g x says e m s = subst (SaysWhich (HasHeadForm (level_in c m d) (erased_at T g)) (HeadFormRefuted (level_in c m d) (erased_at T g)) V) e (says m s)
 
 pub found-undecided : (c : over.Setting) (d : ℕ) (T V : List Tree) (g : TermId) (x : Found) →
-    ((m : TypingMode) → StandsFor c.typing_mode.now m → SaysWhich (HasHeadForm (level_in c m d) (erased_at T g)) (HeadFormRefuted (level_in c m d) (erased_at T g)) V x) → x ≡ found.Undecided →
-    (m : TypingMode) → StandsFor c.typing_mode.now m → ((f : Tree) → HasHeadForm (level_in c m d) (erased_at T g) f → ⊥) × (HeadFormRefuted (level_in c m d) (erased_at T g) → ⊥)
+    ((m : TypingMode) → RunsFor c m → SaysWhich (HasHeadForm (level_in c m d) (erased_at T g)) (HeadFormRefuted (level_in c m d) (erased_at T g)) V x) → x ≡ found.Undecided →
+    (m : TypingMode) → RunsFor c m → ((f : Tree) → HasHeadForm (level_in c m d) (erased_at T g) f → ⊥) × (HeadFormRefuted (level_in c m d) (erased_at T g) → ⊥)
 found-undecided c d T V g x says e m s = subst (SaysWhich (HasHeadForm (level_in c m d) (erased_at T g)) (HeadFormRefuted (level_in c m d) (erased_at T g)) V) e (says m s)
 
 -- what is known among given arguments that are the same
 pub known-same_given : (c : over.Setting) (depth : ℕ) (hs gs gs' : List Tree) (k : ParamKind) (n : ℕ) (o : Option Tree) → gs' ≡ gs →
-    ((m : TypingMode) → StandsFor c.typing_mode.now m → SaysKnown (level_in c m depth) hs gs' k n o) →
-    (m : TypingMode) → StandsFor c.typing_mode.now m → SaysKnown (level_in c m depth) hs gs k n o
+    ((m : TypingMode) → RunsFor c m → SaysKnown (level_in c m depth) hs gs' k n o) →
+    (m : TypingMode) → RunsFor c m → SaysKnown (level_in c m depth) hs gs k n o
 known-same_given c depth hs gs gs' k n o e says m s = subst (λ xs. SaysKnown (level_in c m depth) hs xs k n o) e (says m s)

@@ -11,6 +11,7 @@ pub mod FormLemmas
 pub mod OutcomeLists
 pub mod PremiseOutcomes
 pub mod TermErrorLemmas
+pub mod RunModes
 pub mod TraitOutcomeLemmas
 pub mod BeforeLemmas
 pub mod ProjectionArgLemmas
@@ -74,5 +75,6 @@ pub mod ListRunLemmas
 pub mod ListEntryLemmas
 pub mod ListAnswerLemmas
 pub mod AskedTraitLemmas
+pub mod RerunLemmas
 pub mod HostEffectLemmas
 pub mod ListedTermLemmas

@@ -14,10 +14,11 @@ use Rattle.goal_kinds.specs.Settings.{is_headline}
 use Rattle.goal_kinds.specs.declared.lists.InternedEntry.{InternedEntry}
 use Rattle.goal_kinds.proofs.GrowingEntries.{entry_in-grown, entry_same-grown}
 use Rattle.goal_solver.specs.Lists.{IsListFor, AreEntriesFor, SaysList, SaysEntries, named_at, progress_at, taken_at, IsRunning, Leads, LeadsOn}
-use Rattle.goal_solver.specs.Outcomes.{StandsFor, level_in}
+use Rattle.goal_solver.specs.Outcomes.{RunsFor, level_in}
 use Rattle.goal_solver.specs.declared.eval.lists.ListOutcome.{ListOutcome}
 use Rattle.goal_solver.specs.declared.eval.lists.ListOutcome.TheVariants as list
 use Rattle.goal_solver.specs.declared.eval.lists.progress.ListRun.{ListRun}
+use Rattle.goal_solver.specs.declared.eval.outcomes.OnAccess.TheVariants as on_access
 use Rattle.goal_solver.specs.declared.eval.outcomes.Setting as over
 use Rattle.goal_solver.specs.declared.eval.outcomes.Stop.{Stop}
 use Rattle.goal_solver.specs.declared.eval.lists.progress.Reached.{Reached}
@@ -28,7 +29,7 @@ use Rattle.goal_solver.proofs.OutcomeLists.{All-at}
 -- for each list that a run's entries stand for, a rest that they stand for from a place on says the same as all of it
 abbrev pub RunsSoFar : over.Setting → ℕ → List Tree → List InternedEntry → List Tree → ListRun → ℕ → Type 0
 RunsSoFar c n T es U r i =
-    (m : TypingMode) → StandsFor c.typing_mode.now m → (q : List Entry) → AreEntriesFor c.typing_mode.now (entries_at T es) q
+    (m : TypingMode) → RunsFor c m → (q : List Entry) → AreEntriesFor c.typing_mode.now (entries_at T es) q
     → (rest : List Entry) × AreEntriesFor c.typing_mode.now (entries_at T (drop i es)) rest × IsRunning (level_in c m n) (progress_at U r) rest q
 
 -- before the first entry
@@ -58,10 +59,14 @@ pub entry-in : (T U : List Tree) → Keeps T U → (es : List InternedEntry) (i 
 entry-in T U k es i e h l at = entry_in-grown T U k e (All-at (EntryIn T) es i e h l at)
 
 module _ (c : over.Setting) (n : ℕ) (T U V : List Tree) (kept : Keeps T U) (es : List InternedEntry) (within : EntriesIn T es) (r z : ListRun) (i : ℕ) (e : InternedEntry) (o : Reached)
-    (below : i < length es) (at : e ≡ get_or es i e) (so_far : RunsSoFar c n T es U r i) (reads : is_headline c.typing_mode.now ≡ false → IsAccess (entry_at U e) → ⊥)
-    (says : (m : TypingMode) → StandsFor c.typing_mode.now m → LeadsOn (level_in c m n) (progress_at U r) (entry_at U e) (progress_at V z) o) where
+    (below : i < length es) (at : e ≡ get_or es i e) (so_far : RunsSoFar c n T es U r i) (reads : c.on_access ≡ on_access.Stop → is_headline c.typing_mode.now ≡ false → IsAccess (entry_at U e) → ⊥)
+    (says : (m : TypingMode) → RunsFor c m → LeadsOn (level_in c m n) (progress_at U r) (entry_at U e) (progress_at V z) o) where
+  -- a run that stands for a headline mode in another mode stops at accesses
+  reads-none : (m : TypingMode) → RunsFor c m → is_headline c.typing_mode.now ≡ false → IsAccess (entry_at U e) → ⊥
+  reads-none m s h = ⊎_elim (λ same. absurd (true≢false (sym (ap is_headline same ∙ s.0) ∙ h))) (λ stops. reads stops.1 h) s.1
+
   -- an entry, with what comes before and behind it
-  lead-here : (m : TypingMode) → StandsFor c.typing_mode.now m → (q : List Entry) → AreEntriesFor c.typing_mode.now (entries_at T es) q →
+  lead-here : (m : TypingMode) → RunsFor c m → (q : List Entry) → AreEntriesFor c.typing_mode.now (entries_at T es) q →
       (gs : List Entry) × AreEntriesFor c.typing_mode.now (entries_at T (drop (i + 1) es)) gs × Leads (level_in c m n) (progress_at U r) (entry_at U e ∷ gs) gs q (progress_at V z) o
       × IsRunning (level_in c m n) (progress_at U r) (entry_at U e ∷ gs) q
   lead-here m s q f =
@@ -70,7 +75,7 @@ module _ (c : over.Setting) (n : ℕ) (T U V : List Tree) (kept : Keeps T U) (es
       let left : entries_at T (drop i es) ≡ entry_at U e ∷ entries_at T (drop (i + 1) es) =
       at_drop_more (entries_at T) es i e below ∙ ap (λ x. entry_at T x ∷ entries_at T (drop (i + 1) es)) (sym at) ∙ ap (λ x. x ∷ entries_at T (drop (i + 1) es)) (sym same) in
       let split = first-same c.typing_mode.now (entry_at U e) (entries_at T (drop (i + 1) es)) here.0
-      (subst (λ xs. AreEntriesFor c.typing_mode.now xs here.0) left here.1) reads in
+      (subst (λ xs. AreEntriesFor c.typing_mode.now xs here.0) left here.1) (reads-none m s) in
       (split.0, split.2, says m s split.0 q, subst (λ xs. IsRunning (level_in c m n) (progress_at U r) xs q) split.1 here.2)
 
   -- the next entry
@@ -80,13 +85,13 @@ module _ (c : over.Setting) (n : ℕ) (T U V : List Tree) (kept : Keeps T U) (es
       (here.0, here.1, subst (λ x. Leads (level_in c m n) (progress_at U r) (entry_at U e ∷ here.0) here.0 q (progress_at V z) x) is here.2 here.3)
 
   -- an entry that settles the list
-  pub runs-refuted : o ≡ reached.Refuted → (W : List Tree) (m : TypingMode) → StandsFor c.typing_mode.now m → (q : List Entry) → AreEntriesFor c.typing_mode.now (entries_at T es) q →
+  pub runs-refuted : o ≡ reached.Refuted → (W : List Tree) (m : TypingMode) → RunsFor c m → (q : List Entry) → AreEntriesFor c.typing_mode.now (entries_at T es) q →
       SaysList (level_in c m n) (Some q) W list.Refuted
   runs-refuted is W m s q f =
       let here = lead-here m s q f in
       refuted-says (level_in c m n) W q (subst (λ x. Leads (level_in c m n) (progress_at U r) (entry_at U e ∷ here.0) here.0 q (progress_at V z) x) is here.2 here.3)
 
-  pub runs-undecided : o ≡ reached.Undecided → (W : List Tree) (m : TypingMode) → StandsFor c.typing_mode.now m → (q : List Entry) → AreEntriesFor c.typing_mode.now (entries_at T es) q →
+  pub runs-undecided : o ≡ reached.Undecided → (W : List Tree) (m : TypingMode) → RunsFor c m → (q : List Entry) → AreEntriesFor c.typing_mode.now (entries_at T es) q →
       SaysList (level_in c m n) (Some q) W list.Undecided
   runs-undecided is W m s q f =
       let here = lead-here m s q f in
@@ -95,7 +100,7 @@ module _ (c : over.Setting) (n : ℕ) (T U V : List Tree) (kept : Keeps T U) (es
 -- after the last entry
 pub runs-end : (c : over.Setting) (n : ℕ) (T : List Tree) (es : List InternedEntry) (U : List Tree) (r : ListRun) (i : ℕ) (o : ListOutcome) → length es ≤ i → RunsSoFar c n T es U r i →
     (r.holds ≡ true → o ≡ list.Holds r.term) → (r.holds ≡ false → o ≡ list.Undecided) →
-    (m : TypingMode) → StandsFor c.typing_mode.now m → (q : List Entry) → AreEntriesFor c.typing_mode.now (entries_at T es) q → SaysList (level_in c m n) (Some q) U o
+    (m : TypingMode) → RunsFor c m → (q : List Entry) → AreEntriesFor c.typing_mode.now (entries_at T es) q → SaysList (level_in c m n) (Some q) U o
 runs-end c n T es U r i o l so_far whole partly m s q f =
     let here = so_far m s q f in
     let none : here.0 ≡ [] = none-left c.typing_mode.now here.0 (subst (λ xs. AreEntriesFor c.typing_mode.now (entries_at T xs) here.0) (drop_all i es l) here.1) in

@@ -24,11 +24,12 @@ use Rattle.goal_kinds.proofs.ListStandIns.{projection_list-stands_in, alias_list
 use Rattle.goal_kinds.proofs.ListTerms.{asks_none-gives, gives-with}
 use Rattle.goal_kinds.proofs.ProjectionLists.{projection_list-gives, projection_list-refuted}
 use Rattle.goal_solver.specs.Lists.{list_mode, IsListFor, SaysList, list_term}
-use Rattle.goal_solver.specs.Outcomes.{StandsFor, setting_in, SaysWhich}
+use Rattle.goal_solver.specs.Outcomes.{RunsFor, setting_in, SaysWhich}
 use Rattle.goal_solver.specs.declared.eval.outcomes.Setting as over
 use Rattle.goal_solver.specs.declared.eval.outcomes.Found.{Found}
 use Rattle.goal_solver.specs.declared.eval.lists.ListOutcome.{ListOutcome}
 use Rattle.goal_solver.specs.declared.eval.lists.ListOutcome.TheVariants as list
+use Rattle.goal_solver.proofs.RunModes.{list-for}
 use Rattle.goal_solver.proofs.MergingLemmas.{which-map}
 
 -- which term a list gives; one that asks for none gives none, and isn't refuted where it holds
@@ -69,34 +70,23 @@ pub alias-says : (S : Setting) → is_headline S.mode ≡ true → (n d : ℕ) �
 alias-says S e n d above k none args T x f is h =
     subst (λ y. SaysWhich ((level S y).gives k args) ((level S y).gives_refuted k args) T f) (sym above) (alias-above S e n k none args T x f is h)
 
--- which list a run goes by, in each headline mode for which it stands
-list-in : (f : TypingMode → Option (List Entry)) (run m : TypingMode) (o : Option (List Entry)) (b : Bool) → is_headline run ≡ b →
-    o ≡ f (if b then run else mode.ErasedNotCoherence) → (run ≡ m) ⊎ (is_headline run ≡ false) →
-    ListStandsIn (f mode.ErasedNotCoherence) (f m) → IsListFor run o (f m)
-list-in f run m o true e is s for = ⊎_elim (λ x. inl (ap f (sym x) ∙ sym is)) (λ x. absurd (cc)) s
-list-in f run m o false e is s for = inr (e, subst (λ q. ListStandsIn q (f m)) (sym is) for)
-
-list-for : (f : TypingMode → Option (List Entry)) (run m : TypingMode) (o : Option (List Entry)) → StandsFor run m → o ≡ f (list_mode run) →
-    ListStandsIn (f mode.ErasedNotCoherence) (f m) → IsListFor run o (f m)
-list-for f run m o s is for = list-in f run m o (is_headline run) refl is s.1 for
-
 -- what the lists of a run are made for
-pub made-for : (s : over.Setting) (l : ListSetting) → l.rows ≡ s.rows → l.mode.now ≡ list_mode s.typing_mode.now →
-    setting_at l s.environment.now ≡ setting_in s (list_mode s.typing_mode.now)
+pub made-for : (s : over.Setting) (l : ListSetting) → l.rows ≡ s.rows → l.mode.now ≡ list_mode s →
+    setting_at l s.environment.now ≡ setting_in s (list_mode s)
 made-for s l e f = ap₂ (λ r x. setting_of r.now x s.environment.now) e f
 
 -- a run goes by the list of a candidate for a projection's term
-pub candidate-for : (s : over.Setting) (m : TypingMode) → StandsFor s.typing_mode.now m → (p : Projection) (itself : Tree) (c : Candidate) (o : Option (List Entry)) →
-    o ≡ projection_list (setting_in s (list_mode s.typing_mode.now)) p itself c → IsListFor s.typing_mode.now o (projection_list (setting_in s m) p itself c)
+pub candidate-for : (s : over.Setting) (m : TypingMode) → RunsFor s m → (p : Projection) (itself : Tree) (c : Candidate) (o : Option (List Entry)) →
+    o ≡ projection_list (setting_in s (list_mode s)) p itself c → IsListFor s.typing_mode.now o (projection_list (setting_in s m) p itself c)
 candidate-for s m stands p itself c o is =
-    list-for (λ x. projection_list (setting_in s x) p itself c) s.typing_mode.now m o stands is (projection_list-stands_in (setting_in s m) m stands.0 p itself c)
+    list-for (λ x. projection_list (setting_in s x) p itself c) s m o stands is (projection_list-stands_in (setting_in s m) m stands.0 p itself c)
 
 -- and by that of an alias that is no projection
-pub alias-for : (s : over.Setting) (m : TypingMode) → StandsFor s.typing_mode.now m → (k : AliasTermKind) (args : List Tree) (es : List Entry) →
-    es ≡ alias_list (setting_in s (list_mode s.typing_mode.now)) k args → IsListFor s.typing_mode.now (Some es) (Some (alias_list (setting_in s m) k args))
+pub alias-for : (s : over.Setting) (m : TypingMode) → RunsFor s m → (k : AliasTermKind) (args : List Tree) (es : List Entry) →
+    es ≡ alias_list (setting_in s (list_mode s)) k args → IsListFor s.typing_mode.now (Some es) (Some (alias_list (setting_in s m) k args))
 unfolding ListStandsIn
 alias-for s m stands k args es is =
-    list-for (λ x. Some (alias_list (setting_in s x) k args)) s.typing_mode.now m (Some es) stands (ap Some is)
+    list-for (λ x. Some (alias_list (setting_in s x) k args)) s m (Some es) stands (ap Some is)
     (alias_list (setting_in s m) k args, refl, alias_list-stands_in (setting_in s m) m stands.0 k args)
 
 -- an alias of another kind than the two of projections projects nothing

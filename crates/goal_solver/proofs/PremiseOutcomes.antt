@@ -25,7 +25,7 @@ use Rattle.goal_kinds.proofs.ConsistentLemmas.{each_level_is_consistent}
 use Rattle.goal_kinds.proofs.InternedLemmas.{premise_in-grown, premise_same-grown, trait_in-grown, trait_same-grown}
 use Rattle.goal_kinds.proofs.PremiseLemmas.{no_premise_refuted}
 use Rattle.goal_solver.specs.Joined.{both, held}
-use Rattle.goal_solver.specs.Outcomes.{StandsFor, setting_in, level_in, Says, SaysThrough}
+use Rattle.goal_solver.specs.Outcomes.{RunsFor, setting_in, level_in, Says, SaysThrough}
 use Rattle.goal_solver.specs.declared.eval.outcomes.Setting as over
 use Rattle.goal_solver.specs.declared.eval.outcomes.Outcome.{Outcome}
 use Rattle.goal_solver.specs.declared.eval.outcomes.Outcome.TheVariants as outcome
@@ -127,7 +127,7 @@ equation-result S d a t r n h =
 
 -- what an outcome says of the premises before a place, in each mode for which a run stands
 abbrev pub PremisesSay : {A : Type 0} → over.Setting → ℕ → (A → Premise) → List A → ℕ → Outcome → Type 0
-PremisesSay c n f xs i o = (m : TypingMode) → StandsFor c.typing_mode.now m →
+PremisesSay c n f xs i o = (m : TypingMode) → RunsFor c m →
     Says (Each (PremiseHolds (level_in c m n)) (take i (map f xs))) (Exists (PremiseRefuted (level_in c m n)) (take i (map f xs))) o
 
 -- before the first place they hold
@@ -137,7 +137,7 @@ premises-start c n f xs m s = tt
 
 -- one more premise
 pub premises-more : {A : Type 0} (c : over.Setting) (n : ℕ) (f : A → Premise) (xs : List A) (i : ℕ) (x : A) (found next : Outcome) →
-    i < length xs → x ≡ get_or xs i x → PremisesSay c n f xs i found → ((m : TypingMode) → StandsFor c.typing_mode.now m → SaysPremise (level_in c m n) (f x) next) →
+    i < length xs → x ≡ get_or xs i x → PremisesSay c n f xs i found → ((m : TypingMode) → RunsFor c m → SaysPremise (level_in c m n) (f x) next) →
     PremisesSay c n f xs (i + 1) (both found next)
 premises-more c n f xs i x found next l e so_far here m s =
     subst (λ ps. Says (Each (PremiseHolds (level_in c m n)) ps) (Exists (PremiseRefuted (level_in c m n)) ps) (both found next)) (sym (take-push f xs i x l e))
@@ -146,13 +146,13 @@ premises-more c n f xs i x found next l e so_far here m s =
 
 -- one that is refuted refutes them
 pub premises-refuted : {A : Type 0} (c : over.Setting) (n : ℕ) (f : A → Premise) (xs : List A) (i : ℕ) (o : Outcome) → o ≡ outcome.Refuted → PremisesSay c n f xs i o →
-    (m : TypingMode) → StandsFor c.typing_mode.now m → PremisesRefuted (level_in c m n) (map f xs)
+    (m : TypingMode) → RunsFor c m → PremisesRefuted (level_in c m n) (map f xs)
 unfolding PremisesRefuted
 premises-refuted c n f xs i o e so_far m s = Exists-taken (PremiseRefuted (level_in c m n)) i (map f xs) (subst (PremisesSay c n f xs i) e so_far m s)
 
 -- after the last place all are decided
 pub premises-end : {A : Type 0} (c : over.Setting) (n : ℕ) (f : A → Premise) (xs : List A) (i : ℕ) (found : Outcome) → length xs ≤ i → PremisesSay c n f xs i found →
-    (m : TypingMode) → StandsFor c.typing_mode.now m → Says (PremisesHold (level_in c m n) (map f xs)) (PremisesRefuted (level_in c m n) (map f xs)) found
+    (m : TypingMode) → RunsFor c m → Says (PremisesHold (level_in c m n) (map f xs)) (PremisesRefuted (level_in c m n) (map f xs)) found
 unfolding PremisesHold PremisesRefuted
 premises-end c n f xs i found l so_far m s =
     subst (λ ps. Says (Each (PremiseHolds (level_in c m n)) ps) (Exists (PremiseRefuted (level_in c m n)) ps) found) (take-whole f xs i l) (so_far m s)
@@ -181,7 +181,7 @@ condition-at b T U rs i r k h l e =
 -- one more premise, of a table that has grown
 pub premises-step : (c : over.Setting) (n : ℕ) (T U : List Tree) (ps : List InternedPremise) (i : ℕ) (p : InternedPremise) (found next : Outcome) →
     Keeps T U → All (PremiseIn T) ps → i < length ps → p ≡ get_or ps i p → PremisesSay c n (premise_at T) ps i found →
-    ((m : TypingMode) → StandsFor c.typing_mode.now m → SaysPremise (level_in c m n) (premise_at U p) next) →
+    ((m : TypingMode) → RunsFor c m → SaysPremise (level_in c m n) (premise_at U p) next) →
     PremisesSay c n (premise_at T) ps (i + 1) (both found next)
 premises-step c n T U ps i p found next k h l e so_far here =
     premises-more c n (premise_at T) ps i p found next l e so_far
@@ -190,7 +190,7 @@ premises-step c n T U ps i p found next k h l e so_far here =
 -- one more condition
 pub conditions-step : (c : over.Setting) (n : ℕ) (b : BoundConstness) (T U : List Tree) (rs : List InternedTrait) (i : ℕ) (r : InternedTrait) (ids : List TermId) (found next : Outcome) →
     Keeps T U → All (TraitIn T) rs → i < length rs → r ≡ get_or rs i r → ids ≡ r.args.items → PremisesSay c n (condition_at b T) rs i found →
-    ((m : TypingMode) → StandsFor c.typing_mode.now m →
+    ((m : TypingMode) → RunsFor c m →
     Says ((level_in c m n).const_holds b r.def_id (erased_all U ids)) ((level_in c m n).const_refuted b r.def_id (erased_all U ids)) next) →
     PremisesSay c n (condition_at b T) rs (i + 1) (both found next)
 conditions-step c n b T U rs i r ids found next k h l e f so_far here =
@@ -201,13 +201,13 @@ conditions-step c n b T U rs i r ids found next k h l e f so_far here =
 
 -- all conditions together
 pub conditions-refuted : (c : over.Setting) (n : ℕ) (b : BoundConstness) (T : List Tree) (rs : List InternedTrait) (i : ℕ) (o : Outcome) → o ≡ outcome.Refuted →
-    PremisesSay c n (condition_at b T) rs i o → (m : TypingMode) → StandsFor c.typing_mode.now m →
+    PremisesSay c n (condition_at b T) rs i o → (m : TypingMode) → RunsFor c m →
     PremisesRefuted (level_in c m n) (conditions_as b (map (trait_at T) rs))
 conditions-refuted c n b T rs i o e so_far m s =
     subst (PremisesRefuted (level_in c m n)) (conditions-same b T rs) (premises-refuted c n (condition_at b T) rs i o e so_far m s)
 
 pub conditions-end : (c : over.Setting) (n : ℕ) (b : BoundConstness) (T : List Tree) (rs : List InternedTrait) (i : ℕ) (found : Outcome) → length rs ≤ i →
-    PremisesSay c n (condition_at b T) rs i found → (m : TypingMode) → StandsFor c.typing_mode.now m →
+    PremisesSay c n (condition_at b T) rs i found → (m : TypingMode) → RunsFor c m →
     Says (PremisesHold (level_in c m n) (conditions_as b (map (trait_at T) rs))) (PremisesRefuted (level_in c m n) (conditions_as b (map (trait_at T) rs))) found
 conditions-end c n b T rs i found l so_far m s =
     subst (λ ps. Says (PremisesHold (level_in c m n) ps) (PremisesRefuted (level_in c m n) ps) found) (conditions-same b T rs)

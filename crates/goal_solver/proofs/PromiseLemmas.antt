@@ -48,13 +48,7 @@ use Rattle.goal_solver.specs.Outcomes.{StandsFor}
 use Rattle.goal_solver.specs.Promises.{whether_answered, said_of_whether, term_answered, said_of_term, listed_term, if_decided, decided_in, IsYes, LeavesUndecided, ChangesNothing, AnswersPredicate, NamesClass, NamesNoClass, AnswersTrait, AnswersProjection, AnswersHostEffect, ListsTerm, GivesTermAlone, AnswersAlias, NoTwoDisagree, equation_asked, const_asked, term_asked, one_deeper, AnswersTraitAbove, Through, given_through, asked_through, through_level, IsProven, AnswersThrough, AnswersGiven, AppliesProven, AppliesGiven}
 use Rattle.goal_solver.specs.State.{State, kinds_of}
 use Rattle.goal_solver.specs.declared.eval.goals.GoalFault.TheVariants.{ExpectedTermNotFree}
-use Rattle.goal_solver.proofs.AnswerLemmas.{owed-stands}
-use Rattle.goal_solver.proofs.ApplicableLemmas.{stands-for-some}
 use Rattle.goal_solver.proofs.CollectedTermLemmas.{some-same}
-
--- a mode that is owed an answer is one that the run stands for
-pub owed-restored : (before after : State) (m : TypingMode) → after ≡ restored before after → IsOwed after m → StandsFor before.typing_mode m
-owed-restored before after m e owed = owed-stands before before after m refl e owed
 
 -- what lists nothing names no class
 pub nothing-named : (r : Result Response Fault) → ListsNothing r → IfOk r NamesNoClass
@@ -103,13 +97,13 @@ changes-nothing s (Ok x) quiet values = record { quiet = quiet; values = values 
 changes-nothing s (Err f) quiet values = tt
 
 -- what a body says of a predicate
-module _ (before after : State) (env : List Clause) (stands-owed : (m : TypingMode) → IsOwed after m → StandsFor before.typing_mode m) where
+module _ (before after : State) (env : List Clause) where
   pub answers-predicate : (p : PredicateTree) (r : Result Response Fault) →
-      ((m : TypingMode) → StandsFor before.typing_mode m → IsPredicateAnswer (level_over before m env) p r) →
+      ((m : TypingMode) → IsOwed after m → IsPredicateAnswer (level_over before m env) p r) →
       ((m : TypingMode) → IsOwed after m → IsMaybe r → IsUndecided (level_over before m env) p) →
       AnswersQuietly (length (kinds_of before)) r → IfOk r (λ x. x.var_values.items ≡ []) → AnswersPredicate before after env p r
   answers-predicate p r sound decided quiet values = record {
-    exact = λ m owed. whether-right (level_over before m env) p r (sound m (stands-owed m owed)) (decided m owed);
+    exact = λ m owed. whether-right (level_over before m env) p r (sound m owed) (decided m owed);
     lasts = λ m n stands le. whether-lasts (within-level (setting_of before.tables m env) before.remaining_depth n le) p r (sound m stands);
     quiet = changes-nothing before r quiet values;
   }
@@ -142,24 +136,24 @@ names-class : {L M : Level} → IsWithin L M → (i : TraitId) (ts : List Tree) 
 names-class w i ts (Ok x) h k = class-named w i ts x.certainty x h k
 names-class w i ts (Err f) h k = tt
 
-pub answers-trait : (before after : State) (env : List Clause) (q : TraitTree) (r : Result Response Fault) → ((m : TypingMode) → IsOwed after m → StandsFor before.typing_mode m) →
-    ((m : TypingMode) → StandsFor before.typing_mode m → IsTraitAnswer (level_over before m env) q.def_id q.args r) →
+pub answers-trait : (before after : State) (env : List Clause) (q : TraitTree) (r : Result Response Fault) →
+    ((m : TypingMode) → IsOwed after m → IsTraitAnswer (level_over before m env) q.def_id q.args r) →
     ((m : TypingMode) → IsOwed after m → IsMaybe r → IsOpen (level_over before m env) q.def_id q.args) →
     AnswersQuietly (length (kinds_of before)) r → IfOk r (λ x. x.var_values.items ≡ []) → IfOk r (λ x. x.certainty ≡ certainty.Maybe → x.proven_via ≡ None) →
     AnswersTrait before after env q r
-answers-trait before after env q r owed sound decided quiet values class = record {
-  answers = answers-predicate before after env owed (holds q.def_id q.args) r
+answers-trait before after env q r sound decided quiet values class = record {
+  answers = answers-predicate before after env (holds q.def_id q.args) r
       (λ m stands. predicate-trait (level_over before m env) q.def_id q.args r (sound m stands))
       (λ m o u. undecided-trait (level_over before m env) q.def_id q.args (decided m o u)) quiet values;
   class = λ m n stands le. names-class (within-level (setting_of before.tables m env) before.remaining_depth n le) q.def_id q.args r (sound m stands) class;
 }
 
-pub answers-projection : (before after : State) (env : List Clause) (p : ProjectionPredicate) (r : Result Response Fault) → ((m : TypingMode) → IsOwed after m → StandsFor before.typing_mode m) →
-    ((m : TypingMode) → StandsFor before.typing_mode m → IsPredicateAnswer (level_over before m env) (equation_asked p) r) →
+pub answers-projection : (before after : State) (env : List Clause) (p : ProjectionPredicate) (r : Result Response Fault) →
+    ((m : TypingMode) → IsOwed after m → IsPredicateAnswer (level_over before m env) (equation_asked p) r) →
     ((m : TypingMode) → IsOwed after m → IsMaybe r → IsUndecided (level_over before m env) (equation_asked p)) →
     AnswersQuietly (length (kinds_of before)) r → IfOk r (λ x. x.var_values.items ≡ []) → IfOk r NamesNoClass → AnswersProjection before after env p r
-answers-projection before after env p r owed sound decided quiet values unnamed = record {
-  answers = answers-predicate before after env owed (equation_asked p) r sound decided quiet values;
+answers-projection before after env p r sound decided quiet values unnamed = record {
+  answers = answers-predicate before after env (equation_asked p) r sound decided quiet values;
   no_class = unnamed;
 }
 
@@ -190,12 +184,12 @@ never-refuted : (S : Setting) (n k : ℕ) (c : BoundConstness) (i : TraitId) (ts
 unfolding IsAnswer ClauseRefuted
 never-refuted S n k c i ts e h j = const-agrees S n k i ts (subst (λ (x : BoundConstness). (level S n).const_holds x i ts) e h) j
 
-pub answers-host_effect : (before after : State) (env : List Clause) (p : HostEffectPredicate) (r : Result Response Fault) → ((m : TypingMode) → IsOwed after m → StandsFor before.typing_mode m) →
-    ((m : TypingMode) → StandsFor before.typing_mode m → IsPredicateAnswer (level_over before m env) (const_asked p) r) →
+pub answers-host_effect : (before after : State) (env : List Clause) (p : HostEffectPredicate) (r : Result Response Fault) →
+    ((m : TypingMode) → IsOwed after m → IsPredicateAnswer (level_over before m env) (const_asked p) r) →
     ((m : TypingMode) → IsOwed after m → IsMaybe r → IsUndecided (level_over before m env) (const_asked p)) →
     AnswersQuietly (length (kinds_of before)) r → IfOk r (λ x. x.var_values.items ≡ []) → IfOk r NamesNoClass → AnswersHostEffect before after env p r
-answers-host_effect before after env p r owed sound decided quiet values unnamed = record {
-  answers = answers-predicate before after env owed (const_asked p) r sound decided quiet values;
+answers-host_effect before after env p r sound decided quiet values unnamed = record {
+  answers = answers-predicate before after env (const_asked p) r sound decided quiet values;
   no_class = unnamed;
   plain = λ yes m n stands le.
       plain-holding (within-level (setting_of before.tables m env) before.remaining_depth n le) p.trait_ref.def_id (erased_args p.trait_ref.args.items)
@@ -246,15 +240,28 @@ term-lasts : {L M : Level} → IsWithin L M → (k : AliasTermKind) (ts : List T
 term-lasts {L = L} {M = M} w k ts = term-said L M k ts (w.gives k ts) (w.gives_refuted k ts)
 
 -- and no other value is listed
-lists-term : (L : Level) (k : AliasTermKind) (ts : List Tree) (e : Term) (x : Certainty) (r : Response) → IsAliasResponse L k ts e x r →
-    (x ≡ certainty.Maybe → r.var_values.items ≡ []) → ListsTerm e x r.var_values.items
-lists-term L k ts e certainty.Yes r h u = (h.2.0, h.2.2.0, h.2.1, h.2.2.1)
-lists-term L k ts e certainty.Maybe r h u = u refl
+lists-term : (e : Term) (x : Certainty) (vs : List (ℕ × Term)) → (x ≡ certainty.Yes → ListsTerm e certainty.Yes vs) → (x ≡ certainty.Maybe → vs ≡ []) → ListsTerm e x vs
+lists-term e certainty.Yes vs h u = h refl
+lists-term e certainty.Maybe vs h u = u refl
 
-gives-alone : (s : State) (L : Level) (k : AliasTermKind) (ts : List Tree) (e : Term) (r : Result Response Fault) → AnswersQuietly (length (kinds_of s)) r → IsAliasAnswer L k ts e r →
+gives-alone : (s : State) (e : Term) (r : Result Response Fault) → AnswersQuietly (length (kinds_of s)) r → IfOk r (λ x. x.certainty ≡ certainty.Yes → ListsTerm e certainty.Yes x.var_values.items) →
     IfOk r (λ x. x.certainty ≡ certainty.Maybe → x.var_values.items ≡ []) → IfOk r (GivesTermAlone s e)
-gives-alone s L k ts e (Ok x) quiet h u = record { quiet = quiet; values = lists-term L k ts e x.certainty x h u }
-gives-alone s L k ts e (Err f) quiet h u = tt
+gives-alone s e (Ok x) quiet h u = record { quiet = quiet; values = lists-term e x.certainty x.var_values.items h u }
+gives-alone s e (Err f) quiet h u = tt
+
+-- what is found is given to the expected variable
+pub found-lists : (e : Term) (n : ℕ) (r : Result Response Fault) → expected_variable e ≡ Some n → IfOk r (λ x. x.certainty ≡ certainty.Yes → (u : Term) × (x.var_values.items ≡ (n, u) ∷ [])) →
+    IfOk r (λ x. x.certainty ≡ certainty.Yes → ListsTerm e certainty.Yes x.var_values.items)
+found-lists e n (Ok x) is h = λ y. (n, (h y).0, is, (h y).1)
+found-lists e n (Err f) is h = tt
+
+-- what isn't sure gives nothing
+pub unsure-lists : (e : Term) (r : Result Response Fault) → IfOk r (λ x. x.certainty ≢ certainty.Yes) → IfOk r (λ x. x.certainty ≡ certainty.Yes → ListsTerm e certainty.Yes x.var_values.items)
+unsure-lists e (Ok x) h = λ y. absurd (h y)
+unsure-lists e (Err f) h = tt
+
+pub maybe-lists : (e : Term) (x : Response) → x.certainty ≡ certainty.Maybe → x.certainty ≡ certainty.Yes → ListsTerm e certainty.Yes x.var_values.items
+maybe-lists e x h y = absurd (cc)
 
 -- the expected term of an accepted goal is a general variable
 node-expected : (s : State) (a : AliasTerm) (env : List Clause) (m : Node) → lacks_free_variable s (general_variable m) a env ≡ false → (n : ℕ) × (general_variable_at m ≡ Some n)
@@ -268,18 +275,18 @@ node-expected s a env (nodes.Variable (variables.Const k)) e = (k, refl)
 pub accepted-expected : (s : State) (p : NormalizesTo) (env : List Clause) → IsAcceptedNormalization s p env → (n : ℕ) × (expected_variable p.term ≡ Some n)
 accepted-expected s p env ok = node-expected s p.alias env (node_of (tree_of_term p.term)) (ok ExpectedTermNotFree)
 
-pub answers-alias : (before after : State) (env : List Clause) (p : NormalizesTo) (r : Result Response Fault) → ((m : TypingMode) → IsOwed after m → StandsFor before.typing_mode m) →
-    ((m : TypingMode) → StandsFor before.typing_mode m → IsAliasAnswer (level_over before m env) p.alias.kind (erased_args p.alias.args.items) p.term r) →
+pub answers-alias : (before after : State) (env : List Clause) (p : NormalizesTo) (r : Result Response Fault) →
+    ((m : TypingMode) → IsOwed after m → IsAliasAnswer (level_over before m env) p.alias.kind (erased_args p.alias.args.items) p.term r) →
     ((m : TypingMode) (n : ℕ) → IsOwed after m → IsAcceptedNormalization before p env → expected_variable p.term ≡ Some n → IsMaybe r → IsAnswer (level_over before m env) (term_asked p) maybe) →
-    AnswersQuietly (length (kinds_of before)) r → IfOk r (λ x. x.certainty ≡ certainty.Maybe → x.var_values.items ≡ []) → IfOk r NamesNoClass → AnswersAlias before after env p r
-answers-alias before after env p r owed sound whole quiet values unnamed =
-    let some : (m : TypingMode) × StandsFor before.typing_mode m = stands-for-some before.typing_mode (is_headline before.typing_mode) refl in
+    AnswersQuietly (length (kinds_of before)) r → IfOk r (λ x. x.certainty ≡ certainty.Yes → ListsTerm p.term certainty.Yes x.var_values.items) →
+    IfOk r (λ x. x.certainty ≡ certainty.Maybe → x.var_values.items ≡ []) → IfOk r NamesNoClass → AnswersAlias before after env p r
+answers-alias before after env p r sound whole quiet given values unnamed =
     record {
       exact = λ ok m o.
           let expected : (n : ℕ) × (expected_variable p.term ≡ Some n) = accepted-expected before p env ok in
-          term-right (level_over before m env) p.alias.kind (erased_args p.alias.args.items) p.term r (sound m (owed m o)) (whole m expected.0 o ok expected.1);
+          term-right (level_over before m env) p.alias.kind (erased_args p.alias.args.items) p.term r (sound m o) (whole m expected.0 o ok expected.1);
       lasts = λ m n stands le. term-lasts (within-level (setting_of before.tables m env) before.remaining_depth n le) p.alias.kind (erased_args p.alias.args.items) p.term r (sound m stands);
-      quiet = gives-alone before (level_over before some.0 env) p.alias.kind (erased_args p.alias.args.items) p.term r quiet (sound some.0 some.1) values;
+      quiet = gives-alone before p.term r quiet given values;
       no_class = unnamed;
     }
 
@@ -305,35 +312,35 @@ pub leaves-undecided : (s : State) (x : Response) → x.certainty ≡ certainty.
 leaves-undecided s x e p v q = record { certainty = e; no_class = p; changes = record { quiet = q; values = v } }
 
 -- what the candidates of a trait goal answer is its answer one above
-pub answers-trait_above : (before after : State) (env : List Clause) (o : Option TraitTree) (r : Result Response Fault) → ((m : TypingMode) → IsOwed after m → StandsFor before.typing_mode m) →
-    ((m : TypingMode) (q : TraitTree) → StandsFor before.typing_mode m → o ≡ Some q → IsTraitAnswer (level_above before m env) q.def_id q.args r) →
+pub answers-trait_above : (before after : State) (env : List Clause) (o : Option TraitTree) (r : Result Response Fault) →
+    ((m : TypingMode) (q : TraitTree) → IsOwed after m → o ≡ Some q → IsTraitAnswer (level_above before m env) q.def_id q.args r) →
     ((m : TypingMode) (q : TraitTree) → IsOwed after m → o ≡ Some q → IsMaybe r → IsOpen (level_above before m env) q.def_id q.args) →
     AnswersQuietly (length (kinds_of before)) r → IfOk r (λ x. x.var_values.items ≡ []) → IfOk r (λ x. x.certainty ≡ certainty.Maybe → x.proven_via ≡ None) →
     (o ≡ None → LeavesUndecided before r) → AnswersTraitAbove before after env o r
-answers-trait_above before after env None r owed sound decided quiet values class missing = missing refl
-answers-trait_above before after env (Some q) r owed sound decided quiet values class missing =
-    answers-trait (one_deeper before) after env q r owed (λ m stands. sound m q stands refl) (λ m o. decided m q o refl) quiet values class
+answers-trait_above before after env None r sound decided quiet values class missing = missing refl
+answers-trait_above before after env (Some q) r sound decided quiet values class missing =
+    answers-trait (one_deeper before) after env q r (λ m o. sound m q o refl) (λ m o. decided m q o refl) quiet values class
 
 -- what the candidates of an alias answer through a class
-pub answers-through : (before after : State) (env : List Clause) (a : Through) (r : Result Response Fault) → ((m : TypingMode) → IsOwed after m → StandsFor before.typing_mode m) →
-    ((m : TypingMode) → StandsFor before.typing_mode m → IsAliasAnswer (through_level before m env a) a.asked.alias.kind (erased_args a.asked.alias.args.items) a.asked.term r) →
+pub answers-through : (before after : State) (env : List Clause) (a : Through) (r : Result Response Fault) →
+    ((m : TypingMode) → IsOwed after m → IsAliasAnswer (through_level before m env a) a.asked.alias.kind (erased_args a.asked.alias.args.items) a.asked.term r) →
     ((m : TypingMode) (n : ℕ) → IsOwed after m → expected_variable a.asked.term ≡ Some n → IsMaybe r → IsAliasOpen (through_level before m env a) a.asked.alias.kind (erased_args a.asked.alias.args.items)) →
-    ((m : TypingMode) → StandsFor before.typing_mode m → IsProven before m env a → IsAliasAnswer (level_above before m env) a.asked.alias.kind (erased_args a.asked.alias.args.items) a.asked.term r) →
+    ((m : TypingMode) → IsOwed after m → IsProven before m env a → IsAliasAnswer (level_above before m env) a.asked.alias.kind (erased_args a.asked.alias.args.items) a.asked.term r) →
     ((m : TypingMode) (n : ℕ) → IsOwed after m → IsProven before m env a → IsAcceptedNormalization before a.asked env → expected_variable a.asked.term ≡ Some n → IsMaybe r →
     IsAnswer (level_above before m env) (term_asked a.asked) maybe) →
-    AnswersQuietly (length (kinds_of before)) r → IfOk r (λ x. x.certainty ≡ certainty.Maybe → x.var_values.items ≡ []) → IfOk r NamesNoClass → AnswersThrough before after env a r
-answers-through before after env a r owed sound decided above whole quiet values unnamed =
-    let some : (m : TypingMode) × StandsFor before.typing_mode m = stands-for-some before.typing_mode (is_headline before.typing_mode) refl in
+    AnswersQuietly (length (kinds_of before)) r → IfOk r (λ x. x.certainty ≡ certainty.Yes → ListsTerm a.asked.term certainty.Yes x.var_values.items) →
+    IfOk r (λ x. x.certainty ≡ certainty.Maybe → x.var_values.items ≡ []) → IfOk r NamesNoClass → AnswersThrough before after env a r
+answers-through before after env a r sound decided above whole quiet given values unnamed =
     record {
       sound = λ m stands.
           term-said (through_level before m env a) (through_level before m env a) a.asked.alias.kind (erased_args a.asked.alias.args.items) (λ t h. h) (λ h. h) a.asked.term r (sound m stands);
       decided = decided;
       exact = λ m o proven ok.
           let expected : (n : ℕ) × (expected_variable a.asked.term ≡ Some n) = accepted-expected before a.asked env ok in
-          term-right (level_above before m env) a.asked.alias.kind (erased_args a.asked.alias.args.items) a.asked.term r (above m (owed m o) proven) (whole m expected.0 o proven ok expected.1);
+          term-right (level_above before m env) a.asked.alias.kind (erased_args a.asked.alias.args.items) a.asked.term r (above m o proven) (whole m expected.0 o proven ok expected.1);
       lasts = λ m n stands proven le.
           term-lasts (within-level (setting_of before.tables m env) (suc before.remaining_depth) n (omega arith)) a.asked.alias.kind (erased_args a.asked.alias.args.items) a.asked.term r (above m stands proven);
-      quiet = gives-alone before (through_level before some.0 env a) a.asked.alias.kind (erased_args a.asked.alias.args.items) a.asked.term r quiet (sound some.0 some.1) values;
+      quiet = gives-alone before a.asked.term r quiet given values;
       no_class = unnamed;
     }
 

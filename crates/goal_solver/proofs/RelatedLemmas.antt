@@ -42,15 +42,17 @@ use Rattle.goal_kinds.specs.Levels.{level}
 use Rattle.goal_kinds.specs.Settings.{Setting, is_headline}
 use Rattle.goal_kinds.specs.Words.{Pairs, SomePair}
 use Rattle.goal_solver.specs.GoingBack.{GoesBack}
-use Rattle.goal_solver.specs.Outcomes.{StandsFor}
+use Rattle.goal_solver.specs.Outcomes.{RunsFor, StandsFor}
 use Rattle.goal_solver.specs.Pending.{IsOfKind, AreListsOfOneKind}
 use Rattle.goal_solver.specs.Relating.{IsRelated, ChangesInference, AgreesWith, Identifies, all_replaced, all_bound, SaysEqual, IsFinalIn}
 use Rattle.goal_solver.specs.Settled.{AreSettled, AreSettledIn, outcome_in, IsPlainOrSame}
 use Rattle.goal_solver.specs.State.{State, IsValid, kinds_of}
+use Rattle.goal_solver.specs.declared.eval.outcomes.OnAccess.TheVariants as on_access
 use Rattle.goal_solver.specs.declared.eval.outcomes.Setting as over
 use Rattle.goal_solver.specs.declared.eval.outcomes.Outcome.{Outcome}
 use Rattle.goal_solver.specs.declared.eval.outcomes.Outcome.TheVariants as outcome
 use Rattle.goal_solver.specs.declared.eval.outcomes.Stop.{Stop}
+use Rattle.goal_solver.proofs.AnswerLemmas.{stops-runs}
 use Rattle.goal_solver.proofs.GoingBackLemmas.{goes_back-same, goes_back-through}
 use Rattle.goal_solver.proofs.SettledLemmas.{replaced-closed}
 
@@ -173,13 +175,13 @@ pub followed-second : (s : State) (U V : List Tree) (ids rs : List TermId) → K
 followed-second s U V ids rs k solved b e = sym (erased-terms V rs) ∙ e ∙ resolved-grown s.terms U s.inference k solved ids b ∙ bound-resolved s ids
 
 -- what is settled over a context
-pub settled-in : (c : over.Setting) (s : State) (env : List Clause) (b : Bool) (n : ℕ) (ts us xs ys : List Tree) (o : Result Outcome Stop) → IfOk o (AreSettled c b n xs ys) → c.rows.now ≡ s.tables → c.typing_mode.now ≡ s.typing_mode → c.environment.now ≡ env →
+pub settled-in : (c : over.Setting) (s : State) (env : List Clause) (b : Bool) (n : ℕ) (ts us xs ys : List Tree) (o : Result Outcome Stop) → IfOk o (AreSettled c b n xs ys) → c.rows.now ≡ s.tables → c.typing_mode.now ≡ s.typing_mode → c.on_access ≡ on_access.Stop → c.environment.now ≡ env →
     b ≡ not (some_in_env is_any_infer env) → xs ≡ ts → ys ≡ us → IfOk o (AreSettledIn s env n ts us)
-settled-in c s env b n ts us xs ys (Err x) a e f g h p q = tt
-settled-in c s env b n ts us xs ys (Ok o) a e f g h p q =
+settled-in c s env b n ts us xs ys (Err x) a e f w g h p q = tt
+settled-in c s env b n ts us xs ys (Ok o) a e f w g h p q =
     let alike : (m : TypingMode) → setting_of c.rows.now m c.environment.now ≡ setting_of s.tables m env =
     λ m. ap (λ t. setting_of t m c.environment.now) e ∙ ap (setting_of s.tables m) g in
-    let stands : (m : TypingMode) → StandsFor s.typing_mode m → StandsFor c.typing_mode.now m = λ m. subst (λ r. StandsFor r m) (sym f) in
+    let stands : (m : TypingMode) → StandsFor s.typing_mode m → RunsFor c m = λ m st. stops-runs c.on_access c.typing_mode.now m w (subst (λ r. StandsFor r m) (sym f) st) in
     let z : AreSettled c b n ts us o = subst (λ z. AreSettled c b n z us o) p (subst (λ z. AreSettled c b n xs z o) q a) in
     record {
       holds = λ held m st ρ. subst (λ S. Pairs (level S n).equal (all_replaced ρ ts) (all_replaced ρ us)) (alike m) (z.holds held m (stands m st) ρ);

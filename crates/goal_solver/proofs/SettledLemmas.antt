@@ -24,7 +24,7 @@ use Rattle.goal_kinds.specs.Settings.{Setting, is_headline}
 use Rattle.goal_kinds.specs.Words.{Pairs, SomePair}
 use Rattle.goal_kinds.proofs.EqualLemmas.{no_pair_apart}
 use Rattle.goal_solver.specs.Joined.{both}
-use Rattle.goal_solver.specs.Outcomes.{Says, StandsFor, level_in, setting_in}
+use Rattle.goal_solver.specs.Outcomes.{RunsFor, Says, level_in, setting_in}
 use Rattle.goal_solver.specs.Pending.{HaveOneHead, IsOfKind}
 use Rattle.goal_terms.specs.Sorts.{sort_of, is_argument_sort}
 use Rattle.goal_solver.specs.Relating.{all_replaced, SaysEqual}
@@ -175,13 +175,6 @@ no_variable T t ids i e l n h =
 pub closed-erased : (t : Tree) → some_node is_any_infer (erased t) ≡ some_node is_any_infer t
 closed-erased t = some_node-erased is_any_infer (λ h. refl) t
 
--- each run stands for some mode of the headline
-some-mode : (run : TypingMode) → (m : TypingMode) × StandsFor run m
-some-mode run = elim (is_headline run) as (λ b. is_headline run ≡ b → (m : TypingMode) × StandsFor run m) [
-  | true ↦ λ e. (run, (e, inl refl))
-  | false ↦ λ e. (mode.PostAnalysis, (refl, inr e))
-] refl
-
 -- what the tops of two terms settle
 pub settled-tops : (c : over.Setting) (b : Bool) (n : ℕ) (t u : Tree) (o : Outcome) →
     ((S : Setting) (i : ℕ) → Says ((level S i).equal t u) ((level S i).unequal t u) o) → IsSettled c b n t u o
@@ -261,24 +254,21 @@ settled-open c b n t u never = record {
   closed = λ opens left right. absurd (never opens left right);
 }
 
--- closed terms that were compared
-settled-compared : (c : over.Setting) (b : Bool) (n : ℕ) (t u : Tree) (o : Outcome) → IsClosed t → IsClosed u →
-    ((m : TypingMode) → StandsFor c.typing_mode.now m → Says ((level_in c m n).equal t u) ((level_in c m n).unequal t u) o) → IsSettled c b n t u o
-settled-compared c b n t u o left right says = record {
+-- closed terms that were compared, since they aren't the same
+settled-compared : (c : over.Setting) (b : Bool) (n : ℕ) (t u : Tree) (o : Outcome) → IsClosed t → IsClosed u → t ≢ u →
+    ((m : TypingMode) → RunsFor c m → Says ((level_in c m n).equal t u) ((level_in c m n).unequal t u) o) → IsSettled c b n t u o
+settled-compared c b n t u o left right apart says = record {
   holds = λ e m stands ρ.
       subst (λ x. (level_in c m n).equal x (replaced ρ u)) (sym (replaced-closed ρ t left))
       (subst ((level_in c m n).equal t) (sym (replaced-closed ρ u right)) (subst (Says ((level_in c m n).equal t u) ((level_in c m n).unequal t u)) e (says m stands)));
-  refuted = λ e ρ f.
-      let some : (m : TypingMode) × StandsFor c.typing_mode.now m = some-mode c.typing_mode.now in
-      (compares (setting_in c some.0) n).apart t u (same-settled t u (sym (replaced-closed ρ t left) ∙ f ∙ replaced-closed ρ u right) (setting_in c some.0) n)
-      (subst (Says ((level_in c some.0 n).equal t u) ((level_in c some.0 n).unequal t u)) e (says some.0 some.1));
+  refuted = λ e ρ f. apart (sym (replaced-closed ρ t left) ∙ f ∙ replaced-closed ρ u right);
   closed = λ opens l r. says;
 }
 
-pub settled-closed : (c : over.Setting) (b : Bool) (n : ℕ) (t u : Tree) (o : Result Outcome Stop) → IsClosed t → IsClosed u →
-    ((m : TypingMode) → StandsFor c.typing_mode.now m → IfOk o (Says ((level_in c m n).equal t u) ((level_in c m n).unequal t u))) → IfOk o (IsSettled c b n t u)
-settled-closed c b n t u (Err x) left right says = tt
-settled-closed c b n t u (Ok o) left right says = settled-compared c b n t u o left right says
+pub settled-closed : (c : over.Setting) (b : Bool) (n : ℕ) (t u : Tree) (o : Result Outcome Stop) → IsClosed t → IsClosed u → t ≢ u →
+    ((m : TypingMode) → RunsFor c m → IfOk o (Says ((level_in c m n).equal t u) ((level_in c m n).unequal t u))) → IfOk o (IsSettled c b n t u)
+settled-closed c b n t u (Err x) left right apart says = tt
+settled-closed c b n t u (Ok o) left right apart says = settled-compared c b n t u o left right apart says
 
 -- pairs of two lists and one more
 module _ {A B : Type 0} (R : A → B → Type 0) (x : A) (y : B) where

@@ -33,10 +33,6 @@ lengths_of s = record { inference = inference.lengths_of s.inference; goals = le
 abbrev pub restored : State → State → State
 restored before after = record before { terms = after.terms; accesses = after.accesses; delayed_faults = after.delayed_faults }
 
--- a state with the terms and delayed faults of a later one, and nothing else of it
-abbrev pub evaluated : State → State → State
-evaluated before after = record before { terms = after.terms; delayed_faults = after.delayed_faults }
-
 -- how much there is of what a response lists
 abbrev pub mark_of : State → Mark
 mark_of s = record { inference = inference.lengths_of s.inference; storage = length s.storage }

@@ -20,7 +20,7 @@ use Rattle.goal_kinds.specs.Interned.{erased_at, IsIn}
 use Rattle.goal_kinds.specs.Level.{Level}
 use Rattle.goal_kinds.specs.Words.{SomePair}
 use Rattle.goal_terms.specs.declared.modes.TypingMode.{TypingMode}
-use Rattle.goal_solver.specs.Outcomes.{StandsFor, level_in, SaysMatch}
+use Rattle.goal_solver.specs.Outcomes.{RunsFor, level_in, SaysMatch}
 use Rattle.goal_solver.specs.declared.eval.outcomes.Setting as over
 use Rattle.goal_solver.specs.declared.eval.outcomes.HeaderMatch.{HeaderMatch}
 use Rattle.goal_solver.specs.declared.relate.header_places.Place.{Place}
@@ -192,16 +192,16 @@ Fills known args = (n : ℕ) (id : TermId) → slice_get known n ≡ Some (Some 
 
 -- what is found of a part, in each mode for which a run stands
 abbrev pub PartOutcome : over.Setting → ℕ → (Level → Tree → Type 0) → List Tree → Option TermId → Type 0
-PartOutcome c d P T o = (m : TypingMode) → StandsFor c.typing_mode.now m → SaysPart (P (level_in c m d)) (option_map (erased_at T) o)
+PartOutcome c d P T o = (m : TypingMode) → RunsFor c m → SaysPart (P (level_in c m d)) (option_map (erased_at T) o)
 
 -- what a test says of a claim in each of them
 abbrev pub TestOutcome : over.Setting → ℕ → (Level → Type 0) → Bool → Type 0
-TestOutcome c d P b = (m : TypingMode) → StandsFor c.typing_mode.now m → Answers (P (level_in c m d)) b
+TestOutcome c d P b = (m : TypingMode) → RunsFor c m → Answers (P (level_in c m d)) b
 
 -- what is known of all parameters, in each of them
 abbrev pub KnownOutcome : over.Setting → ℕ → List Tree → List Tree → List ParamKind → List (Option Tree) → Type 0
-KnownOutcome c d hs gs ps ks = (m : TypingMode) → StandsFor c.typing_mode.now m → KnownFrom (level_in c m d) hs gs 0 ps ks
+KnownOutcome c d hs gs ps ks = (m : TypingMode) → RunsFor c m → KnownFrom (level_in c m d) hs gs 0 ps ks
 
 -- what a header comes to, in each of them
 abbrev pub MatchOutcome : over.Setting → ℕ → List ParamKind → List Tree → List Tree → List Tree → HeaderMatch → Type 0
-MatchOutcome c d ps hs gs T r = (m : TypingMode) → StandsFor c.typing_mode.now m → SaysMatch (level_in c m d) ps hs gs T r
+MatchOutcome c d ps hs gs T r = (m : TypingMode) → RunsFor c m → SaysMatch (level_in c m d) ps hs gs T r

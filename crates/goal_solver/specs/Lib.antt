@@ -30,5 +30,6 @@ pub mod TranslatedArgs
 pub mod Collecting
 pub mod OpenGoals
 pub mod OpenProjections
+pub mod Recording
 pub mod Promises
 pub mod AskedTraits

@@ -19,7 +19,9 @@ use Rattle.goal_kinds.specs.Words.{OfRow}
 use Rattle.goal_kinds.specs.declared.lists.InternedEntry.{InternedEntry}
 use Rattle.goal_kinds.specs.declared.lists.RowHeader.{RowHeader}
 use Rattle.goal_solver.specs.Combined.{SaysMatched}
-use Rattle.goal_solver.specs.Outcomes.{StandsFor, level_in, Says, SaysWhich, SaysMatch}
+use Rattle.goal_solver.specs.Outcomes.{RunsFor, level_in, Says, SaysWhich, SaysMatch}
+use Rattle.goal_solver.specs.declared.eval.outcomes.OnAccess.{OnAccess}
+use Rattle.goal_solver.specs.declared.eval.outcomes.OnAccess.TheVariants as on_access
 use Rattle.goal_solver.specs.declared.eval.outcomes.Setting as over
 use Rattle.goal_solver.specs.declared.eval.outcomes.Outcome.{Outcome}
 use Rattle.goal_solver.specs.declared.eval.outcomes.Outcome.TheVariants as outcome
@@ -35,9 +37,13 @@ use Rattle.goal_solver.specs.declared.eval.lists.progress.ListRun.{ListRun}
 use Rattle.goal_solver.specs.declared.eval.lists.progress.Reached.{Reached}
 use Rattle.goal_solver.specs.declared.eval.lists.progress.Reached.TheVariants as reached
 
--- the mode whose lists a run goes by: its own if that is of the headline, and else the erased one, whose lists say where a mode is read
-abbrev pub list_mode : TypingMode → TypingMode
-list_mode run = if is_headline run then run else mode.ErasedNotCoherence
+-- the mode whose lists a run goes by: its own; where it stops at accesses and its mode isn't of the headline the erased one, whose lists say where a mode is read
+abbrev pub mode_of_lists : OnAccess → TypingMode → TypingMode
+mode_of_lists on_access.Stop run = if is_headline run then run else mode.ErasedNotCoherence
+mode_of_lists on_access.Record run = run
+
+abbrev pub list_mode : over.Setting → TypingMode
+list_mode c = mode_of_lists c.on_access c.typing_mode.now
 
 -- a run's list is that of a headline mode; where the run's mode isn't of the headline, as far as it reads none
 abbrev pub IsListFor : TypingMode → Option (List Entry) → Option (List Entry) → Type 0
@@ -60,7 +66,7 @@ SaysEntries run es L T o = (q : List Entry) → AreEntriesFor run es q → SaysL
 
 -- something is so at each level that a run stands for
 abbrev pub AtEachLevel : over.Setting → ℕ → (Level → Type 0) → Type 0
-AtEachLevel c n P = (m : TypingMode) → StandsFor c.typing_mode.now m → P (level_in c m n)
+AtEachLevel c n P = (m : TypingMode) → RunsFor c m → P (level_in c m n)
 
 -- its term is in the table
 abbrev pub ListTermIn : List Tree → ListOutcome → Type 0

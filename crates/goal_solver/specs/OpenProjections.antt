@@ -37,7 +37,6 @@ use Rattle.goal_solver.specs.MergedRules.{MergesRules}
 use Rattle.goal_solver.specs.OpenGoals.{AsksForm, Considers, IsLeft, IsFormless, IsRefusedIn, WhenAnswered, MergesTrait, at_depth, has_kind_fault}
 use Rattle.goal_solver.specs.OpenRuns.{RunsOpen}
 use Rattle.goal_solver.specs.Refusals.{IsRefusedOpen}
-use Rattle.goal_solver.specs.Outcomes.{StandsFor}
 use Rattle.goal_solver.specs.State.{State}
 use Rattle.goal_solver.specs.TranslatedArgs.{IsSameEnvironment}
 use Rattle.goal_solver.specs.declared.assembly.merged_rules.Merged.{Merged}
@@ -54,7 +53,7 @@ proven_class r = class_if r.certainty r.proven_via
 
 -- a trait goal is answered, as `compute_trait_goal` does it
 pub record AnswersTrait (q : Goal TraitPredicate) (old new : State) (r : Result Response Fault) : Type 0 where
-  pub sound : (m : TypingMode) → StandsFor old.typing_mode m → AreClosed q.predicate.trait_ref.args.items q.param_env.items →
+  pub sound : (m : TypingMode) → IsOwed new m → AreClosed q.predicate.trait_ref.args.items q.param_env.items →
       IsTraitAnswer (level_over old m q.param_env.items) q.predicate.trait_ref.def_id (erased_args q.predicate.trait_ref.args.items) r
   pub decided : (m : TypingMode) → IsOwed new m → AreClosed q.predicate.trait_ref.args.items q.param_env.items → IsMaybe r →
       IsOpen (level_over old m q.param_env.items) q.predicate.trait_ref.def_id (erased_args q.predicate.trait_ref.args.items)

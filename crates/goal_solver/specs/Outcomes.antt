@@ -14,6 +14,8 @@ use Rattle.goal_kinds.specs.Interned.{erased_at, erased_all, IsIn, AreIn}
 use Rattle.goal_kinds.specs.Level.{Level}
 use Rattle.goal_kinds.specs.Levels.{level}
 use Rattle.goal_kinds.specs.Settings.{Setting, is_headline}
+use Rattle.goal_solver.specs.declared.eval.outcomes.OnAccess.{OnAccess}
+use Rattle.goal_solver.specs.declared.eval.outcomes.OnAccess.TheVariants as on_access
 use Rattle.goal_solver.specs.declared.eval.outcomes.Setting as over
 use Rattle.goal_solver.specs.declared.eval.outcomes.Outcome as outcomes
 use Rattle.goal_solver.specs.declared.eval.outcomes.Outcome.TheVariants as outcome
@@ -28,6 +30,14 @@ use Rattle.goal_solver.specs.declared.eval.outcomes.HeaderMatch.TheVariants as m
 -- a run stands for a headline mode: it is in that mode, or in one that isn't of the headline and then stops where a rule reads the mode
 abbrev pub StandsFor : TypingMode → TypingMode → Type 0
 StandsFor run m = (is_headline m ≡ true) × ((run ≡ m) ⊎ (is_headline run ≡ false))
+
+-- a run in a mode stands for a headline mode: it is in that mode, or in one that isn't of the headline and stops where a rule reads the mode
+abbrev pub RunsAs : OnAccess → TypingMode → TypingMode → Type 0
+RunsAs on run m = (is_headline m ≡ true) × ((run ≡ m) ⊎ ((is_headline run ≡ false) × (on ≡ on_access.Stop)))
+
+-- so does a run over a setting
+abbrev pub RunsFor : over.Setting → TypingMode → Type 0
+RunsFor c m = RunsAs c.on_access c.typing_mode.now m
 
 -- what a run is over, in a mode for which it stands
 abbrev pub setting_in : over.Setting → TypingMode → Setting

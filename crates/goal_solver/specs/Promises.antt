@@ -83,13 +83,13 @@ IsYes (Err f) = ⊥
 abbrev pub WhereOwed : State → State → List Clause → (Level → Type 0) → Type 0
 WhereOwed before after env P = (m : TypingMode) → IsOwed after m → P (level_over before m env)
 
--- so it is at every depth from the remaining one on, in each headline mode that a run stands for
-abbrev pub FromHereOn : State → List Clause → (Level → Type 0) → Type 0
-FromHereOn s env P = (m : TypingMode) (n : ℕ) → StandsFor s.typing_mode m → s.remaining_depth ≤ n → P (level (setting_of s.tables m env) n)
+-- so it is at every depth from the remaining one on
+abbrev pub FromHereOn : State → State → List Clause → (Level → Type 0) → Type 0
+FromHereOn before after env P = (m : TypingMode) (n : ℕ) → IsOwed after m → before.remaining_depth ≤ n → P (level (setting_of before.tables m env) n)
 
 -- so it is at every depth
-abbrev pub AtEveryDepth : State → List Clause → (Level → Type 0) → Type 0
-AtEveryDepth s env P = (m : TypingMode) (n : ℕ) → StandsFor s.typing_mode m → P (level (setting_of s.tables m env) n)
+abbrev pub AtEveryDepth : State → State → List Clause → (Level → Type 0) → Type 0
+AtEveryDepth before after env P = (m : TypingMode) (n : ℕ) → IsOwed after m → P (level (setting_of before.tables m env) n)
 
 -- a response changes nothing: it lists no variable, no value, no region equation and no hidden type
 pub record ChangesNothing (s : State) (r : Response) : Type 0 where
@@ -109,7 +109,7 @@ LeavesUndecided s (Err f) = ⊥
 -- whether a predicate holds is answered: exactly where an answer is owed; what is decided lasts; and nothing is changed
 pub record AnswersPredicate (before after : State) (env : List Clause) (p : PredicateTree) (r : Result Response Fault) : Type 0 where
   pub exact : WhereOwed before after env (λ L. IfSome (whether_answered r) (IsAnswer L (whether p)))
-  pub lasts : FromHereOn before env (λ L. IfSome (decided_in (whether_answered r)) (IsAnswer L (whether p)))
+  pub lasts : FromHereOn before after env (λ L. IfSome (decided_in (whether_answered r)) (IsAnswer L (whether p)))
   pub quiet : IfOk r (ChangesNothing before)
 
 -- the class that is named: at a yes one through which the trait goal holds, and else none
@@ -145,7 +145,7 @@ term_asked p = which_term p.alias.kind (erased_args p.alias.args.items)
 -- a closed trait goal is answered
 pub record AnswersTrait (before after : State) (env : List Clause) (q : TraitTree) (r : Result Response Fault) : Type 0 where
   pub answers : AnswersPredicate before after env (holds q.def_id q.args) r
-  pub class : FromHereOn before env (λ L. IfOk r (λ x. NamesClass L q.def_id q.args x.certainty x.proven_via))
+  pub class : FromHereOn before after env (λ L. IfOk r (λ x. NamesClass L q.def_id q.args x.certainty x.proven_via))
 
 -- whether an alias and a term are equal is answered
 pub record AnswersProjection (before after : State) (env : List Clause) (p : ProjectionPredicate) (r : Result Response Fault) : Type 0 where
@@ -156,8 +156,8 @@ pub record AnswersProjection (before after : State) (env : List Clause) (p : Pro
 pub record AnswersHostEffect (before after : State) (env : List Clause) (p : HostEffectPredicate) (r : Result Response Fault) : Type 0 where
   pub answers : AnswersPredicate before after env (const_asked p) r
   pub no_class : IfOk r NamesNoClass
-  pub plain : IsYes r → FromHereOn before env (λ L. IsAnswer L (whether (plain_asked p)) yes)
-  pub stronger : IsYes r → p.constness ≡ constness.Const → AtEveryDepth before env (λ L. IsAnswer L (whether (conditionally_asked p)) no → ⊥)
+  pub plain : IsYes r → FromHereOn before after env (λ L. IsAnswer L (whether (plain_asked p)) yes)
+  pub stronger : IsYes r → p.constness ≡ constness.Const → AtEveryDepth before after env (λ L. IsAnswer L (whether (conditionally_asked p)) no → ⊥)
 
 -- the values that are listed: at a yes that of the variable which takes the term, and else none
 abbrev pub ListsTerm : Term → Certainty → List (ℕ × Term) → Type 0
@@ -172,7 +172,7 @@ pub record GivesTermAlone (s : State) (e : Term) (r : Response) : Type 0 where
 -- a closed goal of an alias's term is answered: exactly, if `check_goal` accepts it; what is decided lasts; and nothing is changed but the term's variable
 pub record AnswersAlias (before after : State) (env : List Clause) (p : NormalizesTo) (r : Result Response Fault) : Type 0 where
   pub exact : IsAcceptedNormalization before p env → WhereOwed before after env (λ L. IfSome (term_answered r) (IsAnswer L (term_asked p)))
-  pub lasts : FromHereOn before env (λ L. IfSome (decided_in (term_answered r)) (IsAnswer L (term_asked p)))
+  pub lasts : FromHereOn before after env (λ L. IfSome (decided_in (term_answered r)) (IsAnswer L (term_asked p)))
   pub quiet : IfOk r (GivesTermAlone before p.term)
   pub no_class : IfOk r NamesNoClass
 
@@ -242,12 +242,12 @@ IsProven s m env a = HoldsThrough (setting_of s.tables m env) (level_over s m en
 
 -- the candidates of such an alias answer its goal: by what they give; and where its trait goal does hold through the class, as the goal is answered one above
 pub record AnswersThrough (before after : State) (env : List Clause) (a : Through) (r : Result Response Fault) : Type 0 where
-  pub sound : (m : TypingMode) → StandsFor before.typing_mode m → IfSome (decided_in (term_answered r)) (IsAnswer (through_level before m env a) (term_asked a.asked))
+  pub sound : (m : TypingMode) → IsOwed after m → IfSome (decided_in (term_answered r)) (IsAnswer (through_level before m env a) (term_asked a.asked))
   pub decided : (m : TypingMode) (n : ℕ) → IsOwed after m → expected_variable a.asked.term ≡ Some n → IsMaybe r →
       IsAliasOpen (through_level before m env a) a.asked.alias.kind (erased_args a.asked.alias.args.items)
   pub exact : (m : TypingMode) → IsOwed after m → IsProven before m env a → IsAcceptedNormalization before a.asked env →
       IfSome (term_answered r) (IsAnswer (level_above before m env) (term_asked a.asked))
-  pub lasts : (m : TypingMode) (n : ℕ) → StandsFor before.typing_mode m → IsProven before m env a → before.remaining_depth < n →
+  pub lasts : (m : TypingMode) (n : ℕ) → IsOwed after m → IsProven before m env a → before.remaining_depth < n →
       IfSome (decided_in (term_answered r)) (IsAnswer (level (setting_of before.tables m env) n) (term_asked a.asked))
   pub quiet : IfOk r (GivesTermAlone before a.asked.term)
   pub no_class : IfOk r NamesNoClass

@@ -11,7 +11,7 @@ use Rattle.goal_infer.specs.Unification.{IsClosed}
 use Rattle.goal_kinds.specs.Answers.{setting_of}
 use Rattle.goal_kinds.specs.Levels.{level}
 use Rattle.goal_kinds.specs.Words.{Pairs}
-use Rattle.goal_solver.specs.Outcomes.{Says, StandsFor, level_in}
+use Rattle.goal_solver.specs.Outcomes.{RunsFor, Says, StandsFor, level_in}
 use Rattle.goal_solver.specs.Relating.{Identifies, all_replaced, all_bound, AreClosedSides, SaysEqual}
 use Rattle.goal_solver.specs.State.{State, kinds_of}
 use Rattle.goal_solver.specs.declared.eval.outcomes.Setting as over
@@ -22,15 +22,15 @@ use Rattle.goal_solver.specs.declared.eval.outcomes.Stop.TheVariants as stop
 
 -- two terms are equal whatever stands for their variables, or can't be made identical; closed ones are compared, where that is asked for
 pub record IsSettled (c : over.Setting) (opens : Bool) (n : ℕ) (t u : Tree) (o : Outcome) : Type 0 where
-  pub holds : o ≡ outcome.Holds → (m : TypingMode) → StandsFor c.typing_mode.now m → (ρ : Variable → Tree) → (level_in c m n).equal (replaced ρ t) (replaced ρ u)
+  pub holds : o ≡ outcome.Holds → (m : TypingMode) → RunsFor c m → (ρ : Variable → Tree) → (level_in c m n).equal (replaced ρ t) (replaced ρ u)
   pub refuted : o ≡ outcome.Refuted → (ρ : Variable → Tree) → replaced ρ t ≢ replaced ρ u
-  pub closed : opens ≡ true → IsClosed t → IsClosed u → (m : TypingMode) → StandsFor c.typing_mode.now m → Says ((level_in c m n).equal t u) ((level_in c m n).unequal t u) o
+  pub closed : opens ≡ true → IsClosed t → IsClosed u → (m : TypingMode) → RunsFor c m → Says ((level_in c m n).equal t u) ((level_in c m n).unequal t u) o
 
 -- so are two lists, in pairs
 pub record AreSettled (c : over.Setting) (opens : Bool) (n : ℕ) (ts us : List Tree) (o : Outcome) : Type 0 where
-  pub holds : o ≡ outcome.Holds → (m : TypingMode) → StandsFor c.typing_mode.now m → (ρ : Variable → Tree) → Pairs (level_in c m n).equal (all_replaced ρ ts) (all_replaced ρ us)
+  pub holds : o ≡ outcome.Holds → (m : TypingMode) → RunsFor c m → (ρ : Variable → Tree) → Pairs (level_in c m n).equal (all_replaced ρ ts) (all_replaced ρ us)
   pub refuted : o ≡ outcome.Refuted → (ρ : Variable → Tree) → Identifies ρ ts us → ⊥
-  pub closed : opens ≡ true → AllClosed ts → AllClosed us → (m : TypingMode) → StandsFor c.typing_mode.now m → SaysEqual (level_in c m n) ts us o
+  pub closed : opens ≡ true → AllClosed ts → AllClosed us → (m : TypingMode) → RunsFor c m → SaysEqual (level_in c m n) ts us o
 
 -- a question holds, unless memory runs out
 abbrev pub HoldsWithMemory : Result Outcome Stop → Type 0

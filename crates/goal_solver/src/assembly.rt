@@ -14,7 +14,7 @@ ghost use Rattle.goal_solver.specs.GoingBack.{GoesBack, restored};
 ghost use Rattle.goal_solver.specs.OpenGoals.{MergesGoal, WhenAnswered};
 ghost use Rattle.goal_solver.specs.OpenProjections.{MergesThrough};
 ghost use Rattle.goal_solver.specs.Outcomes.{StandsFor};
-ghost use Rattle.goal_solver.specs.Promises.{AnswersGiven, AnswersTraitAbove, AppliesGiven, IsClosedGoal, IsUndecidedResponse, LeavesUndecided, Through as through, asked_through};
+ghost use Rattle.goal_solver.specs.Promises.{AnswersGiven, AnswersTraitAbove, AppliesGiven, IsClosedGoal, IsUndecidedResponse, LeavesUndecided, ListsTerm, Through as through, asked_through};
 ghost use Rattle.goal_solver.specs.State.{kinds_of};
 
 pub mod candidates;
@@ -40,10 +40,10 @@ impl EvalCtxt<'_> {
     /// goal does hold through that class at the remaining depth, this is the alias's answer one above, as
     /// [`EvalCtxt::compute_normalizes_to_goal`] would give it. A projection with inference variables besides the
     /// expected one is answered by its candidates as that call does it once the trait goal holds. Without a class a
-    /// projection is `Maybe`, and so is a host effect goal so far. In a mode that isn't of the headline `Yes` and
-    /// `NoSolution` to a closed goal are right in every headline mode, and in coherence a refuted goal is `Maybe`.
-    /// The response to a closed goal lists the expected variable's value alone, and names no class but a trait
-    /// goal's. Inference state, added goals and storage are as before.
+    /// projection is `Maybe`, and so is a host effect goal so far. In the erased mode what is answered to a closed
+    /// goal is so of each headline mode, as long as no access is recorded. The response to a closed goal lists the
+    /// expected variable's value alone, and names no class but a trait goal's. Inference state, added goals and
+    /// storage are as before.
     pub fn assemble_and_merge_candidates<G: GoalKind + Drop>(
         &mut self,
         proven_via: Option<TraitGoalProvenVia>,
@@ -77,7 +77,7 @@ impl EvalCtxt<'_> {
 
     /// What the candidates of a trait goal make it.
     fn merge_trait_goal<G: GoalKind + Drop>(&mut self, goal: &Goal<G>) -> Result<Response, Fault>
-        ensures sound { (m : TypingMode) (q : trait_tree) → StandsFor self.old.typing_mode m → G.trait_asked goal.now.predicate self.old.tables ≡ Some q → IsClosedGoal G.has_passing goal.now → IsTraitAnswer (level_above self.old m goal.now.param_env.items) q.def_id q.args result }
+        ensures sound { (m : TypingMode) (q : trait_tree) → IsOwed self.new m → G.trait_asked goal.now.predicate self.old.tables ≡ Some q → IsClosedGoal G.has_passing goal.now → IsTraitAnswer (level_above self.old m goal.now.param_env.items) q.def_id q.args result }
         ensures decided { (m : TypingMode) (q : trait_tree) → IsOwed self.new m → G.trait_asked goal.now.predicate self.old.tables ≡ Some q → IsClosedGoal G.has_passing goal.now → IsMaybe result → IsOpen (level_above self.old m goal.now.param_env.items) q.def_id q.args }
         ensures unchanged { self.new ≡ restored self.old self.new }
         ensures goes_back { GoesBack self.old self.new }
@@ -105,15 +105,16 @@ impl EvalCtxt<'_> {
         class: TraitGoalProvenVia,
         goal: &Goal<G>,
     ) -> Result<Response, Fault>
-        ensures sound_through { (m : TypingMode) (p : normalizes) → StandsFor self.old.typing_mode m → G.normalization goal.now.predicate ≡ Some p → is_closed_alias p.alias goal.now.param_env.items ≡ true → IsAliasAnswer (level_through (setting_of self.old.tables m goal.now.param_env.items) (level_over self.old m goal.now.param_env.items) class) p.alias.kind (erased_args p.alias.args.items) p.term result }
+        ensures sound_through { (m : TypingMode) (p : normalizes) → IsOwed self.new m → G.normalization goal.now.predicate ≡ Some p → is_closed_alias p.alias goal.now.param_env.items ≡ true → IsAliasAnswer (level_through (setting_of self.old.tables m goal.now.param_env.items) (level_over self.old m goal.now.param_env.items) class) p.alias.kind (erased_args p.alias.args.items) p.term result }
         ensures decided_through { (m : TypingMode) (p : normalizes) (n : ℕ) → IsOwed self.new m → G.normalization goal.now.predicate ≡ Some p → is_closed_alias p.alias goal.now.param_env.items ≡ true → expected_variable p.term ≡ Some n → IsMaybe result → IsAliasOpen (level_through (setting_of self.old.tables m goal.now.param_env.items) (level_over self.old m goal.now.param_env.items) class) p.alias.kind (erased_args p.alias.args.items) }
-        ensures sound_above { (m : TypingMode) (p : normalizes) → StandsFor self.old.typing_mode m → G.normalization goal.now.predicate ≡ Some p → HoldsThrough (setting_of self.old.tables m goal.now.param_env.items) (level_over self.old m goal.now.param_env.items) class p.alias.kind (erased_args p.alias.args.items) → is_closed_alias p.alias goal.now.param_env.items ≡ true → IsAliasAnswer (level_above self.old m goal.now.param_env.items) p.alias.kind (erased_args p.alias.args.items) p.term result }
+        ensures sound_above { (m : TypingMode) (p : normalizes) → IsOwed self.new m → G.normalization goal.now.predicate ≡ Some p → HoldsThrough (setting_of self.old.tables m goal.now.param_env.items) (level_over self.old m goal.now.param_env.items) class p.alias.kind (erased_args p.alias.args.items) → is_closed_alias p.alias goal.now.param_env.items ≡ true → IsAliasAnswer (level_above self.old m goal.now.param_env.items) p.alias.kind (erased_args p.alias.args.items) p.term result }
         ensures decided_above { (m : TypingMode) (p : normalizes) (n : ℕ) → IsOwed self.new m → G.normalization goal.now.predicate ≡ Some p → HoldsThrough (setting_of self.old.tables m goal.now.param_env.items) (level_over self.old m goal.now.param_env.items) class p.alias.kind (erased_args p.alias.args.items) → is_closed_alias p.alias goal.now.param_env.items ≡ true → expected_variable p.term ≡ Some n → IsMaybe result → IsAliasOpen (level_above self.old m goal.now.param_env.items) p.alias.kind (erased_args p.alias.args.items) }
         ensures unchanged { self.new ≡ restored self.old self.new }
         ensures goes_back { GoesBack self.old self.new }
         ensures fault { IsFaultOf self.old self.new result }
         ensures quiet { ((p : normalizes) → G.normalization goal.now.predicate ≡ Some p → is_closed_alias p.alias goal.now.param_env.items ≡ true) → AnswersQuietly (length (kinds_of self.old)) result }
         ensures lists { (p : normalizes) → G.normalization goal.now.predicate ≡ Some p → is_closed_alias p.alias goal.now.param_env.items ≡ true → IfOk result (λ r. r.certainty ≡ Certainty.Maybe → r.var_values.items ≡ []) }
+        ensures gives { (p : normalizes) → G.normalization goal.now.predicate ≡ Some p → is_closed_alias p.alias goal.now.param_env.items ≡ true → IfOk result (λ r. r.certainty ≡ Certainty.Yes → ListsTerm p.term Certainty.Yes r.var_values.items) }
         ensures no_class { (p : normalizes) → G.normalization goal.now.predicate ≡ Some p → is_closed_alias p.alias goal.now.param_env.items ≡ true → IfOk result (λ r. r.proven_via ≡ None) }
         ensures missing { G.normalization goal.now.predicate ≡ None → LeavesUndecided self.old result }
         ensures applies_missing { G.normalization goal.now.predicate ≡ None → IfOk result (IsApplicable self.new) }

@@ -5,7 +5,6 @@ ghost use Rattle.goal_kinds.specs.Answers.{whether};
 ghost use Rattle.goal_solver.specs.Answers.{IsOwed, level_over, IsPredicateAnswer, IsUndecided, IsMaybe, AnswersQuietly, IsFaultOf};
 ghost use Rattle.goal_solver.specs.Binding.{IsApplicable};
 ghost use Rattle.goal_solver.specs.GoingBack.{GoesBack, restored};
-ghost use Rattle.goal_solver.specs.Outcomes.{StandsFor};
 ghost use Rattle.goal_solver.specs.Promises.{AnswersHostEffect, IsClosedHostEffect, LeavesUndecided, NoTwoDisagree, const_asked};
 ghost use Rattle.goal_solver.specs.State.{kinds_of};
 
@@ -20,11 +19,15 @@ use goal_terms::predicates::{Goal, HostEffectPredicate};
 impl EvalCtxt<'_> {
     /// Whether a trait holds as a const trait, of the goal's constness. `Yes`: a derivation no higher than the
     /// remaining depth shows it; then the plain goal holds too, and the goal of `[const]` is refuted nowhere where
-    /// this one is of `const`. `NoSolution`: a refutation no higher does. In a mode that isn't of the headline both
-    /// are right in every headline mode, and they stay right at every greater depth. `Maybe`, for a closed goal in a
-    /// headline mode: there is neither. A goal with inference variables is `Maybe`, and a refuted one in coherence.
-    /// No two answers at any depths disagree. Inference state, added goals and storage are as before; the answer
-    /// can be applied, lists nothing and names no class. At depth 0 it is `Maybe`, which takes no memory.
+    /// this one is of `const`. `NoSolution`: a refutation no higher does. `Maybe`, for a closed goal: there is
+    /// neither. What is decided stays so at every greater depth. That is so in a headline mode; in the erased mode
+    /// it is so of each headline mode, as long as no access is recorded. A goal with inference variables is `Maybe`.
+    /// No two answers at any depths disagree.
+    ///
+    /// In the erased mode an access is recorded where a rule reads the mode, and an opaque type stays as it is.
+    /// `RerunNonErased`: the erased mode doesn't suffice; an access is recorded. Inference state, added goals and
+    /// storage are as before; the answer can be applied, lists nothing and names no class. At depth 0 it is `Maybe`,
+    /// which takes no memory.
     pub fn compute_host_effect_goal(
         &mut self,
         goal: &Goal<HostEffectPredicate>,
@@ -46,7 +49,7 @@ impl EvalCtxt<'_> {
         &mut self,
         goal: &Goal<HostEffectPredicate>,
     ) -> Result<Response, Fault>
-        ensures sound { (m : TypingMode) → StandsFor self.old.typing_mode m → IsPredicateAnswer (level_over self.old m goal.now.param_env.items) (const_asked goal.now.predicate) result }
+        ensures sound { (m : TypingMode) → IsOwed self.new m → IsPredicateAnswer (level_over self.old m goal.now.param_env.items) (const_asked goal.now.predicate) result }
         ensures decided { (m : TypingMode) → IsOwed self.new m → IsClosedHostEffect goal.now → IsMaybe result → IsUndecided (level_over self.old m goal.now.param_env.items) (const_asked goal.now.predicate) }
         ensures unchanged { self.new ≡ restored self.old self.new }
         ensures goes_back { GoesBack self.old self.new }

@@ -2,6 +2,7 @@
 pub mod added_evaluation;
 pub(crate) mod closed_goals;
 pub(crate) mod conclusions;
+pub mod effects;
 pub(crate) mod evaluations;
 pub(crate) mod free_variables;
 pub(crate) mod goal_outcomes;
@@ -16,6 +17,7 @@ pub(crate) mod mode_tests;
 pub(crate) mod open_terms;
 pub mod outcomes;
 pub mod premises;
+pub(crate) mod reruns;
 pub mod run_rule;
 pub mod self_types;
 pub mod structural;

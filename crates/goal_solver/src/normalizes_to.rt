@@ -1,8 +1,9 @@
 //! Normalization of aliases.
-ghost use Rattle.std.specs.Prelude.{◌≡◌, ◌⊎◌, ℕ, suc, true, false, [], length, Some, None, IfOk, IsOkUnless};
+ghost use Rattle.std.specs.Prelude.{◌≡◌, ◌⊎◌, ◌∷◌, ℕ, suc, true, false, [], length, Some, None, IfOk, IsOkUnless};
 ghost use Rattle.goal_terms.specs.TableMeaning.{HasTerm};
 ghost use Rattle.goal_terms.specs.declared.answers.Certainty.TheVariants as certainty;
 ghost use Rattle.goal_terms.specs.declared.modes.TypingMode.{TypingMode};
+ghost use Rattle.goal_terms.specs.declared.terms.Term.{Term as term};
 ghost use Rattle.goal_kinds.specs.Answers.{IsAnswer, maybe};
 ghost use Rattle.goal_kinds.specs.Interned.{erased_at};
 ghost use Rattle.goal_solver.specs.Answers.{IsOwed, level_over, erased_args, is_closed_alias, IsAliasAnswer, IsAliasOpen, GivesTo, expected_variable, IsMaybe, AnswersQuietly, IsFaultOf};
@@ -11,8 +12,8 @@ ghost use Rattle.goal_solver.specs.Goals.{IsAcceptedNormalization};
 ghost use Rattle.goal_solver.specs.GoingBack.{GoesBack, restored};
 ghost use Rattle.goal_solver.specs.OpenGoals.{WhenAnswered, at_depth};
 ghost use Rattle.goal_solver.specs.OpenProjections.{MergesProjection};
-ghost use Rattle.goal_solver.specs.Outcomes.{StandsFor};
-ghost use Rattle.goal_solver.specs.Promises.{AnswersAlias, IsClosedNormalization, LeavesUndecided, MergesOpenProjection, NoTwoDisagree, term_asked};
+ghost use Rattle.goal_solver.specs.Promises.{AnswersAlias, IsClosedNormalization, LeavesUndecided, ListsTerm, MergesOpenProjection, NoTwoDisagree, term_asked};
+ghost use Rattle.goal_solver.specs.Recording.{is_ambiguous};
 ghost use Rattle.goal_solver.specs.State.{kinds_of};
 
 pub mod alias_terms;
@@ -35,9 +36,13 @@ use goal_terms::term_nodes::TermId;
 impl EvalCtxt<'_> {
     /// The term that an alias normalizes to, as the value of the goal's expected variable. For a closed goal, `Yes`:
     /// a derivation no higher than the remaining depth gives the term. `NoSolution`: a refutation no higher shows
-    /// that there is none. In a mode that isn't of the headline both are right in every headline mode, and they stay
-    /// right at every greater depth. `Maybe`, in a headline mode, for a goal that
-    /// [`crate::eval::goals::check_goal`] accepts: there is neither. No two answers at any depths disagree.
+    /// that there is none. `Maybe`, for a goal that [`crate::eval::goals::check_goal`] accepts: there is neither.
+    /// What is decided stays so at every greater depth. That is so in a headline mode; in the erased mode it is so
+    /// of each headline mode, as long as no access is recorded. No two answers at any depths disagree.
+    ///
+    /// In the erased mode an access is recorded where a rule reads the mode, and an opaque type stays as it is. In
+    /// coherence, and where opaque types are being defined, the goal goes by what its candidates say in that mode;
+    /// that of an opaque type is `Maybe` in coherence.
     ///
     /// A projection with other inference variables is answered at one less of the depth. Its trait goal is answered
     /// first, as [`EvalCtxt::compute_trait_goal`] does it: a refusal is the answer, and where it is `Maybe` so is
@@ -50,10 +55,10 @@ impl EvalCtxt<'_> {
     /// refused it is `NoSolution` if the trait goal holds by the rest, and else the expected variable's value is the
     /// alias as it stands. An alias of another kind with such variables is `Maybe`.
     ///
-    /// In coherence a refuted goal is `Maybe`. Inference state, added goals and storage are as before: the answer
-    /// says what would change, and it can be applied, if the goal was accepted. The response to a closed goal lists the
-    /// expected variable's value alone, and names no class. At depth 0 it is `Maybe`, which takes no memory, and so it
-    /// is where the expected term is no general variable.
+    /// `RerunNonErased`: the erased mode doesn't suffice; an access is recorded. Inference state, added goals and
+    /// storage are as before: the answer says what would change, and it can be applied, if the goal was accepted. The
+    /// response to a closed goal lists the expected variable's value alone, and names no class. At depth 0 it is
+    /// `Maybe`, which takes no memory, and so it is where the expected term is no general variable.
     pub fn compute_normalizes_to_goal(
         &mut self,
         goal: &Goal<NormalizesTo>,
@@ -62,6 +67,7 @@ impl EvalCtxt<'_> {
         ensures merged { (IsClosedNormalization goal.now → ⊥) → MergesOpenProjection self.old self.new goal.now result }
         ensures at_once { (self.old.remaining_depth ≡ 0) ⊎ (expected_variable goal.now.predicate.term ≡ None) → LeavesUndecided self.old result }
         ensures agrees { NoTwoDisagree self.old.tables goal.now.param_env.items (term_asked goal.now.predicate) }
+        ensures ambiguous { IsClosedNormalization goal.now → is_ambiguous self.old.typing_mode goal.now.predicate.alias.kind ≡ true → LeavesUndecided self.old result }
         ensures unchanged { self.new ≡ restored self.old self.new }
         ensures goes_back { GoesBack self.old self.new }
         ensures fault { IsFaultOf self.old self.new result }
@@ -72,14 +78,16 @@ impl EvalCtxt<'_> {
 
     /// What `compute_normalizes_to_goal` answers, clause by clause.
     fn normalizes_to_response(&mut self, goal: &Goal<NormalizesTo>) -> Result<Response, Fault>
-        ensures sound { (m : TypingMode) → StandsFor self.old.typing_mode m → is_closed_alias goal.now.predicate.alias goal.now.param_env.items ≡ true → IsAliasAnswer (level_over self.old m goal.now.param_env.items) goal.now.predicate.alias.kind (erased_args goal.now.predicate.alias.args.items) goal.now.predicate.term result }
+        ensures sound { (m : TypingMode) → IsOwed self.new m → is_closed_alias goal.now.predicate.alias goal.now.param_env.items ≡ true → IsAliasAnswer (level_over self.old m goal.now.param_env.items) goal.now.predicate.alias.kind (erased_args goal.now.predicate.alias.args.items) goal.now.predicate.term result }
         ensures decided { (m : TypingMode) (n : ℕ) → IsOwed self.new m → is_closed_alias goal.now.predicate.alias goal.now.param_env.items ≡ true → expected_variable goal.now.predicate.term ≡ Some n → IsMaybe result → IsAliasOpen (level_over self.old m goal.now.param_env.items) goal.now.predicate.alias.kind (erased_args goal.now.predicate.alias.args.items) }
         ensures unchanged { self.new ≡ restored self.old self.new }
         ensures goes_back { GoesBack self.old self.new }
         ensures fault { IsFaultOf self.old self.new result }
         ensures quiet { is_closed_alias goal.now.predicate.alias goal.now.param_env.items ≡ true → AnswersQuietly (length (kinds_of self.old)) result }
         ensures lists { is_closed_alias goal.now.predicate.alias goal.now.param_env.items ≡ true → IfOk result (λ r. r.certainty ≡ certainty.Maybe → r.var_values.items ≡ []) }
+        ensures gives { is_closed_alias goal.now.predicate.alias goal.now.param_env.items ≡ true → IfOk result (λ r. r.certainty ≡ certainty.Yes → ListsTerm goal.now.predicate.term certainty.Yes r.var_values.items) }
         ensures no_class { is_closed_alias goal.now.predicate.alias goal.now.param_env.items ≡ true → IfOk result (λ r. r.proven_via ≡ None) }
+        ensures ambiguous { is_closed_alias goal.now.predicate.alias goal.now.param_env.items ≡ true → is_ambiguous self.old.typing_mode goal.now.predicate.alias.kind ≡ true → LeavesUndecided self.old result }
         ensures at_once { (self.old.remaining_depth ≡ 0) ⊎ (expected_variable goal.now.predicate.term ≡ None) → LeavesUndecided self.old result }
         ensures whole { (m : TypingMode) (n : ℕ) → IsOwed self.new m → IsAcceptedNormalization self.old goal.now.predicate goal.now.param_env.items → is_closed_alias goal.now.predicate.alias goal.now.param_env.items ≡ true → expected_variable goal.now.predicate.term ≡ Some n → IsMaybe result → IsAnswer (level_over self.old m goal.now.param_env.items) (term_asked goal.now.predicate) maybe }
         ensures applies { IsAcceptedNormalization self.old goal.now.predicate goal.now.param_env.items → IfOk result (IsApplicable self.new) }
@@ -95,9 +103,12 @@ impl EvalCtxt<'_> {
         if !is_closed_alias(&goal.predicate.alias, &goal.param_env) {
             return self.project_below(goal);
         }
+        if self.is_ambiguous(goal.predicate.alias.kind) {
+            return Ok(self.respond(Certainty::Maybe, None));
+        }
         match self.alias_outcome(goal) {
             Ok(Found::Is(id)) => self.respond_found(expected, id),
-            Ok(Found::Refuted) => self.refuted(),
+            Ok(Found::Refuted) => Err(Fault::NoSolution),
             Ok(Found::Undecided) => Ok(self.respond(Certainty::Maybe, None)),
             Err(stop) => self.stopped(stop),
         }
@@ -107,6 +118,7 @@ impl EvalCtxt<'_> {
     pub(crate) fn respond_found(&self, expected: u32, id: TermId) -> Result<Response, Fault>
         ensures yes { HasTerm self.now.terms id → IfOk result (λ r. (r.certainty ≡ certainty.Yes) × GivesTo expected (erased_at self.now.terms id) r) }
         ensures maybe { (HasTerm self.now.terms id → ⊥) → IfOk result (λ r. r.certainty ≡ certainty.Maybe) }
+        ensures gives { IfOk result (λ r. r.certainty ≡ certainty.Yes → (u : term) × (r.var_values.items ≡ (expected, u) ∷ [])) }
         ensures only_memory { IsOkUnless result Fault.OutOfMemory }
         ensures quiet { AnswersQuietly (length (kinds_of self.now)) result }
         ensures lists { IfOk result (λ r. r.certainty ≡ certainty.Maybe → r.var_values.items ≡ []) }

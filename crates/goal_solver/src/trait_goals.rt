@@ -8,7 +8,6 @@ ghost use Rattle.goal_solver.specs.Answers.{IsOwed, level_over, erased_args, Are
 ghost use Rattle.goal_solver.specs.Binding.{IsApplicable};
 ghost use Rattle.goal_solver.specs.GoingBack.{GoesBack, restored};
 ghost use Rattle.goal_solver.specs.OpenGoals.{MergesTrait, WhenAnswered, at_depth};
-ghost use Rattle.goal_solver.specs.Outcomes.{StandsFor};
 ghost use Rattle.goal_solver.specs.Promises.{AnswersTrait, IsClosedTrait, LeavesUndecided, MergesOpenTrait, NoTwoDisagree, trait_asked, trait_question};
 ghost use Rattle.goal_solver.specs.State.{kinds_of};
 
@@ -26,9 +25,12 @@ use goal_terms::terms::GenericArg;
 
 impl EvalCtxt<'_> {
     /// Whether a trait goal holds. For a closed goal, `Yes`: a derivation no higher than the remaining depth shows
-    /// it, through the class that the answer names. `NoSolution`: a refutation no higher does. In a mode that isn't
-    /// of the headline both are right in every headline mode, and they stay right at every greater depth. `Maybe`, in
-    /// a headline mode: there is neither. No two answers at any depths disagree.
+    /// it, through the class that the answer names. `NoSolution`: a refutation no higher does. `Maybe`: there is
+    /// neither. What is decided stays so at every greater depth. That is so in a headline mode; in the erased mode
+    /// it is so of each headline mode, as long as no access is recorded. No two answers at any depths disagree.
+    ///
+    /// In the erased mode an access is recorded where a rule reads the mode, and an opaque type stays as it is. In
+    /// coherence, and where opaque types are being defined, the goal goes by what its candidates say in that mode.
     ///
     /// A goal with inference variables is answered by its candidates at one less of the depth. Those of the
     /// environment come first, then the bounds of its self type, then the rest, each taken for the head form of
@@ -37,8 +39,9 @@ impl EvalCtxt<'_> {
     /// refused it is `NoSolution`. It is `Maybe` where the self type is a general variable, or an alias whose
     /// term isn't known.
     ///
-    /// In coherence a refuted goal is `Maybe`. Inference state, added goals and storage are as before; the answer
-    /// can be applied. The response to a closed goal lists nothing. At depth 0 it is `Maybe`, which takes no memory.
+    /// `RerunNonErased`: the erased mode doesn't suffice; an access is recorded. Inference state, added goals and
+    /// storage are as before; the answer can be applied. The response to a closed goal lists nothing. At depth 0 it
+    /// is `Maybe`, which takes no memory.
     pub fn compute_trait_goal(&mut self, goal: &Goal<TraitPredicate>) -> Result<Response, Fault>
         ensures closed { IsClosedTrait goal.now → AnswersTrait self.old self.new goal.now.param_env.items (trait_asked goal.now.predicate) result }
         ensures merged { (IsClosedTrait goal.now → ⊥) → MergesOpenTrait self.old self.new goal.now result }
@@ -57,7 +60,7 @@ impl EvalCtxt<'_> {
         &mut self,
         goal: &Goal<TraitPredicate>,
     ) -> Result<Response, Fault>
-        ensures sound { (m : TypingMode) → StandsFor self.old.typing_mode m → AreClosed goal.now.predicate.trait_ref.args.items goal.now.param_env.items → IsTraitAnswer (level_over self.old m goal.now.param_env.items) goal.now.predicate.trait_ref.def_id (erased_args goal.now.predicate.trait_ref.args.items) result }
+        ensures sound { (m : TypingMode) → IsOwed self.new m → AreClosed goal.now.predicate.trait_ref.args.items goal.now.param_env.items → IsTraitAnswer (level_over self.old m goal.now.param_env.items) goal.now.predicate.trait_ref.def_id (erased_args goal.now.predicate.trait_ref.args.items) result }
         ensures decided { (m : TypingMode) → IsOwed self.new m → AreClosed goal.now.predicate.trait_ref.args.items goal.now.param_env.items → IsMaybe result → IsOpen (level_over self.old m goal.now.param_env.items) goal.now.predicate.trait_ref.def_id (erased_args goal.now.predicate.trait_ref.args.items) }
         ensures unchanged { self.new ≡ restored self.old self.new }
         ensures goes_back { GoesBack self.old self.new }
@@ -90,7 +93,7 @@ impl EvalCtxt<'_> {
         environment: &[Clause],
         depth: u32,
     ) -> Result<Response, Fault>
-        ensures sound { (m : TypingMode) → StandsFor self.old.typing_mode m → IsTraitAnswer (level (setting_of self.old.tables m environment.now) depth) trait_id (erased_args args.now) result }
+        ensures sound { (m : TypingMode) → IsOwed self.new m → IsTraitAnswer (level (setting_of self.old.tables m environment.now) depth) trait_id (erased_args args.now) result }
         ensures decided { (m : TypingMode) → IsOwed self.new m → IsMaybe result → IsOpen (level (setting_of self.old.tables m environment.now) depth) trait_id (erased_args args.now) }
         ensures unchanged { self.new ≡ restored self.old self.new }
         ensures goes_back { GoesBack self.old self.new }
@@ -103,7 +106,7 @@ impl EvalCtxt<'_> {
         self.is_well_formed();
         match self.trait_outcome_at(trait_id, args, environment, depth) {
             Ok(TraitOutcome::Holds(class)) => Ok(self.respond(Certainty::Yes, Some(class))),
-            Ok(TraitOutcome::Refuted) => self.refuted(),
+            Ok(TraitOutcome::Refuted) => Err(Fault::NoSolution),
             Ok(TraitOutcome::Undecided) => Ok(self.respond(Certainty::Maybe, None)),
             Err(stop) => self.stopped(stop),
         }

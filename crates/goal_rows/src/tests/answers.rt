@@ -14,6 +14,7 @@ fn each_answer(rt: HostRuntime) -> Result<(), Fail> {
         (Answer::No, "no"),
         (Answer::Maybe, "maybe"),
         (Answer::Faults(2), "faults 2"),
+        (Answer::Accesses(1), "accesses 1"),
         (
             Answer::Refused(Refusal::Depth(DepthTooLarge)),
             "refused DepthTooLarge",

@@ -2,7 +2,7 @@ use Rattle.std.proofs.Common.{◌+◌, ◌*◌, length, ◌≡◌, take, drop}
 use Rattle.goal_terms.specs.TableMeaning.{Keeps}
 use Rattle.goal_kinds.specs.Interned.{premise_at, erased_all, erased_at}
 use Rattle.goal_solver.proofs.PremiseOutcomes.{PremisesSay, condition_at}
-use Rattle.goal_solver.specs.Outcomes.{header_terms, setting_in, level_in, StandsFor, FoundIn}
+use Rattle.goal_solver.specs.Outcomes.{RunsFor, header_terms, setting_in, level_in, FoundIn}
 use Rattle.goal_solver.specs.HeaderWords.{KnownIn, known_trees, KnownOutcome, ClashAt}
 use Rattle.goal_terms.specs.declared.modes.TypingMode.{TypingMode}
 use Rattle.goal_kinds.specs.Words.{Exists}
@@ -153,7 +153,7 @@ invariant-relate::header_parts::known_args-loop-i l = record {
 abbrev pub invariant-relate::header_clashes::any_clash-loop-i : goal.invariant-relate::header_clashes::any_clash-loop-i
 invariant-relate::header_clashes::any_clash-loop-i l = record {
   kept : Keeps l.initial.terms l.terms;
-  none : (m : TypingMode) → StandsFor l.setting.typing_mode.now m →
+  none : (m : TypingMode) → RunsFor l.setting m →
       Exists (ClashAt (level_in l.setting m l.depth) (known_trees l.initial.terms l.known) l.initial.terms) (take l.i l.questions) → ⊥;
 }
 
@@ -162,7 +162,7 @@ abbrev pub invariant-normalizes_to::projections::group_term-loop-candidate :
 invariant-normalizes_to::projections::group_term-loop-candidate l = record {
   kept : Keeps l.fn.terms l.terms;
   within : FoundIn l.terms l.found;
-  says : (m : TypingMode) → StandsFor l.setting.typing_mode.now m →
+  says : (m : TypingMode) → RunsFor l.setting m →
       AgreeBefore (GivesOf (setting_in l.setting m) (level_in l.setting m l.depth) l.fn.terms l.projection) (NoneOf (setting_in l.setting m) (level_in l.setting m l.depth) l.fn.terms l.projection)
       l.terms l.found l.candidates l.candidate-index;
 }
@@ -171,14 +171,14 @@ abbrev pub invariant-normalizes_to::projections::head_forms_outcome-loop-id :
     goal.invariant-normalizes_to::projections::head_forms_outcome-loop-id
 invariant-normalizes_to::projections::head_forms_outcome-loop-id l = record {
   kept : Keeps l.fn.terms l.terms;
-  says : (m : TypingMode) → StandsFor l.setting.typing_mode.now m →
+  says : (m : TypingMode) → RunsFor l.setting m →
       HeldBefore (λ id. IsFormed (level_in l.setting m l.depth) (erased_at l.fn.terms id)) (λ id. HeadFormRefuted (level_in l.setting m l.depth) (erased_at l.fn.terms id)) l.outcome l.ids l.id-index;
 }
 
 abbrev pub invariant-relate::equality::compare_pending-loop-pair : goal.invariant-relate::equality::compare_pending-loop-pair
 invariant-relate::equality::compare_pending-loop-pair l =
     Keeps l.fn.terms l.terms
-    × ((m : TypingMode) → StandsFor l.setting.typing_mode.now m
+    × ((m : TypingMode) → RunsFor l.setting m
     → Narrows (level_in l.setting m l.depth) l.fn.terms l.pending.outcome l.pending.pairs.items l.outcome (drop l.pair-index l.pair-items))
 
 abbrev pub invariant-eval::premises::conditions_outcome-loop-condition : goal.invariant-eval::premises::conditions_outcome-loop-condition

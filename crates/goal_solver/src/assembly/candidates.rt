@@ -9,8 +9,9 @@ ghost use Rattle.goal_kinds.specs.InternedEntries.{ListIn, list_at};
 ghost use Rattle.goal_kinds.specs.Settings.{is_headline};
 ghost use Rattle.goal_solver.specs.AskedTraits.{AskedIn, candidate_list, SaysCandidate, SaysCandidates};
 ghost use Rattle.goal_solver.specs.Lists.{IsListFor};
-ghost use Rattle.goal_solver.specs.Outcomes.{StandsFor, setting_in, level_in};
+ghost use Rattle.goal_solver.specs.Outcomes.{RunsFor, setting_in, level_in};
 
+use crate::eval::effects::Effects;
 use crate::eval::lists::run_list;
 use crate::eval::outcomes::{Outcome, Setting, Stop};
 use goal_kinds::candidates::interned::InternedCandidate;
@@ -18,7 +19,7 @@ use goal_kinds::candidates::lists::candidates_of_class;
 use goal_kinds::lists::InternedEntry;
 use goal_kinds::lists::effects::effect_list;
 use goal_kinds::lists::traits::trait_list;
-use goal_terms::answers::{DelayedFault, TraitGoalProvenVia};
+use goal_terms::answers::TraitGoalProvenVia;
 use goal_terms::ids::TraitId;
 use goal_terms::modes::TypingMode;
 use goal_terms::predicates::BoundConstness;
@@ -47,7 +48,7 @@ fn candidate_list<'e>(
     requires candidate { CandidateIn terms.old candidate.now }
     ensures kept { Keeps terms.old terms.new }
     ensures within { IfOk result (ListIn terms.new) }
-    ensures list { (m : TypingMode) → StandsFor setting.now.typing_mode.now m → IfOk result (λ o. IsListFor setting.now.typing_mode.now (list_at terms.new o) (candidate_list (setting_in setting.now m) terms.old asked.now (candidate_at terms.old candidate.now))) }
+    ensures list { (m : TypingMode) → RunsFor setting.now m → IfOk result (λ o. IsListFor setting.now.typing_mode.now (list_at terms.new o) (candidate_list (setting_in setting.now m) terms.old asked.now (candidate_at terms.old candidate.now))) }
 {
     let erased = TypingMode::ErasedNotCoherence;
     let lists = setting.of_lists(&erased);
@@ -69,7 +70,7 @@ fn candidate_list<'e>(
 pub(crate) fn consider_candidate(
     setting: &Setting<'_>,
     terms: &mut TermTable,
-    faults: &mut Vec<DelayedFault>,
+    effects: &mut Effects,
     asked: &AskedTrait<'_>,
     candidate: &InternedCandidate<'_>,
     depth: u32,
@@ -78,10 +79,10 @@ pub(crate) fn consider_candidate(
     requires candidate { CandidateIn terms.old candidate.now }
     ensures kept { Keeps terms.old terms.new }
     ensures stops { is_headline setting.now.typing_mode.now ≡ true → IfErr result (λ s. s ≡ Stop.OutOfMemory) }
-    ensures says { (m : TypingMode) → StandsFor setting.now.typing_mode.now m → IfOk result (SaysCandidate (setting_in setting.now m) (level_in setting.now m depth) terms.old asked.now (candidate_at terms.old candidate.now)) }
+    ensures says { (m : TypingMode) → RunsFor setting.now m → IfOk result (SaysCandidate (setting_in setting.now m) (level_in setting.now m depth) terms.old asked.now (candidate_at terms.old candidate.now)) }
 {
     let list = candidate_list(&*setting, terms, asked, &*candidate)?;
-    let found = run_list(setting, terms, faults, &list, depth)?;
+    let found = run_list(setting, terms, effects, &list, depth)?;
     Ok(found.held())
 }
 
@@ -90,7 +91,7 @@ pub(crate) fn consider_candidate(
 pub(crate) fn candidates_outcome(
     setting: &Setting<'_>,
     terms: &mut TermTable,
-    faults: &mut Vec<DelayedFault>,
+    effects: &mut Effects,
     asked: &AskedTrait<'_>,
     candidates: &[InternedCandidate<'_>],
     depth: u32,
@@ -99,11 +100,11 @@ pub(crate) fn candidates_outcome(
     requires candidates { All (CandidateIn terms.old) candidates.now }
     ensures kept { Keeps terms.old terms.new }
     ensures stops { is_headline setting.now.typing_mode.now ≡ true → IfErr result (λ s. s ≡ Stop.OutOfMemory) }
-    ensures says { (m : TypingMode) → StandsFor setting.now.typing_mode.now m → IfOk result (SaysCandidates (setting_in setting.now m) (level_in setting.now m depth) terms.old asked.now (map (candidate_at terms.old) candidates.now)) }
+    ensures says { (m : TypingMode) → RunsFor setting.now m → IfOk result (SaysCandidates (setting_in setting.now m) (level_in setting.now m depth) terms.old asked.now (map (candidate_at terms.old) candidates.now)) }
 {
     let mut found = Outcome::Refuted;
     for candidate in candidates {
-        let next = consider_candidate(setting, terms, faults, asked, candidate, depth)?;
+        let next = consider_candidate(setting, terms, effects, asked, candidate, depth)?;
         found = found.or(next);
         if let Outcome::Holds = found {
             return Ok(Outcome::Holds);
@@ -117,7 +118,7 @@ pub(crate) fn candidates_outcome(
 pub(crate) fn class_outcome(
     setting: &Setting<'_>,
     terms: &mut TermTable,
-    faults: &mut Vec<DelayedFault>,
+    effects: &mut Effects,
     asked: &AskedTrait<'_>,
     class: TraitGoalProvenVia,
     depth: u32,
@@ -125,7 +126,7 @@ pub(crate) fn class_outcome(
     requires { AskedIn terms.old asked.now }
     ensures kept { Keeps terms.old terms.new }
     ensures stops { is_headline setting.now.typing_mode.now ≡ true → IfErr result (λ s. s ≡ Stop.OutOfMemory) }
-    ensures says { (m : TypingMode) → StandsFor setting.now.typing_mode.now m → IfOk result (SaysCandidates (setting_in setting.now m) (level_in setting.now m depth) terms.old asked.now (class_of (setting_in setting.now m) asked.now.trait_id (erased_at terms.old asked.now.self_ty) class)) }
+    ensures says { (m : TypingMode) → RunsFor setting.now m → IfOk result (SaysCandidates (setting_in setting.now m) (level_in setting.now m depth) terms.old asked.now (class_of (setting_in setting.now m) asked.now.trait_id (erased_at terms.old asked.now.self_ty) class)) }
 {
     let candidates = candidates_of_class(
         setting.rows,
@@ -135,5 +136,5 @@ pub(crate) fn class_outcome(
         asked.self_ty,
         class,
     )?;
-    candidates_outcome(setting, terms, faults, asked, &candidates, depth)
+    candidates_outcome(setting, terms, effects, asked, &candidates, depth)
 }

@@ -7,6 +7,7 @@ ghost use Rattle.goal_solver.specs.GoingBack.{GoesBack};
 ghost use Rattle.goal_solver.specs.Stored.{IsSet};
 
 use crate::context::EvalCtxt;
+use crate::eval::effects::Effects;
 use crate::eval::outcomes::Stop;
 use crate::faults::Fault;
 use goal_terms::answers::{DelayedFault, OpaqueAccess};
@@ -38,11 +39,33 @@ impl EvalCtxt<'_> {
         ensures goes_back { GoesBack self.old self.new }
         ensures only_memory { IsOkUnless result Fault.OutOfMemory }
     {
-        if has_access(self.accesses.as_slice(), access) {
-            return Ok(());
-        }
-        if self.accesses.push(access).is_err() {
+        if enter_access(&mut self.accesses, access).is_err() {
             return Err(Fault::OutOfMemory);
+        }
+        Ok(())
+    }
+
+    /// Records what an evaluation met, in its order. Only memory is refused; then some of it may be recorded.
+    pub(crate) fn record_effects(&mut self, effects: &Effects) -> Result<(), Stop>
+        ensures unchanged { self.new ≡ record self.old { accesses = self.new.accesses; delayed_faults = self.new.delayed_faults } }
+        ensures goes_back { GoesBack self.old self.new }
+        ensures only_memory { IsOkUnless result Stop.OutOfMemory }
+    {
+        self.record_accesses(&effects.accesses)?;
+        self.record_faults(&effects.delayed_faults)
+    }
+
+    /// Records the accesses that an evaluation met, in their order. Only memory is refused; then some of them
+    /// may be recorded.
+    fn record_accesses(&mut self, accesses: &[OpaqueAccess]) -> Result<(), Stop>
+        ensures unchanged { self.new ≡ record self.old { accesses = self.new.accesses } }
+        ensures goes_back { GoesBack self.old self.new }
+        ensures only_memory { IsOkUnless result Stop.OutOfMemory }
+    {
+        for access in accesses {
+            let Ok(()) = self.record_access(*access) else {
+                return Err(Stop::OutOfMemory);
+            };
         }
         Ok(())
     }
@@ -76,7 +99,7 @@ impl EvalCtxt<'_> {
 
     /// Records the delayed faults that an evaluation met, in their order. Only memory is refused; then some of
     /// them may be recorded.
-    pub(crate) fn record_faults(&mut self, delayed_faults: &[DelayedFault]) -> Result<(), Stop>
+    fn record_faults(&mut self, delayed_faults: &[DelayedFault]) -> Result<(), Stop>
         ensures recorded { OnOk result (All (Contains self.new.delayed_faults) delayed_faults.now) }
         ensures unchanged { self.new ≡ record self.old { delayed_faults = self.new.delayed_faults } }
         ensures goes_back { GoesBack self.old self.new }
@@ -87,6 +110,21 @@ impl EvalCtxt<'_> {
         }
         Ok(())
     }
+}
+
+/// Enters an access behind others, where it isn't among them. Only memory is refused; then nothing changes.
+pub(crate) fn enter_access(
+    accesses: &mut Vec<OpaqueAccess>,
+    access: OpaqueAccess,
+) -> Result<(), OutOfMemory>
+    ensures entered { OnOk result (Enters access accesses.old.items accesses.new.items) }
+    ensures unchanged { OnErr result (accesses.new.items ≡ accesses.old.items) }
+{
+    if has_access(accesses.as_slice(), access) {
+        return Ok(());
+    }
+    accesses.push(access)?;
+    Ok(())
 }
 
 /// Enters a delayed fault behind others, where it isn't among them. Only memory is refused; then nothing

@@ -5,15 +5,16 @@ ghost use Rattle.goal_terms.specs.declared.modes.TypingMode.{TypingMode};
 ghost use Rattle.goal_kinds.specs.Interned.{AreIn, erased_all};
 ghost use Rattle.goal_kinds.specs.Settings.{is_headline};
 ghost use Rattle.goal_solver.specs.AskedTraits.{AskedIn, SaysGroups};
-ghost use Rattle.goal_solver.specs.Outcomes.{StandsFor, setting_in, level_in, Says};
+ghost use Rattle.goal_solver.specs.Outcomes.{RunsFor, setting_in, level_in, Says};
 
+use crate::eval::effects::Effects;
 use crate::assembly::candidates::{AskedTrait, candidates_outcome, class_outcome};
 use crate::eval::head_forms::head_form;
 use crate::eval::outcomes::{Found, Outcome, Setting, Stop, TraitOutcome};
 use crate::eval::self_types::{split_self_type, with_self_type};
 use crate::trait_goals::evaluation::evaluate_trait_goal;
 use goal_kinds::candidates::lists::second_group;
-use goal_terms::answers::{DelayedFault, TraitGoalProvenVia};
+use goal_terms::answers::TraitGoalProvenVia;
 use goal_terms::ids::TraitId;
 use goal_terms::predicates::BoundConstness;
 use goal_terms::term_nodes::TermId;
@@ -25,7 +26,7 @@ use goal_terms::term_table::TermTable;
 pub fn evaluate_host_effect_goal(
     setting: &Setting<'_>,
     terms: &mut TermTable,
-    faults: &mut Vec<DelayedFault>,
+    effects: &mut Effects,
     constness: BoundConstness,
     trait_id: TraitId,
     args: &[TermId],
@@ -34,7 +35,7 @@ pub fn evaluate_host_effect_goal(
     requires { AreIn terms.old args.now }
     ensures kept { Keeps terms.old terms.new }
     ensures stops { is_headline setting.now.typing_mode.now ≡ true → IfErr result (λ s. s ≡ Stop.OutOfMemory) }
-    ensures says { (m : TypingMode) → StandsFor setting.now.typing_mode.now m → IfOk result (Says ((level_in setting.now m depth).const_holds constness trait_id (erased_all terms.old args.now)) ((level_in setting.now m depth).const_refuted constness trait_id (erased_all terms.old args.now))) }
+    ensures says { (m : TypingMode) → RunsFor setting.now m → IfOk result (Says ((level_in setting.now m depth).const_holds constness trait_id (erased_all terms.old args.now)) ((level_in setting.now m depth).const_refuted constness trait_id (erased_all terms.old args.now))) }
 {
     if depth == 0 {
         return Ok(Outcome::Undecided);
@@ -42,11 +43,11 @@ pub fn evaluate_host_effect_goal(
     let Some((first, rest)) = split_self_type(args) else {
         return Ok(Outcome::Undecided);
     };
-    let plain = evaluate_trait_goal(setting, terms, faults, trait_id, args, depth - 1)?;
+    let plain = evaluate_trait_goal(setting, terms, effects, trait_id, args, depth - 1)?;
     let TraitOutcome::Holds(class) = plain else {
         return Ok(plain.held());
     };
-    let found = head_form(setting, terms, faults, first, depth - 1)?;
+    let found = head_form(setting, terms, effects, first, depth - 1)?;
     let Found::Is(self_ty) = found else {
         return Ok(Outcome::Undecided);
     };
@@ -57,7 +58,7 @@ pub fn evaluate_host_effect_goal(
         self_ty,
         args: replaced.as_slice(),
     };
-    groups_outcome(setting, terms, faults, &asked, class, depth - 1)
+    groups_outcome(setting, terms, effects, &asked, class, depth - 1)
 }
 
 /// Whether the candidates for a trait that holds through a class show at a depth that it does so as it is
@@ -66,7 +67,7 @@ pub fn evaluate_host_effect_goal(
 fn groups_outcome(
     setting: &Setting<'_>,
     terms: &mut TermTable,
-    faults: &mut Vec<DelayedFault>,
+    effects: &mut Effects,
     asked: &AskedTrait<'_>,
     class: TraitGoalProvenVia,
     depth: u32,
@@ -74,10 +75,10 @@ fn groups_outcome(
     requires { AskedIn terms.old asked.now }
     ensures kept { Keeps terms.old terms.new }
     ensures stops { is_headline setting.now.typing_mode.now ≡ true → IfErr result (λ s. s ≡ Stop.OutOfMemory) }
-    ensures says { (m : TypingMode) → StandsFor setting.now.typing_mode.now m → IfOk result (SaysGroups (setting_in setting.now m) (level_in setting.now m depth) terms.old asked.now class) }
+    ensures says { (m : TypingMode) → RunsFor setting.now m → IfOk result (SaysGroups (setting_in setting.now m) (level_in setting.now m depth) terms.old asked.now class) }
 {
     let environment = TraitGoalProvenVia::ParamEnv;
-    let first = class_outcome(setting, terms, faults, asked, environment, depth)?;
+    let first = class_outcome(setting, terms, effects, asked, environment, depth)?;
     let Outcome::Refuted = first else {
         return Ok(first);
     };
@@ -89,5 +90,5 @@ fn groups_outcome(
         asked.self_ty,
         class,
     )?;
-    candidates_outcome(setting, terms, faults, asked, &candidates, depth)
+    candidates_outcome(setting, terms, effects, asked, &candidates, depth)
 }

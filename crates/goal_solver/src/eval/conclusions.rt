@@ -1,4 +1,4 @@
-//! What the calls answer where an evaluation is stopped or a goal refuted.
+//! What the calls answer by the outcome of an evaluation, and where it is stopped.
 ghost use Rattle.std.specs.Prelude.{◌≡◌, ◌≢◌, ◌⊎◌, true, false, [], None, Ok, Err, IfOk, IfErr};
 ghost use Rattle.goal_terms.specs.declared.answers.Certainty.TheVariants as certainty;
 ghost use Rattle.goal_terms.specs.declared.modes.TypingMode.{TypingMode as modes};
@@ -58,21 +58,6 @@ impl EvalCtxt<'_> {
         Ok(Certainty::Maybe)
     }
 
-    /// What a call answers to a goal that is refuted. In coherence no refusal is final yet, so the goal is
-    /// undecided there.
-    pub(crate) fn refuted(&self) -> Result<Response, Fault>
-        ensures owed { (m : modes) → IsOwed self.now m → result ≡ Err Fault.NoSolution }
-        ensures fault { IsFaultOf self.now self.now result }
-        ensures quiet { AnswersQuietly (length (kinds_of self.now)) result }
-        ensures nothing { ListsNothing result }
-        ensures unsure { IfOk result (λ r. r.certainty ≢ certainty.Yes) }
-    {
-        match self.typing_mode {
-            TypingMode::Coherence => Ok(self.respond(Certainty::Maybe, None)),
-            _ => Err(Fault::NoSolution),
-        }
-    }
-
     /// What a call answers to a goal that holds or not.
     pub(crate) fn conclude(&mut self, outcome: Result<Outcome, Stop>) -> Result<Response, Fault>
         ensures owed { (m : modes) → IsOwed self.new m → (is_headline self.old.typing_mode ≡ true → IfErr outcome (λ s. s ≡ Stop.OutOfMemory)) → IsConclusion outcome result }
@@ -87,14 +72,14 @@ impl EvalCtxt<'_> {
     {
         match outcome {
             Ok(Outcome::Holds) => Ok(self.respond(Certainty::Yes, None)),
-            Ok(Outcome::Refuted) => self.refuted(),
+            Ok(Outcome::Refuted) => Err(Fault::NoSolution),
             Ok(Outcome::Undecided) => Ok(self.respond(Certainty::Maybe, None)),
             Err(stop) => self.stopped(stop),
         }
     }
 
     /// Whether the typing mode is the erased one.
-    fn is_erased(&self) -> bool
+    pub(crate) fn is_erased(&self) -> bool
         ensures yes { result ≡ true → self.now.typing_mode ≡ TypingMode.ErasedNotCoherence }
         ensures no { result ≡ false → self.now.typing_mode ≢ TypingMode.ErasedNotCoherence }
     {

@@ -15,11 +15,12 @@ ghost use Rattle.goal_solver.specs.GoingBack.{GoesBack};
 ghost use Rattle.goal_solver.specs.Outcomes.{StandsFor, Says, FoundIn};
 ghost use Rattle.goal_solver.specs.Relating.{ChangesInference};
 
+use crate::eval::effects::Effects;
 use crate::context::EvalCtxt;
 use crate::eval::closed_goals::has_variable;
 use crate::eval::interning::{intern_args, intern_equation};
 use crate::eval::open_terms::any_variable;
-use crate::eval::outcomes::{Found, Outcome, Setting, Stop};
+use crate::eval::outcomes::{Found, OnAccess, Outcome, Setting, Stop};
 use crate::eval::premises::premise_outcome;
 use crate::normalizes_to::alias_terms::alias_term;
 use goal_infer::followed::{follow, follow_all};
@@ -135,17 +136,18 @@ impl EvalCtxt<'_> {
         ensures says { (m : modes) → StandsFor self.old.typing_mode m → IfOk result (Says (ClauseHolds (level_over self.old m environment.now) (predicate_at self.old.terms predicate)) (ClauseRefuted (level_over self.old m environment.now) (predicate_at self.old.terms predicate))) }
         ensures stops { is_headline self.old.typing_mode ≡ true → IfErr result (λ s. s ≡ Stop.OutOfMemory) }
     {
-        let mut faults = Vec::new(self.allocator());
+        let mut effects = Effects::new(self.allocator());
         let setting = Setting {
             rows: self.tables.rows(),
             typing_mode: &self.typing_mode,
+            on_access: OnAccess::Stop,
             environment,
         };
         let premise = InternedPremise::Predicate(predicate);
         premise_outcome(
             &setting,
             &mut self.terms,
-            &mut faults,
+            &mut effects,
             &premise,
             self.remaining_depth,
         )
@@ -303,16 +305,17 @@ impl EvalCtxt<'_> {
         ensures within { IfOk result (FoundIn self.new.terms) }
         ensures stops { is_headline self.old.typing_mode ≡ true → IfErr result (λ s. s ≡ Stop.OutOfMemory) }
     {
-        let mut faults = Vec::new(self.allocator());
+        let mut effects = Effects::new(self.allocator());
         let setting = Setting {
             rows: self.tables.rows(),
             typing_mode: &self.typing_mode,
+            on_access: OnAccess::Stop,
             environment,
         };
         alias_term(
             &setting,
             &mut self.terms,
-            &mut faults,
+            &mut effects,
             kind,
             args,
             self.remaining_depth,

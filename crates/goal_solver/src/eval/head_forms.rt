@@ -8,13 +8,13 @@ ghost use Rattle.goal_kinds.specs.Headers.{under};
 ghost use Rattle.goal_kinds.specs.Interned.{IsIn, AreIn, erased_at, erased_all};
 ghost use Rattle.goal_kinds.specs.Level.{HasHeadForm, HeadFormRefuted};
 ghost use Rattle.goal_kinds.specs.Settings.{is_headline};
-ghost use Rattle.goal_solver.specs.Outcomes.{StandsFor, level_in, SaysWhich, FoundIn};
+ghost use Rattle.goal_solver.specs.Outcomes.{RunsFor, level_in, SaysWhich, FoundIn};
 
+use crate::eval::effects::Effects;
 use crate::eval::id_lists::own_list;
 use crate::eval::instances::instance_of;
 use crate::eval::outcomes::{Found, Setting, Stop};
 use crate::normalizes_to::alias_terms::alias_term;
-use goal_terms::answers::DelayedFault;
 use goal_terms::heads::Node;
 use goal_terms::term_nodes::TermId;
 use goal_terms::term_table::TermTable;
@@ -25,7 +25,7 @@ use goal_terms::view::TermRef;
 pub fn head_form(
     setting: &Setting<'_>,
     terms: &mut TermTable,
-    faults: &mut Vec<DelayedFault>,
+    effects: &mut Effects,
     id: TermId,
     depth: u32,
 ) -> Result<Found, Stop>
@@ -33,13 +33,13 @@ pub fn head_form(
     ensures kept { Keeps terms.old terms.new }
     ensures within { IfOk result (FoundIn terms.new) }
     ensures stops { is_headline setting.now.typing_mode.now ≡ true → IfErr result (λ s. s ≡ Stop.OutOfMemory) }
-    ensures says { (m : TypingMode) → StandsFor setting.now.typing_mode.now m → IfOk result (SaysWhich (HasHeadForm (level_in setting.now m depth) (erased_at terms.old id)) (HeadFormRefuted (level_in setting.now m depth) (erased_at terms.old id)) terms.new) }
+    ensures says { (m : TypingMode) → RunsFor setting.now m → IfOk result (SaysWhich (HasHeadForm (level_in setting.now m depth) (erased_at terms.old id)) (HeadFormRefuted (level_in setting.now m depth) (erased_at terms.old id)) terms.new) }
 {
     let Node::Alias(kind) = terms.node(id) else {
         return Ok(Found::Is(id));
     };
     let args = own_list(setting, terms.parts(id))?;
-    alias_term(setting, terms, faults, kind, args.as_slice(), depth)
+    alias_term(setting, terms, effects, kind, args.as_slice(), depth)
 }
 
 /// The head form at a depth of a row's term under arguments.
@@ -47,7 +47,7 @@ pub fn head_form(
 pub(crate) fn head_form_under(
     setting: &Setting<'_>,
     terms: &mut TermTable,
-    faults: &mut Vec<DelayedFault>,
+    effects: &mut Effects,
     term: TermRef<'_>,
     args: &[TermId],
     depth: u32,
@@ -57,8 +57,8 @@ pub(crate) fn head_form_under(
     ensures kept { Keeps terms.old terms.new }
     ensures within { IfOk result (FoundIn terms.new) }
     ensures stops { is_headline setting.now.typing_mode.now ≡ true → IfErr result (λ s. s ≡ Stop.OutOfMemory) }
-    ensures says { (m : TypingMode) → StandsFor setting.now.typing_mode.now m → IfOk result (SaysWhich (HasHeadForm (level_in setting.now m depth) (under (erased_all terms.old args.now) (tree_of_ref term.entry))) (HeadFormRefuted (level_in setting.now m depth) (under (erased_all terms.old args.now) (tree_of_ref term.entry))) terms.new) }
+    ensures says { (m : TypingMode) → RunsFor setting.now m → IfOk result (SaysWhich (HasHeadForm (level_in setting.now m depth) (under (erased_all terms.old args.now) (tree_of_ref term.entry))) (HeadFormRefuted (level_in setting.now m depth) (under (erased_all terms.old args.now) (tree_of_ref term.entry))) terms.new) }
 {
     let id = instance_of(terms, term, args)?;
-    head_form(setting, terms, faults, id, depth)
+    head_form(setting, terms, effects, id, depth)
 }

@@ -6,17 +6,17 @@ ghost use Rattle.goal_kinds.specs.Entries.{Entry};
 ghost use Rattle.goal_kinds.specs.InternedEntries.{EntriesIn, entries_at, ListIn, list_at};
 ghost use Rattle.goal_kinds.specs.Settings.{is_headline};
 ghost use Rattle.goal_solver.specs.Lists.{list_mode, IsListFor, SaysList, SaysEntries, AtEachLevel, ListTermIn, list_held, list_term};
-ghost use Rattle.goal_solver.specs.Outcomes.{StandsFor, level_in};
+ghost use Rattle.goal_solver.specs.Outcomes.{RunsFor, level_in};
 
 pub(crate) mod entries;
 pub(crate) mod progress;
 
+use crate::eval::effects::Effects;
 use crate::eval::lists::entries::run_entry;
 use crate::eval::lists::progress::{ListRun, Reached};
 use crate::eval::mode_tests::is_headline;
-use crate::eval::outcomes::{Found, Outcome, Setting, Stop};
+use crate::eval::outcomes::{Found, OnAccess, Outcome, Setting, Stop};
 use goal_kinds::lists::{InternedEntry, ListSetting};
-use goal_terms::answers::DelayedFault;
 use goal_terms::modes::TypingMode;
 use goal_terms::term_nodes::TermId;
 use goal_terms::term_table::TermTable;
@@ -54,17 +54,16 @@ impl ListOutcome {
 }
 
 impl<'e> Setting<'e> {
-    /// What the lists of a run are made for. A mode that isn't of the headline goes by the lists of the erased
-    /// mode, which is handed in; they say where a mode is read.
+    /// What the lists of a run are made for: its own mode. Where it stops at accesses, a mode that isn't of the
+    /// headline goes by the lists of the erased mode, which is handed in; they say where a mode is read.
     pub(crate) fn of_lists<'m>(&'m self, erased: &'m TypingMode) -> ListSetting<'e, 'm>
         requires { erased.now ≡ TypingMode.ErasedNotCoherence }
         ensures rows { result.rows ≡ self.now.rows }
-        ensures mode { result.mode.now ≡ list_mode self.now.typing_mode.now }
+        ensures mode { result.mode.now ≡ list_mode self.now }
     {
-        let mode = if is_headline(self.typing_mode) {
-            self.typing_mode
-        } else {
-            erased
+        let mode = match self.on_access {
+            OnAccess::Stop if !is_headline(self.typing_mode) => erased,
+            _ => self.typing_mode,
         };
         ListSetting {
             rows: self.rows,
@@ -78,7 +77,7 @@ impl<'e> Setting<'e> {
 pub(crate) fn run_list(
     setting: &Setting<'_>,
     terms: &mut TermTable,
-    faults: &mut Vec<DelayedFault>,
+    effects: &mut Effects,
     list: &Option<Vec<InternedEntry<'_>>>,
     depth: u32,
 ) -> Result<ListOutcome, Stop>
@@ -86,11 +85,11 @@ pub(crate) fn run_list(
     ensures kept { Keeps terms.old terms.new }
     ensures within { IfOk result (ListTermIn terms.new) }
     ensures stops { is_headline setting.now.typing_mode.now ≡ true → IfErr result (λ s. s ≡ Stop.OutOfMemory) }
-    ensures says { (m : TypingMode) → StandsFor setting.now.typing_mode.now m → (q : Option (List Entry)) → IsListFor setting.now.typing_mode.now (list_at terms.old list.now) q → IfOk result (SaysList (level_in setting.now m depth) q terms.new) }
+    ensures says { (m : TypingMode) → RunsFor setting.now m → (q : Option (List Entry)) → IsListFor setting.now.typing_mode.now (list_at terms.old list.now) q → IfOk result (SaysList (level_in setting.now m depth) q terms.new) }
 {
     match list {
         None => Ok(ListOutcome::Refuted),
-        Some(entries) => run_entries(setting, terms, faults, entries, depth),
+        Some(entries) => run_entries(setting, terms, effects, entries, depth),
     }
 }
 
@@ -99,7 +98,7 @@ pub(crate) fn run_list(
 fn run_entries(
     setting: &Setting<'_>,
     terms: &mut TermTable,
-    faults: &mut Vec<DelayedFault>,
+    effects: &mut Effects,
     entries: &[InternedEntry<'_>],
     depth: u32,
 ) -> Result<ListOutcome, Stop>
@@ -111,7 +110,7 @@ fn run_entries(
 {
     let mut run = ListRun::new(setting.allocator());
     for entry in entries {
-        match run_entry(setting, terms, faults, &mut run, entry, depth)? {
+        match run_entry(setting, terms, effects, &mut run, entry, depth)? {
             Reached::Next => {}
             Reached::Refuted => return Ok(ListOutcome::Refuted),
             Reached::Undecided => return Ok(ListOutcome::Undecided),

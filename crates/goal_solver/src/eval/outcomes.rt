@@ -7,11 +7,20 @@ use goal_terms::predicates::Clause;
 use goal_terms::term_nodes::{OutOfMemory, TermId};
 use std::alloc::Global;
 
-/// What goals are evaluated over: tables, a typing mode and an environment.
+/// What a run does where a rule reads a mode that isn't one of the headline: it ends there, or records the
+/// access and goes on.
+#[derive(Clone, Copy)]
+pub enum OnAccess {
+    Stop,
+    Record,
+}
+
+/// What goals are evaluated over: tables, a typing mode with what is done where it is read, and an environment.
 #[derive(Clone, Copy)]
 pub struct Setting<'e> {
     pub rows: &'e IndexedTables,
     pub typing_mode: &'e TypingMode,
+    pub on_access: OnAccess,
     pub environment: &'e [Clause],
 }
 
@@ -23,7 +32,7 @@ impl Setting<'_> {
 }
 
 /// Why an evaluation ends without an outcome: a growth was refused, or a rule reads a mode that isn't one of
-/// the headline.
+/// the headline, and the run stops there or the rule has no answer without a mode.
 #[derive(Clone, Copy)]
 pub enum Stop {
     OutOfMemory,

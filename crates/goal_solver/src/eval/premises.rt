@@ -6,15 +6,15 @@ ghost use Rattle.goal_terms.specs.declared.modes.TypingMode.{TypingMode};
 ghost use Rattle.goal_kinds.specs.Interned.{IsIn, AreIn, TraitIn, PredicateIn, PremiseIn, erased_at, erased_all, trait_at, predicate_at, premise_at};
 ghost use Rattle.goal_kinds.specs.Premises.{ClauseHolds, ClauseRefuted, PremiseHolds, PremiseRefuted, PremisesHold, PremisesRefuted, clauses_under, conditions_as};
 ghost use Rattle.goal_kinds.specs.Settings.{is_headline};
-ghost use Rattle.goal_solver.specs.Outcomes.{StandsFor, level_in, Says};
+ghost use Rattle.goal_solver.specs.Outcomes.{RunsFor, level_in, Says};
 
+use crate::eval::effects::Effects;
 use crate::effect_goals::evaluation::evaluate_host_effect_goal;
 use crate::eval::outcomes::{Outcome, Setting, Stop};
 use crate::relate::equality::compare_terms;
 use crate::trait_goals::evaluation::evaluate_trait_goal;
 use goal_kinds::candidates::interned::{InternedPredicate, InternedPremise, InternedTrait};
 use goal_kinds::candidates::premises::clauses_under;
-use goal_terms::answers::DelayedFault;
 use goal_terms::predicates::{BoundConstness, Clause};
 use goal_terms::term_nodes::TermId;
 use goal_terms::term_table::TermTable;
@@ -24,21 +24,21 @@ use goal_terms::term_table::TermTable;
 pub fn premise_outcome(
     setting: &Setting<'_>,
     terms: &mut TermTable,
-    faults: &mut Vec<DelayedFault>,
+    effects: &mut Effects,
     premise: &InternedPremise,
     depth: u32,
 ) -> Result<Outcome, Stop>
     requires { PremiseIn terms.old premise.now }
     ensures kept { Keeps terms.old terms.new }
     ensures stops { is_headline setting.now.typing_mode.now ≡ true → IfErr result (λ s. s ≡ Stop.OutOfMemory) }
-    ensures says { (m : TypingMode) → StandsFor setting.now.typing_mode.now m → IfOk result (Says (PremiseHolds (level_in setting.now m depth) (premise_at terms.old premise.now)) (PremiseRefuted (level_in setting.now m depth) (premise_at terms.old premise.now))) }
+    ensures says { (m : TypingMode) → RunsFor setting.now m → IfOk result (Says (PremiseHolds (level_in setting.now m depth) (premise_at terms.old premise.now)) (PremiseRefuted (level_in setting.now m depth) (premise_at terms.old premise.now))) }
 {
     match premise {
         InternedPremise::Predicate(predicate) => {
-            predicate_outcome(setting, terms, faults, predicate, depth)
+            predicate_outcome(setting, terms, effects, predicate, depth)
         }
         InternedPremise::Equation(left, right) => {
-            compare_terms(setting, terms, faults, *left, *right, depth)
+            compare_terms(setting, terms, effects, *left, *right, depth)
         }
     }
 }
@@ -48,21 +48,21 @@ pub fn premise_outcome(
 pub fn predicate_outcome(
     setting: &Setting<'_>,
     terms: &mut TermTable,
-    faults: &mut Vec<DelayedFault>,
+    effects: &mut Effects,
     predicate: &InternedPredicate,
     depth: u32,
 ) -> Result<Outcome, Stop>
     requires { PredicateIn terms.old predicate.now }
     ensures kept { Keeps terms.old terms.new }
     ensures stops { is_headline setting.now.typing_mode.now ≡ true → IfErr result (λ s. s ≡ Stop.OutOfMemory) }
-    ensures says { (m : TypingMode) → StandsFor setting.now.typing_mode.now m → IfOk result (Says (ClauseHolds (level_in setting.now m depth) (predicate_at terms.old predicate.now)) (ClauseRefuted (level_in setting.now m depth) (predicate_at terms.old predicate.now))) }
+    ensures says { (m : TypingMode) → RunsFor setting.now m → IfOk result (Says (ClauseHolds (level_in setting.now m depth) (predicate_at terms.old predicate.now)) (ClauseRefuted (level_in setting.now m depth) (predicate_at terms.old predicate.now))) }
 {
     match predicate {
         InternedPredicate::Trait(held) => {
             let found = evaluate_trait_goal(
                 setting,
                 terms,
-                faults,
+                effects,
                 held.def_id,
                 &held.args,
                 depth,
@@ -70,13 +70,13 @@ pub fn predicate_outcome(
             Ok(found.held())
         }
         InternedPredicate::Projection(alias, term) => {
-            equation_outcome(setting, terms, faults, *alias, *term, depth)
+            equation_outcome(setting, terms, effects, *alias, *term, depth)
         }
         InternedPredicate::HostEffect(constness, held) => {
             evaluate_host_effect_goal(
                 setting,
                 terms,
-                faults,
+                effects,
                 *constness,
                 held.def_id,
                 &held.args,
@@ -91,7 +91,7 @@ pub fn predicate_outcome(
 fn equation_outcome(
     setting: &Setting<'_>,
     terms: &mut TermTable,
-    faults: &mut Vec<DelayedFault>,
+    effects: &mut Effects,
     alias: TermId,
     term: TermId,
     depth: u32,
@@ -100,12 +100,12 @@ fn equation_outcome(
     requires second { IsIn terms.old term }
     ensures kept { Keeps terms.old terms.new }
     ensures stops { is_headline setting.now.typing_mode.now ≡ true → IfErr result (λ s. s ≡ Stop.OutOfMemory) }
-    ensures says { (m : TypingMode) → StandsFor setting.now.typing_mode.now m → IfOk result (Says ((level_in setting.now m depth).equation_holds (erased_at terms.old alias) (erased_at terms.old term)) ((level_in setting.now m depth).equation_refuted (erased_at terms.old alias) (erased_at terms.old term))) }
+    ensures says { (m : TypingMode) → RunsFor setting.now m → IfOk result (Says ((level_in setting.now m depth).equation_holds (erased_at terms.old alias) (erased_at terms.old term)) ((level_in setting.now m depth).equation_refuted (erased_at terms.old alias) (erased_at terms.old term))) }
 {
     if depth == 0 {
         return Ok(Outcome::Undecided);
     }
-    compare_terms(setting, terms, faults, alias, term, depth - 1)
+    compare_terms(setting, terms, effects, alias, term, depth - 1)
 }
 
 /// Whether all of some premises hold at a depth. One that is refuted refutes them.
@@ -113,18 +113,18 @@ fn equation_outcome(
 pub fn premises_outcome(
     setting: &Setting<'_>,
     terms: &mut TermTable,
-    faults: &mut Vec<DelayedFault>,
+    effects: &mut Effects,
     premises: &[InternedPremise],
     depth: u32,
 ) -> Result<Outcome, Stop>
     requires { All (PremiseIn terms.old) premises.now }
     ensures kept { Keeps terms.old terms.new }
     ensures stops { is_headline setting.now.typing_mode.now ≡ true → IfErr result (λ s. s ≡ Stop.OutOfMemory) }
-    ensures says { (m : TypingMode) → StandsFor setting.now.typing_mode.now m → IfOk result (Says (PremisesHold (level_in setting.now m depth) (map (premise_at terms.old) premises.now)) (PremisesRefuted (level_in setting.now m depth) (map (premise_at terms.old) premises.now))) }
+    ensures says { (m : TypingMode) → RunsFor setting.now m → IfOk result (Says (PremisesHold (level_in setting.now m depth) (map (premise_at terms.old) premises.now)) (PremisesRefuted (level_in setting.now m depth) (map (premise_at terms.old) premises.now))) }
 {
     let mut found = Outcome::Holds;
     for premise in premises {
-        let next = premise_outcome(setting, terms, faults, premise, depth)?;
+        let next = premise_outcome(setting, terms, effects, premise, depth)?;
         found = found.and(next);
         if let Outcome::Refuted = found {
             return Ok(Outcome::Refuted);
@@ -138,7 +138,7 @@ pub fn premises_outcome(
 pub fn clauses_outcome(
     setting: &Setting<'_>,
     terms: &mut TermTable,
-    faults: &mut Vec<DelayedFault>,
+    effects: &mut Effects,
     clauses: &[Clause],
     args: &[TermId],
     depth: u32,
@@ -146,10 +146,10 @@ pub fn clauses_outcome(
     requires { AreIn terms.old args.now }
     ensures kept { Keeps terms.old terms.new }
     ensures stops { is_headline setting.now.typing_mode.now ≡ true → IfErr result (λ s. s ≡ Stop.OutOfMemory) }
-    ensures says { (m : TypingMode) → StandsFor setting.now.typing_mode.now m → IfOk result (Says (PremisesHold (level_in setting.now m depth) (clauses_under (erased_all terms.old args.now) clauses.now)) (PremisesRefuted (level_in setting.now m depth) (clauses_under (erased_all terms.old args.now) clauses.now))) }
+    ensures says { (m : TypingMode) → RunsFor setting.now m → IfOk result (Says (PremisesHold (level_in setting.now m depth) (clauses_under (erased_all terms.old args.now) clauses.now)) (PremisesRefuted (level_in setting.now m depth) (clauses_under (erased_all terms.old args.now) clauses.now))) }
 {
     let premises = clauses_under(terms, clauses, args)?;
-    premises_outcome(setting, terms, faults, &premises, depth)
+    premises_outcome(setting, terms, effects, &premises, depth)
 }
 
 /// Whether traits hold at a depth as const traits of a constness.
@@ -157,7 +157,7 @@ pub fn clauses_outcome(
 pub fn conditions_outcome(
     setting: &Setting<'_>,
     terms: &mut TermTable,
-    faults: &mut Vec<DelayedFault>,
+    effects: &mut Effects,
     constness: BoundConstness,
     conditions: &[InternedTrait],
     depth: u32,
@@ -165,14 +165,14 @@ pub fn conditions_outcome(
     requires { All (TraitIn terms.old) conditions.now }
     ensures kept { Keeps terms.old terms.new }
     ensures stops { is_headline setting.now.typing_mode.now ≡ true → IfErr result (λ s. s ≡ Stop.OutOfMemory) }
-    ensures says { (m : TypingMode) → StandsFor setting.now.typing_mode.now m → IfOk result (Says (PremisesHold (level_in setting.now m depth) (conditions_as constness (map (trait_at terms.old) conditions.now))) (PremisesRefuted (level_in setting.now m depth) (conditions_as constness (map (trait_at terms.old) conditions.now)))) }
+    ensures says { (m : TypingMode) → RunsFor setting.now m → IfOk result (Says (PremisesHold (level_in setting.now m depth) (conditions_as constness (map (trait_at terms.old) conditions.now))) (PremisesRefuted (level_in setting.now m depth) (conditions_as constness (map (trait_at terms.old) conditions.now)))) }
 {
     let mut found = Outcome::Holds;
     for condition in conditions {
         let next = evaluate_host_effect_goal(
             setting,
             terms,
-            faults,
+            effects,
             constness,
             condition.def_id,
             &condition.args,

@@ -25,11 +25,12 @@ pub(crate) mod open_entries;
 pub(crate) mod recorded;
 pub(crate) mod variables;
 
+use crate::eval::effects::Effects;
 use crate::context::EvalCtxt;
 use crate::eval::lists::ListOutcome;
 use crate::eval::lists::progress::{ListRun, Reached};
 use crate::eval::mode_tests::is_headline;
-use crate::eval::outcomes::{Setting, Stop};
+use crate::eval::outcomes::{OnAccess, Setting, Stop};
 use crate::eval::run_rule::asked::{Asked, asked_variable};
 use crate::eval::run_rule::interned::run_rule_entry;
 use crate::eval::run_rule::recorded::{ToRecord, to_record};
@@ -45,7 +46,7 @@ impl EvalCtxt<'_> {
     /// higher than that depth; where the list has a term for an expected variable, the response lists just this
     /// term as the variable's value. `NoSolution`: a refutation no higher refutes an entry, all arguments that
     /// were named before it being known. `Maybe`, in a headline mode, where one term at most is asked for, for a
-    /// general variable: there is neither. A refuted list is `Maybe` in coherence.
+    /// general variable: there is neither.
     ///
     /// A list or an environment with inference variables is run in a trial, by one step for each entry, in order:
     /// arguments of a header are fresh variables and the header is equated with what it is matched with, two
@@ -104,7 +105,7 @@ impl EvalCtxt<'_> {
                 (Asked::Variable(expected), Some(id)) => self.respond_found(expected, id),
                 _ => Ok(self.respond(Certainty::Maybe, None)),
             },
-            Ok(ListOutcome::Refuted) => self.refuted(),
+            Ok(ListOutcome::Refuted) => Err(Fault::NoSolution),
             Ok(ListOutcome::Undecided) => Ok(self.respond(Certainty::Maybe, None)),
             Err(stop) => self.stopped(stop),
         }
@@ -151,14 +152,15 @@ impl EvalCtxt<'_> {
         ensures stops { is_of_headline self.old.typing_mode ≡ true → IfErr result (λ s. s ≡ Stop.OutOfMemory) }
         ensures says { (m : TypingMode) → StandsFor self.old.typing_mode m → IfOk result (RuleRunsOn self.old.tables (level_over self.old m environment.now) self.old.terms run.old entry.now self.new.terms run.new) }
     {
-        let mut faults = Vec::new(self.allocator());
+        let mut effects = Effects::new(self.allocator());
         let setting = Setting {
             rows: self.tables.rows(),
             typing_mode: &self.typing_mode,
+            on_access: OnAccess::Stop,
             environment,
         };
         let depth = self.remaining_depth;
-        run_rule_entry(&setting, &mut self.terms, &mut faults, run, entry, depth)
+        run_rule_entry(&setting, &mut self.terms, &mut effects, run, entry, depth)
     }
 
     /// Records what an entry says to record.

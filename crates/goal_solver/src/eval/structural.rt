@@ -12,17 +12,17 @@ ghost use Rattle.goal_kinds.specs.Settings.{is_headline};
 ghost use Rattle.goal_solver.specs.Answers.{IsOwed, level_over};
 ghost use Rattle.goal_solver.specs.GoingBack.{GoesBack, restored};
 ghost use Rattle.goal_solver.specs.HeadForms.{bound_term, IsClosedForm, IsFormAnswer, IsFormOpen, IsAnswered, IsFormFound, IsFormUnfound, IsFoundItself};
-ghost use Rattle.goal_solver.specs.Outcomes.{StandsFor, SaysWhich, FoundIn};
+ghost use Rattle.goal_solver.specs.Outcomes.{RunsAs, SaysWhich, FoundIn};
 ghost use Rattle.goal_solver.specs.Relating.{IsFaultFor};
 
+use crate::eval::effects::Effects;
 use crate::context::EvalCtxt;
 use crate::eval::head_forms::head_form;
-use crate::eval::outcomes::{Found, Setting, Stop};
+use crate::eval::outcomes::{Found, OnAccess, Setting, Stop};
 use crate::faults::Fault;
 use goal_infer::followed::follow;
 use goal_tables::predicate_terms::some_in_env;
 use goal_terms::heads::Node;
-use goal_terms::modes::TypingMode;
 use goal_terms::node_tests::NodeTest;
 use goal_terms::predicates::Clause;
 use goal_terms::term_nodes::TermId;
@@ -33,7 +33,8 @@ impl EvalCtxt<'_> {
     /// term itself, in every mode. The bindings of variables are followed first. A term: a derivation no higher
     /// than the remaining depth gives it. `None`, for a closed term and environment in a headline mode: no type
     /// and no constant is the head form, nor is it refuted. An alias that holds an inference variable, or that
-    /// is asked for in an environment with one, is `None`, and a refuted one in coherence.
+    /// is asked for in an environment with one, is `None`. In the erased mode an opaque type is itself, which is
+    /// recorded.
     ///
     /// `NoSolution`: a refutation no higher shows that there is no head form. `RerunNonErased`: the erased mode
     /// doesn't suffice. `OutOfMemory`: a growth was refused. `NotForThisKind` is never answered. Inference state,
@@ -53,7 +54,7 @@ impl EvalCtxt<'_> {
     {
         match self.form_outcome(environment, term) {
             Ok(Found::Is(id)) => self.form_at(id),
-            Ok(Found::Refuted) => self.formless(),
+            Ok(Found::Refuted) => Err(Fault::NoSolution),
             Ok(Found::Undecided) => Ok(None),
             Err(stop) => {
                 self.undecided_by(stop)?;
@@ -63,13 +64,14 @@ impl EvalCtxt<'_> {
     }
 
     /// What the head form of a term with its bindings followed comes to. Nothing changes but that there may be
-    /// more terms.
+    /// more terms, accesses and delayed faults.
     fn form_outcome(&mut self, environment: &[Clause], term: &Term) -> Result<Found, Stop>
         ensures kept { Keeps self.old.terms self.new.terms }
-        ensures unchanged { self.new ≡ record self.old { terms = self.new.terms } }
+        ensures unchanged { self.new ≡ restored self.old self.new }
+        ensures goes_back { GoesBack self.old self.new }
         ensures within { IfOk result (FoundIn self.new.terms) }
-        ensures sound { (m : modes) → StandsFor self.old.typing_mode m → IfOk result (IsFormFound (level_over self.old m environment.now) (bound_term self.old term.now) self.new.terms) }
-        ensures decided { (m : modes) → StandsFor self.old.typing_mode m → IsClosedForm (bound_term self.old term.now) environment.now → IfOk result (IsFormUnfound (level_over self.old m environment.now) (bound_term self.old term.now)) }
+        ensures sound { (m : modes) → IsOwed self.new m → IfOk result (IsFormFound (level_over self.old m environment.now) (bound_term self.old term.now) self.new.terms) }
+        ensures decided { (m : modes) → IsOwed self.new m → IsClosedForm (bound_term self.old term.now) environment.now → IfOk result (IsFormUnfound (level_over self.old m environment.now) (bound_term self.old term.now)) }
         ensures itself { is_alias (node_of (bound_term self.old term.now)) ≡ false → IfOk result (IsFoundItself (bound_term self.old term.now) self.new.terms) }
         ensures only_memory { is_alias (node_of (bound_term self.old term.now)) ≡ false → IfErr result (λ s. s ≡ Stop.OutOfMemory) }
         ensures stops { is_headline self.old.typing_mode ≡ true → IfErr result (λ s. s ≡ Stop.OutOfMemory) }
@@ -116,28 +118,57 @@ impl EvalCtxt<'_> {
     }
 
     /// What the head form of a term comes to at the remaining depth. Nothing changes but that there may be more
-    /// terms.
+    /// terms, accesses and delayed faults.
     fn form_of_alias(&mut self, environment: &[Clause], id: TermId) -> Result<Found, Stop>
         requires { IsIn self.old.terms id }
         ensures kept { Keeps self.old.terms self.new.terms }
-        ensures unchanged { self.new ≡ record self.old { terms = self.new.terms } }
+        ensures unchanged { self.new ≡ restored self.old self.new }
+        ensures goes_back { GoesBack self.old self.new }
         ensures within { IfOk result (FoundIn self.new.terms) }
-        ensures says { (m : modes) → StandsFor self.old.typing_mode m → IfOk result (SaysWhich (HasHeadForm (level_over self.old m environment.now) (erased_at self.old.terms id)) (HeadFormRefuted (level_over self.old m environment.now) (erased_at self.old.terms id)) self.new.terms) }
+        ensures says { (m : modes) → IsOwed self.new m → IfOk result (SaysWhich (HasHeadForm (level_over self.old m environment.now) (erased_at self.old.terms id)) (HeadFormRefuted (level_over self.old m environment.now) (erased_at self.old.terms id)) self.new.terms) }
         ensures stops { is_headline self.old.typing_mode ≡ true → IfErr result (λ s. s ≡ Stop.OutOfMemory) }
     {
-        let mut faults = Vec::new(self.allocator());
+        let on_access = self.first_access();
+        match self.form_run(on_access, environment, id) {
+            Err(stop) => {
+                self.go_on(stop)?;
+                self.form_run(OnAccess::Record, environment, id)
+            }
+            found => found,
+        }
+    }
+
+    /// One run of the head form of a term.
+    fn form_run(
+        &mut self,
+        on_access: OnAccess,
+        environment: &[Clause],
+        id: TermId,
+    ) -> Result<Found, Stop>
+        requires { IsIn self.old.terms id }
+        ensures kept { Keeps self.old.terms self.new.terms }
+        ensures unchanged { self.new ≡ restored self.old self.new }
+        ensures goes_back { GoesBack self.old self.new }
+        ensures within { IfOk result (FoundIn self.new.terms) }
+        ensures says { (m : modes) → RunsAs on_access self.old.typing_mode m → IfOk result (SaysWhich (HasHeadForm (level_over self.old m environment.now) (erased_at self.old.terms id)) (HeadFormRefuted (level_over self.old m environment.now) (erased_at self.old.terms id)) self.new.terms) }
+        ensures stops { is_headline self.old.typing_mode ≡ true → IfErr result (λ s. s ≡ Stop.OutOfMemory) }
+    {
+        let mut effects = Effects::new(self.allocator());
         let setting = Setting {
             rows: self.tables.rows(),
             typing_mode: &self.typing_mode,
+            on_access,
             environment,
         };
-        head_form(
+        let found = head_form(
             &setting,
             &mut self.terms,
-            &mut faults,
+            &mut effects,
             id,
             self.remaining_depth,
-        )
+        );
+        self.record_effects(&effects)?;
+        found
     }
 
     /// The term of a number, if it is a type or a constant. Only memory is refused.
@@ -153,16 +184,5 @@ impl EvalCtxt<'_> {
             return Err(Fault::OutOfMemory);
         };
         Ok(Some(term))
-    }
-
-    /// The answer where it is refuted that there is a head form. In coherence no refusal is final.
-    fn formless(&self) -> Result<Option<Term>, Fault>
-        ensures owed { (m : modes) → IsOwed self.now m → result ≡ Err Fault.NoSolution }
-        ensures fault { IsFaultFor self.now self.now result }
-    {
-        match self.typing_mode {
-            TypingMode::Coherence => Ok(None),
-            _ => Err(Fault::NoSolution),
-        }
     }
 }

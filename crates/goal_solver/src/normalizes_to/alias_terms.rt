@@ -7,15 +7,15 @@ ghost use Rattle.goal_kinds.specs.Interned.{AreIn, erased_all};
 ghost use Rattle.goal_kinds.specs.InternedEntries.{EntriesIn, entries_at};
 ghost use Rattle.goal_kinds.specs.Settings.{is_headline};
 ghost use Rattle.goal_solver.specs.Lists.{IsListFor};
-ghost use Rattle.goal_solver.specs.Outcomes.{StandsFor, setting_in, level_in, SaysWhich, FoundIn};
+ghost use Rattle.goal_solver.specs.Outcomes.{RunsFor, setting_in, level_in, SaysWhich, FoundIn};
 
+use crate::eval::effects::Effects;
 use crate::eval::lists::run_list;
 use crate::eval::outcomes::{Found, Setting, Stop};
 use crate::normalizes_to::projection_args::intern_alias;
 use crate::normalizes_to::projections::projection_term;
 use goal_kinds::lists::InternedEntry;
 use goal_kinds::lists::aliases::alias_list;
-use goal_terms::answers::DelayedFault;
 use goal_terms::modes::TypingMode;
 use goal_terms::term_nodes::{OutOfMemory, TermId};
 use goal_terms::term_table::TermTable;
@@ -26,7 +26,7 @@ use goal_terms::terms::AliasTermKind;
 pub fn alias_term(
     setting: &Setting<'_>,
     terms: &mut TermTable,
-    faults: &mut Vec<DelayedFault>,
+    effects: &mut Effects,
     kind: AliasTermKind,
     args: &[TermId],
     depth: u32,
@@ -35,18 +35,18 @@ pub fn alias_term(
     ensures kept { Keeps terms.old terms.new }
     ensures within { IfOk result (FoundIn terms.new) }
     ensures stops { is_headline setting.now.typing_mode.now ≡ true → IfErr result (λ s. s ≡ Stop.OutOfMemory) }
-    ensures says { (m : modes) → StandsFor setting.now.typing_mode.now m → IfOk result (SaysWhich ((level_in setting.now m depth).gives kind (erased_all terms.old args.now)) ((level_in setting.now m depth).gives_refuted kind (erased_all terms.old args.now)) terms.new) }
+    ensures says { (m : modes) → RunsFor setting.now m → IfOk result (SaysWhich ((level_in setting.now m depth).gives kind (erased_all terms.old args.now)) ((level_in setting.now m depth).gives_refuted kind (erased_all terms.old args.now)) terms.new) }
 {
     if depth == 0 {
         return Ok(Found::Undecided);
     }
     match kind {
         AliasTermKind::ProjectionTy(item) | AliasTermKind::ProjectionConst(item) => {
-            projection_term(setting, terms, faults, kind, item, args, depth - 1)
+            projection_term(setting, terms, effects, kind, item, args, depth - 1)
         }
         _ => {
             let list = list_of_alias(setting, terms, kind, args)?;
-            let outcome = run_list(setting, terms, faults, &Some(list), depth - 1)?;
+            let outcome = run_list(setting, terms, effects, &Some(list), depth - 1)?;
             Ok(outcome.term())
         }
     }
@@ -63,7 +63,7 @@ fn list_of_alias<'t>(
     requires { AreIn terms.old args.now }
     ensures kept { Keeps terms.old terms.new }
     ensures within { IfOk result (λ es. EntriesIn terms.new es.items) }
-    ensures list { (m : modes) → StandsFor setting.now.typing_mode.now m → IfOk result (λ es. IsListFor setting.now.typing_mode.now (Some (entries_at terms.new es.items)) (Some (alias_list (setting_in setting.now m) kind (erased_all terms.old args.now)))) }
+    ensures list { (m : modes) → RunsFor setting.now m → IfOk result (λ es. IsListFor setting.now.typing_mode.now (Some (entries_at terms.new es.items)) (Some (alias_list (setting_in setting.now m) kind (erased_all terms.old args.now)))) }
 {
     let alloc = setting.allocator();
     let rigid_alias = intern_alias(alloc, terms, kind, args)?;

@@ -8,15 +8,16 @@ ghost use Rattle.goal_kinds.specs.ProjectionLists.{projection_list};
 ghost use Rattle.goal_kinds.specs.Projections.{CandidateGives, TermRefuted};
 ghost use Rattle.goal_kinds.specs.Settings.{is_headline};
 ghost use Rattle.goal_solver.specs.Lists.{IsListFor};
-ghost use Rattle.goal_solver.specs.Outcomes.{StandsFor, setting_in, level_in, SaysWhich, FoundIn, ProjectionIn, projection_at};
+ghost use Rattle.goal_solver.specs.Outcomes.{RunsFor, setting_in, level_in, SaysWhich, FoundIn, ProjectionIn, projection_at};
 
+use crate::eval::effects::Effects;
 use crate::eval::lists::run_list;
 use crate::eval::mode_tests::is_coherence;
 use crate::eval::outcomes::{Found, Projection, Setting, Stop};
 use goal_kinds::candidates::interned::InternedCandidate;
 use goal_kinds::lists::projections::projection_list;
 use goal_kinds::lists::{AskedProjection, InternedEntry};
-use goal_terms::answers::{DelayedFault, OpaqueAccess};
+use goal_terms::answers::OpaqueAccess;
 use goal_terms::modes::TypingMode;
 use goal_terms::term_nodes::{OutOfMemory, TermId};
 use goal_terms::term_table::TermTable;
@@ -27,7 +28,7 @@ use goal_terms::term_table::TermTable;
 pub(crate) fn candidate_term(
     setting: &Setting<'_>,
     terms: &mut TermTable,
-    faults: &mut Vec<DelayedFault>,
+    effects: &mut Effects,
     projection: &Projection<'_>,
     candidate: &InternedCandidate<'_>,
     depth: u32,
@@ -37,10 +38,10 @@ pub(crate) fn candidate_term(
     ensures kept { Keeps terms.old terms.new }
     ensures within { IfOk result (FoundIn terms.new) }
     ensures stops { is_headline setting.now.typing_mode.now ≡ true → IfErr result (λ s. s ≡ Stop.OutOfMemory) }
-    ensures says { (m : modes) → StandsFor setting.now.typing_mode.now m → IfOk result (SaysWhich (λ u. CandidateGives (setting_in setting.now m) (level_in setting.now m depth) (projection_at terms.old projection.now) (erased_at terms.old projection.now.rigid_alias) u (candidate_at terms.old candidate.now)) (TermRefuted (setting_in setting.now m) (level_in setting.now m depth) (projection_at terms.old projection.now) (candidate_at terms.old candidate.now)) terms.new) }
+    ensures says { (m : modes) → RunsFor setting.now m → IfOk result (SaysWhich (λ u. CandidateGives (setting_in setting.now m) (level_in setting.now m depth) (projection_at terms.old projection.now) (erased_at terms.old projection.now.rigid_alias) u (candidate_at terms.old candidate.now)) (TermRefuted (setting_in setting.now m) (level_in setting.now m depth) (projection_at terms.old projection.now) (candidate_at terms.old candidate.now)) terms.new) }
 {
     let list = candidate_list(&*setting, terms, &*projection, &*candidate)?;
-    let outcome = run_list(setting, terms, faults, &list, depth)?;
+    let outcome = run_list(setting, terms, effects, &list, depth)?;
     let found = outcome.term();
     if stays_ambiguous(
         setting.typing_mode,
@@ -65,7 +66,7 @@ fn candidate_list<'t>(
     requires candidate { CandidateIn terms.old candidate.now }
     ensures kept { Keeps terms.old terms.new }
     ensures within { IfOk result (ListIn terms.new) }
-    ensures list { (m : modes) → StandsFor setting.now.typing_mode.now m → IfOk result (λ o. IsListFor setting.now.typing_mode.now (list_at terms.new o) (projection_list (setting_in setting.now m) (projection_at terms.old projection.now) (erased_at terms.old projection.now.rigid_alias) (candidate_at terms.old candidate.now))) }
+    ensures list { (m : modes) → RunsFor setting.now m → IfOk result (λ o. IsListFor setting.now.typing_mode.now (list_at terms.new o) (projection_list (setting_in setting.now m) (projection_at terms.old projection.now) (erased_at terms.old projection.now.rigid_alias) (candidate_at terms.old candidate.now))) }
 {
     let asked = AskedProjection {
         item: projection.item,

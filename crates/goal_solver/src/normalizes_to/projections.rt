@@ -7,9 +7,10 @@ ghost use Rattle.goal_kinds.specs.Candidates.{environment, second_group};
 ghost use Rattle.goal_kinds.specs.Interned.{IsIn, AreIn, CandidateIn, erased_at, erased_all, candidate_at};
 ghost use Rattle.goal_kinds.specs.Projections.{GroupGives, GroupRefuted, GroupsGive, GroupsRefuted, OwnUnformed, ItemGives, ItemRefuted, ProjectionGives, ProjectionRefuted};
 ghost use Rattle.goal_kinds.specs.Settings.{is_headline};
-ghost use Rattle.goal_solver.specs.Outcomes.{StandsFor, setting_in, level_in, Says, SaysWhich, FoundIn, ProjectionIn, projection_at};
+ghost use Rattle.goal_solver.specs.Outcomes.{RunsFor, setting_in, level_in, Says, SaysWhich, FoundIn, ProjectionIn, projection_at};
 ghost use Rattle.goal_solver.specs.ProjectionParts.{HaveHeadForms, SomeUnformed, FormedGives, LaterGives, LaterRefuted, ReplacedGives, ReplacedRefuted, ThroughGives, ThroughRefuted};
 
+use crate::eval::effects::Effects;
 use crate::assembly::merging::merge_terms;
 use crate::eval::head_forms::head_form;
 use crate::eval::outcomes::{Found, Outcome, Projection, Setting, Stop, TraitOutcome};
@@ -19,7 +20,7 @@ use crate::trait_goals::evaluation::evaluate_trait_goal;
 use goal_kinds::candidates::interned::InternedCandidate;
 use goal_kinds::candidates::lists::{candidates_of_class, second_group};
 use goal_tables::rows::{ItemRow, TraitRow};
-use goal_terms::answers::{DelayedFault, TraitGoalProvenVia};
+use goal_terms::answers::TraitGoalProvenVia;
 use goal_terms::ids::{ItemId, TraitId};
 use goal_terms::term_nodes::TermId;
 use goal_terms::term_table::TermTable;
@@ -41,7 +42,7 @@ pub(crate) struct Given<'e> {
 pub fn projection_term(
     setting: &Setting<'_>,
     terms: &mut TermTable,
-    faults: &mut Vec<DelayedFault>,
+    effects: &mut Effects,
     kind: AliasTermKind,
     item: ItemId,
     args: &[TermId],
@@ -51,7 +52,7 @@ pub fn projection_term(
     ensures kept { Keeps terms.old terms.new }
     ensures within { IfOk result (FoundIn terms.new) }
     ensures stops { is_headline setting.now.typing_mode.now ≡ true → IfErr result (λ s. s ≡ Stop.OutOfMemory) }
-    ensures says { (m : TypingMode) → StandsFor setting.now.typing_mode.now m → IfOk result (SaysWhich (ProjectionGives (setting_in setting.now m) (level_in setting.now m depth) kind item (erased_all terms.old args.now)) (ProjectionRefuted (setting_in setting.now m) (level_in setting.now m depth) kind item (erased_all terms.old args.now)) terms.new) }
+    ensures says { (m : TypingMode) → RunsFor setting.now m → IfOk result (SaysWhich (ProjectionGives (setting_in setting.now m) (level_in setting.now m depth) kind item (erased_all terms.old args.now)) (ProjectionRefuted (setting_in setting.now m) (level_in setting.now m depth) kind item (erased_all terms.old args.now)) terms.new) }
 {
     let Some(row) = setting.rows.item_row(item) else {
         return Ok(Found::Undecided);
@@ -59,7 +60,7 @@ pub fn projection_term(
     let Some(trait_row) = setting.rows.trait_row(row.trait_id) else {
         return Ok(Found::Undecided);
     };
-    item_term(setting, terms, faults, kind, row, trait_row, args, depth)
+    item_term(setting, terms, effects, kind, row, trait_row, args, depth)
 }
 
 /// The term that a projection has by its item's row and its trait's.
@@ -67,7 +68,7 @@ pub fn projection_term(
 fn item_term(
     setting: &Setting<'_>,
     terms: &mut TermTable,
-    faults: &mut Vec<DelayedFault>,
+    effects: &mut Effects,
     kind: AliasTermKind,
     item: &ItemRow,
     trait_row: &TraitRow,
@@ -78,14 +79,14 @@ fn item_term(
     ensures kept { Keeps terms.old terms.new }
     ensures within { IfOk result (FoundIn terms.new) }
     ensures stops { is_headline setting.now.typing_mode.now ≡ true → IfErr result (λ s. s ≡ Stop.OutOfMemory) }
-    ensures says { (m : TypingMode) → StandsFor setting.now.typing_mode.now m → IfOk result (SaysWhich (λ u. ItemGives (setting_in setting.now m) (level_in setting.now m depth) kind (erased_all terms.old args.now) u item.now trait_row.now) (ItemRefuted (setting_in setting.now m) (level_in setting.now m depth) kind (erased_all terms.old args.now) item.now trait_row.now) terms.new) }
+    ensures says { (m : TypingMode) → RunsFor setting.now m → IfOk result (SaysWhich (λ u. ItemGives (setting_in setting.now m) (level_in setting.now m depth) kind (erased_all terms.old args.now) u item.now trait_row.now) (ItemRefuted (setting_in setting.now m) (level_in setting.now m depth) kind (erased_all terms.old args.now) item.now trait_row.now) terms.new) }
 {
     if args.is_empty() {
         return Ok(Found::Undecided);
     }
     let trait_params = trait_row.params.len();
     let trait_args = first_args(args, trait_params);
-    match evaluate_trait_goal(setting, terms, faults, item.trait_id, trait_args, depth)? {
+    match evaluate_trait_goal(setting, terms, effects, item.trait_id, trait_args, depth)? {
         TraitOutcome::Undecided => Ok(Found::Undecided),
         TraitOutcome::Refuted => Ok(Found::Refuted),
         TraitOutcome::Holds(class) => {
@@ -96,7 +97,7 @@ fn item_term(
                 class,
                 args,
             };
-            term_proven_via(setting, terms, faults, &given, depth)
+            term_proven_via(setting, terms, effects, &given, depth)
         }
     }
 }
@@ -106,7 +107,7 @@ fn item_term(
 pub(crate) fn term_proven_via(
     setting: &Setting<'_>,
     terms: &mut TermTable,
-    faults: &mut Vec<DelayedFault>,
+    effects: &mut Effects,
     given: &Given<'_>,
     depth: u32,
 ) -> Result<Found, Stop>
@@ -114,16 +115,16 @@ pub(crate) fn term_proven_via(
     ensures kept { Keeps terms.old terms.new }
     ensures within { IfOk result (FoundIn terms.new) }
     ensures stops { is_headline setting.now.typing_mode.now ≡ true → IfErr result (λ s. s ≡ Stop.OutOfMemory) }
-    ensures says { (m : TypingMode) → StandsFor setting.now.typing_mode.now m → IfOk result (SaysWhich (ThroughGives (setting_in setting.now m) (level_in setting.now m depth) given.now.kind given.now.item.now given.now.trait_params given.now.class (erased_all terms.old given.now.args.now)) (ThroughRefuted (setting_in setting.now m) (level_in setting.now m depth) given.now.kind given.now.item.now given.now.trait_params given.now.class (erased_all terms.old given.now.args.now)) terms.new) }
+    ensures says { (m : TypingMode) → RunsFor setting.now m → IfOk result (SaysWhich (ThroughGives (setting_in setting.now m) (level_in setting.now m depth) given.now.kind given.now.item.now given.now.trait_params given.now.class (erased_all terms.old given.now.args.now)) (ThroughRefuted (setting_in setting.now m) (level_in setting.now m depth) given.now.kind given.now.item.now given.now.trait_params given.now.class (erased_all terms.old given.now.args.now)) terms.new) }
 {
     let args = given.args;
     if args.is_empty() {
         return Ok(Found::Undecided);
     }
-    match head_form(setting, terms, faults, args[0], depth)? {
+    match head_form(setting, terms, effects, args[0], depth)? {
         Found::Undecided => Ok(Found::Undecided),
         Found::Refuted => Ok(Found::Undecided),
-        Found::Is(self_ty) => replaced_term(setting, terms, faults, given, self_ty, depth),
+        Found::Is(self_ty) => replaced_term(setting, terms, effects, given, self_ty, depth),
     }
 }
 
@@ -132,7 +133,7 @@ pub(crate) fn term_proven_via(
 fn replaced_term(
     setting: &Setting<'_>,
     terms: &mut TermTable,
-    faults: &mut Vec<DelayedFault>,
+    effects: &mut Effects,
     given: &Given<'_>,
     self_ty: TermId,
     depth: u32,
@@ -142,7 +143,7 @@ fn replaced_term(
     ensures kept { Keeps terms.old terms.new }
     ensures within { IfOk result (FoundIn terms.new) }
     ensures stops { is_headline setting.now.typing_mode.now ≡ true → IfErr result (λ s. s ≡ Stop.OutOfMemory) }
-    ensures says { (m : TypingMode) → StandsFor setting.now.typing_mode.now m → IfOk result (SaysWhich (ReplacedGives (setting_in setting.now m) (level_in setting.now m depth) given.now.kind given.now.item.now given.now.trait_params given.now.class (erased_all terms.old given.now.args.now) (erased_at terms.old self_ty)) (ReplacedRefuted (setting_in setting.now m) (level_in setting.now m depth) given.now.kind given.now.item.now given.now.trait_params given.now.class (erased_all terms.old given.now.args.now) (erased_at terms.old self_ty)) terms.new) }
+    ensures says { (m : TypingMode) → RunsFor setting.now m → IfOk result (SaysWhich (ReplacedGives (setting_in setting.now m) (level_in setting.now m depth) given.now.kind given.now.item.now given.now.trait_params given.now.class (erased_all terms.old given.now.args.now) (erased_at terms.old self_ty)) (ReplacedRefuted (setting_in setting.now m) (level_in setting.now m depth) given.now.kind given.now.item.now given.now.trait_params given.now.class (erased_all terms.old given.now.args.now) (erased_at terms.old self_ty)) terms.new) }
 {
     let alias = intern_alias(setting.allocator(), terms, given.kind, given.args)?;
     let args = with_self(setting.allocator(), self_ty, given.args)?;
@@ -156,7 +157,7 @@ fn replaced_term(
     groups_term(
         setting,
         terms,
-        faults,
+        effects,
         &projection,
         self_ty,
         alias,
@@ -170,7 +171,7 @@ fn replaced_term(
 fn groups_term(
     setting: &Setting<'_>,
     terms: &mut TermTable,
-    faults: &mut Vec<DelayedFault>,
+    effects: &mut Effects,
     projection: &Projection<'_>,
     self_ty: TermId,
     given: TermId,
@@ -183,13 +184,13 @@ fn groups_term(
     ensures kept { Keeps terms.old terms.new }
     ensures within { IfOk result (FoundIn terms.new) }
     ensures stops { is_headline setting.now.typing_mode.now ≡ true → IfErr result (λ s. s ≡ Stop.OutOfMemory) }
-    ensures says { (m : TypingMode) → StandsFor setting.now.typing_mode.now m → IfOk result (SaysWhich (GroupsGive (setting_in setting.now m) (level_in setting.now m depth) class (projection_at terms.old projection.now) (erased_at terms.old projection.now.rigid_alias) (erased_at terms.old given) (second_group (setting_in setting.now m) projection.now.item.now.trait_id (erased_at terms.old self_ty) class)) (GroupsRefuted (setting_in setting.now m) (level_in setting.now m depth) class (projection_at terms.old projection.now) (erased_at terms.old projection.now.rigid_alias) (second_group (setting_in setting.now m) projection.now.item.now.trait_id (erased_at terms.old self_ty) class)) terms.new) }
+    ensures says { (m : TypingMode) → RunsFor setting.now m → IfOk result (SaysWhich (GroupsGive (setting_in setting.now m) (level_in setting.now m depth) class (projection_at terms.old projection.now) (erased_at terms.old projection.now.rigid_alias) (erased_at terms.old given) (second_group (setting_in setting.now m) projection.now.item.now.trait_id (erased_at terms.old self_ty) class)) (GroupsRefuted (setting_in setting.now m) (level_in setting.now m depth) class (projection_at terms.old projection.now) (erased_at terms.old projection.now.rigid_alias) (second_group (setting_in setting.now m) projection.now.item.now.trait_id (erased_at terms.old self_ty) class)) terms.new) }
 {
-    match environment_term(setting, terms, faults, projection, self_ty, depth)? {
+    match environment_term(setting, terms, effects, projection, self_ty, depth)? {
         Found::Undecided => Ok(Found::Undecided),
-        Found::Is(term) => own_args_normalized(setting, terms, faults, projection, term, depth),
+        Found::Is(term) => own_args_normalized(setting, terms, effects, projection, term, depth),
         Found::Refuted => later_term(
-            setting, terms, faults, projection, self_ty, given, class, depth,
+            setting, terms, effects, projection, self_ty, given, class, depth,
         ),
     }
 }
@@ -199,7 +200,7 @@ fn groups_term(
 fn later_term(
     setting: &Setting<'_>,
     terms: &mut TermTable,
-    faults: &mut Vec<DelayedFault>,
+    effects: &mut Effects,
     projection: &Projection<'_>,
     self_ty: TermId,
     given: TermId,
@@ -212,9 +213,9 @@ fn later_term(
     ensures kept { Keeps terms.old terms.new }
     ensures within { IfOk result (FoundIn terms.new) }
     ensures stops { is_headline setting.now.typing_mode.now ≡ true → IfErr result (λ s. s ≡ Stop.OutOfMemory) }
-    ensures says { (m : TypingMode) → StandsFor setting.now.typing_mode.now m → IfOk result (SaysWhich (LaterGives (setting_in setting.now m) (level_in setting.now m depth) class (projection_at terms.old projection.now) (erased_at terms.old projection.now.rigid_alias) (erased_at terms.old given) (second_group (setting_in setting.now m) projection.now.item.now.trait_id (erased_at terms.old self_ty) class)) (LaterRefuted (setting_in setting.now m) (level_in setting.now m depth) class (projection_at terms.old projection.now) (erased_at terms.old projection.now.rigid_alias) (second_group (setting_in setting.now m) projection.now.item.now.trait_id (erased_at terms.old self_ty) class)) terms.new) }
+    ensures says { (m : TypingMode) → RunsFor setting.now m → IfOk result (SaysWhich (LaterGives (setting_in setting.now m) (level_in setting.now m depth) class (projection_at terms.old projection.now) (erased_at terms.old projection.now.rigid_alias) (erased_at terms.old given) (second_group (setting_in setting.now m) projection.now.item.now.trait_id (erased_at terms.old self_ty) class)) (LaterRefuted (setting_in setting.now m) (level_in setting.now m depth) class (projection_at terms.old projection.now) (erased_at terms.old projection.now.rigid_alias) (second_group (setting_in setting.now m) projection.now.item.now.trait_id (erased_at terms.old self_ty) class)) terms.new) }
 {
-    match second_term(setting, terms, faults, projection, self_ty, class, depth)? {
+    match second_term(setting, terms, effects, projection, self_ty, class, depth)? {
         Found::Undecided => Ok(Found::Undecided),
         Found::Refuted => match class {
             TraitGoalProvenVia::Misc => Ok(Found::Refuted),
@@ -222,7 +223,7 @@ fn later_term(
         },
         Found::Is(term) => match class {
             TraitGoalProvenVia::Misc => Ok(Found::Is(term)),
-            _ => own_args_normalized(setting, terms, faults, projection, term, depth),
+            _ => own_args_normalized(setting, terms, effects, projection, term, depth),
         },
     }
 }
@@ -232,7 +233,7 @@ fn later_term(
 fn environment_term(
     setting: &Setting<'_>,
     terms: &mut TermTable,
-    faults: &mut Vec<DelayedFault>,
+    effects: &mut Effects,
     projection: &Projection<'_>,
     self_ty: TermId,
     depth: u32,
@@ -242,7 +243,7 @@ fn environment_term(
     ensures kept { Keeps terms.old terms.new }
     ensures within { IfOk result (FoundIn terms.new) }
     ensures stops { is_headline setting.now.typing_mode.now ≡ true → IfErr result (λ s. s ≡ Stop.OutOfMemory) }
-    ensures says { (m : TypingMode) → StandsFor setting.now.typing_mode.now m → IfOk result (SaysWhich (GroupGives (setting_in setting.now m) (level_in setting.now m depth) (projection_at terms.old projection.now) (erased_at terms.old projection.now.rigid_alias) (environment (setting_in setting.now m))) (GroupRefuted (setting_in setting.now m) (level_in setting.now m depth) (projection_at terms.old projection.now) (environment (setting_in setting.now m))) terms.new) }
+    ensures says { (m : TypingMode) → RunsFor setting.now m → IfOk result (SaysWhich (GroupGives (setting_in setting.now m) (level_in setting.now m depth) (projection_at terms.old projection.now) (erased_at terms.old projection.now.rigid_alias) (environment (setting_in setting.now m))) (GroupRefuted (setting_in setting.now m) (level_in setting.now m depth) (projection_at terms.old projection.now) (environment (setting_in setting.now m))) terms.new) }
 {
     let candidates = candidates_of_class(
         setting.rows,
@@ -255,7 +256,7 @@ fn environment_term(
     group_term(
         setting,
         terms,
-        faults,
+        effects,
         projection,
         candidates.as_slice(),
         depth,
@@ -267,7 +268,7 @@ fn environment_term(
 fn second_term(
     setting: &Setting<'_>,
     terms: &mut TermTable,
-    faults: &mut Vec<DelayedFault>,
+    effects: &mut Effects,
     projection: &Projection<'_>,
     self_ty: TermId,
     class: TraitGoalProvenVia,
@@ -278,7 +279,7 @@ fn second_term(
     ensures kept { Keeps terms.old terms.new }
     ensures within { IfOk result (FoundIn terms.new) }
     ensures stops { is_headline setting.now.typing_mode.now ≡ true → IfErr result (λ s. s ≡ Stop.OutOfMemory) }
-    ensures says { (m : TypingMode) → StandsFor setting.now.typing_mode.now m → IfOk result (SaysWhich (GroupGives (setting_in setting.now m) (level_in setting.now m depth) (projection_at terms.old projection.now) (erased_at terms.old projection.now.rigid_alias) (second_group (setting_in setting.now m) projection.now.item.now.trait_id (erased_at terms.old self_ty) class)) (GroupRefuted (setting_in setting.now m) (level_in setting.now m depth) (projection_at terms.old projection.now) (second_group (setting_in setting.now m) projection.now.item.now.trait_id (erased_at terms.old self_ty) class)) terms.new) }
+    ensures says { (m : TypingMode) → RunsFor setting.now m → IfOk result (SaysWhich (GroupGives (setting_in setting.now m) (level_in setting.now m depth) (projection_at terms.old projection.now) (erased_at terms.old projection.now.rigid_alias) (second_group (setting_in setting.now m) projection.now.item.now.trait_id (erased_at terms.old self_ty) class)) (GroupRefuted (setting_in setting.now m) (level_in setting.now m depth) (projection_at terms.old projection.now) (second_group (setting_in setting.now m) projection.now.item.now.trait_id (erased_at terms.old self_ty) class)) terms.new) }
 {
     let candidates = second_group(
         setting.rows,
@@ -291,7 +292,7 @@ fn second_term(
     group_term(
         setting,
         terms,
-        faults,
+        effects,
         projection,
         candidates.as_slice(),
         depth,
@@ -303,7 +304,7 @@ fn second_term(
 fn own_args_normalized(
     setting: &Setting<'_>,
     terms: &mut TermTable,
-    faults: &mut Vec<DelayedFault>,
+    effects: &mut Effects,
     projection: &Projection<'_>,
     term: TermId,
     depth: u32,
@@ -313,10 +314,10 @@ fn own_args_normalized(
     ensures kept { Keeps terms.old terms.new }
     ensures within { IfOk result (FoundIn terms.new) }
     ensures stops { is_headline setting.now.typing_mode.now ≡ true → IfErr result (λ s. s ≡ Stop.OutOfMemory) }
-    ensures says { (m : TypingMode) → StandsFor setting.now.typing_mode.now m → IfOk result (SaysWhich (FormedGives (level_in setting.now m depth) (projection_at terms.old projection.now) (erased_at terms.old term)) (OwnUnformed (level_in setting.now m depth) (projection_at terms.old projection.now)) terms.new) }
+    ensures says { (m : TypingMode) → RunsFor setting.now m → IfOk result (SaysWhich (FormedGives (level_in setting.now m depth) (projection_at terms.old projection.now) (erased_at terms.old term)) (OwnUnformed (level_in setting.now m depth) (projection_at terms.old projection.now)) terms.new) }
 {
     let own = later_args(projection.args, projection.trait_params);
-    match head_forms_outcome(setting, terms, faults, own, depth)? {
+    match head_forms_outcome(setting, terms, effects, own, depth)? {
         Outcome::Undecided => Ok(Found::Undecided),
         Outcome::Refuted => Ok(Found::Refuted),
         Outcome::Holds => Ok(Found::Is(term)),
@@ -328,18 +329,18 @@ fn own_args_normalized(
 fn head_forms_outcome(
     setting: &Setting<'_>,
     terms: &mut TermTable,
-    faults: &mut Vec<DelayedFault>,
+    effects: &mut Effects,
     ids: &[TermId],
     depth: u32,
 ) -> Result<Outcome, Stop>
     requires { AreIn terms.old ids.now }
     ensures kept { Keeps terms.old terms.new }
     ensures stops { is_headline setting.now.typing_mode.now ≡ true → IfErr result (λ s. s ≡ Stop.OutOfMemory) }
-    ensures says { (m : TypingMode) → StandsFor setting.now.typing_mode.now m → IfOk result (Says (HaveHeadForms (level_in setting.now m depth) (erased_all terms.old ids.now)) (SomeUnformed (level_in setting.now m depth) (erased_all terms.old ids.now))) }
+    ensures says { (m : TypingMode) → RunsFor setting.now m → IfOk result (Says (HaveHeadForms (level_in setting.now m depth) (erased_all terms.old ids.now)) (SomeUnformed (level_in setting.now m depth) (erased_all terms.old ids.now))) }
 {
     let mut outcome = Outcome::Holds;
     for id in ids {
-        match head_form(setting, terms, faults, *id, depth)? {
+        match head_form(setting, terms, effects, *id, depth)? {
             Found::Refuted => return Ok(Outcome::Refuted),
             Found::Undecided => outcome = Outcome::Undecided,
             Found::Is(_) => {}
@@ -353,7 +354,7 @@ fn head_forms_outcome(
 fn group_term(
     setting: &Setting<'_>,
     terms: &mut TermTable,
-    faults: &mut Vec<DelayedFault>,
+    effects: &mut Effects,
     projection: &Projection<'_>,
     candidates: &[InternedCandidate<'_>],
     depth: u32,
@@ -363,11 +364,11 @@ fn group_term(
     ensures kept { Keeps terms.old terms.new }
     ensures within { IfOk result (FoundIn terms.new) }
     ensures stops { is_headline setting.now.typing_mode.now ≡ true → IfErr result (λ s. s ≡ Stop.OutOfMemory) }
-    ensures says { (m : TypingMode) → StandsFor setting.now.typing_mode.now m → IfOk result (SaysWhich (GroupGives (setting_in setting.now m) (level_in setting.now m depth) (projection_at terms.old projection.now) (erased_at terms.old projection.now.rigid_alias) (map (candidate_at terms.old) candidates.now)) (GroupRefuted (setting_in setting.now m) (level_in setting.now m depth) (projection_at terms.old projection.now) (map (candidate_at terms.old) candidates.now)) terms.new) }
+    ensures says { (m : TypingMode) → RunsFor setting.now m → IfOk result (SaysWhich (GroupGives (setting_in setting.now m) (level_in setting.now m depth) (projection_at terms.old projection.now) (erased_at terms.old projection.now.rigid_alias) (map (candidate_at terms.old) candidates.now)) (GroupRefuted (setting_in setting.now m) (level_in setting.now m depth) (projection_at terms.old projection.now) (map (candidate_at terms.old) candidates.now)) terms.new) }
 {
     let mut found = Found::Refuted;
     for candidate in candidates {
-        let next = candidate_term(setting, terms, faults, projection, candidate, depth)?;
+        let next = candidate_term(setting, terms, effects, projection, candidate, depth)?;
         found = merge_terms(terms, found, next);
         if let Found::Undecided = found {
             return Ok(Found::Undecided);

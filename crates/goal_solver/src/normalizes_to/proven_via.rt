@@ -1,5 +1,5 @@
 //! The terms that projections have through a class by which their trait goals hold.
-ghost use Rattle.std.specs.Prelude.{◌≡◌, ℕ, true, [], length, Some, None, IfOk, IfErr};
+ghost use Rattle.std.specs.Prelude.{◌≡◌, ◌⊎◌, ℕ, true, [], length, Some, None, IfOk, IfErr};
 ghost use Rattle.goal_terms.specs.declared.answers.Certainty.TheVariants as certainty;
 ghost use Rattle.goal_terms.specs.TableMeaning.{Keeps};
 ghost use Rattle.goal_terms.specs.declared.modes.TypingMode.{TypingMode};
@@ -10,17 +10,20 @@ ghost use Rattle.goal_solver.specs.Answers.{IsOwed, level_over, erased_args, is_
 ghost use Rattle.goal_solver.specs.Assembled.{HoldsThrough, level_through};
 ghost use Rattle.goal_solver.specs.Binding.{IsApplicable};
 ghost use Rattle.goal_solver.specs.Goals.{IsAcceptedNormalization};
-ghost use Rattle.goal_solver.specs.GoingBack.{GoesBack, evaluated, restored};
-ghost use Rattle.goal_solver.specs.Outcomes.{StandsFor, setting_in, level_in, SaysWhich, FoundIn};
+ghost use Rattle.goal_solver.specs.GoingBack.{GoesBack, restored};
+ghost use Rattle.goal_solver.specs.Recording.{FitsKind};
+ghost use Rattle.goal_solver.specs.Outcomes.{RunsAs, RunsFor, StandsFor, setting_in, level_in, SaysWhich, FoundIn};
+ghost use Rattle.goal_solver.specs.Promises.{ListsTerm};
 ghost use Rattle.goal_solver.specs.State.{kinds_of};
 
+use crate::eval::effects::Effects;
 use crate::context::EvalCtxt;
 use crate::eval::closed_goals::is_closed_alias;
 use crate::eval::interning::intern_args;
-use crate::eval::outcomes::{Found, Setting, Stop};
+use crate::eval::outcomes::{Found, OnAccess, Setting, Stop};
 use crate::faults::Fault;
 use crate::normalizes_to::projections::{Given, term_proven_via};
-use goal_terms::answers::{Certainty, DelayedFault, Response, TraitGoalProvenVia};
+use goal_terms::answers::{Certainty, Response, TraitGoalProvenVia};
 use goal_terms::ids::ItemId;
 use goal_terms::node_tests::general_variable;
 use goal_terms::predicates::{Clause, NormalizesTo};
@@ -42,7 +45,7 @@ fn projected_item(kind: AliasTermKind) -> Option<ItemId>
 fn alias_proven_via(
     setting: &Setting<'_>,
     terms: &mut TermTable,
-    faults: &mut Vec<DelayedFault>,
+    effects: &mut Effects,
     class: TraitGoalProvenVia,
     alias: &AliasTerm,
     depth: u32,
@@ -50,7 +53,7 @@ fn alias_proven_via(
     ensures kept { Keeps terms.old terms.new }
     ensures within { IfOk result (FoundIn terms.new) }
     ensures stops { is_headline setting.now.typing_mode.now ≡ true → IfErr result (λ s. s ≡ Stop.OutOfMemory) }
-    ensures says { (m : TypingMode) → StandsFor setting.now.typing_mode.now m → IfOk result (SaysWhich ((level_through (setting_in setting.now m) (level_in setting.now m depth) class).gives alias.now.kind (erased_args alias.now.args.items)) ((level_through (setting_in setting.now m) (level_in setting.now m depth) class).gives_refuted alias.now.kind (erased_args alias.now.args.items)) terms.new) }
+    ensures says { (m : TypingMode) → RunsFor setting.now m → IfOk result (SaysWhich ((level_through (setting_in setting.now m) (level_in setting.now m depth) class).gives alias.now.kind (erased_args alias.now.args.items)) ((level_through (setting_in setting.now m) (level_in setting.now m depth) class).gives_refuted alias.now.kind (erased_args alias.now.args.items)) terms.new) }
 {
     let Some(id) = projected_item(alias.kind) else {
         return Ok(Found::Undecided);
@@ -69,13 +72,14 @@ fn alias_proven_via(
         class,
         args: args.as_slice(),
     };
-    term_proven_via(setting, terms, faults, &given, depth)
+    term_proven_via(setting, terms, effects, &given, depth)
 }
 
 #[tactic(auto, using(crate::proofs::AnswerLemmas::answering))]
 impl EvalCtxt<'_> {
     /// The term that an alias has by the candidates at the remaining depth, if it is a projection whose trait
-    /// goal holds through a class. Nothing changes but that there may be more terms and delayed faults.
+    /// goal holds through a class. Nothing changes but that there may be more terms, accesses and delayed
+    /// faults. What a run that records found can be given as the alias's term.
     fn class_outcome(
         &mut self,
         class: TraitGoalProvenVia,
@@ -83,22 +87,69 @@ impl EvalCtxt<'_> {
         environment: &[Clause],
     ) -> Result<Found, Stop>
         ensures kept { Keeps self.old.terms self.new.terms }
-        ensures unchanged { self.new ≡ evaluated self.old self.new }
+        ensures unchanged { self.new ≡ restored self.old self.new }
         ensures goes_back { GoesBack self.old self.new }
         ensures within { IfOk result (FoundIn self.new.terms) }
+        ensures says { (m : TypingMode) → IsOwed self.new m → IfOk result (SaysWhich ((level_through (setting_of self.old.tables m environment.now) (level_over self.old m environment.now) class).gives alias.now.kind (erased_args alias.now.args.items)) ((level_through (setting_of self.old.tables m environment.now) (level_over self.old m environment.now) class).gives_refuted alias.now.kind (erased_args alias.now.args.items)) self.new.terms) }
+        ensures fits { IfOk result (FitsKind alias.now.kind self.new.terms) ⊎ ((m : TypingMode) → StandsFor self.old.typing_mode m → IfOk result (SaysWhich ((level_through (setting_of self.old.tables m environment.now) (level_over self.old m environment.now) class).gives alias.now.kind (erased_args alias.now.args.items)) ((level_through (setting_of self.old.tables m environment.now) (level_over self.old m environment.now) class).gives_refuted alias.now.kind (erased_args alias.now.args.items)) self.new.terms)) }
         ensures stops { is_headline self.old.typing_mode ≡ true → IfErr result (λ s. s ≡ Stop.OutOfMemory) }
-        ensures says { (m : TypingMode) → StandsFor self.old.typing_mode m → IfOk result (SaysWhich ((level_through (setting_of self.old.tables m environment.now) (level_over self.old m environment.now) class).gives alias.now.kind (erased_args alias.now.args.items)) ((level_through (setting_of self.old.tables m environment.now) (level_over self.old m environment.now) class).gives_refuted alias.now.kind (erased_args alias.now.args.items)) self.new.terms) }
     {
-        let mut faults = Vec::new(self.allocator());
+        if let OnAccess::Record = self.first_access() {
+            return self.class_recorded(class, alias, environment);
+        }
+        match self.class_run(OnAccess::Stop, class, alias, environment) {
+            Err(stop) => {
+                self.go_on(stop)?;
+                self.class_recorded(class, alias, environment)
+            }
+            found => found,
+        }
+    }
+
+    /// Which term a run that records finds so, if an answer can give it.
+    fn class_recorded(
+        &mut self,
+        class: TraitGoalProvenVia,
+        alias: &AliasTerm,
+        environment: &[Clause],
+    ) -> Result<Found, Stop>
+        ensures kept { Keeps self.old.terms self.new.terms }
+        ensures unchanged { self.new ≡ restored self.old self.new }
+        ensures goes_back { GoesBack self.old self.new }
+        ensures within { IfOk result (FoundIn self.new.terms) }
+        ensures fits { IfOk result (FitsKind alias.now.kind self.new.terms) }
+        ensures stops { is_headline self.old.typing_mode ≡ true → IfErr result (λ s. s ≡ Stop.OutOfMemory) }
+    {
+        let found = self.class_run(OnAccess::Record, class, alias, environment)?;
+        Ok(self.fitting(alias.kind, found))
+    }
+
+    /// One run over the candidates.
+    fn class_run(
+        &mut self,
+        on_access: OnAccess,
+        class: TraitGoalProvenVia,
+        alias: &AliasTerm,
+        environment: &[Clause],
+    ) -> Result<Found, Stop>
+        ensures kept { Keeps self.old.terms self.new.terms }
+        ensures unchanged { self.new ≡ restored self.old self.new }
+        ensures goes_back { GoesBack self.old self.new }
+        ensures within { IfOk result (FoundIn self.new.terms) }
+        ensures says { (m : TypingMode) → RunsAs on_access self.old.typing_mode m → IfOk result (SaysWhich ((level_through (setting_of self.old.tables m environment.now) (level_over self.old m environment.now) class).gives alias.now.kind (erased_args alias.now.args.items)) ((level_through (setting_of self.old.tables m environment.now) (level_over self.old m environment.now) class).gives_refuted alias.now.kind (erased_args alias.now.args.items)) self.new.terms) }
+        ensures stops { is_headline self.old.typing_mode ≡ true → IfErr result (λ s. s ≡ Stop.OutOfMemory) }
+    {
+        let mut effects = Effects::new(self.allocator());
         let setting = Setting {
             rows: self.tables.rows(),
             typing_mode: &self.typing_mode,
+            on_access,
             environment,
         };
         let depth = self.remaining_depth;
-        let found = alias_proven_via(&setting, &mut self.terms, &mut faults, class, alias, depth)?;
-        self.record_faults(&faults)?;
-        Ok(found)
+        let found = alias_proven_via(&setting, &mut self.terms, &mut effects, class, alias, depth);
+        self.record_effects(&effects)?;
+        found
     }
 
     /// What is answered to the goal of an alias's term by the candidates at the remaining depth, if the alias is
@@ -111,13 +162,14 @@ impl EvalCtxt<'_> {
         asked: &NormalizesTo,
         environment: &[Clause],
     ) -> Result<Response, Fault>
-        ensures sound { (m : TypingMode) → StandsFor self.old.typing_mode m → IsAliasAnswer (level_through (setting_of self.old.tables m environment.now) (level_over self.old m environment.now) class) asked.now.alias.kind (erased_args asked.now.alias.args.items) asked.now.term result }
+        ensures sound { (m : TypingMode) → IsOwed self.new m → IsAliasAnswer (level_through (setting_of self.old.tables m environment.now) (level_over self.old m environment.now) class) asked.now.alias.kind (erased_args asked.now.alias.args.items) asked.now.term result }
         ensures decided { (m : TypingMode) (n : ℕ) → IsOwed self.new m → is_closed_alias asked.now.alias environment.now ≡ true → expected_variable asked.now.term ≡ Some n → IsMaybe result → IsAliasOpen (level_through (setting_of self.old.tables m environment.now) (level_over self.old m environment.now) class) asked.now.alias.kind (erased_args asked.now.alias.args.items) }
         ensures unchanged { self.new ≡ restored self.old self.new }
         ensures goes_back { GoesBack self.old self.new }
         ensures fault { IsFaultOf self.old self.new result }
         ensures quiet { AnswersQuietly (length (kinds_of self.old)) result }
         ensures lists { IfOk result (λ r. r.certainty ≡ certainty.Maybe → r.var_values.items ≡ []) }
+        ensures gives { IfOk result (λ r. r.certainty ≡ certainty.Yes → ListsTerm asked.now.term certainty.Yes r.var_values.items) }
         ensures no_class { IfOk result (λ r. r.proven_via ≡ None) }
         ensures applies { (m : TypingMode) → StandsFor self.old.typing_mode m → IsAcceptedNormalization self.old asked.now environment.now → HoldsThrough (setting_of self.old.tables m environment.now) (level_over self.old m environment.now) class asked.now.alias.kind (erased_args asked.now.alias.args.items) → IfOk result (IsApplicable self.new) }
     {
@@ -130,7 +182,7 @@ impl EvalCtxt<'_> {
         }
         match self.class_outcome(class, &asked.alias, environment) {
             Ok(Found::Is(id)) => self.respond_found(expected, id),
-            Ok(Found::Refuted) => self.refuted(),
+            Ok(Found::Refuted) => Err(Fault::NoSolution),
             Ok(Found::Undecided) => Ok(self.respond(Certainty::Maybe, None)),
             Err(stop) => self.stopped(stop),
         }

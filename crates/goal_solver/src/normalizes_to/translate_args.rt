@@ -25,11 +25,12 @@ ghost use Rattle.goal_solver.specs.State.{kinds_of};
 ghost use Rattle.goal_solver.specs.TranslatedArgs.{taken_by, own_after, bound_ref, AreClosedIn, certainty_in, AnswersJust, IsTranslation, IsHeaderOpen, IsFresh, BindsNothing, IsMadeEqual, IsEqualUnder, IsAdded, AddsClauses, MakesVariables, ChangesGoals};
 ghost use Rattle.goal_solver.specs.Variables.{fresh_args};
 
+use crate::eval::effects::Effects;
 use crate::context::EvalCtxt;
 use crate::context::rebuilding::rebuilt_args;
 use crate::eval::interning::intern_args;
 use crate::eval::open_terms::any_variable;
-use crate::eval::outcomes::{HeaderMatch, Setting, Stop};
+use crate::eval::outcomes::{HeaderMatch, OnAccess, Setting, Stop};
 use crate::eval::where_goals::goals_under;
 use crate::faults::Fault;
 use crate::relate::headers::match_header;
@@ -298,17 +299,18 @@ impl EvalCtxt<'_> {
         ensures says { (m : modes) → StandsFor self.old.typing_mode m → IfOk result (SaysMatch (level_over self.old m environment.now) other.now.params.items (header_of other.now) (erased_all self.old.terms given.now) self.new.terms) }
         ensures stops { is_headline self.old.typing_mode ≡ true → IfErr result (λ s. s ≡ Stop.OutOfMemory) }
     {
-        let mut faults = Vec::new(self.allocator());
+        let mut effects = Effects::new(self.allocator());
         let setting = Setting {
             rows: self.tables.rows(),
             typing_mode: &self.typing_mode,
+            on_access: OnAccess::Stop,
             environment,
         };
         let depth = self.remaining_depth;
         match_header(
             &setting,
             &mut self.terms,
-            &mut faults,
+            &mut effects,
             &other.params,
             &other.trait_args,
             given,

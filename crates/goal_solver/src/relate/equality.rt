@@ -7,13 +7,13 @@ ghost use Rattle.goal_kinds.specs.Interned.{IsIn, AreIn, erased_at, erased_all};
 ghost use Rattle.goal_kinds.specs.Words.{Pairs, SomePair};
 ghost use Rattle.goal_kinds.specs.Equality.{SameForm, OtherForm};
 ghost use Rattle.goal_kinds.specs.Settings.{is_headline};
-ghost use Rattle.goal_solver.specs.Outcomes.{StandsFor, level_in, Says};
+ghost use Rattle.goal_solver.specs.Outcomes.{RunsFor, level_in, Says};
 ghost use Rattle.goal_solver.specs.Pending.{IsOpen, Relates, AllEqual, SomeUnequal};
 
+use crate::eval::effects::Effects;
 use crate::eval::head_forms::head_form;
 use crate::eval::outcomes::{Outcome, Setting, Stop};
 use crate::relate::pairs::{Forms, Pending, TermPair, collect, collect_lists, pair_forms};
-use goal_terms::answers::DelayedFault;
 use goal_terms::compare::Regions;
 use goal_terms::term_nodes::TermId;
 use goal_terms::term_table::TermTable;
@@ -23,7 +23,7 @@ use goal_terms::term_table::TermTable;
 pub fn compare_terms(
     setting: &Setting<'_>,
     terms: &mut TermTable,
-    faults: &mut Vec<DelayedFault>,
+    effects: &mut Effects,
     left: TermId,
     right: TermId,
     depth: u32,
@@ -32,11 +32,11 @@ pub fn compare_terms(
     requires second { IsIn terms.old right }
     ensures kept { Keeps terms.old terms.new }
     ensures stops { is_headline setting.now.typing_mode.now ≡ true → IfErr result (λ s. s ≡ Stop.OutOfMemory) }
-    ensures says { (m : TypingMode) → StandsFor setting.now.typing_mode.now m → IfOk result (Says ((level_in setting.now m depth).equal (erased_at terms.old left) (erased_at terms.old right)) ((level_in setting.now m depth).unequal (erased_at terms.old left) (erased_at terms.old right))) }
+    ensures says { (m : TypingMode) → RunsFor setting.now m → IfOk result (Says ((level_in setting.now m depth).equal (erased_at terms.old left) (erased_at terms.old right)) ((level_in setting.now m depth).unequal (erased_at terms.old left) (erased_at terms.old right))) }
 {
     let mut pending = Pending::new(setting.rows);
     collect(terms, &mut pending, left, right)?;
-    compare_pending(setting, terms, faults, &pending, depth)
+    compare_pending(setting, terms, effects, &pending, depth)
 }
 
 /// Whether two lists of terms are equal in pairs at a depth, lifetimes aside.
@@ -44,7 +44,7 @@ pub fn compare_terms(
 pub fn compare_lists(
     setting: &Setting<'_>,
     terms: &mut TermTable,
-    faults: &mut Vec<DelayedFault>,
+    effects: &mut Effects,
     left: &[TermId],
     right: &[TermId],
     depth: u32,
@@ -53,11 +53,11 @@ pub fn compare_lists(
     requires second { AreIn terms.old right.now }
     ensures kept { Keeps terms.old terms.new }
     ensures stops { is_headline setting.now.typing_mode.now ≡ true → IfErr result (λ s. s ≡ Stop.OutOfMemory) }
-    ensures says { (m : TypingMode) → StandsFor setting.now.typing_mode.now m → IfOk result (Says (Pairs (level_in setting.now m depth).equal (erased_all terms.old left.now) (erased_all terms.old right.now)) (SomePair (level_in setting.now m depth).unequal (erased_all terms.old left.now) (erased_all terms.old right.now))) }
+    ensures says { (m : TypingMode) → RunsFor setting.now m → IfOk result (Says (Pairs (level_in setting.now m depth).equal (erased_all terms.old left.now) (erased_all terms.old right.now)) (SomePair (level_in setting.now m depth).unequal (erased_all terms.old left.now) (erased_all terms.old right.now))) }
 {
     let mut pending = Pending::new(setting.rows);
     collect_lists(terms, &mut pending, left, right)?;
-    compare_pending(setting, terms, faults, &pending, depth)
+    compare_pending(setting, terms, effects, &pending, depth)
 }
 
 /// Whether all that is left of a comparison holds at a depth.
@@ -65,21 +65,21 @@ pub fn compare_lists(
 fn compare_pending(
     setting: &Setting<'_>,
     terms: &mut TermTable,
-    faults: &mut Vec<DelayedFault>,
+    effects: &mut Effects,
     pending: &Pending,
     depth: u32,
 ) -> Result<Outcome, Stop>
     requires { All (IsOpen terms.old) pending.now.pairs.items }
     ensures kept { Keeps terms.old terms.new }
     ensures stops { is_headline setting.now.typing_mode.now ≡ true → IfErr result (λ s. s ≡ Stop.OutOfMemory) }
-    ensures says { (m : TypingMode) → StandsFor setting.now.typing_mode.now m → IfOk result (Says (AllEqual (level_in setting.now m depth) terms.old pending.now.outcome pending.now.pairs.items) (SomeUnequal (level_in setting.now m depth) terms.old pending.now.outcome pending.now.pairs.items)) }
+    ensures says { (m : TypingMode) → RunsFor setting.now m → IfOk result (Says (AllEqual (level_in setting.now m depth) terms.old pending.now.outcome pending.now.pairs.items) (SomeUnequal (level_in setting.now m depth) terms.old pending.now.outcome pending.now.pairs.items)) }
 {
     let mut outcome = pending.outcome;
     for pair in &pending.pairs {
         if outcome.is_refuted() {
             return Ok(Outcome::Refuted);
         }
-        let next = compare_pair(setting, terms, faults, *pair, depth)?;
+        let next = compare_pair(setting, terms, effects, *pair, depth)?;
         outcome = outcome.and(next);
     }
     Ok(outcome)
@@ -90,22 +90,22 @@ fn compare_pending(
 fn compare_pair(
     setting: &Setting<'_>,
     terms: &mut TermTable,
-    faults: &mut Vec<DelayedFault>,
+    effects: &mut Effects,
     pair: TermPair,
     depth: u32,
 ) -> Result<Outcome, Stop>
     requires { IsOpen terms.old pair }
     ensures kept { Keeps terms.old terms.new }
     ensures stops { is_headline setting.now.typing_mode.now ≡ true → IfErr result (λ s. s ≡ Stop.OutOfMemory) }
-    ensures says { (m : TypingMode) → StandsFor setting.now.typing_mode.now m → IfOk result (Says (Relates (level_in setting.now m depth).equal terms.old pair) (Relates (level_in setting.now m depth).unequal terms.old pair)) }
+    ensures says { (m : TypingMode) → RunsFor setting.now m → IfOk result (Says (Relates (level_in setting.now m depth).equal terms.old pair) (Relates (level_in setting.now m depth).unequal terms.old pair)) }
 {
     if depth == 0 {
         return Ok(Outcome::Undecided);
     }
-    let left = head_form(setting, terms, faults, pair.left, depth - 1)?;
-    let right = head_form(setting, terms, faults, pair.right, depth - 1)?;
+    let left = head_form(setting, terms, effects, pair.left, depth - 1)?;
+    let right = head_form(setting, terms, effects, pair.right, depth - 1)?;
     match pair_forms(left, right) {
-        Forms::Found(form, other) => compare_forms(setting, terms, faults, form, other, depth - 1),
+        Forms::Found(form, other) => compare_forms(setting, terms, effects, form, other, depth - 1),
         Forms::Lacking(outcome) => Ok(outcome),
     }
 }
@@ -116,7 +116,7 @@ fn compare_pair(
 fn compare_forms(
     setting: &Setting<'_>,
     terms: &mut TermTable,
-    faults: &mut Vec<DelayedFault>,
+    effects: &mut Effects,
     form: TermId,
     other: TermId,
     depth: u32,
@@ -125,7 +125,7 @@ fn compare_forms(
     requires second { IsIn terms.old other }
     ensures kept { Keeps terms.old terms.new }
     ensures stops { is_headline setting.now.typing_mode.now ≡ true → IfErr result (λ s. s ≡ Stop.OutOfMemory) }
-    ensures says { (m : TypingMode) → StandsFor setting.now.typing_mode.now m → IfOk result (Says (SameForm (level_in setting.now m depth) (erased_at terms.old form) (erased_at terms.old other)) (OtherForm (level_in setting.now m depth) (erased_at terms.old form) (erased_at terms.old other))) }
+    ensures says { (m : TypingMode) → RunsFor setting.now m → IfOk result (Says (SameForm (level_in setting.now m depth) (erased_at terms.old form) (erased_at terms.old other)) (OtherForm (level_in setting.now m depth) (erased_at terms.old form) (erased_at terms.old other))) }
 {
     if terms.same_erased(form, other) {
         return Ok(Outcome::Holds);
@@ -136,5 +136,5 @@ fn compare_forms(
     }
     let mut pending = Pending::new(setting.rows);
     collect_lists(terms, &mut pending, terms.parts(form), terms.parts(other))?;
-    compare_pending(setting, terms, faults, &pending, depth)
+    compare_pending(setting, terms, effects, &pending, depth)
 }

@@ -8,12 +8,12 @@ ghost use Rattle.goal_kinds.specs.Settings.{is_headline};
 ghost use Rattle.goal_solver.specs.Outcomes.{header_terms};
 ghost use Rattle.goal_solver.specs.HeaderWords.{is_any, erased_ref, IsBehind, KnownIn, IsKnown, known_trees, ClashAt, QuestionIn, Fills, TestOutcome};
 
+use crate::eval::effects::Effects;
 use crate::eval::head_forms::head_form;
 use crate::eval::outcomes::{Found, Outcome, Setting, Stop};
 use crate::relate::equality::compare_terms;
 use crate::relate::header_args::{instance_of, mentions_unknown};
 use crate::relate::header_questions::{Question, questions_of, questions_of_args};
-use goal_terms::answers::DelayedFault;
 use goal_terms::compare::Regions;
 use goal_terms::term_nodes::TermId;
 use goal_terms::term_table::TermTable;
@@ -26,7 +26,7 @@ use goal_terms::view::TermRef;
 fn instance_clashes(
     setting: &Setting<'_>,
     terms: &mut TermTable,
-    faults: &mut Vec<DelayedFault>,
+    effects: &mut Effects,
     known: &[Option<TermId>],
     args: &[TermId],
     header: TermRef<'_>,
@@ -45,7 +45,7 @@ fn instance_clashes(
         return Ok(false);
     }
     let instance = instance_of(terms, header, args)?;
-    match compare_terms(setting, terms, faults, instance, given, depth)? {
+    match compare_terms(setting, terms, effects, instance, given, depth)? {
         Outcome::Refuted => Ok(true),
         Outcome::Holds => Ok(false),
         Outcome::Undecided => Ok(false),
@@ -57,7 +57,7 @@ fn instance_clashes(
 fn question_clashes(
     setting: &Setting<'_>,
     terms: &mut TermTable,
-    faults: &mut Vec<DelayedFault>,
+    effects: &mut Effects,
     known: &[Option<TermId>],
     args: &[TermId],
     question: Question<'_>,
@@ -74,10 +74,10 @@ fn question_clashes(
     match question {
         Question::Differs => Ok(true),
         Question::Instance(header, given) => {
-            instance_clashes(setting, terms, faults, known, args, header, given, depth)
+            instance_clashes(setting, terms, effects, known, args, header, given, depth)
         }
         Question::Behind(header, given) => {
-            behind_clashes(setting, terms, faults, known, args, header, given, depth)
+            behind_clashes(setting, terms, effects, known, args, header, given, depth)
         }
     }
 }
@@ -87,7 +87,7 @@ fn question_clashes(
 fn behind_clashes(
     setting: &Setting<'_>,
     terms: &mut TermTable,
-    faults: &mut Vec<DelayedFault>,
+    effects: &mut Effects,
     known: &[Option<TermId>],
     args: &[TermId],
     header: TermRef<'_>,
@@ -105,14 +105,14 @@ fn behind_clashes(
     if depth == 0 {
         return Ok(false);
     }
-    match head_form(setting, terms, faults, given, depth - 1)? {
+    match head_form(setting, terms, effects, given, depth - 1)? {
         Found::Refuted => Ok(true),
         Found::Undecided => Ok(false),
         Found::Is(form) => {
             if !header.node().is_same(terms.node(form), Regions::Forgotten) {
                 return Ok(true);
             }
-            form_clashes(setting, terms, faults, known, args, header, form, depth - 1)
+            form_clashes(setting, terms, effects, known, args, header, form, depth - 1)
         }
     }
 }
@@ -122,7 +122,7 @@ fn behind_clashes(
 fn form_clashes(
     setting: &Setting<'_>,
     terms: &mut TermTable,
-    faults: &mut Vec<DelayedFault>,
+    effects: &mut Effects,
     known: &[Option<TermId>],
     args: &[TermId],
     header: TermRef<'_>,
@@ -138,7 +138,7 @@ fn form_clashes(
     ensures says { IfOk result (TestOutcome setting.now depth (λ L. L.clash (IsKnown (known_trees terms.old known.now)) (erased_ref header.entry) (erased_at terms.old given))) }
 {
     let questions = questions_of(setting.allocator(), terms, header, given)?;
-    any_clash(setting, terms, faults, known, args, &questions, depth)
+    any_clash(setting, terms, effects, known, args, &questions, depth)
 }
 
 /// Whether some question has the answer that header and given term clash.
@@ -146,7 +146,7 @@ fn form_clashes(
 fn any_clash(
     setting: &Setting<'_>,
     terms: &mut TermTable,
-    faults: &mut Vec<DelayedFault>,
+    effects: &mut Effects,
     known: &[Option<TermId>],
     args: &[TermId],
     questions: &[Question<'_>],
@@ -161,7 +161,7 @@ fn any_clash(
     ensures says { IfOk result (TestOutcome setting.now depth (λ L. Exists (ClashAt L (known_trees terms.old known.now) terms.old) questions.now)) }
 {
     for i in 0..questions.len() {
-        if question_clashes(setting, terms, faults, known, args, questions[i], depth)? {
+        if question_clashes(setting, terms, effects, known, args, questions[i], depth)? {
             return Ok(true);
         }
     }
@@ -173,7 +173,7 @@ fn any_clash(
 pub fn header_clashes(
     setting: &Setting<'_>,
     terms: &mut TermTable,
-    faults: &mut Vec<DelayedFault>,
+    effects: &mut Effects,
     header: &[GenericArg],
     given: &[TermId],
     known: &[Option<TermId>],
@@ -189,5 +189,5 @@ pub fn header_clashes(
     ensures says { IfOk result (TestOutcome setting.now depth (λ L. SomePair (L.clash (IsKnown (known_trees terms.old known.now))) (header_terms header.now) (erased_all terms.old given.now))) }
 {
     let questions = questions_of_args(setting.allocator(), terms, header, given)?;
-    any_clash(setting, terms, faults, known, args, &questions, depth)
+    any_clash(setting, terms, effects, known, args, &questions, depth)
 }

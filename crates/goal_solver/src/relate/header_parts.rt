@@ -6,14 +6,15 @@ ghost use Rattle.goal_terms.specs.declared.modes.TypingMode.{TypingMode};
 ghost use Rattle.goal_kinds.specs.Headers.{PartAmong};
 ghost use Rattle.goal_kinds.specs.Interned.{AreIn, erased_at, erased_all};
 ghost use Rattle.goal_kinds.specs.Settings.{is_headline};
-ghost use Rattle.goal_solver.specs.Outcomes.{StandsFor, level_in, header_terms};
+ghost use Rattle.goal_solver.specs.Outcomes.{RunsFor, level_in, header_terms};
 ghost use Rattle.goal_solver.specs.HeaderWords.{is_this, erased_ref, IsBehind, GivesPart, PlaceIn, OptionIn, KnownIn, known_trees, SaysKnown, PartOutcome, KnownOutcome};
 
+use crate::eval::effects::Effects;
 use crate::eval::head_forms::head_form;
 use crate::eval::outcomes::{Found, Setting, Stop};
 use crate::relate::header_args::add_known;
 use crate::relate::header_places::{Place, find_among, find_place};
-use goal_terms::answers::{DelayedFault, ParamKind};
+use goal_terms::answers::ParamKind;
 use goal_terms::compare::Regions;
 use goal_terms::term_nodes::TermId;
 use goal_terms::term_table::TermTable;
@@ -25,7 +26,7 @@ use goal_terms::view::{Parts, TermRef};
 fn part_at(
     setting: &Setting<'_>,
     terms: &mut TermTable,
-    faults: &mut Vec<DelayedFault>,
+    effects: &mut Effects,
     number: usize,
     place: Place<'_>,
     depth: u32,
@@ -40,7 +41,7 @@ fn part_at(
         Place::Is(id) => Ok(Some(id)),
         Place::Missing => Ok(None),
         Place::Behind(header, given) => part_behind(
-            setting, terms, faults, number, header, given, depth,
+            setting, terms, effects, number, header, given, depth,
         ),
     }
 }
@@ -50,7 +51,7 @@ fn part_at(
 fn part_behind(
     setting: &Setting<'_>,
     terms: &mut TermTable,
-    faults: &mut Vec<DelayedFault>,
+    effects: &mut Effects,
     number: usize,
     header: TermRef<'_>,
     given: TermId,
@@ -65,7 +66,7 @@ fn part_behind(
     if depth == 0 {
         return Ok(None);
     }
-    match head_form(setting, terms, faults, given, depth - 1)? {
+    match head_form(setting, terms, effects, given, depth - 1)? {
         Found::Refuted => Ok(None),
         Found::Undecided => Ok(None),
         Found::Is(form) => {
@@ -73,7 +74,7 @@ fn part_behind(
                 return Ok(None);
             }
             let place = find_place(terms, number, header, form);
-            part_at(setting, terms, faults, number, place, depth - 1)
+            part_at(setting, terms, effects, number, place, depth - 1)
         }
     }
 }
@@ -83,7 +84,7 @@ fn part_behind(
 fn known_part(
     setting: &Setting<'_>,
     terms: &mut TermTable,
-    faults: &mut Vec<DelayedFault>,
+    effects: &mut Effects,
     number: usize,
     header: &[GenericArg],
     given: &[TermId],
@@ -96,7 +97,7 @@ fn known_part(
     ensures says { IfOk result (PartOutcome setting.now depth (λ L. PartAmong L number (header_terms header.now) (erased_all terms.old given.now)) terms.new) }
 {
     let place = find_among(terms, number, Parts::Args(header), given);
-    part_at(setting, terms, faults, number, place, depth)
+    part_at(setting, terms, effects, number, place, depth)
 }
 
 /// The term of a parameter of a kind among the arguments of a header, if it is known at a depth.
@@ -104,7 +105,7 @@ fn known_part(
 fn known_arg(
     setting: &Setting<'_>,
     terms: &mut TermTable,
-    faults: &mut Vec<DelayedFault>,
+    effects: &mut Effects,
     number: usize,
     kind: ParamKind,
     header: &[GenericArg],
@@ -115,12 +116,12 @@ fn known_arg(
     ensures kept { Keeps terms.old terms.new }
     ensures within { IfOk result (OptionIn terms.new) }
     ensures stops { is_headline setting.now.typing_mode.now ≡ true → IfErr result (λ s. s ≡ Stop.OutOfMemory) }
-    ensures says { IfOk result (λ o. (m : TypingMode) → StandsFor setting.now.typing_mode.now m → SaysKnown (level_in setting.now m depth) (header_terms header.now) (erased_all terms.old given.now) kind number (option_map (erased_at terms.new) o)) }
+    ensures says { IfOk result (λ o. (m : TypingMode) → RunsFor setting.now m → SaysKnown (level_in setting.now m depth) (header_terms header.now) (erased_all terms.old given.now) kind number (option_map (erased_at terms.new) o)) }
 {
     match kind {
         ParamKind::Lifetime => Ok(None),
-        ParamKind::Ty => known_part(setting, terms, faults, number, header, given, depth),
-        ParamKind::Const => known_part(setting, terms, faults, number, header, given, depth),
+        ParamKind::Ty => known_part(setting, terms, effects, number, header, given, depth),
+        ParamKind::Const => known_part(setting, terms, effects, number, header, given, depth),
     }
 }
 
@@ -129,7 +130,7 @@ fn known_arg(
 pub fn known_args(
     setting: &Setting<'_>,
     terms: &mut TermTable,
-    faults: &mut Vec<DelayedFault>,
+    effects: &mut Effects,
     params: &[ParamKind],
     header: &[GenericArg],
     given: &[TermId],
@@ -144,7 +145,7 @@ pub fn known_args(
 {
     let mut known = Vec::new(setting.allocator());
     for i in 0..params.len() {
-        let next = known_arg(setting, terms, faults, i, params[i], header, given, depth)?;
+        let next = known_arg(setting, terms, effects, i, params[i], header, given, depth)?;
         add_known(&mut known, next)?;
     }
     Ok(known)

@@ -6,15 +6,16 @@ ghost use Rattle.goal_kinds.specs.Headers.{under};
 ghost use Rattle.goal_kinds.specs.Interned.{AreIn, erased_all};
 ghost use Rattle.goal_kinds.specs.Words.{Pairs};
 ghost use Rattle.goal_kinds.specs.Settings.{is_headline};
-ghost use Rattle.goal_solver.specs.Outcomes.{StandsFor, level_in, header_terms, SaysMatch, MatchIn};
+ghost use Rattle.goal_solver.specs.Outcomes.{RunsFor, level_in, header_terms, SaysMatch, MatchIn};
 ghost use Rattle.goal_solver.specs.HeaderWords.{KnownIn, known_trees, AreFilled, is_complete, TestOutcome, KnownOutcome, MatchOutcome};
 
+use crate::eval::effects::Effects;
 use crate::eval::outcomes::{HeaderMatch, Outcome, Setting, Stop};
 use crate::relate::equality::compare_lists;
 use crate::relate::header_args::{filled_args, instances, is_complete};
 use crate::relate::header_clashes::header_clashes;
 use crate::relate::header_parts::known_args;
-use goal_terms::answers::{DelayedFault, ParamKind};
+use goal_terms::answers::ParamKind;
 use goal_terms::term_nodes::TermId;
 use goal_terms::term_table::TermTable;
 use goal_terms::terms::GenericArg;
@@ -24,7 +25,7 @@ use goal_terms::terms::GenericArg;
 fn instances_fit(
     setting: &Setting<'_>,
     terms: &mut TermTable,
-    faults: &mut Vec<DelayedFault>,
+    effects: &mut Effects,
     header: &[GenericArg],
     given: &[TermId],
     args: &[TermId],
@@ -37,7 +38,7 @@ fn instances_fit(
     ensures says { IfOk result (TestOutcome setting.now depth (λ L. Pairs L.equal (map (under (erased_all terms.old args.now)) (header_terms header.now)) (erased_all terms.old given.now))) }
 {
     let ids = instances(setting.allocator(), terms, header, args)?;
-    match compare_lists(setting, terms, faults, &ids, given, depth)? {
+    match compare_lists(setting, terms, effects, &ids, given, depth)? {
         Outcome::Holds => Ok(true),
         Outcome::Refuted => Ok(false),
         Outcome::Undecided => Ok(false),
@@ -49,7 +50,7 @@ fn instances_fit(
 fn match_complete(
     setting: &Setting<'_>,
     terms: &mut TermTable,
-    faults: &mut Vec<DelayedFault>,
+    effects: &mut Effects,
     params: &[ParamKind],
     header: &[GenericArg],
     given: &[TermId],
@@ -68,10 +69,10 @@ fn match_complete(
     ensures stops { is_headline setting.now.typing_mode.now ≡ true → IfErr result (λ s. s ≡ Stop.OutOfMemory) }
     ensures says { IfOk result (MatchOutcome setting.now depth params.now (header_terms header.now) (erased_all terms.old given.now) terms.new) }
 {
-    if instances_fit(setting, terms, faults, header, given, &args, depth)? {
+    if instances_fit(setting, terms, effects, header, given, &args, depth)? {
         return Ok(HeaderMatch::Fits(args));
     }
-    if header_clashes(setting, terms, faults, header, given, known, &args, depth)? {
+    if header_clashes(setting, terms, effects, header, given, known, &args, depth)? {
         return Ok(HeaderMatch::Clashes);
     }
     Ok(HeaderMatch::Known(args))
@@ -82,7 +83,7 @@ fn match_complete(
 fn match_incomplete(
     setting: &Setting<'_>,
     terms: &mut TermTable,
-    faults: &mut Vec<DelayedFault>,
+    effects: &mut Effects,
     params: &[ParamKind],
     header: &[GenericArg],
     given: &[TermId],
@@ -101,7 +102,7 @@ fn match_incomplete(
     ensures stops { is_headline setting.now.typing_mode.now ≡ true → IfErr result (λ s. s ≡ Stop.OutOfMemory) }
     ensures says { IfOk result (MatchOutcome setting.now depth params.now (header_terms header.now) (erased_all terms.old given.now) terms.new) }
 {
-    if header_clashes(setting, terms, faults, header, given, known, args, depth)? {
+    if header_clashes(setting, terms, effects, header, given, known, args, depth)? {
         Ok(HeaderMatch::Clashes)
     } else {
         Ok(HeaderMatch::Unknown)
@@ -113,7 +114,7 @@ fn match_incomplete(
 fn match_known(
     setting: &Setting<'_>,
     terms: &mut TermTable,
-    faults: &mut Vec<DelayedFault>,
+    effects: &mut Effects,
     params: &[ParamKind],
     header: &[GenericArg],
     given: &[TermId],
@@ -132,11 +133,11 @@ fn match_known(
     let args = filled_args(setting.allocator(), terms, known)?;
     if is_complete(params, known) {
         match_complete(
-            setting, terms, faults, params, header, given, known, args, depth,
+            setting, terms, effects, params, header, given, known, args, depth,
         )
     } else {
         match_incomplete(
-            setting, terms, faults, params, header, given, known, &args, depth,
+            setting, terms, effects, params, header, given, known, &args, depth,
         )
     }
 }
@@ -148,7 +149,7 @@ fn match_known(
 pub fn match_header(
     setting: &Setting<'_>,
     terms: &mut TermTable,
-    faults: &mut Vec<DelayedFault>,
+    effects: &mut Effects,
     params: &[ParamKind],
     header: &[GenericArg],
     given: &[TermId],
@@ -158,8 +159,8 @@ pub fn match_header(
     ensures kept { Keeps terms.old terms.new }
     ensures within { IfOk result (MatchIn terms.new) }
     ensures stops { is_headline setting.now.typing_mode.now ≡ true → IfErr result (λ s. s ≡ Stop.OutOfMemory) }
-    ensures says { (m : TypingMode) → StandsFor setting.now.typing_mode.now m → IfOk result (SaysMatch (level_in setting.now m depth) params.now (header_terms header.now) (erased_all terms.old given.now) terms.new) }
+    ensures says { (m : TypingMode) → RunsFor setting.now m → IfOk result (SaysMatch (level_in setting.now m depth) params.now (header_terms header.now) (erased_all terms.old given.now) terms.new) }
 {
-    let known = known_args(setting, terms, faults, params, header, given, depth)?;
-    match_known(setting, terms, faults, params, header, given, &known, depth)
+    let known = known_args(setting, terms, effects, params, header, given, depth)?;
+    match_known(setting, terms, effects, params, header, given, &known, depth)
 }

@@ -12,8 +12,9 @@ ghost use Rattle.goal_solver.specs.Relating.{IsRelated, ChangesInference, Agrees
 ghost use Rattle.goal_solver.specs.Settled.{HoldsWithMemory, AreSettledIn, outcome_in, IsPlainOrSame};
 ghost use Rattle.goal_solver.specs.State.{kinds_of};
 
+use crate::eval::effects::Effects;
 use crate::context::EvalCtxt;
-use crate::eval::outcomes::{Outcome, Setting, Stop};
+use crate::eval::outcomes::{OnAccess, Outcome, Setting, Stop};
 use crate::relate::resolved::relate_resolved_lists;
 use goal_infer::followed::follow_all;
 use goal_infer::unify::Unified;
@@ -85,19 +86,20 @@ impl EvalCtxt<'_> {
         ensures same { all_bound self.old (erased_all self.old.terms left.now) ≡ all_bound self.old (erased_all self.old.terms right.now) → HoldsWithMemory result }
         ensures stops { is_headline self.old.typing_mode ≡ true → IfErr result (λ s. s ≡ Stop.OutOfMemory) }
     {
-        let mut faults = Vec::new(self.allocator());
+        let mut effects = Effects::new(self.allocator());
         let lefts = follow_all(&mut self.terms, &self.inference, left)?;
         let rights = follow_all(&mut self.terms, &self.inference, right)?;
         let opens = !some_in_env(NodeTest::IsAnyInfer, environment);
         let setting = Setting {
             rows: self.tables.rows(),
             typing_mode: &self.typing_mode,
+            on_access: OnAccess::Stop,
             environment,
         };
         relate_resolved_lists(
             &setting,
             &mut self.terms,
-            &mut faults,
+            &mut effects,
             &lefts,
             &rights,
             opens,

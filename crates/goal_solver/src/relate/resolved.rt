@@ -7,11 +7,11 @@ ghost use Rattle.goal_kinds.specs.Settings.{is_headline};
 ghost use Rattle.goal_solver.specs.Pending.{AreOfOneKind, AreListsOfOneKind, NeedForms};
 ghost use Rattle.goal_solver.specs.Settled.{IsSettled, AreSettled, HoldsWithMemory};
 
+use crate::eval::effects::Effects;
 use crate::eval::id_lists::own_list;
 use crate::eval::outcomes::{Outcome, Setting, Stop};
 use crate::relate::equality::compare_terms;
 use crate::relate::pairs::{Tops, compare_tops};
-use goal_terms::answers::DelayedFault;
 use goal_terms::term_nodes::TermId;
 use goal_terms::term_table::TermTable;
 
@@ -23,7 +23,7 @@ use goal_terms::term_table::TermTable;
 pub(crate) fn relate_resolved(
     setting: &Setting<'_>,
     terms: &mut TermTable,
-    faults: &mut Vec<DelayedFault>,
+    effects: &mut Effects,
     left: TermId,
     right: TermId,
     opens: bool,
@@ -37,11 +37,11 @@ pub(crate) fn relate_resolved(
 {
     match compare_tops(terms, left, right) {
         Tops::Settled(outcome) => Ok(outcome),
-        Tops::NeedForms => relate_resolved_forms(setting, terms, faults, left, right, opens, depth),
+        Tops::NeedForms => relate_resolved_forms(setting, terms, effects, left, right, opens, depth),
         Tops::NeedParts => {
             let parts = own_list(setting, terms.parts(left))?;
             let others = own_list(setting, terms.parts(right))?;
-            relate_resolved_lists(setting, terms, faults, &parts, &others, opens, depth)
+            relate_resolved_lists(setting, terms, effects, &parts, &others, opens, depth)
         }
     }
 }
@@ -60,7 +60,7 @@ fn stays_open(terms: &TermTable, left: TermId, right: TermId, opens: bool) -> bo
 fn relate_resolved_forms(
     setting: &Setting<'_>,
     terms: &mut TermTable,
-    faults: &mut Vec<DelayedFault>,
+    effects: &mut Effects,
     left: TermId,
     right: TermId,
     opens: bool,
@@ -75,7 +75,7 @@ fn relate_resolved_forms(
     if stays_open(terms, left, right, opens) {
         return Ok(Outcome::Undecided);
     }
-    compare_terms(setting, terms, faults, left, right, depth)
+    compare_terms(setting, terms, effects, left, right, depth)
 }
 
 /// What two lists of terms come to in pairs, as `settle` says it of two terms. Lists of unlike lengths are
@@ -84,7 +84,7 @@ fn relate_resolved_forms(
 pub(crate) fn relate_resolved_lists(
     setting: &Setting<'_>,
     terms: &mut TermTable,
-    faults: &mut Vec<DelayedFault>,
+    effects: &mut Effects,
     left: &[TermId],
     right: &[TermId],
     opens: bool,
@@ -105,7 +105,7 @@ pub(crate) fn relate_resolved_lists(
         if outcome.is_refuted() {
             return Ok(Outcome::Refuted);
         }
-        let next = relate_resolved(setting, terms, faults, left[i], right[i], opens, depth)?;
+        let next = relate_resolved(setting, terms, effects, left[i], right[i], opens, depth)?;
         outcome = outcome.and(next);
     }
     Ok(outcome)

@@ -5,14 +5,15 @@ ghost use Rattle.goal_terms.specs.declared.modes.TypingMode.{TypingMode};
 ghost use Rattle.goal_kinds.specs.Interned.{AreIn, erased_at, erased_all};
 ghost use Rattle.goal_kinds.specs.Settings.{is_headline};
 ghost use Rattle.goal_solver.specs.AskedTraits.{AskedIn};
-ghost use Rattle.goal_solver.specs.Outcomes.{StandsFor, setting_in, level_in, SaysThrough};
+ghost use Rattle.goal_solver.specs.Outcomes.{RunsFor, setting_in, level_in, SaysThrough};
 ghost use Rattle.goal_solver.specs.TraitOutcomes.{SaysClasses};
 
+use crate::eval::effects::Effects;
 use crate::assembly::candidates::{AskedTrait, class_outcome};
 use crate::eval::head_forms::head_form;
 use crate::eval::outcomes::{Found, Setting, Stop, TraitOutcome};
 use crate::eval::self_types::{split_self_type, with_self_type};
-use goal_terms::answers::{DelayedFault, TraitGoalProvenVia};
+use goal_terms::answers::TraitGoalProvenVia;
 use goal_terms::ids::TraitId;
 use goal_terms::term_nodes::TermId;
 use goal_terms::term_table::TermTable;
@@ -22,7 +23,7 @@ use goal_terms::term_table::TermTable;
 pub fn evaluate_trait_goal(
     setting: &Setting<'_>,
     terms: &mut TermTable,
-    faults: &mut Vec<DelayedFault>,
+    effects: &mut Effects,
     trait_id: TraitId,
     args: &[TermId],
     depth: u32,
@@ -30,7 +31,7 @@ pub fn evaluate_trait_goal(
     requires { AreIn terms.old args.now }
     ensures kept { Keeps terms.old terms.new }
     ensures stops { is_headline setting.now.typing_mode.now ≡ true → IfErr result (λ s. s ≡ Stop.OutOfMemory) }
-    ensures says { (m : TypingMode) → StandsFor setting.now.typing_mode.now m → IfOk result (SaysThrough (λ c. (level_in setting.now m depth).through c trait_id (erased_all terms.old args.now)) ((level_in setting.now m depth).trait_refuted trait_id (erased_all terms.old args.now))) }
+    ensures says { (m : TypingMode) → RunsFor setting.now m → IfOk result (SaysThrough (λ c. (level_in setting.now m depth).through c trait_id (erased_all terms.old args.now)) ((level_in setting.now m depth).trait_refuted trait_id (erased_all terms.old args.now))) }
 {
     if depth == 0 {
         return Ok(TraitOutcome::Undecided);
@@ -38,7 +39,7 @@ pub fn evaluate_trait_goal(
     let Some((first, rest)) = split_self_type(args) else {
         return Ok(TraitOutcome::Undecided);
     };
-    match head_form(setting, terms, faults, first, depth - 1)? {
+    match head_form(setting, terms, effects, first, depth - 1)? {
         Found::Undecided => Ok(TraitOutcome::Undecided),
         Found::Refuted => Ok(TraitOutcome::Refuted),
         Found::Is(self_ty) => {
@@ -49,7 +50,7 @@ pub fn evaluate_trait_goal(
                 self_ty,
                 args: replaced.as_slice(),
             };
-            decide_trait(setting, terms, faults, &asked, depth - 1)
+            decide_trait(setting, terms, effects, &asked, depth - 1)
         }
     }
 }
@@ -60,7 +61,7 @@ pub fn evaluate_trait_goal(
 fn decide_trait(
     setting: &Setting<'_>,
     terms: &mut TermTable,
-    faults: &mut Vec<DelayedFault>,
+    effects: &mut Effects,
     asked: &AskedTrait<'_>,
     depth: u32,
 ) -> Result<TraitOutcome, Stop>
@@ -68,20 +69,20 @@ fn decide_trait(
     requires plain { asked.now.constness ≡ None }
     ensures kept { Keeps terms.old terms.new }
     ensures stops { is_headline setting.now.typing_mode.now ≡ true → IfErr result (λ s. s ≡ Stop.OutOfMemory) }
-    ensures says { (m : TypingMode) → StandsFor setting.now.typing_mode.now m → IfOk result (SaysClasses (setting_in setting.now m) (level_in setting.now m depth) asked.now.trait_id (erased_at terms.old asked.now.self_ty) (erased_all terms.old asked.now.args.now)) }
+    ensures says { (m : TypingMode) → RunsFor setting.now m → IfOk result (SaysClasses (setting_in setting.now m) (level_in setting.now m depth) asked.now.trait_id (erased_at terms.old asked.now.self_ty) (erased_all terms.old asked.now.args.now)) }
 {
     let class = TraitGoalProvenVia::ParamEnv;
-    let environment = class_outcome(setting, terms, faults, asked, class, depth)?;
+    let environment = class_outcome(setting, terms, effects, asked, class, depth)?;
     if let Some(decided) = environment.through(class) {
         return Ok(decided);
     }
     let class = TraitGoalProvenVia::AliasBound;
-    let bounds = class_outcome(setting, terms, faults, asked, class, depth)?;
+    let bounds = class_outcome(setting, terms, effects, asked, class, depth)?;
     if let Some(decided) = bounds.through(class) {
         return Ok(decided);
     }
     let class = TraitGoalProvenVia::Misc;
-    let rest = class_outcome(setting, terms, faults, asked, class, depth)?;
+    let rest = class_outcome(setting, terms, effects, asked, class, depth)?;
     match rest.through(class) {
         Some(decided) => Ok(decided),
         None => Ok(TraitOutcome::Refuted),

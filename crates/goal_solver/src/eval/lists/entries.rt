@@ -11,13 +11,13 @@ ghost use Rattle.goal_kinds.specs.Settings.{is_headline as is_of_headline};
 ghost use Rattle.goal_solver.specs.Lists.{AtEachLevel, NamedIn, named_at, RunIn, RunsOn, SaysNamed, SaysHeader, SaysTerm, SaysRow, numbered_at, chosen_term};
 ghost use Rattle.goal_solver.specs.Outcomes.{FoundIn, MatchIn};
 
-use crate::context::records::enter_fault;
+use crate::eval::effects::Effects;
 use crate::eval::head_forms::{head_form, head_form_under};
 use crate::eval::id_lists::{joined, own_list};
 use crate::eval::instances::{header_of_type, instances_of};
 use crate::eval::lists::progress::{ListRun, Reached};
 use crate::eval::mode_tests::is_headline;
-use crate::eval::outcomes::{Found, HeaderMatch, Outcome, Setting, Stop};
+use crate::eval::outcomes::{Found, HeaderMatch, OnAccess, Outcome, Setting, Stop};
 use crate::eval::premises::{clauses_outcome, conditions_outcome, predicate_outcome};
 use crate::relate::equality::compare_lists;
 use crate::relate::headers::match_header;
@@ -38,12 +38,12 @@ pub enum RowPremises<'t> {
     Conditions(BoundConstness, &'t [TraitRef]),
 }
 
-/// Runs an entry at a depth. An access in a mode that isn't one of the headline stops the run.
+/// Runs an entry at a depth. An access in a mode that isn't one of the headline stops the run, or is recorded.
 #[cycle(closed)]
 pub(crate) fn run_entry(
     setting: &Setting<'_>,
     terms: &mut TermTable,
-    faults: &mut Vec<DelayedFault>,
+    effects: &mut Effects,
     run: &mut ListRun,
     entry: &InternedEntry<'_>,
     depth: u32,
@@ -53,42 +53,42 @@ pub(crate) fn run_entry(
     ensures kept { Keeps terms.old terms.new }
     ensures within { IfOk result (λ _. RunIn terms.new run.new) }
     ensures stops { is_of_headline setting.now.typing_mode.now ≡ true → IfErr result (λ s. s ≡ Stop.OutOfMemory) }
-    ensures reads { is_of_headline setting.now.typing_mode.now ≡ false → IfOk result (λ _. IsAccess (entry_at terms.old entry.now) → ⊥) }
+    ensures reads { setting.now.on_access ≡ OnAccess.Stop → is_of_headline setting.now.typing_mode.now ≡ false → IfOk result (λ _. IsAccess (entry_at terms.old entry.now) → ⊥) }
     ensures says { AtEachLevel setting.now depth (λ L. IfOk result (RunsOn L terms.old run.old entry.now terms.new run.new)) }
 {
     match entry {
         InternedEntry::Arguments(arguments) => {
-            let found = arguments_match(setting, terms, faults, &run.named, arguments, depth)?;
+            let found = arguments_match(setting, terms, effects, &run.named, arguments, depth)?;
             let reached = run.name(found)?;
             Ok(reached)
         }
         InternedEntry::Expected(term) => {
-            let found = term_found(setting, terms, faults, &run.named, term, depth)?;
+            let found = term_found(setting, terms, effects, &run.named, term, depth)?;
             Ok(run.give(terms, found))
         }
         InternedEntry::EqualTerms(left, right) => {
-            let outcome = compare_lists(setting, terms, faults, left, right, depth)?;
+            let outcome = compare_lists(setting, terms, effects, left, right, depth)?;
             Ok(run.ask(outcome))
         }
         InternedEntry::Clause(_, predicate) => {
-            let outcome = predicate_outcome(setting, terms, faults, predicate, depth)?;
+            let outcome = predicate_outcome(setting, terms, effects, predicate, depth)?;
             Ok(run.ask(outcome))
         }
         InternedEntry::RowClauses(clauses, number) => {
             let args = named_args(&run.named, *number);
             let row = RowPremises::Clauses(clauses);
-            let outcome = row_outcome(setting, terms, faults, row, args, depth)?;
+            let outcome = row_outcome(setting, terms, effects, row, args, depth)?;
             Ok(run.ask(outcome))
         }
         InternedEntry::RowConditions(constness, refs, number) => {
             let args = named_args(&run.named, *number);
             let row = RowPremises::Conditions(*constness, refs);
-            let outcome = row_outcome(setting, terms, faults, row, args, depth)?;
+            let outcome = row_outcome(setting, terms, effects, row, args, depth)?;
             Ok(run.ask(outcome))
         }
-        InternedEntry::Access(access) => reads_mode(setting, *access),
+        InternedEntry::Access(access) => reads_mode(setting, effects, *access),
         InternedEntry::DelayedFault(fault) => {
-            enter_fault(faults, *fault)?;
+            effects.meet_fault(*fault)?;
             Ok(Reached::Next)
         }
         InternedEntry::Evaluation => Ok(Reached::Next),
@@ -97,16 +97,26 @@ pub(crate) fn run_entry(
     }
 }
 
-/// Goes on after an access, in a mode of the headline.
-fn reads_mode(setting: &Setting<'_>, access: OpaqueAccess) -> Result<Reached, Stop>
+/// Goes on after an access: in a mode of the headline, and where the run records it. An access without an
+/// answer in the erased mode ends every run in another mode.
+fn reads_mode(
+    setting: &Setting<'_>,
+    effects: &mut Effects,
+    access: OpaqueAccess,
+) -> Result<Reached, Stop>
     ensures next { IfOk result (λ r. r ≡ Reached.Next) }
-    ensures headline { IfOk result (λ _. is_of_headline setting.now.typing_mode.now ≡ true) }
+    ensures headline { setting.now.on_access ≡ OnAccess.Stop → IfOk result (λ _. is_of_headline setting.now.typing_mode.now ≡ true) }
     ensures stops { is_of_headline setting.now.typing_mode.now ≡ true → IfErr result (λ s. s ≡ Stop.OutOfMemory) }
 {
     if is_headline(setting.typing_mode) {
-        Ok(Reached::Next)
-    } else {
-        Err(Stop::ReadsMode(access))
+        return Ok(Reached::Next);
+    }
+    match (setting.on_access, access) {
+        (OnAccess::Stop, _) | (_, OpaqueAccess::Always) => Err(Stop::ReadsMode(access)),
+        (OnAccess::Record, _) => {
+            effects.read_mode(access)?;
+            Ok(Reached::Next)
+        }
     }
 }
 
@@ -123,7 +133,7 @@ fn named_args(named: &[Vec<TermId>], number: usize) -> Option<&[TermId]>
 fn arguments_match(
     setting: &Setting<'_>,
     terms: &mut TermTable,
-    faults: &mut Vec<DelayedFault>,
+    effects: &mut Effects,
     named: &[Vec<TermId>],
     arguments: &InternedArguments<'_>,
     depth: u32,
@@ -141,14 +151,14 @@ fn arguments_match(
             Ok(HeaderMatch::Fits(args))
         }
         InternedArguments::OfHeader(header, given) => {
-            header_match(setting, terms, faults, header, given, depth)
+            header_match(setting, terms, effects, header, given, depth)
         }
         InternedArguments::OfOtherHeader(header, of, number) => {
             let Some(args) = named_args(named, *number) else {
                 return Ok(HeaderMatch::Unknown);
             };
             let given = instances_of(setting, terms, of, args)?;
-            header_match(setting, terms, faults, header, &given, depth)
+            header_match(setting, terms, effects, header, &given, depth)
         }
         InternedArguments::FollowedBy(number, own) => {
             let Some(args) = named_args(named, *number) else {
@@ -165,7 +175,7 @@ fn arguments_match(
 fn header_match(
     setting: &Setting<'_>,
     terms: &mut TermTable,
-    faults: &mut Vec<DelayedFault>,
+    effects: &mut Effects,
     header: &RowHeader<'_>,
     given: &[TermId],
     depth: u32,
@@ -178,11 +188,11 @@ fn header_match(
 {
     match header.terms {
         HeaderTerms::Arguments(args) => {
-            match_header(setting, terms, faults, header.params, args, given, depth)
+            match_header(setting, terms, effects, header.params, args, given, depth)
         }
         HeaderTerms::SelfType(ty) => {
             let made = header_of_type(setting, ty)?;
-            match_header(setting, terms, faults, header.params, &made, given, depth)
+            match_header(setting, terms, effects, header.params, &made, given, depth)
         }
     }
 }
@@ -193,7 +203,7 @@ fn header_match(
 fn row_outcome(
     setting: &Setting<'_>,
     terms: &mut TermTable,
-    faults: &mut Vec<DelayedFault>,
+    effects: &mut Effects,
     row: RowPremises<'_>,
     args: Option<&[TermId]>,
     depth: u32,
@@ -208,11 +218,11 @@ fn row_outcome(
     };
     match row {
         RowPremises::Clauses(clauses) => {
-            clauses_outcome(setting, terms, faults, clauses, args, depth)
+            clauses_outcome(setting, terms, effects, clauses, args, depth)
         }
         RowPremises::Conditions(constness, refs) => {
             let conditions = traits_under(terms, refs, args)?;
-            conditions_outcome(setting, terms, faults, constness, &conditions, depth)
+            conditions_outcome(setting, terms, effects, constness, &conditions, depth)
         }
     }
 }
@@ -222,7 +232,7 @@ fn row_outcome(
 fn term_found(
     setting: &Setting<'_>,
     terms: &mut TermTable,
-    faults: &mut Vec<DelayedFault>,
+    effects: &mut Effects,
     named: &[Vec<TermId>],
     term: &InternedTerm<'_>,
     depth: u32,
@@ -236,16 +246,16 @@ fn term_found(
 {
     match term {
         InternedTerm::AsItStands(id) => Ok(Found::Is(*id)),
-        InternedTerm::HeadFormOf(id) => head_form(setting, terms, faults, *id, depth),
+        InternedTerm::HeadFormOf(id) => head_form(setting, terms, effects, *id, depth),
         InternedTerm::ValueUnder(value, number) => {
             let Some(args) = named_args(named, *number) else {
                 return Ok(Found::Undecided);
             };
             let value = value_view(value);
-            head_form_under(setting, terms, faults, value, args, depth)
+            head_form_under(setting, terms, effects, value, args, depth)
         }
         InternedTerm::ChosenBy(predicate, first, second) => {
-            let outcome = predicate_outcome(setting, terms, faults, predicate, depth)?;
+            let outcome = predicate_outcome(setting, terms, effects, predicate, depth)?;
             Ok(chosen(outcome, *first, *second))
         }
     }

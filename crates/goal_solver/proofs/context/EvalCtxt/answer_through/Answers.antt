@@ -1,4 +1,4 @@
-use Rattle.std.proofs.Common.{refl, sym, ◌∙◌, ap, subst, suc}
+use Rattle.std.proofs.Common.{refl, sym, ◌∙◌, ap, subst, suc, ⊎_elim}
 use Rattle.goal_terms.specs.NodeTests.{general_variable_at}
 use Rattle.goal_terms.specs.Tree.{node_of}
 use Rattle.goal_kinds.specs.Answers.{setting_of}
@@ -7,14 +7,15 @@ use Rattle.goal_kinds.proofs.ConsistentLemmas.{each_level_is_consistent}
 use Rattle.std.specs.Prelude.{Ok, length}
 use Rattle.goal_solver.specs.Answers.{AnswersQuietly, erased_args, level_over}
 use Rattle.goal_solver.specs.State.{State, kinds_of}
-use Rattle.goal_solver.proofs.ApplicableLemmas.{nothing-applies, nothing-applies-later, nothing-listed, found-applies, evaluated-restored}
+use Rattle.goal_solver.proofs.ApplicableLemmas.{nothing-applies, nothing-applies-later, nothing-listed, fitting-applies, given-fits}
 use Rattle.goal_solver.specs.Assembled.{level_through}
 use Rattle.goal_solver.specs.Outcomes.{FoundIn, SaysWhich}
-use Rattle.goal_solver.proofs.AnswerLemmas.{alias-unsure, owed-evaluated}
+use Rattle.goal_solver.specs.Recording.{FitsKind}
+use Rattle.goal_solver.proofs.AnswerLemmas.{alias-unsure}
 use Rattle.goal_solver.proofs.AssembledLemmas.{class-one, class-given, above-same}
 use Rattle.goal_solver.proofs.FoundAnswers.{found-sound, found-open_of_one}
 use Rattle.goal_solver.proofs.GoingBackLemmas.{goes_back-same}
-use Rattle.goal_solver.proofs.PromiseLemmas.{nothing-named, empty-maybe}
+use Rattle.goal_solver.proofs.PromiseLemmas.{found-lists, unsure-lists, maybe-lists, nothing-named, empty-maybe}
 use Rattle.goal_solver.proofs.context.EvalCtxt.answer_through.Goals as goal
 
 pub returns-in_default-clause-goes_back : goal.returns-in_default-clause-goes_back
@@ -52,7 +53,7 @@ returns-in-Ok-Is-clause-decided c = λ m n owed closed expected undecided.
     c.class_outcome.new.self.terms c.in-Ok-Is.id c.in-Some.expected
     (subst (FoundIn c.class_outcome.new.self.terms) c.in-Ok-Is.field-0-is c.in-Ok-Is.ensures.within).0
     (subst (SaysWhich ((level_through (setting_of c.args.self.now.tables m c.args.environment.now) (level_over c.args.self.now m c.args.environment.now) c.args.class).gives c.args.asked.now.alias.kind (erased_args c.args.asked.now.alias.args.items)) ((level_through (setting_of c.args.self.now.tables m c.args.environment.now) (level_over c.args.self.now m c.args.environment.now) c.args.class).gives_refuted c.args.asked.now.alias.kind (erased_args c.args.asked.now.alias.args.items)) c.class_outcome.new.self.terms) c.in-Ok-Is.field-0-is
-    (c.in-Ok-Is.ensures.says m (owed-evaluated c.args.self.now c.class_outcome.new.self m c.class_outcome.ensures.unchanged owed)))
+    (c.in-Ok-Is.ensures.says m owed))
     c.respond_found.result (c.respond_found.ensures.yes, c.respond_found.ensures.maybe, c.respond_found.ensures.only_memory) undecided
 
 pub returns-in_default-clause-applies : goal.returns-in_default-clause-applies
@@ -67,11 +68,6 @@ returns-in-Ok-Undecided-clause-applies c = λ m s ok holds.
     nothing-applies-later c.args.self.now c.class_outcome.new.self c.class_outcome.new.self (Ok c.respond-in-Ok-Undecided.result) c.class_outcome.ensures.unchanged refl
     c.is_well_formed.ensures.storage c.respond-in-Ok-Undecided.ensures.quiet c.respond-in-Ok-Undecided.ensures.values
 
-pub returns-in-Ok-Refuted-clause-applies : goal.returns-in-Ok-Refuted-clause-applies
-returns-in-Ok-Refuted-clause-applies c = λ m s ok holds.
-    nothing-applies-later c.args.self.now c.class_outcome.new.self c.class_outcome.new.self c.refuted.result c.class_outcome.ensures.unchanged refl
-    c.is_well_formed.ensures.storage c.refuted.ensures.quiet (nothing-listed c.refuted.result c.refuted.ensures.nothing)
-
 pub returns-in-Err-clause-applies : goal.returns-in-Err-clause-applies
 returns-in-Err-clause-applies c = λ m s ok holds.
     nothing-applies-later c.args.self.now c.class_outcome.new.self c.stopped.new.self c.stopped.result c.class_outcome.ensures.unchanged c.stopped.ensures.unchanged
@@ -79,34 +75,47 @@ returns-in-Err-clause-applies c = λ m s ok holds.
 
 pub returns-in-Ok-Is-clause-applies : goal.returns-in-Ok-Is-clause-applies
 returns-in-Ok-Is-clause-applies c = λ m s ok holds.
-    found-applies c.args.self.now c.class_outcome.new.self m (suc c.args.self.now.remaining_depth) c.args.asked.now c.args.environment.now c.class_outcome.new.self.terms c.in-Ok-Is.id c.in-Some.expected c.respond_found.result
-    (evaluated-restored c.args.self.now c.class_outcome.new.self c.class_outcome.ensures.unchanged) c.is_well_formed.ensures.tables c.is_well_formed.ensures.storage
-    (sym c.is_closed_alias.ensures ∙ c.if-not-is_closed_alias.false) ok
+    fitting-applies c.args.self.now c.class_outcome.new.self c.args.asked.now c.args.environment.now c.class_outcome.new.self.terms c.in-Ok-Is.id c.in-Some.expected c.respond_found.result
+    c.class_outcome.ensures.unchanged c.is_well_formed.ensures.storage ok
     (subst (λ (s : State). AnswersQuietly (length (kinds_of s)) c.respond_found.result) c.class_outcome.ensures.unchanged c.respond_found.ensures.quiet)
     (subst (FoundIn c.class_outcome.new.self.terms) c.in-Ok-Is.field-0-is c.in-Ok-Is.ensures.within).0
+    (⊎_elim (λ fits. subst (FitsKind c.args.asked.now.alias.kind c.class_outcome.new.self.terms) c.in-Ok-Is.field-0-is fits)
+    (λ says.
+    given-fits c.args.self.now m (suc c.args.self.now.remaining_depth) c.args.asked.now c.args.environment.now c.class_outcome.new.self.terms c.in-Ok-Is.id c.is_well_formed.ensures.tables
+    (sym c.is_closed_alias.ensures ∙ c.if-not-is_closed_alias.false) ok
     ((above-same (setting_of c.args.self.now.tables m c.args.environment.now) c.args.self.now.remaining_depth c.args.asked.now.alias.kind (erased_args c.args.asked.now.alias.args.items) c.args.class holds).0 (erased_at c.class_outcome.new.self.terms c.in-Ok-Is.id)
-    (subst (SaysWhich ((level_through (setting_of c.args.self.now.tables m c.args.environment.now) (level_over c.args.self.now m c.args.environment.now) c.args.class).gives c.args.asked.now.alias.kind (erased_args c.args.asked.now.alias.args.items)) ((level_through (setting_of c.args.self.now.tables m c.args.environment.now) (level_over c.args.self.now m c.args.environment.now) c.args.class).gives_refuted c.args.asked.now.alias.kind (erased_args c.args.asked.now.alias.args.items)) c.class_outcome.new.self.terms) c.in-Ok-Is.field-0-is (c.in-Ok-Is.ensures.says m s)))
+    (subst (SaysWhich ((level_through (setting_of c.args.self.now.tables m c.args.environment.now) (level_over c.args.self.now m c.args.environment.now) c.args.class).gives c.args.asked.now.alias.kind (erased_args c.args.asked.now.alias.args.items)) ((level_through (setting_of c.args.self.now.tables m c.args.environment.now) (level_over c.args.self.now m c.args.environment.now) c.args.class).gives_refuted c.args.asked.now.alias.kind (erased_args c.args.asked.now.alias.args.items)) c.class_outcome.new.self.terms) c.in-Ok-Is.field-0-is (says m s)))) c.in-Ok-Is.ensures.fits)
     (sym (c.in-Some.ensures ∙ ap general_variable_at (c.node.ensures ∙ ap node_of c.view.ensures)))
     c.respond_found.ensures.yes
-
-pub returns-in-Ok-Refuted-clause-sound : goal.returns-in-Ok-Refuted-clause-sound
-returns-in-Ok-Refuted-clause-sound c = λ m stands.
-    alias-unsure (level_through (setting_of c.args.self.now.tables m c.args.environment.now) (level_over c.args.self.now m c.args.environment.now) c.args.class) c.args.asked.now.alias.kind (erased_args c.args.asked.now.alias.args.items) c.args.asked.now.term c.refuted.result c.refuted.ensures.unsure
-    (λ e. subst (SaysWhich ((level_through (setting_of c.args.self.now.tables m c.args.environment.now) (level_over c.args.self.now m c.args.environment.now) c.args.class).gives c.args.asked.now.alias.kind (erased_args c.args.asked.now.alias.args.items)) ((level_through (setting_of c.args.self.now.tables m c.args.environment.now) (level_over c.args.self.now m c.args.environment.now) c.args.class).gives_refuted c.args.asked.now.alias.kind (erased_args c.args.asked.now.alias.args.items)) c.class_outcome.new.self.terms) c.in-Ok-Refuted.field-0-is
-    (c.in-Ok-Refuted.ensures.says m stands))
 
 pub returns-in-Err-clause-sound : goal.returns-in-Err-clause-sound
 returns-in-Err-clause-sound c = λ m stands.
     alias-unsure (level_through (setting_of c.args.self.now.tables m c.args.environment.now) (level_over c.args.self.now m c.args.environment.now) c.args.class) c.args.asked.now.alias.kind (erased_args c.args.asked.now.alias.args.items) c.args.asked.now.term c.stopped.result c.stopped.ensures.unsure (λ e. absurd (c.stopped.ensures.never e))
-
-pub returns-in-Ok-Refuted-clause-lists : goal.returns-in-Ok-Refuted-clause-lists
-returns-in-Ok-Refuted-clause-lists c = empty-maybe c.refuted.result (nothing-listed c.refuted.result c.refuted.ensures.nothing)
-
-pub returns-in-Ok-Refuted-clause-no_class : goal.returns-in-Ok-Refuted-clause-no_class
-returns-in-Ok-Refuted-clause-no_class c = nothing-named c.refuted.result c.refuted.ensures.nothing
 
 pub returns-in-Err-clause-lists : goal.returns-in-Err-clause-lists
 returns-in-Err-clause-lists c = empty-maybe c.stopped.result (nothing-listed c.stopped.result c.stopped.ensures.nothing)
 
 pub returns-in-Err-clause-no_class : goal.returns-in-Err-clause-no_class
 returns-in-Err-clause-no_class c = nothing-named c.stopped.result c.stopped.ensures.nothing
+
+pub returns-in-Ok-Refuted-clause-sound : goal.returns-in-Ok-Refuted-clause-sound
+returns-in-Ok-Refuted-clause-sound c = λ m owed.
+    subst (SaysWhich ((level_through (setting_of c.args.self.now.tables m c.args.environment.now) (level_over c.args.self.now m c.args.environment.now) c.args.class).gives c.args.asked.now.alias.kind (erased_args c.args.asked.now.alias.args.items)) ((level_through (setting_of c.args.self.now.tables m c.args.environment.now) (level_over c.args.self.now m c.args.environment.now) c.args.class).gives_refuted c.args.asked.now.alias.kind (erased_args c.args.asked.now.alias.args.items)) c.class_outcome.new.self.terms) c.in-Ok-Refuted.field-0-is
+    (c.in-Ok-Refuted.ensures.says m owed)
+
+pub returns-in-Ok-Is-clause-gives : goal.returns-in-Ok-Is-clause-gives
+returns-in-Ok-Is-clause-gives c =
+    found-lists c.args.asked.now.term c.in-Some.expected c.respond_found.result
+    (sym (c.in-Some.ensures ∙ ap general_variable_at (c.node.ensures ∙ ap node_of c.view.ensures))) c.respond_found.ensures.gives
+
+pub returns-in-Err-clause-gives : goal.returns-in-Err-clause-gives
+returns-in-Err-clause-gives c = unsure-lists c.args.asked.now.term c.stopped.result c.stopped.ensures.unsure
+
+pub returns-in_default-clause-gives : goal.returns-in_default-clause-gives
+returns-in_default-clause-gives c = maybe-lists c.args.asked.now.term c.respond.result c.respond.ensures.certainty
+
+pub returns-then-not-is_closed_alias-clause-gives : goal.returns-then-not-is_closed_alias-clause-gives
+returns-then-not-is_closed_alias-clause-gives c = maybe-lists c.args.asked.now.term c.respond-then-not-is_closed_alias.result c.respond-then-not-is_closed_alias.ensures.certainty
+
+pub returns-in-Ok-Undecided-clause-gives : goal.returns-in-Ok-Undecided-clause-gives
+returns-in-Ok-Undecided-clause-gives c = maybe-lists c.args.asked.now.term c.respond-in-Ok-Undecided.result c.respond-in-Ok-Undecided.ensures.certainty

@@ -28,21 +28,10 @@ returns-in-Ok-Undecided-clause-applies c =
     nothing-applies-later c.args.self.now c.trait_outcome_at.new.self c.trait_outcome_at.new.self (Ok c.respond-in-Ok-Undecided.result) c.trait_outcome_at.ensures.unchanged refl
     c.is_well_formed.ensures.storage c.respond-in-Ok-Undecided.ensures.quiet c.respond-in-Ok-Undecided.ensures.values
 
-pub returns-in-Ok-Refuted-clause-applies : goal.returns-in-Ok-Refuted-clause-applies
-returns-in-Ok-Refuted-clause-applies c =
-    nothing-applies-later c.args.self.now c.trait_outcome_at.new.self c.trait_outcome_at.new.self c.refuted.result c.trait_outcome_at.ensures.unchanged refl
-    c.is_well_formed.ensures.storage c.refuted.ensures.quiet (nothing-listed c.refuted.result c.refuted.ensures.nothing)
-
 pub returns-in-Err-clause-applies : goal.returns-in-Err-clause-applies
 returns-in-Err-clause-applies c =
     nothing-applies-later c.args.self.now c.trait_outcome_at.new.self c.stopped.new.self c.stopped.result c.trait_outcome_at.ensures.unchanged c.stopped.ensures.unchanged
     c.is_well_formed.ensures.storage c.stopped.ensures.quiet (nothing-listed c.stopped.result c.stopped.ensures.nothing)
-
-pub returns-in-Ok-Refuted-clause-sound : goal.returns-in-Ok-Refuted-clause-sound
-returns-in-Ok-Refuted-clause-sound c = λ m stands.
-    trait-unsure (level (setting_of c.args.self.now.tables m c.args.environment.now) c.args.depth) c.args.trait_id (erased_args c.args.args.now) c.refuted.result c.refuted.ensures.unsure
-    (λ e. subst (SaysThrough (λ k. (level (setting_of c.args.self.now.tables m c.args.environment.now) c.args.depth).through k c.args.trait_id (erased_args c.args.args.now)) ((level (setting_of c.args.self.now.tables m c.args.environment.now) c.args.depth).trait_refuted c.args.trait_id (erased_args c.args.args.now))) c.in-Ok-Refuted.field-0-is
-    (c.in-Ok-Refuted.ensures.says m stands))
 
 pub returns-in-Err-clause-sound : goal.returns-in-Err-clause-sound
 returns-in-Err-clause-sound c = λ m stands.
@@ -51,14 +40,13 @@ returns-in-Err-clause-sound c = λ m stands.
 pub returns-in-Ok-Holds-clause-class : goal.returns-in-Ok-Holds-clause-class
 returns-in-Ok-Holds-clause-class c = λ e. yes-unsure c.respond.result.certainty (c.respond.result.proven_via ≡ None) c.respond.ensures.certainty e
 
-pub returns-in-Ok-Refuted-clause-lists : goal.returns-in-Ok-Refuted-clause-lists
-returns-in-Ok-Refuted-clause-lists c = nothing-listed c.refuted.result c.refuted.ensures.nothing
-
-pub returns-in-Ok-Refuted-clause-class : goal.returns-in-Ok-Refuted-clause-class
-returns-in-Ok-Refuted-clause-class c = unnamed-maybe c.refuted.result (nothing-named c.refuted.result c.refuted.ensures.nothing)
-
 pub returns-in-Err-clause-lists : goal.returns-in-Err-clause-lists
 returns-in-Err-clause-lists c = nothing-listed c.stopped.result c.stopped.ensures.nothing
 
 pub returns-in-Err-clause-class : goal.returns-in-Err-clause-class
 returns-in-Err-clause-class c = unnamed-maybe c.stopped.result (nothing-named c.stopped.result c.stopped.ensures.nothing)
+
+pub returns-in-Ok-Refuted-clause-sound : goal.returns-in-Ok-Refuted-clause-sound
+returns-in-Ok-Refuted-clause-sound c = λ m owed.
+    subst (SaysThrough (λ k. (level (setting_of c.args.self.now.tables m c.args.environment.now) c.args.depth).through k c.args.trait_id (erased_args c.args.args.now)) ((level (setting_of c.args.self.now.tables m c.args.environment.now) c.args.depth).trait_refuted c.args.trait_id (erased_args c.args.args.now))) c.in-Ok-Refuted.field-0-is
+    (c.in-Ok-Refuted.ensures.says m owed)

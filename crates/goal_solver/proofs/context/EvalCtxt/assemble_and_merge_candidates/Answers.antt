@@ -5,7 +5,7 @@ use Rattle.goal_solver.specs.Collecting.{kind_words}
 use Rattle.goal_solver.specs.OpenGoals.{WhenAnswered}
 use Rattle.goal_solver.specs.OpenProjections.{MergesThrough}
 use Rattle.goal_solver.specs.Promises.{AnswersGiven, AppliesGiven, asked_through}
-use Rattle.goal_solver.proofs.PromiseLemmas.{answers-trait_above, answers-through, answers-given, applies-given, owed-restored, given-parts, trait_not_projection, host_not_projection, none_through, some_through, none-some, closed-same}
+use Rattle.goal_solver.proofs.PromiseLemmas.{answers-trait_above, answers-through, answers-given, applies-given, given-parts, trait_not_projection, host_not_projection, none_through, some_through, none-some, closed-same}
 use Rattle.goal_solver.proofs.GoingBackLemmas.{goes_back-same}
 use Rattle.goal_solver.proofs.context.EvalCtxt.assemble_and_merge_candidates.Goals as goal
 
@@ -13,7 +13,6 @@ use Rattle.goal_solver.proofs.context.EvalCtxt.assemble_and_merge_candidates.Goa
 pub returns-in-TraitGoals-clause-trait_goals : goal.returns-in-TraitGoals-clause-trait_goals
 returns-in-TraitGoals-clause-trait_goals g c = λ is closed.
     answers-trait_above c.args.self.now c.merge_trait_goal.new.self c.args.goal.now.param_env.items (g.G.GoalKind.trait_asked c.args.goal.now.predicate c.args.self.now.tables) c.merge_trait_goal.result
-    (λ m owed. owed-restored c.args.self.now c.merge_trait_goal.new.self m c.merge_trait_goal.ensures.unchanged owed)
     (λ m q stands asked. c.merge_trait_goal.ensures.sound m q stands asked closed) (λ m q owed asked undecided. c.merge_trait_goal.ensures.decided m q owed asked closed undecided)
     (c.merge_trait_goal.ensures.quiet closed) (c.merge_trait_goal.ensures.lists closed) (c.merge_trait_goal.ensures.class closed) (λ asked. c.merge_trait_goal.ensures.missing closed asked)
 
@@ -73,13 +72,12 @@ returns-in-Some-clause-given g c = λ other.
     (sym (some_through g.G.GoalKind.merging c.args.proven_via (g.G.PredicateTerms.normalization c.args.goal.now.predicate) c.in-Some.class (sym c.merge_rule.ensures ∙ c.in-Projections.is) c.in-Some.is))
     (answers-given c.args.self.now c.merge_projection.new.self c.args.goal.now.param_env.items c.in-Some.class (g.G.PredicateTerms.normalization c.args.goal.now.predicate) c.merge_projection.result
     (λ p asked closed. answers-through c.args.self.now c.merge_projection.new.self c.args.goal.now.param_env.items (record { class = c.in-Some.class; asked = p }) c.merge_projection.result
-    (λ m owed. owed-restored c.args.self.now c.merge_projection.new.self m c.merge_projection.ensures.unchanged owed)
     (λ m stands. c.merge_projection.ensures.sound_through m p stands asked closed)
     (λ m n owed expected undecided. c.merge_projection.ensures.decided_through m p n owed asked closed expected undecided)
     (λ m stands proven. c.merge_projection.ensures.sound_above m p stands asked proven closed)
     (λ m n owed proven ok expected undecided. c.merge_projection.ensures.whole m p n owed asked proven ok closed expected undecided)
     (c.merge_projection.ensures.quiet (closed-same (g.G.PredicateTerms.normalization c.args.goal.now.predicate) p c.args.goal.now.param_env.items asked closed))
-    (c.merge_projection.ensures.lists p asked closed) (c.merge_projection.ensures.no_class p asked closed))
+    (c.merge_projection.ensures.gives p asked closed) (c.merge_projection.ensures.lists p asked closed) (c.merge_projection.ensures.no_class p asked closed))
     c.merge_projection.ensures.missing)
 
 pub returns-in-Some-clause-applies : goal.returns-in-Some-clause-applies

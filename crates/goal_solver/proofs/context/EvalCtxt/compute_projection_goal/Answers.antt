@@ -1,12 +1,11 @@
 use Rattle.goal_kinds.specs.Answers.{whether}
 use Rattle.goal_solver.specs.Promises.{equation_asked}
-use Rattle.goal_solver.proofs.PromiseLemmas.{answers-projection, owed-restored, no-two-disagree}
+use Rattle.goal_solver.proofs.PromiseLemmas.{answers-projection, no-two-disagree}
 use Rattle.goal_solver.proofs.context.EvalCtxt.compute_projection_goal.Goals as goal
 
 pub returns-clause-closed : goal.returns-clause-closed
 returns-clause-closed c = λ closed.
     answers-projection c.args.self.now c.projection_goal_response.new.self c.args.goal.now.param_env.items c.args.goal.now.predicate c.projection_goal_response.result
-    (λ m owed. owed-restored c.args.self.now c.projection_goal_response.new.self m c.projection_goal_response.ensures.unchanged owed)
     c.projection_goal_response.ensures.sound (λ m owed undecided. c.projection_goal_response.ensures.decided m owed closed undecided)
     c.projection_goal_response.ensures.quiet c.projection_goal_response.ensures.lists c.projection_goal_response.ensures.no_class
 

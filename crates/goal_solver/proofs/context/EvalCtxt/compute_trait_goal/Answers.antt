@@ -1,11 +1,10 @@
 use Rattle.goal_solver.specs.Promises.{trait_asked, trait_question}
-use Rattle.goal_solver.proofs.PromiseLemmas.{answers-trait, owed-restored, no-two-disagree}
+use Rattle.goal_solver.proofs.PromiseLemmas.{answers-trait, no-two-disagree}
 use Rattle.goal_solver.proofs.context.EvalCtxt.compute_trait_goal.Goals as goal
 
 pub returns-clause-closed : goal.returns-clause-closed
 returns-clause-closed c = λ closed.
     answers-trait c.args.self.now c.trait_goal_response.new.self c.args.goal.now.param_env.items (trait_asked c.args.goal.now.predicate) c.trait_goal_response.result
-    (λ m owed. owed-restored c.args.self.now c.trait_goal_response.new.self m c.trait_goal_response.ensures.unchanged owed)
     (λ m stands. c.trait_goal_response.ensures.sound m stands closed) (λ m owed undecided. c.trait_goal_response.ensures.decided m owed closed undecided)
     (c.trait_goal_response.ensures.quiet closed) (c.trait_goal_response.ensures.lists closed) (c.trait_goal_response.ensures.class closed)
 

@@ -11,8 +11,5 @@ returns-in-Ok-Refuted-clause-goes_back c = goes_back-same c.args.self.now
 pub returns-in-Ok-Undecided-clause-goes_back : goal.returns-in-Ok-Undecided-clause-goes_back
 returns-in-Ok-Undecided-clause-goes_back c = goes_back-same c.args.self.now
 
-pub returns-in-Ok-Refuted-clause-no_class : goal.returns-in-Ok-Refuted-clause-no_class
-returns-in-Ok-Refuted-clause-no_class c = nothing-named c.refuted.result c.refuted.ensures.nothing
-
 pub returns-in-Err-clause-no_class : goal.returns-in-Err-clause-no_class
 returns-in-Err-clause-no_class c = nothing-named c.stopped.result c.stopped.ensures.nothing

@@ -1,24 +1,27 @@
-use Rattle.std.proofs.Common.{arith, sym, ◌∙◌, ap, subst}
+use Rattle.std.proofs.Common.{arith, sym, ◌∙◌, ap, subst, ⊎_elim, true≢false}
 use Rattle.goal_terms.specs.NodeTests.{general_variable_at}
 use Rattle.goal_terms.specs.Tree.{node_of}
 use Rattle.goal_kinds.specs.Answers.{setting_of}
 use Rattle.goal_solver.specs.Outcomes.{FoundIn, SaysWhich}
-use Rattle.goal_solver.specs.Answers.{erased_args, level_over}
-use Rattle.goal_solver.proofs.AnswerLemmas.{alias-unsure, alias_open-ground, owed-evaluated}
+use Rattle.goal_solver.specs.Answers.{erased_args, level_over, IsAliasOpen}
+use Rattle.goal_solver.specs.Promises.{term_asked}
+use Rattle.goal_solver.proofs.RerunLemmas.{ambiguous-never}
+use Rattle.goal_solver.proofs.AnswerLemmas.{alias-unsure, alias_open-ground}
 use Rattle.goal_solver.proofs.FoundAnswers.{found-sound, found-open}
 use Rattle.goal_kinds.proofs.ConsistentLemmas.{each_level_is_consistent}
 use Rattle.goal_solver.proofs.GoingBackLemmas.{goes_back-same}
 use Rattle.std.specs.Prelude.{Ok, length}
 use Rattle.std.proofs.Common.{refl}
 use Rattle.goal_terms.specs.declared.modes.TypingMode.{TypingMode}
-use Rattle.goal_kinds.specs.Answers.{IsAnswer}
+use Rattle.goal_kinds.specs.Answers.{IsAnswer, maybe}
 use Rattle.goal_kinds.specs.Settings.{is_headline}
 use Rattle.goal_solver.specs.Answers.{AnswersQuietly, is_closed_alias}
 use Rattle.goal_solver.specs.Outcomes.{StandsFor}
+use Rattle.goal_solver.specs.Recording.{FitsKind}
 use Rattle.goal_solver.specs.State.{State, kinds_of}
-use Rattle.goal_solver.proofs.ApplicableLemmas.{nothing-applies, nothing-applies-later, nothing-listed, accepted-open, found-applies, evaluated-restored, stands-for-some}
+use Rattle.goal_solver.proofs.ApplicableLemmas.{nothing-applies, nothing-applies-later, nothing-listed, accepted-open, fitting-applies, given-fits, stands-for-some}
 use Rattle.goal_solver.specs.Answers.{expected_variable}
-use Rattle.goal_solver.proofs.PromiseLemmas.{leaves-undecided, not-at_once, nothing-named, empty-maybe}
+use Rattle.goal_solver.proofs.PromiseLemmas.{found-lists, unsure-lists, maybe-lists, leaves-undecided, not-at_once, nothing-named, empty-maybe}
 use Rattle.goal_solver.proofs.context.EvalCtxt.normalizes_to_response.Goals as goal
 
 pub returns-in_default-clause-goes_back : goal.returns-in_default-clause-goes_back
@@ -63,7 +66,7 @@ returns-in-Ok-Is-clause-decided c = λ m n owed closed expected undecided.
     c.alias_outcome.new.self.terms c.in-Ok-Is.id c.in-Some.expected
     (subst (FoundIn c.alias_outcome.new.self.terms) c.in-Ok-Is.field-0-is c.in-Ok-Is.ensures.within).0
     (subst (SaysWhich ((level_over c.args.self.now m c.args.goal.now.param_env.items).gives c.args.goal.now.predicate.alias.kind (erased_args c.args.goal.now.predicate.alias.args.items)) ((level_over c.args.self.now m c.args.goal.now.param_env.items).gives_refuted c.args.goal.now.predicate.alias.kind (erased_args c.args.goal.now.predicate.alias.args.items)) c.alias_outcome.new.self.terms) c.in-Ok-Is.field-0-is
-    (c.in-Ok-Is.ensures.says m (owed-evaluated c.args.self.now c.alias_outcome.new.self m c.alias_outcome.ensures.unchanged owed)))
+    (c.in-Ok-Is.ensures.says m owed))
     c.respond_found.result (c.respond_found.ensures.yes, c.respond_found.ensures.maybe, c.respond_found.ensures.only_memory) undecided
 
 pub returns-in_default-clause-applies : goal.returns-in_default-clause-applies
@@ -80,11 +83,6 @@ pub returns-in-Ok-Undecided-clause-applies : goal.returns-in-Ok-Undecided-clause
 returns-in-Ok-Undecided-clause-applies c = λ ok.
     nothing-applies-later c.args.self.now c.alias_outcome.new.self c.alias_outcome.new.self (Ok c.respond-in-Ok-Undecided.result) c.alias_outcome.ensures.unchanged refl
     c.is_well_formed.ensures.storage c.respond-in-Ok-Undecided.ensures.quiet c.respond-in-Ok-Undecided.ensures.values
-
-pub returns-in-Ok-Refuted-clause-applies : goal.returns-in-Ok-Refuted-clause-applies
-returns-in-Ok-Refuted-clause-applies c = λ ok.
-    nothing-applies-later c.args.self.now c.alias_outcome.new.self c.alias_outcome.new.self c.refuted.result c.alias_outcome.ensures.unchanged refl
-    c.is_well_formed.ensures.storage c.refuted.ensures.quiet (nothing-listed c.refuted.result c.refuted.ensures.nothing)
 
 pub returns-in-Err-clause-applies : goal.returns-in-Err-clause-applies
 returns-in-Err-clause-applies c = λ ok.
@@ -105,26 +103,23 @@ pub returns-in-Ok-Undecided-clause-whole : goal.returns-in-Ok-Undecided-clause-w
 unfolding IsAnswer
 returns-in-Ok-Undecided-clause-whole c = λ m n owed ok closed expected undecided.
     subst (SaysWhich ((level_over c.args.self.now m c.args.goal.now.param_env.items).gives c.args.goal.now.predicate.alias.kind (erased_args c.args.goal.now.predicate.alias.args.items)) ((level_over c.args.self.now m c.args.goal.now.param_env.items).gives_refuted c.args.goal.now.predicate.alias.kind (erased_args c.args.goal.now.predicate.alias.args.items)) c.alias_outcome.new.self.terms) c.in-Ok-Undecided.field-0-is
-    (c.in-Ok-Undecided.ensures.says m (owed-evaluated c.args.self.now c.alias_outcome.new.self m c.alias_outcome.ensures.unchanged owed))
+    (c.in-Ok-Undecided.ensures.says m owed)
 
 pub returns-in-Ok-Is-clause-applies : goal.returns-in-Ok-Is-clause-applies
 returns-in-Ok-Is-clause-applies c = λ ok.
-    let some : (m : TypingMode) × StandsFor c.args.self.now.typing_mode m = stands-for-some c.args.self.now.typing_mode (is_headline c.args.self.now.typing_mode) refl in
-    found-applies c.args.self.now c.alias_outcome.new.self some.0 c.args.self.now.remaining_depth c.args.goal.now.predicate c.args.goal.now.param_env.items c.alias_outcome.new.self.terms c.in-Ok-Is.id c.in-Some.expected c.respond_found.result
-    (evaluated-restored c.args.self.now c.alias_outcome.new.self c.alias_outcome.ensures.unchanged) c.is_well_formed.ensures.tables c.is_well_formed.ensures.storage
-    (sym (c.is_closed_alias.ensures ∙ ap (is_closed_alias c.args.goal.now.predicate.alias) c.deref.ensures.value) ∙ c.if-not-is_closed_alias.false) ok
+    fitting-applies c.args.self.now c.alias_outcome.new.self c.args.goal.now.predicate c.args.goal.now.param_env.items c.alias_outcome.new.self.terms c.in-Ok-Is.id c.in-Some.expected c.respond_found.result
+    c.alias_outcome.ensures.unchanged c.is_well_formed.ensures.storage ok
     (subst (λ (s : State). AnswersQuietly (length (kinds_of s)) c.respond_found.result) c.alias_outcome.ensures.unchanged c.respond_found.ensures.quiet)
     (subst (FoundIn c.alias_outcome.new.self.terms) c.in-Ok-Is.field-0-is c.in-Ok-Is.ensures.within).0
+    (⊎_elim (λ fits. subst (FitsKind c.args.goal.now.predicate.alias.kind c.alias_outcome.new.self.terms) c.in-Ok-Is.field-0-is fits)
+    (λ says.
+    let some : (m : TypingMode) × StandsFor c.args.self.now.typing_mode m = stands-for-some c.args.self.now.typing_mode (is_headline c.args.self.now.typing_mode) refl in
+    given-fits c.args.self.now some.0 c.args.self.now.remaining_depth c.args.goal.now.predicate c.args.goal.now.param_env.items c.alias_outcome.new.self.terms c.in-Ok-Is.id c.is_well_formed.ensures.tables
+    (sym (c.is_closed_alias.ensures ∙ ap (is_closed_alias c.args.goal.now.predicate.alias) c.deref.ensures.value) ∙ c.if-not-is_closed_alias.false) ok
     (subst (SaysWhich ((level_over c.args.self.now some.0 c.args.goal.now.param_env.items).gives c.args.goal.now.predicate.alias.kind (erased_args c.args.goal.now.predicate.alias.args.items)) ((level_over c.args.self.now some.0 c.args.goal.now.param_env.items).gives_refuted c.args.goal.now.predicate.alias.kind (erased_args c.args.goal.now.predicate.alias.args.items)) c.alias_outcome.new.self.terms) c.in-Ok-Is.field-0-is
-    (c.in-Ok-Is.ensures.says some.0 some.1))
+    (says some.0 some.1))) c.in-Ok-Is.ensures.fits)
     (sym (c.in-Some.ensures ∙ ap general_variable_at (c.node.ensures ∙ ap node_of c.view.ensures)))
     c.respond_found.ensures.yes
-
-pub returns-in-Ok-Refuted-clause-sound : goal.returns-in-Ok-Refuted-clause-sound
-returns-in-Ok-Refuted-clause-sound c = λ m stands closed.
-    alias-unsure (level_over c.args.self.now m c.args.goal.now.param_env.items) c.args.goal.now.predicate.alias.kind (erased_args c.args.goal.now.predicate.alias.args.items) c.args.goal.now.predicate.term c.refuted.result c.refuted.ensures.unsure
-    (λ e. subst (SaysWhich ((level_over c.args.self.now m c.args.goal.now.param_env.items).gives c.args.goal.now.predicate.alias.kind (erased_args c.args.goal.now.predicate.alias.args.items)) ((level_over c.args.self.now m c.args.goal.now.param_env.items).gives_refuted c.args.goal.now.predicate.alias.kind (erased_args c.args.goal.now.predicate.alias.args.items)) c.alias_outcome.new.self.terms) c.in-Ok-Refuted.field-0-is
-    (c.in-Ok-Refuted.ensures.says m stands))
 
 pub returns-in-Err-clause-sound : goal.returns-in-Err-clause-sound
 returns-in-Err-clause-sound c = λ m stands closed.
@@ -149,11 +144,6 @@ returns-in-Ok-Is-clause-at_once c = λ h.
     absurd (not-at_once c.args.self.now.remaining_depth (expected_variable c.args.goal.now.predicate.term) c.in-Some.expected (λ z. omega (arith, c.remaining_depth.ensures, c.if-remaining_depth-eq0.false))
     (sym (c.in-Some.ensures ∙ ap general_variable_at (c.node.ensures ∙ ap node_of c.view.ensures))) h)
 
-pub returns-in-Ok-Refuted-clause-at_once : goal.returns-in-Ok-Refuted-clause-at_once
-returns-in-Ok-Refuted-clause-at_once c = λ h.
-    absurd (not-at_once c.args.self.now.remaining_depth (expected_variable c.args.goal.now.predicate.term) c.in-Some.expected (λ z. omega (arith, c.remaining_depth.ensures, c.if-remaining_depth-eq0.false))
-    (sym (c.in-Some.ensures ∙ ap general_variable_at (c.node.ensures ∙ ap node_of c.view.ensures))) h)
-
 pub returns-in-Ok-Undecided-clause-at_once : goal.returns-in-Ok-Undecided-clause-at_once
 returns-in-Ok-Undecided-clause-at_once c = λ h.
     absurd (not-at_once c.args.self.now.remaining_depth (expected_variable c.args.goal.now.predicate.term) c.in-Some.expected (λ z. omega (arith, c.remaining_depth.ensures, c.if-remaining_depth-eq0.false))
@@ -164,14 +154,88 @@ returns-in-Err-clause-at_once c = λ h.
     absurd (not-at_once c.args.self.now.remaining_depth (expected_variable c.args.goal.now.predicate.term) c.in-Some.expected (λ z. omega (arith, c.remaining_depth.ensures, c.if-remaining_depth-eq0.false))
     (sym (c.in-Some.ensures ∙ ap general_variable_at (c.node.ensures ∙ ap node_of c.view.ensures))) h)
 
-pub returns-in-Ok-Refuted-clause-lists : goal.returns-in-Ok-Refuted-clause-lists
-returns-in-Ok-Refuted-clause-lists c = λ closed. empty-maybe c.refuted.result (nothing-listed c.refuted.result c.refuted.ensures.nothing)
-
-pub returns-in-Ok-Refuted-clause-no_class : goal.returns-in-Ok-Refuted-clause-no_class
-returns-in-Ok-Refuted-clause-no_class c = λ closed. nothing-named c.refuted.result c.refuted.ensures.nothing
-
 pub returns-in-Err-clause-lists : goal.returns-in-Err-clause-lists
 returns-in-Err-clause-lists c = λ closed. empty-maybe c.stopped.result (nothing-listed c.stopped.result c.stopped.ensures.nothing)
 
 pub returns-in-Err-clause-no_class : goal.returns-in-Err-clause-no_class
 returns-in-Err-clause-no_class c = λ closed. nothing-named c.stopped.result c.stopped.ensures.nothing
+
+pub returns-in-Ok-Refuted-clause-sound : goal.returns-in-Ok-Refuted-clause-sound
+returns-in-Ok-Refuted-clause-sound c = λ m owed closed.
+    subst (SaysWhich ((level_over c.args.self.now m c.args.goal.now.param_env.items).gives c.args.goal.now.predicate.alias.kind (erased_args c.args.goal.now.predicate.alias.args.items)) ((level_over c.args.self.now m c.args.goal.now.param_env.items).gives_refuted c.args.goal.now.predicate.alias.kind (erased_args c.args.goal.now.predicate.alias.args.items)) c.alias_outcome.new.self.terms) c.in-Ok-Refuted.field-0-is
+    (c.in-Ok-Refuted.ensures.says m owed)
+
+pub returns-in-Ok-Refuted-clause-at_once : goal.returns-in-Ok-Refuted-clause-at_once
+returns-in-Ok-Refuted-clause-at_once c = λ h.
+    absurd (not-at_once c.args.self.now.remaining_depth (expected_variable c.args.goal.now.predicate.term) c.in-Some.expected (λ z. omega (arith, c.remaining_depth.ensures, c.if-remaining_depth-eq0.false))
+    (sym (c.in-Some.ensures ∙ ap general_variable_at (c.node.ensures ∙ ap node_of c.view.ensures))) h)
+
+pub returns-in-Ok-Is-clause-gives : goal.returns-in-Ok-Is-clause-gives
+returns-in-Ok-Is-clause-gives c = λ closed.
+    found-lists c.args.goal.now.predicate.term c.in-Some.expected c.respond_found.result
+    (sym (c.in-Some.ensures ∙ ap general_variable_at (c.node.ensures ∙ ap node_of c.view.ensures))) c.respond_found.ensures.gives
+
+pub returns-in-Err-clause-gives : goal.returns-in-Err-clause-gives
+returns-in-Err-clause-gives c = λ closed. unsure-lists c.args.goal.now.predicate.term c.stopped.result c.stopped.ensures.unsure
+
+pub returns-in_default-clause-gives : goal.returns-in_default-clause-gives
+returns-in_default-clause-gives c = λ closed. maybe-lists c.args.goal.now.predicate.term c.respond.result c.respond.ensures.certainty
+
+pub returns-then-remaining_depth-eq0-clause-gives : goal.returns-then-remaining_depth-eq0-clause-gives
+returns-then-remaining_depth-eq0-clause-gives c = λ closed. maybe-lists c.args.goal.now.predicate.term c.respond-then-remaining_depth-eq0.result c.respond-then-remaining_depth-eq0.ensures.certainty
+
+pub returns-in-Ok-Undecided-clause-gives : goal.returns-in-Ok-Undecided-clause-gives
+returns-in-Ok-Undecided-clause-gives c = λ closed. maybe-lists c.args.goal.now.predicate.term c.respond-in-Ok-Undecided.result c.respond-in-Ok-Undecided.ensures.certainty
+
+pub returns-then-is_ambiguous-clause-goes_back : goal.returns-then-is_ambiguous-clause-goes_back
+returns-then-is_ambiguous-clause-goes_back c = goes_back-same c.args.self.now
+
+pub returns-then-is_ambiguous-clause-decided : goal.returns-then-is_ambiguous-clause-decided
+returns-then-is_ambiguous-clause-decided c = λ m n owed closed expected undecided.
+    ambiguous-never c.args.self.now c.args.goal.now.predicate.alias.kind m
+    (IsAliasOpen (level_over c.args.self.now m c.args.goal.now.param_env.items) c.args.goal.now.predicate.alias.kind (erased_args c.args.goal.now.predicate.alias.args.items))
+    (sym c.is_ambiguous.ensures ∙ c.if-is_ambiguous.true) owed
+
+pub returns-then-is_ambiguous-clause-whole : goal.returns-then-is_ambiguous-clause-whole
+returns-then-is_ambiguous-clause-whole c = λ m n owed ok closed expected undecided.
+    ambiguous-never c.args.self.now c.args.goal.now.predicate.alias.kind m
+    (IsAnswer (level_over c.args.self.now m c.args.goal.now.param_env.items) (term_asked c.args.goal.now.predicate) maybe)
+    (sym c.is_ambiguous.ensures ∙ c.if-is_ambiguous.true) owed
+
+pub returns-then-is_ambiguous-clause-applies : goal.returns-then-is_ambiguous-clause-applies
+returns-then-is_ambiguous-clause-applies c = λ ok.
+    nothing-applies c.args.self.now c.respond-then-is_ambiguous.result c.is_well_formed.ensures.storage c.respond-then-is_ambiguous.ensures.quiet c.respond-then-is_ambiguous.ensures.values
+
+pub returns-then-is_ambiguous-clause-at_once : goal.returns-then-is_ambiguous-clause-at_once
+returns-then-is_ambiguous-clause-at_once c = λ h.
+    leaves-undecided c.args.self.now c.respond-then-is_ambiguous.result c.respond-then-is_ambiguous.ensures.certainty c.respond-then-is_ambiguous.ensures.proven_via
+    c.respond-then-is_ambiguous.ensures.values c.respond-then-is_ambiguous.ensures.quiet
+
+pub returns-then-is_ambiguous-clause-gives : goal.returns-then-is_ambiguous-clause-gives
+returns-then-is_ambiguous-clause-gives c = λ closed. maybe-lists c.args.goal.now.predicate.term c.respond-then-is_ambiguous.result c.respond-then-is_ambiguous.ensures.certainty
+
+pub returns-then-is_ambiguous-clause-ambiguous : goal.returns-then-is_ambiguous-clause-ambiguous
+returns-then-is_ambiguous-clause-ambiguous c = λ closed is.
+    leaves-undecided c.args.self.now c.respond-then-is_ambiguous.result c.respond-then-is_ambiguous.ensures.certainty c.respond-then-is_ambiguous.ensures.proven_via
+    c.respond-then-is_ambiguous.ensures.values c.respond-then-is_ambiguous.ensures.quiet
+
+pub returns-in_default-clause-ambiguous : goal.returns-in_default-clause-ambiguous
+returns-in_default-clause-ambiguous c = λ closed is.
+    leaves-undecided c.args.self.now c.respond.result c.respond.ensures.certainty c.respond.ensures.proven_via c.respond.ensures.values c.respond.ensures.quiet
+
+pub returns-then-remaining_depth-eq0-clause-ambiguous : goal.returns-then-remaining_depth-eq0-clause-ambiguous
+returns-then-remaining_depth-eq0-clause-ambiguous c = λ closed is.
+    leaves-undecided c.args.self.now c.respond-then-remaining_depth-eq0.result c.respond-then-remaining_depth-eq0.ensures.certainty c.respond-then-remaining_depth-eq0.ensures.proven_via
+    c.respond-then-remaining_depth-eq0.ensures.values c.respond-then-remaining_depth-eq0.ensures.quiet
+
+pub returns-in-Ok-Is-clause-ambiguous : goal.returns-in-Ok-Is-clause-ambiguous
+returns-in-Ok-Is-clause-ambiguous c = λ closed is. absurd (true≢false (sym is ∙ sym c.is_ambiguous.ensures ∙ c.if-is_ambiguous.false))
+
+pub returns-in-Ok-Refuted-clause-ambiguous : goal.returns-in-Ok-Refuted-clause-ambiguous
+returns-in-Ok-Refuted-clause-ambiguous c = λ closed is. absurd (true≢false (sym is ∙ sym c.is_ambiguous.ensures ∙ c.if-is_ambiguous.false))
+
+pub returns-in-Ok-Undecided-clause-ambiguous : goal.returns-in-Ok-Undecided-clause-ambiguous
+returns-in-Ok-Undecided-clause-ambiguous c = λ closed is. absurd (true≢false (sym is ∙ sym c.is_ambiguous.ensures ∙ c.if-is_ambiguous.false))
+
+pub returns-in-Err-clause-ambiguous : goal.returns-in-Err-clause-ambiguous
+returns-in-Err-clause-ambiguous c = λ closed is. absurd (true≢false (sym is ∙ sym c.is_ambiguous.ensures ∙ c.if-is_ambiguous.false))

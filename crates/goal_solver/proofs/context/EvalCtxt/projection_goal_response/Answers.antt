@@ -22,18 +22,18 @@ returns-then-has_variable-clause-goes_back c = goes_back-same c.args.self.now
 
 pub returns-clause-sound : goal.returns-clause-sound
 returns-clause-sound c =
-    predicate-sound c.args.self.now c.args.goal.now.param_env.items
+    predicate-sound c.args.self.now c.projection_goal_outcome-outcome.new.self c.conclude.new.self c.args.goal.now.param_env.items
     (equation_asked c.args.goal.now.predicate)
-    c.projection_goal_outcome-outcome.result c.conclude.result
-    (equation-says_of c.args.self.now c.args.goal.now.param_env.items (erased (tree_of_alias c.args.goal.now.predicate.projection_term)) (erased (tree_of_term c.args.goal.now.predicate.term)) c.projection_goal_outcome-outcome.result c.projection_goal_outcome-outcome.ensures.says)
+    c.projection_goal_outcome-outcome.result c.conclude.result c.conclude.ensures.goes_back
+    (equation-says_of c.args.self.now c.projection_goal_outcome-outcome.new.self c.args.goal.now.param_env.items (erased (tree_of_alias c.args.goal.now.predicate.projection_term)) (erased (tree_of_term c.args.goal.now.predicate.term)) c.projection_goal_outcome-outcome.result c.projection_goal_outcome-outcome.ensures.says)
     c.conclude.ensures.yes c.conclude.ensures.no
 
 pub returns-clause-decided : goal.returns-clause-decided
 returns-clause-decided c = λ m owed closed undecided.
     predicate-decided c.args.self.now c.projection_goal_outcome-outcome.new.self c.conclude.new.self c.args.goal.now.param_env.items
     (equation_asked c.args.goal.now.predicate)
-    c.projection_goal_outcome-outcome.result c.conclude.result c.projection_goal_outcome-outcome.ensures.unchanged c.conclude.ensures.unchanged
-    (equation-says_of c.args.self.now c.args.goal.now.param_env.items (erased (tree_of_alias c.args.goal.now.predicate.projection_term)) (erased (tree_of_term c.args.goal.now.predicate.term)) c.projection_goal_outcome-outcome.result c.projection_goal_outcome-outcome.ensures.says)
+    c.projection_goal_outcome-outcome.result c.conclude.result c.projection_goal_outcome-outcome.ensures.unchanged c.conclude.ensures.goes_back
+    (equation-says_of c.args.self.now c.projection_goal_outcome-outcome.new.self c.args.goal.now.param_env.items (erased (tree_of_alias c.args.goal.now.predicate.projection_term)) (erased (tree_of_term c.args.goal.now.predicate.term)) c.projection_goal_outcome-outcome.result c.projection_goal_outcome-outcome.ensures.says)
     c.projection_goal_outcome-outcome.ensures.stops c.conclude.ensures.owed m owed undecided
 
 pub returns-then-remaining_depth-eq0-clause-applies : goal.returns-then-remaining_depth-eq0-clause-applies

@@ -111,7 +111,7 @@ returns-clause-settled c =
     settled-in _ c.args.self.now c.args.environment.now _ c.args.depth
     (all_bound c.args.self.now (erased_all c.args.self.now.terms c.args.left.now)) (all_bound c.args.self.now (erased_all c.args.self.now.terms c.args.right.now))
     (erased_all c.follow_all-2.new.table c.deref.result.now) (erased_all c.follow_all-2.new.table c.deref-2.result.now) c.relate_resolved_lists.result c.relate_resolved_lists.ensures.says
-    (c.rows.ensures.rows ∙ ap (λ (s : State). s.tables) c.self.view_is) (ap (λ (s : State). s.typing_mode) c.self.view_is) refl (ap not c.some_in_env-opens.ensures)
+    (c.rows.ensures.rows ∙ ap (λ (s : State). s.tables) c.self.view_is) (ap (λ (s : State). s.typing_mode) c.self.view_is) refl refl (ap not c.some_in_env-opens.ensures)
     (lefts (goal.at.returns-clause-settled c).After-relate_resolved_lists) (rights (goal.at.returns-clause-settled c).After-relate_resolved_lists)
 
 pub returns-clause-same : goal.returns-clause-same

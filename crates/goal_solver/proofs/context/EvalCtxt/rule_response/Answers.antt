@@ -73,8 +73,5 @@ returns-in-Ok-Undecided-clause-listed c = subst (λ es. AreListed es c.args.self
 pub returns-in-Err-clause-listed : goal.returns-in-Err-clause-listed
 returns-in-Err-clause-listed c = listed-kept c.args.self.now c.run_entries.new.self c.stopped.new.self c.args.rule.now.entries.items c.stopped.ensures.faults (subst (λ es. AreListed es c.args.self.now c.run_entries.new.self) c.deref-2.ensures.value c.run_entries.ensures.listed)
 
-pub returns-in-Ok-Refuted-clause-recorded : goal.returns-in-Ok-Refuted-clause-recorded
-returns-in-Ok-Refuted-clause-recorded c = unsure-recorded c.run_entries.new.self c.args.rule.now.entries.items c.refuted.result c.refuted.ensures.unsure
-
 pub returns-in-Err-clause-recorded : goal.returns-in-Err-clause-recorded
 returns-in-Err-clause-recorded c = unsure-recorded c.stopped.new.self c.args.rule.now.entries.items c.stopped.result c.stopped.ensures.unsure

@@ -4,7 +4,6 @@ use Rattle.goal_kinds.proofs.ConsistentLemmas.{each_level_is_consistent}
 use Rattle.goal_solver.specs.Answers.{level_over}
 use Rattle.goal_solver.specs.HeadForms.{bound_term, IsFormFound}
 use Rattle.goal_solver.specs.Outcomes.{FoundIn}
-use Rattle.goal_solver.proofs.AnswerLemmas.{goes_back-grown, owed-grown}
 use Rattle.goal_solver.proofs.FormAnswerLemmas.{found-left_open}
 use Rattle.goal_solver.proofs.context.EvalCtxt.structurally_normalize_term.Goals as goal
 
@@ -15,14 +14,14 @@ returns-in-Ok-Is-clause-decided c = λ m owed closed none.
     (bound_term c.args.self.now c.args.term.now) c.form_outcome.new.self.terms c.in-Ok-Is.id
     (subst (FoundIn c.form_outcome.new.self.terms) c.in-Ok-Is.field-0-is c.in-Ok-Is.ensures.within).0
     (subst (IsFormFound (level_over c.args.self.now m c.args.environment.now) (bound_term c.args.self.now c.args.term.now) c.form_outcome.new.self.terms) c.in-Ok-Is.field-0-is
-    (c.in-Ok-Is.ensures.sound m (owed-grown c.args.self.now c.form_outcome.new.self m c.form_outcome.ensures.unchanged owed)))
+    (c.in-Ok-Is.ensures.sound m owed))
     c.form_at.result (c.form_at.ensures.found, c.form_at.ensures.none, c.form_at.ensures.only_memory) none
 
 pub returns-in-Ok-Is-clause-goes_back : goal.returns-in-Ok-Is-clause-goes_back
-returns-in-Ok-Is-clause-goes_back c = goes_back-grown c.args.self.now c.form_outcome.new.self c.form_outcome.ensures.unchanged c.form_outcome.ensures.kept
+returns-in-Ok-Is-clause-goes_back c = c.form_outcome.ensures.goes_back
 
 pub returns-in-Ok-Refuted-clause-goes_back : goal.returns-in-Ok-Refuted-clause-goes_back
-returns-in-Ok-Refuted-clause-goes_back c = goes_back-grown c.args.self.now c.form_outcome.new.self c.form_outcome.ensures.unchanged c.form_outcome.ensures.kept
+returns-in-Ok-Refuted-clause-goes_back c = c.form_outcome.ensures.goes_back
 
 pub returns-in-Ok-Undecided-clause-goes_back : goal.returns-in-Ok-Undecided-clause-goes_back
-returns-in-Ok-Undecided-clause-goes_back c = goes_back-grown c.args.self.now c.form_outcome.new.self c.form_outcome.ensures.unchanged c.form_outcome.ensures.kept
+returns-in-Ok-Undecided-clause-goes_back c = c.form_outcome.ensures.goes_back

@@ -39,4 +39,4 @@ returns-clause-says c =
     let none : (some_node is_any_infer (tree_at c.args.terms.now c.args.left) ≡ false) × (some_node is_any_infer (tree_at c.args.terms.now c.args.right) ≡ false) =
     out-of-the-way c.args.opens (some_node is_any_infer (tree_at c.args.terms.now c.args.left)) (some_node is_any_infer (tree_at c.args.terms.now c.args.right)) (sym c.stays_open.ensures ∙ c.if-stays_open.false) in
     settled-closed c.args.setting.now c.args.opens c.args.depth (erased_at c.args.terms.now c.args.left) (erased_at c.args.terms.now c.args.right) c.compare_terms.result
-    (closed-erased (tree_at c.args.terms.now c.args.left) ∙ none.0) (closed-erased (tree_at c.args.terms.now c.args.right) ∙ none.1) c.compare_terms.ensures.says
+    (closed-erased (tree_at c.args.terms.now c.args.left) ∙ none.0) (closed-erased (tree_at c.args.terms.now c.args.right) ∙ none.1) c.requires.forms.1 c.compare_terms.ensures.says

@@ -1,5 +1,5 @@
 use Rattle.goal_solver.proofs.GoingBackLemmas.{solved-grown}
-use Rattle.goal_solver.proofs.context.EvalCtxt.form_of_alias.Goals as goal
+use Rattle.goal_solver.proofs.context.EvalCtxt.form_run.Goals as goal
 
 pub invariant_of-self : goal.invariant_of-self
 invariant_of-self c = (

@@ -1,8 +1,7 @@
 use Rattle.std.proofs.Common.{refl}
-use Rattle.goal_terms.proofs.InternLemmas.{keeps-chain}
 use Rattle.goal_solver.proofs.BindingLemmas.{goes_back-interned}
 use Rattle.goal_solver.proofs.GoingBackLemmas.{solved-grown, solved-grown_twice}
-use Rattle.goal_solver.proofs.context.EvalCtxt.alias_outcome.Goals as goal
+use Rattle.goal_solver.proofs.context.EvalCtxt.alias_run.Goals as goal
 
 pub invariant_of-self : goal.invariant_of-self
 invariant_of-self c = (
@@ -26,20 +25,5 @@ invariant_of-self-2 c = (
   c.self.invariant.6,
 )
 
-pub invariant_of-self-in_err-found : goal.invariant_of-self-in_err-found
-invariant_of-self-in_err-found c = (
-  c.self.invariant.0,
-  c.self.invariant.1,
-  c.self.invariant.2,
-  c.self.invariant.3,
-  c.self.invariant.4,
-  solved-grown_twice c.self.inside.terms c.intern_args.new.terms c.alias_term.new.terms c.self.inside.inference c.intern_args.ensures.kept c.alias_term.ensures.kept c.self.invariant.5,
-  c.self.invariant.6,
-)
-
 pub returns-in_err-ids-clause-goes_back : goal.returns-in_err-ids-clause-goes_back
 returns-in_err-ids-clause-goes_back c = goes_back-interned _ c.args.self.now _ c.intern_args.new.terms c.self.view_is refl c.intern_args.ensures.kept
-
-pub returns-in_err-found-clause-goes_back : goal.returns-in_err-found-clause-goes_back
-returns-in_err-found-clause-goes_back c =
-    goes_back-interned _ c.args.self.now _ c.alias_term.new.terms c.self.view_is refl (keeps-chain c.self.inside.terms c.intern_args.new.terms c.alias_term.new.terms c.intern_args.ensures.kept c.alias_term.ensures.kept)
