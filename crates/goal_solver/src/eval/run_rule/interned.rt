@@ -17,6 +17,7 @@ ghost use Rattle.goal_solver.specs.Lists.{AtEachLevel, RunIn};
 ghost use Rattle.goal_solver.specs.Outcomes.{header_terms};
 ghost use Rattle.goal_solver.specs.RunRules.{RuleRunsOn, header_at};
 
+use crate::eval::effects::Effects;
 use crate::eval::interning::{intern_args, intern_equation};
 use crate::eval::lists::entries::run_entry;
 use crate::eval::lists::progress::{ListRun, Reached};
@@ -41,7 +42,7 @@ use goal_terms::terms::{GenericArg, Term};
 pub(crate) fn run_rule_entry(
     setting: &Setting<'_>,
     terms: &mut TermTable,
-    faults: &mut Vec<DelayedFault>,
+    effects: &mut Effects,
     run: &mut ListRun,
     entry: &RuleEntry,
     depth: u32,
@@ -57,7 +58,7 @@ pub(crate) fn run_rule_entry(
         ToRecord::Nothing => {}
     }
     match interned_entry(setting, terms, entry)? {
-        Some(interned) => run_entry(setting, terms, faults, run, &interned, depth),
+        Some(interned) => run_entry(setting, terms, effects, run, &interned, depth),
         None if names_arguments(entry) => Ok(Reached::Undecided),
         None => Ok(run.ask(Outcome::Undecided)),
     }
