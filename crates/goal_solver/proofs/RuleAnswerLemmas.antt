@@ -202,7 +202,6 @@ pub says_list-as : (t : Tables) (L : Level) (es fs : List RuleEntry) (T : List T
     SaysList L (Some (entries_of t es)) T o → SaysList L (Some (entries_of t fs)) T q
 says_list-as t L es fs T o q e f h = subst (SaysList L (Some (entries_of t fs)) T) f (subst (λ xs. SaysList L (Some (entries_of t xs)) T o) e h)
 
-
 -- what records leaves the context restored, and so do more terms
 pub restored-recorded : (a b c : State) → b ≡ restored a b → c ≡ record b { accesses = c.accesses; delayed_faults = c.delayed_faults } → c ≡ restored a c
 restored-recorded a b c e f =

@@ -18,7 +18,7 @@ use Rattle.goal_kinds.specs.declared.rules.RuleEntry.{RuleEntry}
 use Rattle.goal_kinds.specs.declared.rules.RuleEntry.TheVariants as entry
 use Rattle.goal_terms.specs.declared.predicates.Clause.{Clause}
 use Rattle.goal_solver.specs.Lists.{named_at, progress_at, RunIn, Leads, RunsOn, run_asking, reached_asking}
-use Rattle.goal_solver.specs.RunRules.{asked_by, asked_of, IsAskedOnce, asked_as, asked_with, to_record, RuleRunsOn}
+use Rattle.goal_solver.specs.RunRules.{asked_by, asked_of, IsAskedOnce, asked_as, asked_and, asked_next, to_record, RuleRunsOn}
 use Rattle.goal_solver.specs.declared.eval.lists.progress.ListRun.{ListRun}
 use Rattle.goal_solver.specs.declared.eval.lists.progress.Reached.{Reached}
 use Rattle.goal_solver.specs.declared.eval.lists.progress.Reached.TheVariants as reached
@@ -33,7 +33,7 @@ use Rattle.goal_solver.proofs.ListRunLemmas.{progress_same-grown, asking-leads, 
 -- an entry whose rows are there, as the engine runs it
 pub found-runs : (t : Tables) (L : Level) (T U V : List Tree) → Keeps T U → (r s : ListRun) → RunIn T r → (e : RuleEntry) (x : InternedEntry) (q : Result Reached Stop) →
     Some (entry_at U x) ≡ entry_of t e → IfOk q (RunsOn L U r x V s) → IfOk q (RuleRunsOn t L T r e V s)
-found-runs t L T U V k r s i e x (Ok q) is h rest all =
+found-runs t L T U V k r s i e x (Ok q) is h = λ rest all.
     subst (λ o. Leads L (progress_at T r) (before (names_arguments e) o rest) rest all (progress_at V s) q) is
     (subst (λ p. Leads L p (entry_at U x ∷ rest) rest all (progress_at V s) q) (progress_same-grown T U k r i) (h rest all))
 found-runs t L T U V k r s i e x (Err z) is h = tt
@@ -117,6 +117,15 @@ asked-has_term (entry.Undecided ∷ es) n e = asked-has_term es n e
 asked-has_term (entry.Refused ∷ es) n e = asked-has_term es n e
 
 -- the variables of a list's terms, one after the other
+unfoldable pub asked_with : Asked → List (Option ℕ) → Asked
+asked_with a [] = a
+asked_with a (o ∷ os) = asked_with (asked_and a o) os
+
+asked-one : (a : Asked) (e : RuleEntry) → asked_next a e ≡ asked_with a (asked_by e)
+unfolding asked_with
+asked-one a (entry.Term v x) = refl
+asked-one a e = refl
+
 asked-others : (os : List (Option ℕ)) → asked_with asked.Others os ≡ asked.Others
 unfolding asked_with
 asked-others [] = refl
@@ -138,11 +147,11 @@ asked-behind a (o ∷ os) ps = asked-behind _ os ps
 pub asked-start : (es : List RuleEntry) → asked_with asked.Nothing (asked_of es) ≡ asked_as (asked_of es)
 asked-start es = asked-all (asked_of es)
 
-pub asked-next : (es : List RuleEntry) (i : ℕ) (e : RuleEntry) (a b : Asked) → i < length es → e ≡ get_or es i e → b ≡ asked_with a (asked_by e) →
+pub asked-next : (es : List RuleEntry) (i : ℕ) (e : RuleEntry) (a b : Asked) → i < length es → e ≡ get_or es i e → b ≡ asked_next a e →
     asked_with a (asked_of (drop i es)) ≡ asked_as (asked_of es) → asked_with b (asked_of (drop (i + 1) es)) ≡ asked_as (asked_of es)
 unfolding asked_of
 asked-next es i e a b l at more h =
-    ap (λ x. asked_with x (asked_of (drop (i + 1) es))) more ∙ sym (asked-behind a (asked_by e) (asked_of (drop (i + 1) es)))
+    ap (λ x. asked_with x (asked_of (drop (i + 1) es))) (more ∙ asked-one a e) ∙ sym (asked-behind a (asked_by e) (asked_of (drop (i + 1) es)))
     ∙ ap (λ x. asked_with a (asked_of (x ∷ drop (i + 1) es))) at ∙ sym (ap (asked_with a) (at_drop_more asked_of es i e l)) ∙ h
 
 pub asked-end : (es : List RuleEntry) (i : ℕ) (a : Asked) → length es ≤ i → asked_with a (asked_of (drop i es)) ≡ asked_as (asked_of es) → a ≡ asked_as (asked_of es)

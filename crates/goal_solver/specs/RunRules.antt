@@ -180,16 +180,17 @@ asked_as (None ∷ os) = asked.Others
 asked_as (Some n ∷ []) = asked.Variable n
 asked_as (Some n ∷ o ∷ os) = asked.Others
 
--- with one more of them, and with some more
+-- with one more of them
 abbrev pub asked_and : Asked → Option ℕ → Asked
 asked_and asked.Nothing (Some n) = asked.Variable n
 asked_and asked.Nothing None = asked.Others
 asked_and (asked.Variable m) o = asked.Others
 asked_and asked.Others o = asked.Others
 
-unfoldable pub asked_with : Asked → List (Option ℕ) → Asked
-asked_with a [] = a
-asked_with a (o ∷ os) = asked_with (asked_and a o) os
+-- and with one more entry
+abbrev pub asked_next : Asked → RuleEntry → Asked
+asked_next a (entry.Term v e) = asked_and a (expected_variable v)
+asked_next a _ = a
 
 -- a list of entries that holds records all that it says to
 abbrev pub AreRecordedWhere : State → List RuleEntry → ListOutcome → Type 0

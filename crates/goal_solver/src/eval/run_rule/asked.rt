@@ -1,6 +1,6 @@
 //! For which variable a rule's list has a term.
 ghost use Rattle.std.specs.Prelude.{◌≡◌};
-ghost use Rattle.goal_solver.specs.RunRules.{asked_by, asked_of, asked_as, asked_with, asked_and};
+ghost use Rattle.goal_solver.specs.RunRules.{asked_of, asked_as, asked_and, asked_next};
 
 use goal_kinds::rules::RuleEntry;
 use goal_terms::node_tests::general_variable;
@@ -27,7 +27,7 @@ impl Asked {
 
     /// With one more entry.
     fn with(self, entry: &RuleEntry) -> Asked
-        ensures { result ≡ asked_with self (asked_by entry.now) }
+        ensures { result ≡ asked_next self entry.now }
     {
         match entry {
             RuleEntry::Term(expected, _) => self.and(general_variable(expected.view().node())),

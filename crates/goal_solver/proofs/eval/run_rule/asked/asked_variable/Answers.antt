@@ -7,7 +7,7 @@ loop-entry-init c = asked-start c.args.entries.now
 
 pub loop-entry-preserved : goal.loop-entry-preserved
 loop-entry-preserved c =
-    asked-next c.args.entries.now c.loop-entry.entry-index c.entry-item.result c.loop-entry.asked c.with.result (omega arith) c.entry-item.is c.with.ensures c.loop-entry.invariant
+    asked-next c.args.entries.now c.loop-entry.entry-index c.entry-item.result c.loop-entry.asked c.with-asked.result (omega arith) c.entry-item.is c.with-asked.ensures c.loop-entry.invariant
 
-pub returns-clause : goal.returns-clause
-returns-clause c = asked-end c.args.entries.now c.loop-entry.entry-index c.loop-entry.asked (omega arith) c.loop-entry.invariant
+pub returns : goal.returns
+returns c = asked-end c.args.entries.now c.loop-entry.entry-index c.loop-entry.asked (omega arith) c.loop-entry.invariant

@@ -1,5 +1,6 @@
 use Rattle.std.proofs.Common.{◌≡◌, drop}
-use Rattle.goal_solver.specs.RunRules.{asked_of, asked_as, asked_with}
+use Rattle.goal_solver.specs.RunRules.{asked_of, asked_as}
+use Rattle.goal_solver.proofs.RuleEntryLemmas.{asked_with}
 use Rattle.goal_solver.proofs.eval.run_rule.asked.asked_variable.Given as goal
 
 abbrev pub invariant-loop-entry : goal.invariant-loop-entry
