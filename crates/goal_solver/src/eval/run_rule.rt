@@ -23,8 +23,8 @@ pub(crate) mod progress;
 pub(crate) mod recorded;
 pub(crate) mod variables;
 
-use crate::eval::effects::Effects;
 use crate::context::EvalCtxt;
+use crate::eval::effects::Effects;
 use crate::eval::mode_tests::is_headline;
 use crate::eval::outcomes::{OnAccess, Setting, Stop};
 use crate::eval::run_rule::entries::run_entry;
