@@ -1,8 +1,8 @@
 //! The rows: each asks one question of the program, and prints the answer.
 use crate::answer::Answer;
 use crate::ask::Asked::{
-    Accesses, DelayedFaults, Equal, Holds, HoldsConst, HoldsMaybeConst, Limit, ProjectionImpl, Term,
-    TwoArguments,
+    Accesses, DelayedFaults, Equal, Holds, HoldsConst, HoldsMaybeConst, Limit, ProjectionImpl,
+    Term, TwoArguments,
 };
 use crate::ask::{Asked, Question, ask};
 use crate::asked_terms::AskedAlias::{

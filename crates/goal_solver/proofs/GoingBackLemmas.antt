@@ -149,13 +149,13 @@ goes_back-when_entry s z e h =
     (goes_back-lists s s.goals (s.storage ++ e ∷ []) s.accesses s.delayed_faults
     (take-length s.goals) (take-append_seam s.storage (e ∷ [])) (take-length s.accesses) (take-length s.delayed_faults))
 
-pub goes_back-when_access : (s z : State) (x : OpaqueAccess) → z ≡ record s { accesses = s.accesses ++ x ∷ [] } → GoesBack s z
-goes_back-when_access s z x h =
-    subst (GoesBack s) (sym h)
-    (goes_back-lists s s.goals s.storage (s.accesses ++ x ∷ []) s.delayed_faults
-    (take-length s.goals) (take-length s.storage) (take-append_seam s.accesses (x ∷ [])) (take-length s.delayed_faults))
+-- so does one with more accesses, or more delayed faults, alone
+pub goes_back-accesses : (s z : State) → z ≡ record s { accesses = z.accesses } → BeginsWith z.accesses s.accesses → GoesBack s z
+goes_back-accesses s z e b =
+    subst (GoesBack s) (sym e)
+    (goes_back-lists s s.goals s.storage z.accesses s.delayed_faults
+    (take-length s.goals) (take-length s.storage) b (take-length s.delayed_faults))
 
--- so does one with more delayed faults alone
 pub goes_back-faults : (s z : State) → z ≡ record s { delayed_faults = z.delayed_faults } → BeginsWith z.delayed_faults s.delayed_faults → GoesBack s z
 goes_back-faults s z e b =
     subst (GoesBack s) (sym e)

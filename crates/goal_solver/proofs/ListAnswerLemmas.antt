@@ -1,5 +1,5 @@
 -- A run through all entries of a list, and what the list comes to.
-use Rattle.std.proofs.Common.{◌≡◌, ◌<◌, ◌≤◌, ◌+◌, ℕ, true, false, List, [], ◌∷◌, length, get_or, drop, Some, None, Option, Ok, Err, inl, inr, refl, sym, ap, ◌∙◌, subst, ⊎_elim}
+use Rattle.std.proofs.Common.{◌≡◌, ◌<◌, ◌≤◌, ◌+◌, ℕ, true, false, List, [], ◌∷◌, length, get_or, drop, Some, None, Option, Ok, Err, inl, inr, refl, sym, ap, ◌∙◌, subst, ⊎_elim, true≢false}
 use Rattle.std.specs.Prelude.{Vec, IfOk, Result}
 use Rattle.std.specs.Global.{Global}
 use Rattle.std.proofs.lemmas.List.{at_drop_more, drop_all}

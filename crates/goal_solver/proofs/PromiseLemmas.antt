@@ -1,5 +1,5 @@
 -- What the calls that answer goals promise follows from what their bodies answer.
-use Rattle.std.proofs.Common.{◌≡◌, ℕ, true, false, Bool, List, [], length, Option, Some, None, Result, Ok, Err, refl, sym, ap, subst, inl, inr, ◌⊎◌}
+use Rattle.std.proofs.Common.{◌≡◌, ◌≢◌, ℕ, true, false, Bool, List, [], ◌∷◌, length, Option, Some, None, Result, Ok, Err, refl, sym, ap, subst, inl, inr, ◌⊎◌}
 use Rattle.std.specs.Prelude.{IfOk, IfSome}
 use Rattle.std.proofs.Common.{suc, arith, ◌∙◌}
 use Rattle.goal_terms.specs.NodeTests.{general_variable_at}

@@ -1,6 +1,7 @@
 -- A context in which a run was stopped, and another one is to go on.
-use Rattle.std.proofs.Common.{◌≡◌, ◌<◌, ℕ, true, false, List, [], length, inl, inr, refl, sym, ap, ◌∙◌, subst, ⊎_elim, true≢false, arith}
+use Rattle.std.proofs.Common.{◌≡◌, ◌<◌, ℕ, true, false, List, [], length, Result, Ok, Err, inl, inr, refl, sym, ap, ◌∙◌, subst, ⊎_elim, true≢false, arith}
 use Rattle.std.specs.List.{Contains}
+use Rattle.std.specs.Prelude.{OnOk}
 use Rattle.goal_terms.specs.declared.answers.OpaqueAccess.{OpaqueAccess}
 use Rattle.goal_terms.specs.declared.modes.TypingMode.{TypingMode}
 use Rattle.goal_terms.specs.declared.modes.TypingMode.TheVariants as mode
@@ -11,7 +12,12 @@ use Rattle.goal_solver.specs.Answers.{IsOwed}
 use Rattle.goal_solver.specs.GoingBack.{restored}
 use Rattle.goal_solver.specs.Recording.{is_ambiguous}
 use Rattle.goal_solver.specs.State.{State}
+use Rattle.goal_solver.proofs.FoundAnswers.{sort-erased}
 use Rattle.goal_solver.proofs.RecordedLemmas.{entered-contains}
+use Rattle.goal_solver.proofs.SettledLemmas.{closed-erased}
+
+-- lifetimes change neither what a term is nor which variables stand in it
+pub ruleset sorts = (sort-erased, closed-erased)
 
 -- an empty list contains nothing
 empty-contains : {A : Type 0} (xs : List A) (x : A) → xs ≡ [] → Contains xs x → ⊥
@@ -28,6 +34,15 @@ recorded-never a z x e r m owed =
     ⊎_elim
     (λ h. absurd (true≢false (sym owed.0 ∙ ap is_headline (sym h ∙ ap (λ (s : State). s.typing_mode) r.1 ∙ e))))
     (λ h. empty-contains z.accesses x h.1 (entered-contains x a.accesses z.accesses r.0)) owed.1
+
+pub recorded-never_on : {T E : Type 0} (r : Result T E) (a z : State) (x : OpaqueAccess) → a.typing_mode ≡ mode.ErasedNotCoherence → OnOk r (RecordsAccess x a z) →
+    OnOk r ((m : TypingMode) → IsOwed z m → ⊥)
+recorded-never_on (Ok y) a z x e r = recorded-never a z x e r
+recorded-never_on (Err f) a z x e r = tt
+
+-- only accesses are more
+pub accesses-alone : (a b c : State) → b ≡ record a { accesses = b.accesses } → c ≡ record b { accesses = c.accesses } → c ≡ record a { accesses = c.accesses }
+accesses-alone a b c e f = f ∙ ap (λ (s : State). record s { accesses = c.accesses }) e
 
 -- what three calls leave one after the other
 pub restored-twice : (a b c : State) → b ≡ restored a b → c ≡ restored b c → c ≡ restored a c

@@ -940,8 +940,8 @@ eval::lists::entries::run_entry-returns-in-Access-clause-says t c = λ m s.
     IfOk-weaker c.reads_mode.result (λ x. x ≡ reached.Next) (LeadsOn (level_in c.args.setting.now m c.args.depth) (progress_at c.args.terms.now c.args.run.now) (entry_at c.args.terms.now c.args.entry.now) (progress_at c.args.terms.now c.args.run.now))
     (λ x e. asking-leads (level_in c.args.setting.now m c.args.depth) c.args.terms.now c.args.terms.now (keeps-refl c.args.terms.now) c.args.run.now c.args.run.now c.requires.run (entry_at c.args.terms.now c.args.entry.now) _ (ap (entry_at c.args.terms.now) c.in-Access.is) _ _ (access-asks (level_in c.args.setting.now m c.args.depth) (named_at c.args.terms.now c.args.run.now.named.items) c.in-Access.access) outcome.Holds tt refl x e) c.reads_mode.ensures.next
 
-pub eval::lists::entries::run_entry-returns-in_ok-enter_fault-in-DelayedFault-clause-says : goal.eval::lists::entries::run_entry-returns-in_ok-enter_fault-in-DelayedFault-clause-says
-eval::lists::entries::run_entry-returns-in_ok-enter_fault-in-DelayedFault-clause-says t c = λ m s.
+pub eval::lists::entries::run_entry-returns-in_ok-meet_fault-in-DelayedFault-clause-says : goal.eval::lists::entries::run_entry-returns-in_ok-meet_fault-in-DelayedFault-clause-says
+eval::lists::entries::run_entry-returns-in_ok-meet_fault-in-DelayedFault-clause-says t c = λ m s.
     asking-leads (level_in c.args.setting.now m c.args.depth) c.args.terms.now c.args.terms.now (keeps-refl c.args.terms.now) c.args.run.now c.args.run.now c.requires.run (entry_at c.args.terms.now c.args.entry.now) _ (ap (entry_at c.args.terms.now) c.in-DelayedFault.is) _ _ (fault-asks (level_in c.args.setting.now m c.args.depth) (named_at c.args.terms.now c.args.run.now.named.items) c.in-DelayedFault.fault) outcome.Holds tt refl reached.Next refl
 
 pub eval::lists::entries::run_entry-returns-in-Evaluation-clause-says : goal.eval::lists::entries::run_entry-returns-in-Evaluation-clause-says

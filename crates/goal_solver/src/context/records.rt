@@ -63,10 +63,21 @@ impl EvalCtxt<'_> {
         ensures only_memory { IsOkUnless result Stop.OutOfMemory }
     {
         for access in accesses {
-            let Ok(()) = self.record_access(*access) else {
-                return Err(Stop::OutOfMemory);
-            };
+            self.meet_access(*access)?;
         }
+        Ok(())
+    }
+
+    /// Records an access that an evaluation met, as `record_access` does.
+    pub(crate) fn meet_access(&mut self, access: OpaqueAccess) -> Result<(), Stop>
+        ensures recorded { OnOk result (RecordsAccess access self.old self.new) }
+        ensures unchanged { self.new ≡ record self.old { accesses = self.new.accesses } }
+        ensures goes_back { GoesBack self.old self.new }
+        ensures only_memory { IsOkUnless result Stop.OutOfMemory }
+    {
+        let Ok(()) = self.record_access(access) else {
+            return Err(Stop::OutOfMemory);
+        };
         Ok(())
     }
 

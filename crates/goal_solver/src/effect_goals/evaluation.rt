@@ -7,8 +7,8 @@ ghost use Rattle.goal_kinds.specs.Settings.{is_headline};
 ghost use Rattle.goal_solver.specs.AskedTraits.{AskedIn, SaysGroups};
 ghost use Rattle.goal_solver.specs.Outcomes.{RunsFor, setting_in, level_in, Says};
 
-use crate::eval::effects::Effects;
 use crate::assembly::candidates::{AskedTrait, candidates_outcome, class_outcome};
+use crate::eval::effects::Effects;
 use crate::eval::head_forms::head_form;
 use crate::eval::outcomes::{Found, Outcome, Setting, Stop, TraitOutcome};
 use crate::eval::self_types::{split_self_type, with_self_type};

@@ -13,9 +13,9 @@ ghost use Rattle.goal_solver.specs.GoingBack.{GoesBack, restored};
 ghost use Rattle.goal_solver.specs.Recording.{FitsKind};
 ghost use Rattle.goal_solver.specs.Outcomes.{RunsAs, RunsFor, StandsFor, level_in, Says, SaysThrough, SaysWhich, FoundIn};
 
-use crate::eval::effects::Effects;
 use crate::context::EvalCtxt;
 use crate::effect_goals::evaluation::evaluate_host_effect_goal;
+use crate::eval::effects::Effects;
 use crate::eval::interning::{intern_args, intern_equation};
 use crate::eval::outcomes::{Found, OnAccess, Outcome, Setting, Stop, TraitOutcome};
 use crate::eval::premises::premise_outcome;
@@ -241,11 +241,7 @@ impl EvalCtxt<'_> {
     }
 
     /// One run of an alias's goal at the remaining depth.
-    fn alias_run(
-        &mut self,
-        on_access: OnAccess,
-        goal: &Goal<NormalizesTo>,
-    ) -> Result<Found, Stop>
+    fn alias_run(&mut self, on_access: OnAccess, goal: &Goal<NormalizesTo>) -> Result<Found, Stop>
         ensures kept { Keeps self.old.terms self.new.terms }
         ensures unchanged { self.new ≡ restored self.old self.new }
         ensures goes_back { GoesBack self.old self.new }

@@ -15,9 +15,9 @@ ghost use Rattle.goal_solver.specs.GoingBack.{GoesBack};
 ghost use Rattle.goal_solver.specs.Outcomes.{StandsFor, Says, FoundIn};
 ghost use Rattle.goal_solver.specs.Relating.{ChangesInference};
 
-use crate::eval::effects::Effects;
 use crate::context::EvalCtxt;
 use crate::eval::closed_goals::has_variable;
+use crate::eval::effects::Effects;
 use crate::eval::interning::{intern_args, intern_equation};
 use crate::eval::open_terms::any_variable;
 use crate::eval::outcomes::{Found, OnAccess, Outcome, Setting, Stop};

@@ -8,8 +8,8 @@ ghost use Rattle.goal_kinds.specs.Premises.{ClauseHolds, ClauseRefuted, PremiseH
 ghost use Rattle.goal_kinds.specs.Settings.{is_headline};
 ghost use Rattle.goal_solver.specs.Outcomes.{RunsFor, level_in, Says};
 
-use crate::eval::effects::Effects;
 use crate::effect_goals::evaluation::evaluate_host_effect_goal;
+use crate::eval::effects::Effects;
 use crate::eval::outcomes::{Outcome, Setting, Stop};
 use crate::relate::equality::compare_terms;
 use crate::trait_goals::evaluation::evaluate_trait_goal;

@@ -47,10 +47,7 @@ impl EvalCtxt<'_> {
         if self.is_stopped_by(access) {
             return Err(stop);
         }
-        let Ok(()) = self.record_access(access) else {
-            return Err(Stop::OutOfMemory);
-        };
-        Ok(())
+        self.meet_access(access)
     }
 
     /// Whether an access ends the evaluation: in each mode but the erased one; there if the context stops at
@@ -73,16 +70,17 @@ impl EvalCtxt<'_> {
         }
     }
 
-    /// Whether a term without inference variables is a type or a constant as an alias of a kind is.
+    #[tactic(auto, using(crate::proofs::RerunLemmas::sorts))]
+    /// Whether a term has no inference variables and is a type or a constant as an alias of a kind is.
     fn fits_kind(&self, kind: AliasTermKind, id: TermId) -> bool
         requires { IsIn self.now.terms id }
         ensures { result ≡ true → FitsKind kind self.now.terms (Found.Is id) }
     {
-        let sort = self.terms.node(id).sort();
-        match (sort, Node::Alias(kind).sort()) {
-            (Sort::Ty, Sort::Ty) | (Sort::Const, Sort::Const) => !self.terms.has_infer(id),
-            _ => false,
+        if self.terms.has_infer(id) {
+            return false;
         }
+        let found = self.terms.node(id).sort();
+        is_one_sort(found, Node::Alias(kind).sort())
     }
 
     /// Whether an alias's goal is ambiguous whatever the rows say: that of an opaque type in coherence.
@@ -94,4 +92,14 @@ impl EvalCtxt<'_> {
             _ => false,
         }
     }
+}
+
+/// Whether two terms are both types, or both constants.
+fn is_one_sort(left: Sort, right: Sort) -> bool
+    ensures { result ≡ true → left ≡ right }
+{
+    matches!(
+        (left, right),
+        (Sort::Ty, Sort::Ty) | (Sort::Const, Sort::Const)
+    )
 }

@@ -25,8 +25,8 @@ pub(crate) mod open_entries;
 pub(crate) mod recorded;
 pub(crate) mod variables;
 
-use crate::eval::effects::Effects;
 use crate::context::EvalCtxt;
+use crate::eval::effects::Effects;
 use crate::eval::lists::ListOutcome;
 use crate::eval::lists::progress::{ListRun, Reached};
 use crate::eval::mode_tests::is_headline;

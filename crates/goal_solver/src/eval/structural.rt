@@ -15,8 +15,8 @@ ghost use Rattle.goal_solver.specs.HeadForms.{bound_term, IsClosedForm, IsFormAn
 ghost use Rattle.goal_solver.specs.Outcomes.{RunsAs, SaysWhich, FoundIn};
 ghost use Rattle.goal_solver.specs.Relating.{IsFaultFor};
 
-use crate::eval::effects::Effects;
 use crate::context::EvalCtxt;
+use crate::eval::effects::Effects;
 use crate::eval::head_forms::head_form;
 use crate::eval::outcomes::{Found, OnAccess, Setting, Stop};
 use crate::faults::Fault;

@@ -10,8 +10,8 @@ ghost use Rattle.goal_kinds.specs.Settings.{is_headline};
 ghost use Rattle.goal_solver.specs.Outcomes.{RunsFor, setting_in, level_in, Says, SaysWhich, FoundIn, ProjectionIn, projection_at};
 ghost use Rattle.goal_solver.specs.ProjectionParts.{HaveHeadForms, SomeUnformed, FormedGives, LaterGives, LaterRefuted, ReplacedGives, ReplacedRefuted, ThroughGives, ThroughRefuted};
 
-use crate::eval::effects::Effects;
 use crate::assembly::merging::merge_terms;
+use crate::eval::effects::Effects;
 use crate::eval::head_forms::head_form;
 use crate::eval::outcomes::{Found, Outcome, Projection, Setting, Stop, TraitOutcome};
 use crate::normalizes_to::projection_args::{first_args, intern_alias, later_args, with_self};

@@ -16,9 +16,9 @@ ghost use Rattle.goal_solver.specs.Outcomes.{RunsAs, RunsFor, StandsFor, setting
 ghost use Rattle.goal_solver.specs.Promises.{ListsTerm};
 ghost use Rattle.goal_solver.specs.State.{kinds_of};
 
-use crate::eval::effects::Effects;
 use crate::context::EvalCtxt;
 use crate::eval::closed_goals::is_closed_alias;
+use crate::eval::effects::Effects;
 use crate::eval::interning::intern_args;
 use crate::eval::outcomes::{Found, OnAccess, Setting, Stop};
 use crate::faults::Fault;

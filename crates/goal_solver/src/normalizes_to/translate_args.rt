@@ -25,9 +25,9 @@ ghost use Rattle.goal_solver.specs.State.{kinds_of};
 ghost use Rattle.goal_solver.specs.TranslatedArgs.{taken_by, own_after, bound_ref, AreClosedIn, certainty_in, AnswersJust, IsTranslation, IsHeaderOpen, IsFresh, BindsNothing, IsMadeEqual, IsEqualUnder, IsAdded, AddsClauses, MakesVariables, ChangesGoals};
 ghost use Rattle.goal_solver.specs.Variables.{fresh_args};
 
-use crate::eval::effects::Effects;
 use crate::context::EvalCtxt;
 use crate::context::rebuilding::rebuilt_args;
+use crate::eval::effects::Effects;
 use crate::eval::interning::intern_args;
 use crate::eval::open_terms::any_variable;
 use crate::eval::outcomes::{HeaderMatch, OnAccess, Setting, Stop};

@@ -112,7 +112,16 @@ fn behind_clashes(
             if !header.node().is_same(terms.node(form), Regions::Forgotten) {
                 return Ok(true);
             }
-            form_clashes(setting, terms, effects, known, args, header, form, depth - 1)
+            form_clashes(
+                setting,
+                terms,
+                effects,
+                known,
+                args,
+                header,
+                form,
+                depth - 1,
+            )
         }
     }
 }

@@ -162,5 +162,7 @@ pub fn match_header(
     ensures says { (m : TypingMode) → RunsFor setting.now m → IfOk result (SaysMatch (level_in setting.now m depth) params.now (header_terms header.now) (erased_all terms.old given.now) terms.new) }
 {
     let known = known_args(setting, terms, effects, params, header, given, depth)?;
-    match_known(setting, terms, effects, params, header, given, &known, depth)
+    match_known(
+        setting, terms, effects, params, header, given, &known, depth,
+    )
 }

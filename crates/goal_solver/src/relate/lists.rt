@@ -12,8 +12,8 @@ ghost use Rattle.goal_solver.specs.Relating.{IsRelated, ChangesInference, Agrees
 ghost use Rattle.goal_solver.specs.Settled.{HoldsWithMemory, AreSettledIn, outcome_in, IsPlainOrSame};
 ghost use Rattle.goal_solver.specs.State.{kinds_of};
 
-use crate::eval::effects::Effects;
 use crate::context::EvalCtxt;
+use crate::eval::effects::Effects;
 use crate::eval::outcomes::{OnAccess, Outcome, Setting, Stop};
 use crate::relate::resolved::relate_resolved_lists;
 use goal_infer::followed::follow_all;

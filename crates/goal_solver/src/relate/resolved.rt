@@ -37,7 +37,9 @@ pub(crate) fn relate_resolved(
 {
     match compare_tops(terms, left, right) {
         Tops::Settled(outcome) => Ok(outcome),
-        Tops::NeedForms => relate_resolved_forms(setting, terms, effects, left, right, opens, depth),
+        Tops::NeedForms => relate_resolved_forms(
+            setting, terms, effects, left, right, opens, depth,
+        ),
         Tops::NeedParts => {
             let parts = own_list(setting, terms.parts(left))?;
             let others = own_list(setting, terms.parts(right))?;

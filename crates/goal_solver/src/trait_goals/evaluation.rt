@@ -8,8 +8,8 @@ ghost use Rattle.goal_solver.specs.AskedTraits.{AskedIn};
 ghost use Rattle.goal_solver.specs.Outcomes.{RunsFor, setting_in, level_in, SaysThrough};
 ghost use Rattle.goal_solver.specs.TraitOutcomes.{SaysClasses};
 
-use crate::eval::effects::Effects;
 use crate::assembly::candidates::{AskedTrait, class_outcome};
+use crate::eval::effects::Effects;
 use crate::eval::head_forms::head_form;
 use crate::eval::outcomes::{Found, Setting, Stop, TraitOutcome};
 use crate::eval::self_types::{split_self_type, with_self_type};

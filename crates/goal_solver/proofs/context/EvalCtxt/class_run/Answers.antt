@@ -8,6 +8,6 @@ invariant_of-self c = (
   c.self.invariant.2,
   c.self.invariant.3,
   c.self.invariant.4,
-  solved-grown c.self.inside.terms c.alias_proven_via.new.terms c.self.inside.inference c.alias_proven_via.ensures.kept c.self.invariant.5,
+  solved-grown c.self.inside.terms c.alias_proven_via-found.new.terms c.self.inside.inference c.alias_proven_via-found.ensures.kept c.self.invariant.5,
   c.self.invariant.6,
 )

@@ -21,7 +21,7 @@ invariant_of-self-2 c = (
   c.self.invariant.2,
   c.self.invariant.3,
   c.self.invariant.4,
-  solved-grown_twice c.self.inside.terms c.intern_equation.new.terms c.equation_outcome.new.terms c.self.inside.inference c.intern_equation.ensures.kept c.equation_outcome.ensures.kept c.self.invariant.5,
+  solved-grown_twice c.self.inside.terms c.intern_equation.new.terms c.equation_outcome-outcome.new.terms c.self.inside.inference c.intern_equation.ensures.kept c.equation_outcome-outcome.ensures.kept c.self.invariant.5,
   c.self.invariant.6,
 )
 

@@ -21,7 +21,7 @@ invariant_of-self-2 c = (
   c.self.invariant.2,
   c.self.invariant.3,
   c.self.invariant.4,
-  solved-grown_twice c.self.inside.terms c.intern_args.new.terms c.evaluate_trait_goal.new.terms c.self.inside.inference c.intern_args.ensures.kept c.evaluate_trait_goal.ensures.kept c.self.invariant.5,
+  solved-grown_twice c.self.inside.terms c.intern_args.new.terms c.evaluate_trait_goal-outcome.new.terms c.self.inside.inference c.intern_args.ensures.kept c.evaluate_trait_goal-outcome.ensures.kept c.self.invariant.5,
   c.self.invariant.6,
 )
 

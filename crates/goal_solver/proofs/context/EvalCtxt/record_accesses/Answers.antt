@@ -1,0 +1,22 @@
+use Rattle.std.proofs.Common.{refl}
+use Rattle.goal_solver.proofs.GoingBackLemmas.{goes_back-same, goes_back-through}
+use Rattle.goal_solver.proofs.RerunLemmas.{accesses-alone}
+use Rattle.goal_solver.proofs.context.EvalCtxt.record_accesses.Goals as goal
+
+pub loop-access-init : goal.loop-access-init
+loop-access-init c = record {
+  unchanged = refl;
+  back = goes_back-same c.args.self.now;
+}
+
+pub loop-access-preserved : goal.loop-access-preserved
+loop-access-preserved c = record {
+  unchanged = accesses-alone c.args.self.now c.loop-access.self c.meet_access.new.self c.loop-access.invariant.unchanged c.meet_access.ensures.unchanged;
+  back = goes_back-through c.args.self.now c.loop-access.self c.meet_access.new.self c.loop-access.invariant.back c.meet_access.ensures.goes_back;
+}
+
+pub returns-in_err-meet_access-clause-unchanged : goal.returns-in_err-meet_access-clause-unchanged
+returns-in_err-meet_access-clause-unchanged c = accesses-alone c.args.self.now c.loop-access.self c.meet_access.new.self c.loop-access.invariant.unchanged c.meet_access.ensures.unchanged
+
+pub returns-in_err-meet_access-clause-goes_back : goal.returns-in_err-meet_access-clause-goes_back
+returns-in_err-meet_access-clause-goes_back c = goes_back-through c.args.self.now c.loop-access.self c.meet_access.new.self c.loop-access.invariant.back c.meet_access.ensures.goes_back
