@@ -16,6 +16,8 @@ use Rattle.goal_kinds.specs.Rules.{clauses_in, has_term}
 use Rattle.goal_kinds.specs.declared.lists.InternedEntry.{InternedEntry}
 use Rattle.goal_kinds.specs.declared.rules.RuleEntry.{RuleEntry}
 use Rattle.goal_kinds.specs.declared.rules.RuleEntry.TheVariants as entry
+use Rattle.goal_terms.specs.declared.answers.DelayedFault.{DelayedFault}
+use Rattle.goal_terms.specs.declared.answers.OpaqueAccess.{OpaqueAccess}
 use Rattle.goal_terms.specs.declared.predicates.Clause.{Clause}
 use Rattle.goal_solver.specs.Lists.{named_at, progress_at, RunIn, Leads, RunsOn, run_asking, reached_asking}
 use Rattle.goal_solver.specs.RunRules.{asked_by, asked_of, IsAskedOnce, asked_as, asked_and, asked_next, to_record, RuleRunsOn}
@@ -56,6 +58,12 @@ module _ (t : Tables) (L : Level) (T U : List Tree) (kept : Keeps T U) (r s : Li
       (asking-leads L T U kept r s within undecided undecided refl ⊥ ⊥ (undecided-asks L (named_at T r.named.items)) outcome.Undecided ((λ x. x), (λ x. x)) on q reaches rest all))
 
 -- one that says to record something
+pub not-access : (x : ToRecord) (e : RuleEntry) (a : OpaqueAccess) → x ≡ to_record e → x ≡ recorded.Access a → recorded.Nothing ≡ to_record e → ⊥
+not-access x e a f g h = absurd (cc)
+
+pub not-fault : (x : ToRecord) (e : RuleEntry) (d : DelayedFault) → x ≡ to_record e → x ≡ recorded.DelayedFault d → recorded.Nothing ≡ to_record e → ⊥
+not-fault x e d f g h = absurd (cc)
+
 pub recording-runs : (t : Tables) (L : Level) (T : List Tree) (r : ListRun) → RunIn T r → (e : RuleEntry) → (recorded.Nothing ≡ to_record e → ⊥) → RuleRunsOn t L T r e T r reached.Next
 recording-runs t L T r i (entry.Access a) some =
     asking-leads L T T (keeps-refl T) r r i (access a) (access a) refl (Unit {0}) ⊥ (access-asks L (named_at T r.named.items) a) outcome.Holds tt refl reached.Next refl
