@@ -1,11 +1,14 @@
 -- What two runs of one goal come to.
-use Rattle.std.proofs.Common.{◌≡◌, ◌≢◌, ◌<◌, ◌==◌, ◌&&◌, ℕ, true, false, Bool, List, [], ◌∷◌, length, Option, Some, None, Result, Ok, Err, refl, sym, ap, ◌∙◌, subst, inl, inr, ◌⊎◌}
-use Rattle.std.specs.Prelude.{IsTrue}
+use Rattle.std.proofs.Common.{◌≡◌, ◌≢◌, ◌↔◌, ◌<◌, ◌==◌, ◌&&◌, ℕ, true, false, Bool, List, [], ◌∷◌, length, Option, Some, None, Result, Ok, Err, refl, sym, ap, ◌∙◌, subst, inl, inr, ◌⊎◌}
+use Rattle.std.specs.Prelude.{IsTrue, IfOk}
 use Rattle.std.specs.List.{AllZip, list_any}
+use Rattle.goal_terms.specs.Erased.{erased}
+use Rattle.goal_terms.specs.SameLaws.{same_tree-is}
+use Rattle.goal_terms.specs.SameTree.{same_tree}
 use Rattle.goal_terms.specs.Sorts.{IsTerm, is_term_sort}
 use Rattle.goal_terms.specs.TableMeaning.{tree_at, HasTerm}
 use Rattle.goal_terms.specs.Tree.{Tree}
-use Rattle.goal_terms.specs.TreeOf.{is_type_kind}
+use Rattle.goal_terms.specs.TreeOf.{is_type_kind, tree_of_term}
 use Rattle.goal_terms.specs.contracts.modes.TypingModeClone.TheImpl.{is_clone-value as is_mode_clone}
 use Rattle.goal_terms.specs.declared.answers.Certainty.{Certainty}
 use Rattle.goal_terms.specs.declared.answers.Certainty.TheVariants as certainty
@@ -18,6 +21,7 @@ use Rattle.goal_terms.specs.declared.predicates.NormalizesTo.{NormalizesTo}
 use Rattle.goal_terms.specs.declared.predicates.Predicate.{Predicate}
 use Rattle.goal_terms.specs.declared.predicates.Predicate.TheVariants as predicate
 use Rattle.goal_terms.specs.declared.term_nodes.TermId.{TermId}
+use Rattle.goal_terms.specs.declared.terms.Term.{Term}
 use Rattle.goal_tables.specs.Faults.{IsChecked}
 use Rattle.goal_tables.specs.Clauses.{lies_in_equation}
 use Rattle.goal_tables.specs.Predicates.{lies_in_predicate, normalization_of, some_in_equation, some_in_predicate}
@@ -36,13 +40,15 @@ use Rattle.goal_kinds.specs.declared.faults.Fault.{Fault}
 use Rattle.goal_kinds.specs.declared.faults.Fault.TheVariants as fault
 use Rattle.goal_solver.specs.AddedGoals.{IsClosedGoal, GoalHolds, GoalRefuted, IsGoalAnswer}
 use Rattle.goal_solver.specs.Answers.{IsOwed, level_over, erased_args}
-use Rattle.goal_solver.specs.Comparisons.{IsAnswerTo, IsAnswerIn, IsAnswerHere, IsCompared, IsClosedQuestion, IsAcceptedIn, IsAcceptedOver, DifferInOrder}
+use Rattle.goal_solver.specs.Comparisons.{AreComparable, IsAnswerTo, IsAnswerIn, IsAnswerHere, IsCompared, MayRun, IsClosedQuestion, IsAcceptedIn, IsAcceptedOver, DifferInOrder, answer_of}
 use Rattle.goal_solver.specs.Goals.{IsAcceptedBy, IsAcceptedNormalization, goal_has}
+use Rattle.goal_solver.specs.Outcomes.{StandsFor}
 use Rattle.goal_solver.specs.Promises.{trait_asked, trait_question, equation_asked, const_asked, term_asked}
-use Rattle.goal_solver.specs.Relating.{IsFaultFor}
 use Rattle.goal_solver.specs.State.{State}
 use Rattle.goal_solver.specs.declared.comparison.Comparison.{Comparison}
 use Rattle.goal_solver.specs.declared.comparison.Comparison.TheVariants as comparison
+use Rattle.goal_solver.specs.declared.comparison.RunAnswer.{RunAnswer}
+use Rattle.goal_solver.specs.declared.comparison.RunAnswer.TheVariants as run
 use Rattle.goal_solver.specs.declared.eval.goals.GoalFault.{GoalFault}
 use Rattle.goal_solver.specs.declared.eval.goals.GoalFault.TheVariants as goals
 use Rattle.goal_solver.proofs.ApplicableLemmas.{accepted-sort, alias-is_term}
@@ -90,18 +96,9 @@ question-closed (predicate.HostEffect q) env e h = h
 question-closed (predicate.NormalizesTo q) env e h = absurd (cc)
 question-closed predicate.Ambiguous env e h = h
 
--- a headline mode is owed an answer, and refused memory alone
+-- a headline mode is owed an answer
 pub owed-itself : (before after : State) → after.typing_mode ≡ before.typing_mode → is_headline before.typing_mode ≡ true → IsOwed after before.typing_mode
 owed-itself before after same h = (h, inl same)
-
-not_erased : (m : TypingMode) → is_headline m ≡ true → m ≡ mode.ErasedNotCoherence → ⊥
-not_erased m h e = let none : false ≡ true = sym (ap is_headline e) ∙ h in absurd (cc)
-
-pub memory-alone : {T : Type 0} (before after : State) (f : Fault) → is_headline before.typing_mode ≡ true → IsFaultFor {T = T} before after (Err f) → f ≢ fault.NoSolution → f ≡ fault.OutOfMemory
-memory-alone before after fault.NoSolution h r n = absurd (n refl)
-memory-alone before after fault.RerunNonErased h r n = absurd (not_erased before.typing_mode h r.0)
-memory-alone before after fault.OutOfMemory h r n = refl
-memory-alone before after fault.NotForThisKind h r n = absurd r
 
 -- the goal of an alias's term
 is_normalization : (p : Predicate) (q : NormalizesTo) → normalization_of p ≡ Some q → p ≡ predicate.NormalizesTo q
@@ -136,10 +133,58 @@ pub found-given : (t : Tables) (m : TypingMode) (n : ℕ) (g : Goal Predicate) (
 found-given t m n g q T id checked ok e l given = (
   l,
   subst (λ s. IsTrue (is_term_sort s)) (sort-erased (tree_at T id))
-  (alias-is_term q.alias.kind (is_type_kind q.alias.kind) refl (erased_at T id)
-  (accepted-sort ok.0 m n q g.param_env.items (erased_at T id) (subst IsChecked (sym ok.1) checked) (accepted-normalization ok.0 g q e ok.2)
-  (subst (λ (u : Tables). (level (setting_of u m g.param_env.items) n).gives q.alias.kind (erased_args q.alias.args.items) (erased_at T id)) (sym ok.1) given))),
+      (alias-is_term q.alias.kind (is_type_kind q.alias.kind) refl (erased_at T id)
+      (accepted-sort ok.0 m n q g.param_env.items (erased_at T id) (subst IsChecked (sym ok.1) checked) (accepted-normalization ok.0 g q e ok.2)
+      (subst (λ (u : Tables). (level (setting_of u m g.param_env.items) n).gives q.alias.kind (erased_args q.alias.args.items) (erased_at T id)) (sym ok.1) given))),
 )
+
+-- so what is found answers the goal, and so does a refusal, and that it is undecided
+given-by : (L : Level) (p : Predicate) (q : NormalizesTo) (u : Tree) → normalization_of p ≡ Some q → L.gives q.alias.kind (erased_args q.alias.args.items) u → IsAnswerTo L p (yes_with u)
+unfolding IsAnswer
+given-by L p q u e given = answer-normalization L p q (yes_with u) e given
+
+on-found : (A : Answer → Type 0) (y : Answer) (r : Result RunAnswer Fault) → IfOk r (λ x. answer_of x ≡ y) → A y → IfOk r (λ x. A (answer_of x))
+on-found A y (Ok x) e h = subst A (sym e) h
+on-found A y (Err f) e h = tt
+
+pub found-right : (s : State) (g : Goal Predicate) (q : NormalizesTo) (T : List Tree) (id : TermId) (r : Result RunAnswer Fault) → IsChecked s.tables → IsAcceptedOver s.tables g →
+    normalization_of g.predicate ≡ Some q → id.0 < length T → (level_over s s.typing_mode g.param_env.items).gives q.alias.kind (erased_args q.alias.args.items) (erased_at T id) →
+    (HasTerm T id → IfOk r (λ x. answer_of x ≡ yes_with (erased_at T id))) → IfOk r (λ x. IsAnswerHere s g (answer_of x))
+found-right s g q T id r checked ok e l given says =
+    on-found (IsAnswerHere s g) (yes_with (erased_at T id)) r
+    (says (found-given s.tables s.typing_mode s.remaining_depth g q T id checked ok e l given))
+    (given-by (level_over s s.typing_mode g.param_env.items) g.predicate q (erased_at T id) e given)
+
+pub refuted-right : (s : State) (g : Goal Predicate) (q : NormalizesTo) (x : RunAnswer) → normalization_of g.predicate ≡ Some q →
+    (level_over s s.typing_mode g.param_env.items).gives_refuted q.alias.kind (erased_args q.alias.args.items) → x ≡ run.NoSolution → IsAnswerHere s g (answer_of x)
+unfolding IsAnswer
+refuted-right s g q x e refuted is =
+    subst (λ (y : RunAnswer). IsAnswerHere s g (answer_of y)) (sym is) (answer-normalization (level_over s s.typing_mode g.param_env.items) g.predicate q no e refuted)
+
+pub undecided-right : (s : State) (g : Goal Predicate) (q : NormalizesTo) → normalization_of g.predicate ≡ Some q →
+    ((u : Tree) → (level_over s s.typing_mode g.param_env.items).gives q.alias.kind (erased_args q.alias.args.items) u → ⊥)
+    × ((level_over s s.typing_mode g.param_env.items).gives_refuted q.alias.kind (erased_args q.alias.args.items) → ⊥) → IsAnswerHere s g maybe
+unfolding IsAnswer
+undecided-right s g q e h = answer-normalization (level_over s s.typing_mode g.param_env.items) g.predicate q maybe e h
+
+-- a headline mode stands for itself
+pub stands-itself : (s : State) → is_headline s.typing_mode ≡ true → StandsFor s.typing_mode s.typing_mode
+stands-itself s h = (h, inl refl)
+
+pub headline-kept : (before after : State) → after.typing_mode ≡ before.typing_mode → is_headline before.typing_mode ≡ true → is_headline after.typing_mode ≡ true
+headline-kept before after e h = ap is_headline e ∙ h
+
+-- two answers that give terms are one where the terms are, lifetimes aside
+yes-same : (t u : Tree) → yes_with t ≡ yes_with u → t ≡ u
+yes-same t u e = cc
+
+pub same-terms : (x y : RunAnswer) (t u : Term) (v w : Tree) (b : Bool) → x ≡ run.YesWith t → y ≡ run.YesWith u → v ≡ tree_of_term t → w ≡ tree_of_term u → b ≡ same_tree (erased v) (erased w) →
+    (IsTrue b → answer_of x ≡ answer_of y) × (answer_of x ≡ answer_of y → IsTrue b)
+same-terms x y t u v w b p q e f s =
+    let decided = same_tree-is (erased v) (erased w) b s in (
+      λ h. ap answer_of p ∙ ap yes_with (sym (ap erased e) ∙ decided.0 h ∙ ap erased f) ∙ sym (ap answer_of q),
+      λ k. decided.1 (ap erased e ∙ yes-same (erased (tree_of_term t)) (erased (tree_of_term u)) (sym (ap answer_of p) ∙ k ∙ ap answer_of q) ∙ sym (ap erased f)),
+    )
 
 -- a clone of a mode says the same
 ids-same : (xs ys : List OpaqueId) → AllZip (λ a b. b ≡ a) xs ys → ys ≡ xs
@@ -172,6 +217,22 @@ clone-answer t m k g n x r h =
       same_defaults = λ i j q d e f. same.2;
     } in
     answer_to-same (within-alike_level alike n) (within-alike_level_back alike n) g.predicate x h
+
+-- what a context answers is right over its tables, in the mode of which its own is a clone
+on-each : (P Q : RunAnswer → Type 0) → ((x : RunAnswer) → P x → Q x) → (r : Result RunAnswer Fault) → IfOk r P → IfOk r Q
+on-each P Q each (Ok x) h = each x h
+on-each P Q each (Err f) h = tt
+
+pub run-right : (t : Tables) (m k : TypingMode) (g : Goal Predicate) (n : ℕ) (s : State) (r : Result RunAnswer Fault) → is_mode_clone.it m k → s.tables ≡ t → s.typing_mode ≡ k → s.remaining_depth ≡ n →
+    MayRun t m g n → (is_headline s.typing_mode ≡ true → IsClosedQuestion g.predicate g.param_env.items → IsAcceptedOver s.tables g → IfOk r (λ x. IsAnswerHere s g (answer_of x))) →
+    IfOk r (λ x. IsAnswerIn t m g n (answer_of x))
+run-right t m k g n s r clone tables mode depth may says =
+    on-each (λ x. IsAnswerHere s g (answer_of x)) (λ x. IsAnswerIn t m g n (answer_of x))
+    (λ x h. clone-answer t m k g n (answer_of x) clone
+    (subst (λ d. IsAnswerIn t k g d (answer_of x)) depth
+    (subst (λ (q : TypingMode). IsAnswerIn t q g s.remaining_depth (answer_of x)) mode
+    (subst (λ (u : Tables). IsAnswerIn u s.typing_mode g s.remaining_depth (answer_of x)) tables h))))
+    r (says (ap is_headline mode ∙ clone-headline m k clone may.mode) may.closed (subst (λ (u : Tables). IsAcceptedOver u g) (sym tables) may.accepted))
 
 -- what two answers come to
 undecided-is : (x : Answer) → decides x ≡ false → x ≡ maybe
@@ -207,3 +268,12 @@ pub never-different : (x y : Answer) (c : Comparison) → IsCompared x y c → (
 never-different x y c h agree e =
     let different : (decides x ≡ true) × (decides y ≡ true) × (x ≢ y) = subst (λ (d : Comparison). IsCompared x y d) e h in
     different.2 (agree different.0 different.1)
+
+ok-same : (c d : Comparison) (r : Result Comparison Fault) → r ≡ Ok c → r ≡ Ok d → c ≡ d
+ok-same c d r e f = cc
+
+pub order-never : (a b : Tables) (m : TypingMode) (g : Goal Predicate) (n k : ℕ) (x y : RunAnswer) (c : Comparison) (r : Result Comparison Fault) → IsChecked a → AreComparable a b m g n k → DifferInOrder a b →
+    (MayRun a m g n → IsAnswerIn a m g n (answer_of x)) → (MayRun b m g k → IsAnswerIn b m g k (answer_of y)) → IsCompared (answer_of x) (answer_of y) c → r ≡ Ok c → r ≡ Ok comparison.Different → ⊥
+order-never a b m g n k x y c r checked may order first second compared e f =
+    never-different (answer_of x) (answer_of y) c compared
+    (λ d h. agree-in_order a b m g n k (answer_of x) (answer_of y) checked order d h (first may.0) (second may.1)) (ok-same c comparison.Different r e f)

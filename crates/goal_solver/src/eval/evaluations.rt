@@ -22,9 +22,7 @@ use crate::trait_goals::evaluation::evaluate_trait_goal;
 use goal_kinds::candidates::interned::{InternedPredicate, InternedPremise};
 use goal_terms::answers::DelayedFault;
 use goal_terms::ids::TraitId;
-use goal_terms::predicates::{
-    Clause, Goal, HostEffectPredicate, ProjectionPredicate,
-};
+use goal_terms::predicates::{Clause, Goal, HostEffectPredicate, ProjectionPredicate};
 use goal_terms::term_nodes::TermId;
 use goal_terms::term_table::TermTable;
 use goal_terms::terms::{AliasTerm, GenericArg};
