@@ -1,13 +1,12 @@
 //! Two runs of one goal, compared.
-ghost use Rattle.std.specs.Prelude.{◌≡◌, ◌≢◌, ◌↔◌, true, IsTrue, Ok, IfOk, IsOkUnless};
+ghost use Rattle.std.specs.Prelude.{◌≡◌, ◌≢◌, ◌↔◌, true, IsTrue, Ok, Some, None, IfOk, IsOkUnless};
 ghost use Rattle.goal_terms.specs.TableMeaning.{HasTerm};
 ghost use Rattle.goal_tables.specs.Faults.{IsChecked};
+ghost use Rattle.goal_tables.specs.Predicates.{normalization_of};
 ghost use Rattle.goal_kinds.specs.Answers.{decides, yes_with};
 ghost use Rattle.goal_kinds.specs.Interned.{erased_at};
 ghost use Rattle.goal_kinds.specs.Settings.{is_headline};
 ghost use Rattle.goal_solver.specs.Comparisons.{AreComparable, DifferInOrder, IsAcceptedOver, IsAnswerHere, IsAnswerIn, IsClosedQuestion, IsCompared, IsComparison, MayRun, answer_of};
-ghost use Rattle.goal_tables.specs.Predicates.{normalization_of};
-ghost use Rattle.std.specs.Prelude.{None, Some};
 
 use crate::context::{EvalCtxt, GREATEST_LIMIT};
 use crate::eval::outcomes::Found;
@@ -41,10 +40,10 @@ pub(crate) enum RunAnswer {
     Maybe,
 }
 
-/// Runs a goal in a new context over each of two tables, and compares the answers. The goal holds no inference
-/// variable but that which takes an alias's term, whichever it is, and [`crate::eval::goals::check_goal`] accepts
-/// it for both tables in a context that has made this variable alone. The mode is of the headline, and defines no
-/// opaque type. A limit above 128 counts as 128.
+/// Runs a goal in a new context over each of two tables, and compares the answers. No inference variable stands in
+/// the goal but the one that takes an alias's term, and [`crate::eval::goals::check_goal`] accepts it for both
+/// tables: in a new context that variable is the first. The mode is of the headline, without opaque types that are
+/// being defined. A limit above 128 counts as 128.
 ///
 /// Over tables that differ in the order of their impls alone it is never `Different`, whatever the limits. Only
 /// memory is refused.
