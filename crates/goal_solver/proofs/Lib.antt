@@ -78,3 +78,4 @@ pub mod AskedTraitLemmas
 pub mod RerunLemmas
 pub mod HostEffectLemmas
 pub mod ListedTermLemmas
+pub mod ComparisonLemmas

@@ -33,3 +33,4 @@ pub mod OpenProjections
 pub mod Recording
 pub mod Promises
 pub mod AskedTraits
+pub mod Comparisons

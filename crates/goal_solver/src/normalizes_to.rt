@@ -106,7 +106,7 @@ impl EvalCtxt<'_> {
         if self.is_ambiguous(goal.predicate.alias.kind) {
             return Ok(self.respond(Certainty::Maybe, None));
         }
-        match self.alias_outcome(goal) {
+        match self.alias_outcome(&goal.predicate.alias, &goal.param_env) {
             Ok(Found::Is(id)) => self.respond_found(expected, id),
             Ok(Found::Refuted) => Err(Fault::NoSolution),
             Ok(Found::Undecided) => Ok(self.respond(Certainty::Maybe, None)),

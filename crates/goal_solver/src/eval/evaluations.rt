@@ -23,12 +23,10 @@ use crate::normalizes_to::alias_terms::alias_term;
 use crate::trait_goals::evaluation::evaluate_trait_goal;
 use goal_kinds::candidates::interned::{InternedPredicate, InternedPremise};
 use goal_terms::ids::TraitId;
-use goal_terms::predicates::{
-    Clause, Goal, HostEffectPredicate, NormalizesTo, ProjectionPredicate,
-};
+use goal_terms::predicates::{Clause, Goal, HostEffectPredicate, ProjectionPredicate};
 use goal_terms::term_nodes::TermId;
 use goal_terms::term_table::TermTable;
-use goal_terms::terms::GenericArg;
+use goal_terms::terms::{AliasTerm, GenericArg};
 
 impl EvalCtxt<'_> {
     /// What a trait goal comes to at a depth. Nothing changes but that there may be more terms, accesses and
@@ -206,50 +204,62 @@ impl EvalCtxt<'_> {
 
     /// Which term an alias has at the remaining depth. Nothing changes but that there may be more terms,
     /// accesses and delayed faults. What a run that records found can be given as the alias's term.
-    pub(crate) fn alias_outcome(&mut self, goal: &Goal<NormalizesTo>) -> Result<Found, Stop>
+    pub(crate) fn alias_outcome(
+        &mut self,
+        alias: &AliasTerm,
+        environment: &Vec<Clause>,
+    ) -> Result<Found, Stop>
         ensures kept { Keeps self.old.terms self.new.terms }
         ensures unchanged { self.new ≡ restored self.old self.new }
         ensures goes_back { GoesBack self.old self.new }
         ensures within { IfOk result (FoundIn self.new.terms) }
-        ensures says { (m : TypingMode) → IsOwed self.new m → IfOk result (SaysWhich ((level_over self.old m goal.now.param_env.items).gives goal.now.predicate.alias.kind (erased_args goal.now.predicate.alias.args.items)) ((level_over self.old m goal.now.param_env.items).gives_refuted goal.now.predicate.alias.kind (erased_args goal.now.predicate.alias.args.items)) self.new.terms) }
-        ensures fits { IfOk result (FitsKind goal.now.predicate.alias.kind self.new.terms) ⊎ ((m : TypingMode) → StandsFor self.old.typing_mode m → IfOk result (SaysWhich ((level_over self.old m goal.now.param_env.items).gives goal.now.predicate.alias.kind (erased_args goal.now.predicate.alias.args.items)) ((level_over self.old m goal.now.param_env.items).gives_refuted goal.now.predicate.alias.kind (erased_args goal.now.predicate.alias.args.items)) self.new.terms)) }
+        ensures says { (m : TypingMode) → IsOwed self.new m → IfOk result (SaysWhich ((level_over self.old m environment.now.items).gives alias.now.kind (erased_args alias.now.args.items)) ((level_over self.old m environment.now.items).gives_refuted alias.now.kind (erased_args alias.now.args.items)) self.new.terms) }
+        ensures fits { IfOk result (FitsKind alias.now.kind self.new.terms) ⊎ ((m : TypingMode) → StandsFor self.old.typing_mode m → IfOk result (SaysWhich ((level_over self.old m environment.now.items).gives alias.now.kind (erased_args alias.now.args.items)) ((level_over self.old m environment.now.items).gives_refuted alias.now.kind (erased_args alias.now.args.items)) self.new.terms)) }
         ensures stops { is_headline self.old.typing_mode ≡ true → IfErr result (λ s. s ≡ Stop.OutOfMemory) }
     {
         if let OnAccess::Record = self.first_access() {
-            return self.alias_recorded(goal);
+            return self.alias_recorded(alias, environment);
         }
-        match self.alias_run(OnAccess::Stop, goal) {
+        match self.alias_run(OnAccess::Stop, alias, environment) {
             Err(stop) => {
                 self.go_on(stop)?;
-                self.alias_recorded(goal)
+                self.alias_recorded(alias, environment)
             }
             found => found,
         }
     }
 
     /// Which term a run that records finds for an alias, if an answer can give it.
-    fn alias_recorded(&mut self, goal: &Goal<NormalizesTo>) -> Result<Found, Stop>
+    fn alias_recorded(
+        &mut self,
+        alias: &AliasTerm,
+        environment: &Vec<Clause>,
+    ) -> Result<Found, Stop>
         ensures kept { Keeps self.old.terms self.new.terms }
         ensures unchanged { self.new ≡ restored self.old self.new }
         ensures goes_back { GoesBack self.old self.new }
         ensures within { IfOk result (FoundIn self.new.terms) }
-        ensures fits { IfOk result (FitsKind goal.now.predicate.alias.kind self.new.terms) }
+        ensures fits { IfOk result (FitsKind alias.now.kind self.new.terms) }
         ensures stops { is_headline self.old.typing_mode ≡ true → IfErr result (λ s. s ≡ Stop.OutOfMemory) }
     {
-        let found = self.alias_run(OnAccess::Record, goal)?;
-        Ok(self.fitting(goal.predicate.alias.kind, found))
+        let found = self.alias_run(OnAccess::Record, alias, environment)?;
+        Ok(self.fitting(alias.kind, found))
     }
 
     /// One run of an alias's goal at the remaining depth.
-    fn alias_run(&mut self, on_access: OnAccess, goal: &Goal<NormalizesTo>) -> Result<Found, Stop>
+    fn alias_run(
+        &mut self,
+        on_access: OnAccess,
+        alias: &AliasTerm,
+        environment: &Vec<Clause>,
+    ) -> Result<Found, Stop>
         ensures kept { Keeps self.old.terms self.new.terms }
         ensures unchanged { self.new ≡ restored self.old self.new }
         ensures goes_back { GoesBack self.old self.new }
         ensures within { IfOk result (FoundIn self.new.terms) }
-        ensures says { (m : TypingMode) → RunsAs on_access self.old.typing_mode m → IfOk result (SaysWhich ((level_over self.old m goal.now.param_env.items).gives goal.now.predicate.alias.kind (erased_args goal.now.predicate.alias.args.items)) ((level_over self.old m goal.now.param_env.items).gives_refuted goal.now.predicate.alias.kind (erased_args goal.now.predicate.alias.args.items)) self.new.terms) }
+        ensures says { (m : TypingMode) → RunsAs on_access self.old.typing_mode m → IfOk result (SaysWhich ((level_over self.old m environment.now.items).gives alias.now.kind (erased_args alias.now.args.items)) ((level_over self.old m environment.now.items).gives_refuted alias.now.kind (erased_args alias.now.args.items)) self.new.terms) }
         ensures stops { is_headline self.old.typing_mode ≡ true → IfErr result (λ s. s ≡ Stop.OutOfMemory) }
     {
-        let alias = &goal.predicate.alias;
         let mut effects = Effects::new(self.allocator());
         let alloc = self.allocator();
         let ids = intern_args(alloc, &mut self.terms, &alias.args)?;
@@ -257,7 +267,7 @@ impl EvalCtxt<'_> {
             rows: self.tables.rows(),
             typing_mode: &self.typing_mode,
             on_access,
-            environment: &goal.param_env,
+            environment,
         };
         let depth = self.remaining_depth;
         let found = alias_term(
