@@ -2,6 +2,7 @@
 ghost use Rattle.std.specs.Prelude.{◌≡◌, IfOk, IfSome};
 ghost use Rattle.goal_terms.specs.declared.modes.TypingMode.TheVariants as typing;
 ghost use Rattle.vurloske.specs.Modes.{IsModeOf, IsOutermost, phase_text};
+ghost use Rattle.vurloske_syntax.specs.Spelling.{IsNamed};
 
 use crate::endings::Ending;
 use goal_terms::ids::OpaqueId;
@@ -9,7 +10,7 @@ use goal_terms::modes::TypingMode;
 use std::alloc::Global;
 use vurloske_items::definitions::{Definition, Definitions};
 use vurloske_syntax::ast::{Ast, Ident, Run};
-use vurloske_syntax::mistake::{Found, Mistake};
+use vurloske_syntax::mistake::Mistake;
 
 /// The phase of checking in which goals are asked, and whether a goal is refused for which the erased
 /// mode doesn't suffice.
@@ -40,7 +41,7 @@ impl Mode {
     ) -> Result<Mode, Ending> {
         match Phase::of(ast.name(word.name)) {
             Some(phase) => mode_of(alloc, ast, definitions, phase, names),
-            None => Err(mistake(word, "a mode")),
+            None => Err(Ending::Mistake(Mistake::at_name(word, "a mode"))),
         }
     }
 }
@@ -59,7 +60,7 @@ enum Phase {
 impl Phase {
     /// The phase that is written so.
     fn of(text: &str) -> Option<Phase>
-        ensures { IfSome result (λ phase. phase_text phase ≡ text.now) }
+        ensures { IsNamed phase_text text.now result }
     {
         match text {
             "analysis" => Some(Phase::Analysis),
@@ -122,7 +123,7 @@ fn erased(ast: &Ast, names: Run) -> Result<Mode, Ending>
             typing_mode: TypingMode::ErasedNotCoherence,
             stop_on_rerun: true,
         }),
-        [first, ..] => Err(mistake(*first, "`stop`")),
+        [first, ..] => Err(Ending::Mistake(Mistake::at_name(*first, "`stop`"))),
     }
 }
 
@@ -132,7 +133,7 @@ fn without_names(ast: &Ast, names: Run, mode: TypingMode) -> Result<Mode, Ending
 {
     match ast.idents(names) {
         [] => Ok(Mode::from(mode)),
-        [first, ..] => Err(mistake(*first, "no name")),
+        [first, ..] => Err(Ending::Mistake(Mistake::at_name(*first, "no name"))),
     }
 }
 
@@ -154,17 +155,8 @@ fn opaque_type(definitions: &Definitions, name: Ident) -> Result<OpaqueId, Endin
     match definitions.named(name.name) {
         Some(named) => match named.definition {
             Definition::Opaque(id) => Ok(id),
-            _ => Err(mistake(name, "an opaque type")),
+            _ => Err(Ending::Mistake(Mistake::at_name(name, "an opaque type"))),
         },
-        None => Err(mistake(name, "an opaque type")),
+        None => Err(Ending::Mistake(Mistake::at_name(name, "an opaque type"))),
     }
-}
-
-/// That something else than a name was expected where it stands.
-fn mistake(name: Ident, expected: &'static str) -> Ending {
-    Ending::Mistake(Mistake {
-        at: name.at,
-        expected,
-        found: Found::Name,
-    })
 }
