@@ -1,7 +1,9 @@
 //! The modes in which goals are asked.
-ghost use Rattle.std.specs.Prelude.{◌≡◌, IfOk, IfSome};
+ghost use Rattle.std.specs.Prelude.{◌≡◌, ◌↔◌, [], false, slice_get, IfOk, IfSome};
+ghost use Rattle.std.specs.String.{string_bytes};
 ghost use Rattle.goal_terms.specs.declared.modes.TypingMode.TheVariants as typing;
-ghost use Rattle.vurloske.specs.Modes.{IsModeOf, IsOutermost, phase_text};
+ghost use Rattle.vurloske.specs.Modes.{IsModeNamed, IsModeOf, IsOutermost, phase_text};
+ghost use Rattle.vurloske_syntax.specs.Lists.{part_of};
 ghost use Rattle.vurloske_syntax.specs.Spelling.{IsNamed};
 
 use crate::endings::Ending;
@@ -38,7 +40,11 @@ impl Mode {
         definitions: &Definitions,
         word: Ident,
         names: Run,
-    ) -> Result<Mode, Ending> {
+    ) -> Result<Mode, Ending>
+        ensures {
+            IfOk result (λ m. IfSome (slice_get ast.now.names.keys word.name.0) (λ t. IsModeNamed (string_bytes t) m.typing_mode))
+        }
+    {
         match Phase::of(ast.name(word.name)) {
             Some(phase) => mode_of(alloc, ast, definitions, phase, names),
             None => Err(Ending::Mistake(Mistake::at_name(word, "a mode"))),
@@ -115,7 +121,8 @@ impl From<TypingMode> for Mode {
 
 /// `erased` or `erased(stop)`
 fn erased(ast: &Ast, names: Run) -> Result<Mode, Ending>
-    ensures { IfOk result (λ m. m.typing_mode ≡ typing.ErasedNotCoherence) }
+    ensures mode { IfOk result (λ m. m.typing_mode ≡ typing.ErasedNotCoherence) }
+    ensures runs_on { IfOk result (λ m. (m.stop_on_rerun ≡ false) ↔ (part_of ast.now.idents.items names ≡ [])) }
 {
     match ast.idents(names) {
         [] => Ok(Mode::from(TypingMode::ErasedNotCoherence)),

@@ -4,8 +4,14 @@ use Rattle.goal_terms.specs.declared.ids.ItemId.{ItemId}
 use Rattle.goal_terms.specs.declared.ids.TraitId.{TraitId}
 use Rattle.vurloske_items.specs.declared.definitions.Definition.{Definition}
 use Rattle.vurloske_items.specs.declared.definitions.Definition.TheVariants as definition
+use Rattle.vurloske_items.specs.declared.definitions.ItemKey.{ItemKey}
 use Rattle.vurloske_items.specs.declared.definitions.Owners.{Owners}
 use Rattle.vurloske_items.specs.declared.definitions.Owners.TheVariants as owners
+use Rattle.vurloske_syntax.specs.declared.ast.Symbol.{Symbol}
+
+-- an item of a trait by its name
+abbrev pub item_key : TraitId → Symbol → ItemKey
+item_key id name = record { trait_id = id; name = name }
 
 -- the trait that is defined, if one is
 abbrev pub trait_defined : Definition → Option TraitId

@@ -1,8 +1,8 @@
 //! Which item a name is, and which name an item has.
-ghost use Rattle.std.specs.Prelude.{◌≡◌, [], slice_get};
+ghost use Rattle.std.specs.Prelude.{◌≡◌, [], slice_get, IfSome, None, Some};
 ghost use Rattle.std.specs.HashMap.{get};
-ghost use Rattle.std.specs.Option.{option_and_then, option_map_or, option_or};
-ghost use Rattle.vurloske_items.specs.Names.{only_owned, trait_defined};
+ghost use Rattle.std.specs.Option.{option_and_then, option_map_or};
+ghost use Rattle.vurloske_items.specs.Names.{item_key, only_owned, trait_defined};
 
 mod collect;
 mod nodes;
@@ -198,9 +198,10 @@ impl Definitions {
 
     /// The item of this name that a trait has, by itself or through a supertrait.
     pub fn item_through(&self, trait_id: TraitId, name: Symbol) -> Option<ItemId>
-        ensures {
-            let key = record { trait_id = trait_id; name = name } in
-            result ≡ option_or (get ⟦<ItemKey as PartialEq>⟧.eq self.now.item_ids key) (get ⟦<ItemKey as PartialEq>⟧.eq self.now.inherited key)
+        ensures own { IfSome (get ⟦<ItemKey as PartialEq>⟧.eq self.now.item_ids (item_key trait_id name)) (λ id. result ≡ Some id) }
+        ensures inherited {
+            get ⟦<ItemKey as PartialEq>⟧.eq self.now.item_ids (item_key trait_id name) ≡ None →
+            result ≡ get ⟦<ItemKey as PartialEq>⟧.eq self.now.inherited (item_key trait_id name)
         }
     {
         match self.item(trait_id, name) {
