@@ -42,7 +42,6 @@ use Rattle.goal_solver.specs.AddedGoals.{IsClosedGoal, GoalHolds, GoalRefuted, I
 use Rattle.goal_solver.specs.Answers.{IsOwed, level_over, erased_args}
 use Rattle.goal_solver.specs.Comparisons.{AreComparable, IsAnswerTo, IsAnswerIn, IsAnswerHere, IsCompared, MayRun, IsClosedQuestion, IsAcceptedIn, IsAcceptedOver, DifferInOrder, answer_of}
 use Rattle.goal_solver.specs.Goals.{IsAcceptedBy, IsAcceptedNormalization, goal_has}
-use Rattle.goal_solver.specs.Outcomes.{StandsFor}
 use Rattle.goal_solver.specs.Promises.{trait_asked, trait_question, equation_asked, const_asked, term_asked}
 use Rattle.goal_solver.specs.State.{State}
 use Rattle.goal_solver.specs.declared.comparison.Comparison.{Comparison}
