@@ -25,6 +25,10 @@ IsModeOf phase.Coherence typing.Coherence = Unit {0}
 IsModeOf phase.PostAnalysis typing.PostAnalysis = Unit {0}
 IsModeOf _ _ = ⊥
 
+-- a typing mode is that of the phase that a word names
+abbrev pub IsModeNamed : List ℕ → TypingMode → Type 0
+IsModeNamed text m = (p : Phase) × (phase_text p ≡ text) × IsModeOf p m
+
 -- no opaque type is being defined
 abbrev pub DefinesNone : TypingMode → Type 0
 DefinesNone (typing.Analysis ids) = ids.items ≡ []

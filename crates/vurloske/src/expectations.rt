@@ -8,10 +8,8 @@ use goal_terms::terms::Term;
 use goal_terms::text::Shown;
 use std::alloc::{AllocError, Global};
 use vurloske_items::names::ItemNames;
-use vurloske_syntax::ast::{
-    Args, Ast, Attr, AttrArg, AttrValue, Ident, Position, Run, Symbol, TermId, TermKind,
-};
-use vurloske_syntax::mistake::{Found, Mistake};
+use vurloske_syntax::ast::{Ast, Attr, AttrArg, AttrValue, Ident, Position, Run, Symbol, TermId};
+use vurloske_syntax::mistake::Mistake;
 
 /// What `#[expect(..)]` says, and where it stands.
 #[derive(Clone, Copy)]
@@ -46,11 +44,11 @@ pub fn expectation_of(ast: &Ast, attrs: Run) -> Result<Option<Expectation>, Mist
 /// The answer that an attribute expects.
 fn expected_answer(ast: &Ast, attr: Attr) -> Result<Expected, Mistake> {
     if ast.name(attr.ident.name) != "expect" {
-        return Err(mistake(attr.ident, "`expect`"));
+        return Err(Mistake::at_name(attr.ident, "`expect`"));
     }
     match attr.value {
         AttrValue::Args(args) => answer_named(ast, ast.attr_args(args), attr.ident),
-        _ => Err(mistake(attr.ident, "`expect(..)`")),
+        _ => Err(Mistake::at_name(attr.ident, "`expect(..)`")),
     }
 }
 
@@ -58,19 +56,19 @@ fn expected_answer(ast: &Ast, attr: Attr) -> Result<Expected, Mistake> {
 fn answer_named(ast: &Ast, args: &[AttrArg], at: Ident) -> Result<Expected, Mistake> {
     match args {
         [AttrArg::Binding(word, term)] if ast.name(word.name) == "refused" => {
-            match plain_name(ast, *term) {
+            match ast.plain_name(*term) {
                 Some(fault) => Ok(Expected::Refused(fault.name)),
-                None => Err(mistake(*word, "`refused = NAME`")),
+                None => Err(Mistake::at_name(*word, "`refused = NAME`")),
             }
         }
         [AttrArg::Term(term)] => Ok(answer_written(ast, *term)),
-        _ => Err(mistake(at, "`expect` with one answer")),
+        _ => Err(Mistake::at_name(at, "`expect` with one answer")),
     }
 }
 
 /// `yes`, `no`, `maybe` or a term.
 fn answer_written(ast: &Ast, term: TermId) -> Expected {
-    match plain_name(ast, term) {
+    match ast.plain_name(term) {
         None => Expected::Term(term),
         Some(word) => match ast.name(word.name) {
             "yes" => Expected::Yes,
@@ -78,26 +76,6 @@ fn answer_written(ast: &Ast, term: TermId) -> Expected {
             "maybe" => Expected::Maybe,
             _ => Expected::Term(term),
         },
-    }
-}
-
-/// The name that a term is, if it is no more.
-pub fn plain_name(ast: &Ast, term: TermId) -> Option<Ident> {
-    match ast.term(term)?.kind {
-        TermKind::Path(segment) => match segment.args {
-            Args::Absent => Some(segment.ident),
-            _ => None,
-        },
-        _ => None,
-    }
-}
-
-/// That something else was expected than a name.
-fn mistake(name: Ident, expected: &'static str) -> Mistake {
-    Mistake {
-        at: name.at,
-        expected,
-        found: Found::Name,
     }
 }
 

@@ -1,6 +1,4 @@
 //! Reads the text.
-ghost use Rattle.std.specs.Prelude.{◌≤◌};
-
 use crate::endings::Ending;
 use std::alloc::Global;
 use std::io::{BufReader, ErrorKind, Read};
@@ -36,25 +34,8 @@ fn read_bytes<R: Read + Drop>(alloc: Global, reader: R) -> Result<Vec<u8>, Endin
 /// That only so many bytes are UTF-8.
 fn no_text(bytes: &[u8], good: usize) -> Ending {
     Ending::Mistake(Mistake {
-        at: position(bytes.get(..good).unwrap_or(&[])),
+        at: Position::behind(bytes.get(..good).unwrap_or(&[])),
         expected: "UTF-8",
         found: Found::Word("other bytes"),
     })
-}
-
-/// The place behind some bytes.
-fn position(before: &[u8]) -> Position
-    ensures line { 1 ≤ result.line }
-    ensures column { 1 ≤ result.column }
-{
-    let mut at = Position { line: 1, column: 1 };
-    for byte in before {
-        if *byte == b'\n' {
-            at.line = at.line.saturating_add(1);
-            at.column = 1;
-        } else {
-            at.column = at.column.saturating_add(1);
-        }
-    }
-    at
 }

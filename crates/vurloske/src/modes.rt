@@ -1,7 +1,10 @@
 //! The modes in which goals are asked.
-ghost use Rattle.std.specs.Prelude.{◌≡◌, IfOk, IfSome};
+ghost use Rattle.std.specs.Prelude.{◌≡◌, ◌↔◌, [], false, slice_get, IfOk, IfSome};
+ghost use Rattle.std.specs.String.{string_bytes};
 ghost use Rattle.goal_terms.specs.declared.modes.TypingMode.TheVariants as typing;
-ghost use Rattle.vurloske.specs.Modes.{IsModeOf, IsOutermost, phase_text};
+ghost use Rattle.vurloske.specs.Modes.{IsModeNamed, IsModeOf, IsOutermost, phase_text};
+ghost use Rattle.vurloske_syntax.specs.Lists.{part_of};
+ghost use Rattle.vurloske_syntax.specs.Spelling.{IsNamed};
 
 use crate::endings::Ending;
 use goal_terms::ids::OpaqueId;
@@ -9,7 +12,7 @@ use goal_terms::modes::TypingMode;
 use std::alloc::Global;
 use vurloske_items::definitions::{Definition, Definitions};
 use vurloske_syntax::ast::{Ast, Ident, Run};
-use vurloske_syntax::mistake::{Found, Mistake};
+use vurloske_syntax::mistake::Mistake;
 
 /// The phase of checking in which goals are asked, and whether a goal is refused for which the erased
 /// mode doesn't suffice.
@@ -37,10 +40,12 @@ impl Mode {
         definitions: &Definitions,
         word: Ident,
         names: Run,
-    ) -> Result<Mode, Ending> {
+    ) -> Result<Mode, Ending>
+        ensures { IfOk result (λ m. IfSome (slice_get ast.now.names.keys word.name.0) (λ t. IsModeNamed (string_bytes t) m.typing_mode)) }
+    {
         match Phase::of(ast.name(word.name)) {
             Some(phase) => mode_of(alloc, ast, definitions, phase, names),
-            None => Err(mistake(word, "a mode")),
+            None => Err(Ending::Mistake(Mistake::at_name(word, "a mode"))),
         }
     }
 }
@@ -59,7 +64,7 @@ enum Phase {
 impl Phase {
     /// The phase that is written so.
     fn of(text: &str) -> Option<Phase>
-        ensures { IfSome result (λ phase. phase_text phase ≡ text.now) }
+        ensures { IsNamed phase_text text.now result }
     {
         match text {
             "analysis" => Some(Phase::Analysis),
@@ -114,7 +119,8 @@ impl From<TypingMode> for Mode {
 
 /// `erased` or `erased(stop)`
 fn erased(ast: &Ast, names: Run) -> Result<Mode, Ending>
-    ensures { IfOk result (λ m. m.typing_mode ≡ typing.ErasedNotCoherence) }
+    ensures mode { IfOk result (λ m. m.typing_mode ≡ typing.ErasedNotCoherence) }
+    ensures runs_on { IfOk result (λ m. (m.stop_on_rerun ≡ false) ↔ (part_of ast.now.idents.items names ≡ [])) }
 {
     match ast.idents(names) {
         [] => Ok(Mode::from(TypingMode::ErasedNotCoherence)),
@@ -122,7 +128,7 @@ fn erased(ast: &Ast, names: Run) -> Result<Mode, Ending>
             typing_mode: TypingMode::ErasedNotCoherence,
             stop_on_rerun: true,
         }),
-        [first, ..] => Err(mistake(*first, "`stop`")),
+        [first, ..] => Err(Ending::Mistake(Mistake::at_name(*first, "`stop`"))),
     }
 }
 
@@ -132,7 +138,7 @@ fn without_names(ast: &Ast, names: Run, mode: TypingMode) -> Result<Mode, Ending
 {
     match ast.idents(names) {
         [] => Ok(Mode::from(mode)),
-        [first, ..] => Err(mistake(*first, "no name")),
+        [first, ..] => Err(Ending::Mistake(Mistake::at_name(*first, "no name"))),
     }
 }
 
@@ -154,17 +160,8 @@ fn opaque_type(definitions: &Definitions, name: Ident) -> Result<OpaqueId, Endin
     match definitions.named(name.name) {
         Some(named) => match named.definition {
             Definition::Opaque(id) => Ok(id),
-            _ => Err(mistake(name, "an opaque type")),
+            _ => Err(Ending::Mistake(Mistake::at_name(name, "an opaque type"))),
         },
-        None => Err(mistake(name, "an opaque type")),
+        None => Err(Ending::Mistake(Mistake::at_name(name, "an opaque type"))),
     }
-}
-
-/// That something else than a name was expected where it stands.
-fn mistake(name: Ident, expected: &'static str) -> Ending {
-    Ending::Mistake(Mistake {
-        at: name.at,
-        expected,
-        found: Found::Name,
-    })
 }

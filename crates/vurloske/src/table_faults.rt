@@ -1,10 +1,9 @@
 //! Tables that are refused.
 use crate::endings::{Ending, Unexpected};
-use crate::expectations::plain_name;
 use goal_tables::faults::TableFault;
 use std::alloc::Global;
 use vurloske_syntax::ast::{Ast, Attr, AttrArg, AttrValue, Position, Symbol};
-use vurloske_syntax::mistake::{Found, Mistake};
+use vurloske_syntax::mistake::Mistake;
 
 /// That the tables are to be refused for a fault of this name.
 #[derive(Clone, Copy)]
@@ -25,7 +24,7 @@ pub fn expected_tables(ast: &Ast) -> Result<Option<ExpectedTables>, Mistake> {
                     fault: only_name(ast, ast.attr_args(args), *attr)?,
                 });
             }
-            _ => return Err(mistake(*attr, "`no_core` or `expect_tables(NAME)`")),
+            _ => return Err(Mistake::at_name(attr.ident, "`no_core` or `expect_tables(NAME)`")),
         }
     }
     Ok(expected)
@@ -34,21 +33,12 @@ pub fn expected_tables(ast: &Ast) -> Result<Option<ExpectedTables>, Mistake> {
 /// The name between the parentheses of an attribute.
 fn only_name(ast: &Ast, args: &[AttrArg], attr: Attr) -> Result<Symbol, Mistake> {
     let name = match args {
-        [AttrArg::Term(term)] => plain_name(ast, *term),
+        [AttrArg::Term(term)] => ast.plain_name(*term),
         _ => None,
     };
     match name {
         Some(name) => Ok(name.name),
-        None => Err(mistake(attr, "`expect_tables(NAME)`")),
-    }
-}
-
-/// That something else than an attribute was expected.
-fn mistake(attr: Attr, expected: &'static str) -> Mistake {
-    Mistake {
-        at: attr.ident.at,
-        expected,
-        found: Found::Name,
+        None => Err(Mistake::at_name(attr.ident, "`expect_tables(NAME)`")),
     }
 }
 

@@ -1,10 +1,11 @@
--- How words of the language are written.
+-- How words of the language are written, and what they name.
 use Rattle.std.specs.Prelude.{ℕ, List, codes}
 use Rattle.goal_tables.specs.declared.lang.LangItem.{LangItem}
 use Rattle.goal_tables.specs.declared.lang.LangItem.TheVariants as lang
-use Rattle.goal_terms.specs.declared.scalars.IntTy.TheVariants as int
-use Rattle.goal_terms.specs.declared.scalars.UintTy.TheVariants as uint
-use Rattle.goal_terms.specs.declared.scalars.FloatTy.TheVariants as float
+use Rattle.goal_terms.specs.NameText.{int_text, uint_text, float_text}
+use Rattle.goal_terms.specs.Tree.{Tree}
+use Rattle.goal_terms.specs.TreeOf.{leaf}
+use Rattle.goal_terms.specs.declared.heads.Head.TheVariants as head
 use Rattle.vurloske_items.specs.declared.builtins.Builtin.{Builtin}
 use Rattle.vurloske_items.specs.declared.builtins.Builtin.TheVariants as builtin
 
@@ -13,22 +14,18 @@ abbrev pub builtin_text : Builtin → List ℕ
 builtin_text builtin.Bool = codes "bool"
 builtin_text builtin.Char = codes "char"
 builtin_text builtin.Str = codes "str"
-builtin_text (builtin.Int int.Isize) = codes "isize"
-builtin_text (builtin.Int int.I8) = codes "i8"
-builtin_text (builtin.Int int.I16) = codes "i16"
-builtin_text (builtin.Int int.I32) = codes "i32"
-builtin_text (builtin.Int int.I64) = codes "i64"
-builtin_text (builtin.Int int.I128) = codes "i128"
-builtin_text (builtin.Uint uint.Usize) = codes "usize"
-builtin_text (builtin.Uint uint.U8) = codes "u8"
-builtin_text (builtin.Uint uint.U16) = codes "u16"
-builtin_text (builtin.Uint uint.U32) = codes "u32"
-builtin_text (builtin.Uint uint.U64) = codes "u64"
-builtin_text (builtin.Uint uint.U128) = codes "u128"
-builtin_text (builtin.Float float.F16) = codes "f16"
-builtin_text (builtin.Float float.F32) = codes "f32"
-builtin_text (builtin.Float float.F64) = codes "f64"
-builtin_text (builtin.Float float.F128) = codes "f128"
+builtin_text (builtin.Int i) = int_text i
+builtin_text (builtin.Uint i) = uint_text i
+builtin_text (builtin.Float f) = float_text f
+
+-- such a type itself
+abbrev pub builtin_tree : Builtin → Tree
+builtin_tree builtin.Bool = leaf head.Bool
+builtin_tree builtin.Char = leaf head.Char
+builtin_tree builtin.Str = leaf head.Str
+builtin_tree (builtin.Int i) = leaf (head.Int i)
+builtin_tree (builtin.Uint i) = leaf (head.Uint i)
+builtin_tree (builtin.Float f) = leaf (head.Float f)
 
 -- the name that an attribute gives a lang item
 abbrev pub lang_text : LangItem → List ℕ

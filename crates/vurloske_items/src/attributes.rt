@@ -1,21 +1,6 @@
 //! What attributes say of items.
 use crate::faults::{ItemFault, wrong_name};
-use vurloske_syntax::ast::{Args, Ast, Attr, AttrArg, AttrValue, Ident, Run, TermId, TermKind};
-
-/// The attribute of a name.
-pub(crate) fn attr_named(ast: &Ast, attrs: Run, name: &str) -> Option<Attr> {
-    for attr in ast.attrs(attrs) {
-        if ast.name(attr.ident.name) == name {
-            return Some(*attr);
-        }
-    }
-    None
-}
-
-/// Whether there is an attribute of a name.
-pub(crate) fn has_attr(ast: &Ast, attrs: Run, name: &str) -> bool {
-    attr_named(ast, attrs, name).is_some()
-}
+use vurloske_syntax::ast::{Ast, Attr, AttrArg, AttrValue, Ident, Run, TermId, TermKind};
 
 /// A mistake where an attribute is none of some names, or stands twice.
 pub(crate) fn expect_attrs(ast: &Ast, attrs: Run, names: &[&str]) -> Result<(), ItemFault> {
@@ -58,21 +43,9 @@ pub(crate) fn term_in_attr(ast: &Ast, attr: &Attr) -> Result<TermId, ItemFault> 
 
 /// The one name in an attribute's parentheses, as in `#[name(one)]`.
 pub(crate) fn name_in_attr(ast: &Ast, attr: &Attr) -> Result<Ident, ItemFault> {
-    let term = ast.term(term_in_attr(ast, attr)?);
-    match plain_name(term.map(|term| term.kind)) {
+    match ast.plain_name(term_in_attr(ast, attr)?) {
         Some(ident) => Ok(ident),
         None => Err(wrong_name(attr.ident, "an attribute with one name")),
-    }
-}
-
-/// The name that a term is.
-fn plain_name(kind: Option<TermKind>) -> Option<Ident> {
-    match kind {
-        Some(TermKind::Path(segment)) => match segment.args {
-            Args::Absent => Some(segment.ident),
-            _ => None,
-        },
-        _ => None,
     }
 }
 
@@ -89,7 +62,7 @@ pub(crate) fn number_in_attr(ast: &Ast, attr: &Attr) -> Result<u32, ItemFault> {
 
 /// The one term of the attribute of a name, where there is this attribute.
 pub(crate) fn term_of_attr(ast: &Ast, attrs: Run, name: &str) -> Result<Option<TermId>, ItemFault> {
-    match attr_named(ast, attrs, name) {
+    match ast.attr_named(attrs, name) {
         Some(attr) => Ok(Some(term_in_attr(ast, &attr)?)),
         None => Ok(None),
     }

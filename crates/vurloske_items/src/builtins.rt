@@ -1,6 +1,8 @@
 //! The names that no item has to declare, and those of lang items.
-ghost use Rattle.std.specs.Prelude.{◌≡◌, IfSome};
-ghost use Rattle.vurloske_items.specs.Spelling.{builtin_text, lang_text};
+ghost use Rattle.std.specs.Prelude.{◌≡◌};
+ghost use Rattle.goal_terms.specs.TreeOf.{tree_of_ty};
+ghost use Rattle.vurloske_items.specs.Spelling.{builtin_text, builtin_tree, lang_text};
+ghost use Rattle.vurloske_syntax.specs.Spelling.{IsNamed};
 
 use goal_tables::lang::LangItem;
 use goal_terms::scalars::{FloatTy, IntTy, UintTy};
@@ -20,7 +22,7 @@ pub enum Builtin {
 impl Builtin {
     /// The type that is written so.
     pub fn of(text: &str) -> Option<Builtin>
-        ensures { IfSome result (λ b. builtin_text b ≡ text.now) }
+        ensures { IsNamed builtin_text text.now result }
     {
         match text {
             "bool" => Some(Builtin::Bool),
@@ -47,7 +49,10 @@ impl Builtin {
     }
 
     /// The type itself.
-    pub fn ty(self) -> Ty {
+    #[tactic(auto, using(goal_terms::proofs::TreeLemmas::tree_equations))]
+    pub fn ty(self) -> Ty
+        ensures { tree_of_ty result ≡ builtin_tree self }
+    {
         match self {
             Builtin::Bool => Ty::Bool,
             Builtin::Char => Ty::Char,
@@ -61,7 +66,7 @@ impl Builtin {
 
 /// The lang item of a name.
 pub fn lang_item(name: &str) -> Option<LangItem>
-    ensures { IfSome result (λ i. lang_text i ≡ name.now) }
+    ensures { IsNamed lang_text name.now result }
 {
     match name {
         "sized" => Some(LangItem::Sized),

@@ -11,8 +11,7 @@ use goal_terms::predicates::{
 use goal_terms::terms::Ty;
 use std::alloc::Global;
 use vurloske_syntax::ast::{
-    self, Bound, Constness, Generics, Ident, Position, Run, TermId, TermKind, WhereClause,
-    WhereKind,
+    self, Bound, Constness, Generics, Ident, Position, Run, TermId, WhereClause, WhereKind,
 };
 
 /// What a `[const]` bound is beside its plain form.
@@ -318,12 +317,9 @@ impl Lowering<'_> {
 
     /// `T`, by itself in the head of a block.
     fn declare_ty(&mut self, id: TermId) -> Result<(), ItemFault> {
-        let node = self.ast.term(id).map(|term| term.kind);
-        match (node, self.plain_name(id)) {
-            (Some(TermKind::Path(segment)), Some(name)) => {
-                self.declare_new(ParamName::Named(name), ParamKind::Ty, segment.ident)
-            }
-            _ => Err(wrong(self.at(id), "the name of a parameter", "another term")),
+        match self.ast.plain_name(id) {
+            Some(ident) => self.declare_new(ParamName::Named(ident.name), ParamKind::Ty, ident),
+            None => Err(wrong(self.at(id), "the name of a parameter", "another term")),
         }
     }
 

@@ -1,7 +1,8 @@
 //! Which item a name is, and which name an item has.
-ghost use Rattle.std.specs.Prelude.{◌≡◌, [], slice_get};
+ghost use Rattle.std.specs.Prelude.{◌≡◌, [], slice_get, IfSome, None, Some};
 ghost use Rattle.std.specs.HashMap.{get};
-ghost use Rattle.std.specs.Option.{option_map_or};
+ghost use Rattle.std.specs.Option.{option_and_then, option_map_or};
+ghost use Rattle.vurloske_items.specs.Names.{item_key, only_owned, trait_defined};
 
 mod collect;
 mod nodes;
@@ -186,7 +187,9 @@ impl Definitions {
     }
 
     /// The trait of a name.
-    pub fn trait_id(&self, name: Symbol) -> Option<TraitId> {
+    pub fn trait_id(&self, name: Symbol) -> Option<TraitId>
+        ensures { result ≡ option_and_then (λ n. trait_defined n.definition) (get ⟦<Symbol as PartialEq>⟧.eq self.now.named name) }
+    {
         match self.named(name)?.definition {
             Definition::Trait(id) => Some(id),
             _ => None,
@@ -194,7 +197,11 @@ impl Definitions {
     }
 
     /// The item of this name that a trait has, by itself or through a supertrait.
-    pub fn item_through(&self, trait_id: TraitId, name: Symbol) -> Option<ItemId> {
+    pub fn item_through(&self, trait_id: TraitId, name: Symbol) -> Option<ItemId>
+        ensures own { IfSome (get ⟦<ItemKey as PartialEq>⟧.eq self.now.item_ids (item_key trait_id name)) (λ id. result ≡ Some id) }
+        ensures inherited { get ⟦<ItemKey as PartialEq>⟧.eq self.now.item_ids (item_key trait_id name) ≡ None →
+            result ≡ get ⟦<ItemKey as PartialEq>⟧.eq self.now.inherited (item_key trait_id name) }
+    {
         match self.item(trait_id, name) {
             Some(id) => Some(id),
             None => self.inherited.get(&ItemKey { trait_id, name }).copied(),
@@ -202,7 +209,9 @@ impl Definitions {
     }
 
     /// The item of this name, if only one trait has such an item.
-    pub fn only_item(&self, name: Symbol) -> Option<ItemId> {
+    pub fn only_item(&self, name: Symbol) -> Option<ItemId>
+        ensures { result ≡ option_and_then only_owned (get ⟦<Symbol as PartialEq>⟧.eq self.now.owners name) }
+    {
         match self.owners.get(&name) {
             Some(Owners::One(id)) => Some(*id),
             _ => None,
@@ -210,7 +219,9 @@ impl Definitions {
     }
 
     /// The items of this name in impls of no trait.
-    pub fn inherent_items_named(&self, name: Symbol) -> &[InherentId] {
+    pub fn inherent_items_named(&self, name: Symbol) -> &[InherentId]
+        ensures { result.now ≡ option_map_or (λ ids. ids.items) (get ⟦<Symbol as PartialEq>⟧.eq self.now.inherent_ids name) [] }
+    {
         match self.inherent_ids.get(&name) {
             Some(ids) => ids.as_slice(),
             None => &[],

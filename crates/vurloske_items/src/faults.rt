@@ -30,11 +30,7 @@ impl<T: Drop> From<AllocFailed<T>> for ItemFault {
 pub fn wrong_name(ident: Ident, expected: &'static str) -> ItemFault
     ensures { result ≡ ItemFault.Mistake (record { at = ident.at; expected = expected.entry; found = Found.Name }) }
 {
-    ItemFault::Mistake(Mistake {
-        at: ident.at,
-        expected,
-        found: Found::Name,
-    })
+    ItemFault::Mistake(Mistake::at_name(ident, expected))
 }
 
 /// That something else was expected than what a word says.

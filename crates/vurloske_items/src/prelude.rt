@@ -1,5 +1,4 @@
 //! The lang items that a text has where it names none.
-use crate::attributes::has_attr;
 use crate::faults::{ItemFault, wrong_name};
 use vurloske_syntax::ast::{Ast, Ident, ItemKind};
 
@@ -100,12 +99,12 @@ fn has_lang_attr(ast: &Ast) -> bool {
     ast.items
         .as_slice()
         .iter()
-        .any(|item| has_attr(ast, item.attrs, "lang"))
+        .any(|item| ast.has_attr(item.attrs, "lang"))
 }
 
 fn has_lang_attr_in_trait(ast: &Ast) -> bool {
     ast.assoc_items
         .as_slice()
         .iter()
-        .any(|item| has_attr(ast, item.attrs, "lang"))
+        .any(|item| ast.has_attr(item.attrs, "lang"))
 }

@@ -13,7 +13,7 @@ use goal_terms::terms::{AliasTerm, Const, FnSig, Term, Ty};
 use std::alloc::Global;
 use vurloske_syntax::ast;
 use vurloske_syntax::ast::{
-    Args, Ast, FnPtr, Generics, Impl, Position, Run, Segment, Symbol, TermId, TermKind, WhereKind,
+    Ast, FnPtr, Generics, Impl, Position, Run, Segment, Symbol, TermId, WhereKind,
 };
 
 /// How deep terms may nest. What a text's own nesting is allowed to be fits in.
@@ -217,12 +217,6 @@ impl<'a> Lowering<'a> {
 
     /// The name that a term is.
     pub(crate) fn plain_name(&self, id: TermId) -> Option<Symbol> {
-        match self.ast.term(id)?.kind {
-            TermKind::Path(segment) => match segment.args {
-                Args::Absent => Some(segment.ident.name),
-                _ => None,
-            },
-            _ => None,
-        }
+        Some(self.ast.plain_name(id)?.name)
     }
 }

@@ -1,3 +1,4 @@
 pub mod Lists
 pub mod Cuts
 pub mod Spelling
+pub mod Names

@@ -1,4 +1,4 @@
-use Rattle.std.specs.Prelude.{ℕ, List, codes}
+use Rattle.std.specs.Prelude.{◌≡◌, ℕ, List, Option, Some, None, codes}
 use Rattle.vurloske_syntax.specs.declared.token.Keyword.{Keyword}
 use Rattle.vurloske_syntax.specs.declared.token.Keyword.TheVariants as keyword
 use Rattle.vurloske_syntax.specs.declared.token.Sign.{Sign}
@@ -47,3 +47,8 @@ sign_text sign.RArrow = codes "->"
 sign_text sign.Semi = codes ";"
 sign_text sign.Star = codes "*"
 sign_text sign.Underscore = codes "_"
+
+-- what a text names, where each thing is written in its own way: the one that is written so, and none only where there is none
+abbrev pub IsNamed : {K : Type 0} → (K → List ℕ) → List ℕ → Option K → Type 0
+IsNamed {K} written text (Some k) = written k ≡ text
+IsNamed {K} written text None = (k : K) → written k ≡ text → ⊥

@@ -3,7 +3,7 @@
 //! Nodes lie in the lists of one `Ast` and name each other by place, so that they are `Copy` and no
 //! type here leads back to itself. A node is made after its parts.
 ghost use Rattle.std.specs.Prelude.{◌≡◌, ◌≤◌, [], length, slice_get, IfOk, IfSome, Some};
-ghost use Rattle.std.specs.Option.{option_map};
+ghost use Rattle.std.specs.Option.{option_and_then, option_map};
 ghost use Rattle.std.specs.String.{string_bytes};
 
 use indexmap::IndexSet;
@@ -14,6 +14,25 @@ use std::alloc::{AllocError, Global};
 pub struct Position {
     pub line: u32,
     pub column: u32,
+}
+
+impl Position {
+    /// The place behind the first bytes of a text.
+    pub fn behind(bytes: &[u8]) -> Position
+        ensures line { 1 ≤ result.line }
+        ensures column { 1 ≤ result.column }
+    {
+        let mut at = Position { line: 1, column: 1 };
+        for byte in bytes {
+            if *byte == b'\n' {
+                at.line = at.line.saturating_add(1);
+                at.column = 1;
+            } else {
+                at.column = at.column.saturating_add(1);
+            }
+        }
+        at
+    }
 }
 
 /// A piece of a text: its first byte, and the byte after its last one.
@@ -478,6 +497,7 @@ impl Run {
 
 impl Ast {
     ghost use Rattle.vurloske_syntax.specs.Lists.{part_of};
+    ghost use Rattle.vurloske_syntax.specs.Names.{path_in, plain_name_in};
 
     /// With no names and no parts.
     pub(crate) fn new(alloc: Global) -> Ast {
@@ -506,6 +526,27 @@ impl Ast {
         ensures { result ≡ slice_get self.now.terms.items id.0 }
     {
         self.terms.get(id.0).copied()
+    }
+
+    /// The name with arguments that a term is, if it is no more.
+    pub(crate) fn path(&self, id: TermId) -> Option<Segment>
+        ensures { result ≡ option_and_then path_in (slice_get self.now.terms.items id.0) }
+    {
+        match self.term(id)?.kind {
+            TermKind::Path(segment) => Some(segment),
+            _ => None,
+        }
+    }
+
+    /// The name that a term is, if it is no more.
+    pub fn plain_name(&self, id: TermId) -> Option<Ident>
+        ensures { result ≡ option_and_then plain_name_in (slice_get self.now.terms.items id.0) }
+    {
+        let segment = self.path(id)?;
+        match segment.args {
+            Args::Absent => Some(segment.ident),
+            _ => None,
+        }
     }
 
     /// The text of a name. Empty where it is of another `Ast`.
@@ -598,6 +639,21 @@ impl Ast {
         ensures { result.now ≡ part_of self.now.attrs.items run }
     {
         run.of(&self.attrs)
+    }
+
+    /// The first attribute of a run that has a name.
+    pub fn attr_named(&self, attrs: Run, name: &str) -> Option<Attr> {
+        for attr in self.attrs(attrs) {
+            if self.name(attr.ident.name) == name {
+                return Some(*attr);
+            }
+        }
+        None
+    }
+
+    /// Whether an attribute of a run has a name.
+    pub fn has_attr(&self, attrs: Run, name: &str) -> bool {
+        self.attr_named(attrs, name).is_some()
     }
 
     /// The arguments of an attribute of a run. None where it is of another `Ast`.

@@ -53,7 +53,7 @@ impl<'t> Cursor<'t> {
     pub(crate) fn at(&self) -> Position {
         match self.rest.first() {
             Some(token) => token.at,
-            None => end_of(self.text),
+            None => Position::behind(self.text.as_bytes()),
         }
     }
 
@@ -165,18 +165,4 @@ impl<'t> Cursor<'t> {
             found,
         })
     }
-}
-
-/// The place behind a text's last byte.
-fn end_of(text: &str) -> Position {
-    let mut end = Position { line: 1, column: 1 };
-    for byte in text.as_bytes() {
-        if *byte == b'\n' {
-            end.line = end.line.saturating_add(1);
-            end.column = 1;
-        } else {
-            end.column = end.column.saturating_add(1);
-        }
-    }
-    end
 }

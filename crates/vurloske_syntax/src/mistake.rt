@@ -1,5 +1,5 @@
 //! What is wrong with a text, and where.
-use crate::ast::{Position, Span};
+use crate::ast::{Ident, Position, Span};
 use std::alloc::{AllocError, AllocFailed};
 use std::fmt;
 use std::str::from_utf8;
@@ -48,6 +48,19 @@ pub enum Found {
 }
 
 impl Mistake {
+    ghost use Rattle.std.specs.Prelude.{◌≡◌};
+
+    /// That something else than this name was expected where it stands.
+    pub fn at_name(ident: Ident, expected: &'static str) -> Mistake
+        ensures { result ≡ record { at = ident.at; expected = expected.entry; found = Found.Name } }
+    {
+        Mistake {
+            at: ident.at,
+            expected,
+            found: Found::Name,
+        }
+    }
+
     /// `LINE:COLUMN: expected WHAT, found WHAT`, over the text in which it was made.
     pub fn shown<'t>(&self, text: &'t str) -> ShownMistake<'t> {
         ShownMistake {

@@ -1,5 +1,5 @@
 //! What a text is cut into.
-ghost use Rattle.std.specs.Prelude.{◌≡◌, ◌++◌, [], ◌∷◌, codes, IfSome};
+ghost use Rattle.std.specs.Prelude.{◌≡◌, ◌++◌, [], ◌∷◌, codes};
 
 use crate::ast::{LifetimeKind, Position, Span, Symbol};
 
@@ -73,11 +73,11 @@ pub enum Sign {
 }
 
 impl Keyword {
-    ghost use Rattle.vurloske_syntax.specs.Spelling.{keyword_text};
+    ghost use Rattle.vurloske_syntax.specs.Spelling.{IsNamed, keyword_text};
 
     /// The keyword that is written so.
     pub fn of(text: &str) -> Option<Keyword>
-        ensures { IfSome result (λ k. keyword_text k ≡ text.now) }
+        ensures { IsNamed keyword_text text.now result }
     {
         match text {
             "as" => Some(Keyword::As),
@@ -126,11 +126,11 @@ impl Keyword {
 }
 
 impl Sign {
-    ghost use Rattle.vurloske_syntax.specs.Spelling.{sign_text};
+    ghost use Rattle.vurloske_syntax.specs.Spelling.{IsNamed, sign_text};
 
     /// The sign of two bytes that a text begins with.
     pub fn of_two(first: u8, second: u8) -> Option<Sign>
-        ensures { IfSome result (λ s. sign_text s ≡ first ∷ second ∷ []) }
+        ensures { IsNamed sign_text (first ∷ second ∷ []) result }
     {
         match (first, second) {
             (b':', b':') => Some(Sign::PathSep),
@@ -142,7 +142,7 @@ impl Sign {
 
     /// The sign of one byte.
     pub fn of_one(byte: u8) -> Option<Sign>
-        ensures { IfSome result (λ s. sign_text s ≡ byte ∷ []) }
+        ensures { IsNamed sign_text (byte ∷ []) result }
     {
         match byte {
             b'&' => Some(Sign::And),
@@ -163,6 +163,7 @@ impl Sign {
             b'?' => Some(Sign::Question),
             b';' => Some(Sign::Semi),
             b'*' => Some(Sign::Star),
+            b'_' => Some(Sign::Underscore),
             _ => None,
         }
     }

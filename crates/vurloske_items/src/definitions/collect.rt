@@ -1,5 +1,5 @@
 //! Gathers the names of a text's items.
-use crate::attributes::{attr_named, name_in_attr};
+use crate::attributes::name_in_attr;
 use crate::builtins::{Builtin, lang_item};
 use crate::definitions::{
     Definition, Definitions, InherentEntry, ItemEntry, ItemKey, Named, Owners,
@@ -38,7 +38,7 @@ fn as_number(len: usize) -> Result<u32, ItemFault> {
 
 /// Which lang item attributes say that an item is.
 fn lang_of(ast: &Ast, attrs: Run) -> Result<Option<LangItem>, ItemFault> {
-    let Some(attr) = attr_named(ast, attrs, "lang") else {
+    let Some(attr) = ast.attr_named(attrs, "lang") else {
         return Ok(None);
     };
     let found = match attr.value {
@@ -195,7 +195,7 @@ impl Definitions {
             return self.add_inherent_impl(alloc, ast, place, node);
         }
         let id = ImplId(number_of(&mut self.impls, place)?);
-        if let Some(attr) = attr_named(ast, attrs, "name") {
+        if let Some(attr) = ast.attr_named(attrs, "name") {
             let ident = name_in_attr(ast, &attr)?;
             if self.impl_names.insert(ident.name, id)?.is_some() {
                 return Err(wrong_name(ident, "a name that no other impl has"));

@@ -1,5 +1,5 @@
 //! The rows of structs, enums and unions.
-use crate::attributes::{args_in_attr, attr_named, expect_attrs, term_of_attr};
+use crate::attributes::{args_in_attr, expect_attrs, term_of_attr};
 use crate::faults::{ItemFault, wrong_name};
 use crate::rows::{Text, count};
 use crate::terms::Lowering;
@@ -102,10 +102,10 @@ impl Text<'_> {
         if let Some(id) = term_of_attr(self.ast, attrs, "discriminant")? {
             row.discriminant = lowering.ty(id)?;
         }
-        if let Some(attr) = attr_named(self.ast, attrs, "destruct") {
+        if let Some(attr) = self.ast.attr_named(attrs, "destruct") {
             self.push_destruct_conditions(lowering, &attr, &mut row.destruct_conditions)?;
         }
-        if let Some(attr) = attr_named(self.ast, attrs, "field") {
+        if let Some(attr) = self.ast.attr_named(attrs, "field") {
             row.field_info = Some(self.field_info(lowering, &attr)?);
         }
         Ok(())

@@ -1,5 +1,5 @@
 //! The rows of closures.
-use crate::attributes::{args_in_attr, attr_named, expect_attrs};
+use crate::attributes::{args_in_attr, expect_attrs};
 use crate::faults::{ItemFault, wrong_name};
 use crate::rows::functions::{empty_signature, signature};
 use crate::rows::{Text, count};
@@ -65,7 +65,7 @@ impl Text<'_> {
         attrs: Run,
         upvars: &mut Vec<Ty>,
     ) -> Result<(), ItemFault> {
-        let Some(attr) = attr_named(self.ast, attrs, "upvars") else {
+        let Some(attr) = self.ast.attr_named(attrs, "upvars") else {
             return Ok(());
         };
         for arg in args_in_attr(self.ast, &attr) {

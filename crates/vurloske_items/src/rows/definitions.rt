@@ -1,5 +1,4 @@
 //! The rows of definitions, which stand in traits and in impls.
-use crate::attributes::has_attr;
 use crate::faults::{ItemFault, wrong_name};
 use crate::rows::impl_items::Written;
 use crate::rows::{Text, count};
@@ -234,7 +233,7 @@ impl Text<'_> {
         lowering: &mut Lowering<'_>,
         node: &AssocItem,
     ) -> Result<DefValue, ItemFault> {
-        if has_attr(self.ast, node.attrs, "evaluated") {
+        if self.ast.has_attr(node.attrs, "evaluated") {
             return Ok(DefValue::Evaluated);
         }
         match node.value {

@@ -1,5 +1,5 @@
 //! The rows of functions.
-use crate::attributes::{expect_attrs, has_attr};
+use crate::attributes::expect_attrs;
 use crate::faults::ItemFault;
 use crate::rows::{Text, count};
 use goal_tables::rows::FnRow;
@@ -36,7 +36,7 @@ impl Text<'_> {
     fn fill_fn(self, node: &Fn, row: &mut FnRow) -> Result<(), ItemFault> {
         let attrs = self.attrs_at(&self.definitions.functions, row.id.0);
         expect_attrs(self.ast, attrs, &["no_fn_traits"])?;
-        let has_no_fn_traits = node.is_unsafe || has_attr(self.ast, attrs, "no_fn_traits");
+        let has_no_fn_traits = node.is_unsafe || self.ast.has_attr(attrs, "no_fn_traits");
         let mut lowering = self.lowering_of(node.generics)?;
         row.params = lowering.scope.params.kinds(self.alloc)?;
         row.sig = lowering.signature(signature(has_no_fn_traits, node.inputs, node.output))?;

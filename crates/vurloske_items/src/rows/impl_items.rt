@@ -1,5 +1,5 @@
 //! What impls say of the items of their traits.
-use crate::attributes::{attr_named, expect_attrs, has_attr, name_in_attr, number_in_attr};
+use crate::attributes::{expect_attrs, name_in_attr, number_in_attr};
 use crate::faults::{ItemFault, wrong_name};
 use crate::rows::Text;
 use goal_terms::ids::{ItemId, TraitId};
@@ -30,7 +30,7 @@ impl Text<'_> {
 
     /// Whether a trait or an impl gives an item that it writes a value.
     pub(super) fn gives_value(self, node: &AssocItem) -> bool {
-        node.value.is_some() || has_attr(self.ast, node.attrs, "evaluated")
+        node.value.is_some() || self.ast.has_attr(node.attrs, "evaluated")
     }
 
     /// The item of a trait that one of an impl is for. A mistake where the trait has none of this name,
@@ -54,8 +54,8 @@ impl Text<'_> {
     /// beside that of another impl.
     pub(super) fn written(self, node: &AssocItem) -> Result<Written, ItemFault> {
         expect_attrs(self.ast, node.attrs, &["from", "broken", "evaluated"])?;
-        let from = attr_named(self.ast, node.attrs, "from");
-        let broken = attr_named(self.ast, node.attrs, "broken");
+        let from = self.ast.attr_named(node.attrs, "from");
+        let broken = self.ast.attr_named(node.attrs, "broken");
         match (self.gives_value(node), from, broken) {
             (true, None, None) => Ok(Written::Here),
             (false, Some(attr), None) => Ok(Written::From(name_in_attr(self.ast, &attr)?)),

@@ -1,5 +1,5 @@
 //! The rows of impls of traits.
-use crate::attributes::{expect_attrs, has_attr};
+use crate::attributes::expect_attrs;
 use crate::faults::{ItemFault, wrong_name};
 use crate::rows::{Text, count};
 use crate::terms::Lowering;
@@ -35,7 +35,7 @@ impl Text<'_> {
             trait_args: Vec::new(self.alloc),
             polarity: self.polarity(id, node),
             is_const: node.is_const,
-            guaranteed_unsized: has_attr(self.ast, attrs, "guaranteed_unsized"),
+            guaranteed_unsized: self.ast.has_attr(attrs, "guaranteed_unsized"),
             predicates: Vec::new(self.alloc),
             const_conditions: Vec::new(self.alloc),
         };
@@ -59,7 +59,7 @@ impl Text<'_> {
         let attrs = self.attrs_at(&self.definitions.impls, id.0);
         if node.is_negative {
             ImplPolarity::Negative
-        } else if has_attr(self.ast, attrs, "reservation") {
+        } else if self.ast.has_attr(attrs, "reservation") {
             ImplPolarity::Reservation
         } else {
             ImplPolarity::Positive
@@ -74,7 +74,7 @@ impl Text<'_> {
             attrs,
             &["name", "reservation", "guaranteed_unsized"],
         )?;
-        if node.is_negative && has_attr(self.ast, attrs, "reservation") {
+        if node.is_negative && self.ast.has_attr(attrs, "reservation") {
             return Err(wrong_name(trait_.ident, "a reservation without `!`"));
         }
         Ok(())

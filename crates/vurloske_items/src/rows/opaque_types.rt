@@ -1,5 +1,5 @@
 //! The rows of opaque types.
-use crate::attributes::{expect_attrs, has_attr, term_of_attr};
+use crate::attributes::{expect_attrs, term_of_attr};
 use crate::faults::{ItemFault, wrong_name};
 use crate::rows::conditions::const_bounds;
 use crate::rows::{Text, count};
@@ -33,7 +33,7 @@ impl Text<'_> {
         let mut row = OpaqueRow {
             id,
             params: Vec::new(self.alloc),
-            is_local: !has_attr(self.ast, attrs, "remote"),
+            is_local: !self.ast.has_attr(attrs, "remote"),
             hidden: Ty::Never,
             typeck_hidden: Ty::Never,
             bounds: Vec::new(self.alloc),

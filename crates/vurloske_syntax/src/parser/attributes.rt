@@ -3,7 +3,7 @@ use crate::ast::{Ast, Attr, AttrArg, AttrValue, Run};
 use crate::cursor::Cursor;
 use crate::mistake::SyntaxFault;
 use crate::parser::bounds::parse_bounds;
-use crate::parser::terms::{parse_term, plain_name};
+use crate::parser::terms::parse_term;
 use crate::token::{Sign, TokenKind};
 
 /// `#[..]`, as many as there are.
@@ -47,13 +47,6 @@ fn begins_inner_attr(cursor: &Cursor<'_>) -> bool {
         (cursor.peek(), cursor.peek_second()),
         (TokenKind::Sign(Sign::Pound), TokenKind::Sign(Sign::Not))
     )
-}
-
-/// Whether one of some attributes has a name.
-pub(crate) fn has_attr(ast: &Ast, attrs: Run, name: &str) -> bool {
-    ast.attrs(attrs)
-        .iter()
-        .any(|attr| ast.name(attr.ident.name) == name)
 }
 
 /// `[NAME]`, `[NAME = "text"]`, `[NAME(..)]`
@@ -107,7 +100,7 @@ fn parse_attr_arg(
     if cursor.eat(Sign::Colon) {
         return Ok(AttrArg::Bounds(term, parse_bounds(cursor, ast, depth)?));
     }
-    match plain_name(ast, term) {
+    match ast.plain_name(term) {
         Some(ident) if cursor.eat(Sign::Eq) => {
             Ok(AttrArg::Binding(ident, parse_term(cursor, ast, depth)?))
         }

@@ -4,7 +4,7 @@ use crate::cursor::Cursor;
 use crate::mistake::SyntaxFault;
 use crate::parser::bounds::parse_bounds;
 use crate::parser::scraps::{lifetime_ident, parse_binder};
-use crate::parser::terms::{parse_term, plain_name};
+use crate::parser::terms::parse_term;
 use crate::token::{Keyword, Sign, TokenKind};
 
 /// `<'a, T: Tr, const N: usize>` or nothing.
@@ -179,7 +179,7 @@ fn parse_env_clause(
     }
     let binder = parse_binder(cursor, ast)?;
     let term = parse_term(cursor, ast, depth)?;
-    let kind = if binder.len == 0 && ends_name(cursor) && plain_name(ast, term).is_some() {
+    let kind = if binder.len == 0 && ends_name(cursor) && ast.plain_name(term).is_some() {
         WhereKind::DeclareTy(term)
     } else {
         parse_relation(cursor, ast, depth, term)?

@@ -7,7 +7,7 @@ use crate::parser::bounds::parse_bounds;
 use crate::parser::definitions::{parse_adt, parse_closure, parse_fn};
 use crate::parser::generics::{parse_params, parse_where};
 use crate::parser::scraps::sees_word;
-use crate::parser::terms::{parse_segment, parse_term, path_of};
+use crate::parser::terms::{parse_segment, parse_term};
 use crate::token::{Keyword, Sign, TokenKind};
 
 /// Whether an item is next.
@@ -165,7 +165,7 @@ fn parse_impl(cursor: &mut Cursor<'_>, ast: &mut Ast, depth: u32) -> Result<Impl
         None
     };
     let head = parse_term(cursor, ast, depth)?;
-    let (trait_, self_ty) = match path_of(ast, head) {
+    let (trait_, self_ty) = match ast.path(head) {
         Some(segment) if trait_.is_none() && cursor.eat_keyword(Keyword::For) => {
             (Some(segment), parse_term(cursor, ast, depth)?)
         }

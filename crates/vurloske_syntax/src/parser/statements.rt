@@ -4,7 +4,7 @@ ghost use Rattle.std.specs.Prelude.{◌≡◌, ◌+◌, vec_len, IfOk, OnOk};
 use crate::ast::{Ast, Item, Run, Statement, StatementKind};
 use crate::cursor::Cursor;
 use crate::mistake::SyntaxFault;
-use crate::parser::attributes::{has_attr, parse_attrs, parse_inner_attrs};
+use crate::parser::attributes::{parse_attrs, parse_inner_attrs};
 use crate::parser::generics::parse_env_clauses;
 use crate::parser::goals::parse_goal;
 use crate::parser::items::{begins_item, parse_item_kind};
@@ -18,7 +18,7 @@ pub(crate) fn parse_file(cursor: &mut Cursor<'_>, ast: &mut Ast) -> Result<(), S
 {
     let attrs = parse_inner_attrs(cursor, ast, MAX_NESTING)?;
     ast.inner_attrs = attrs;
-    ast.no_core = has_attr(ast, attrs, "no_core");
+    ast.no_core = ast.has_attr(attrs, "no_core");
     ast.file = parse_contents(cursor, ast)?;
     Ok(())
 }

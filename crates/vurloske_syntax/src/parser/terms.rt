@@ -345,27 +345,10 @@ fn parse_arg(cursor: &mut Cursor<'_>, ast: &mut Ast, depth: u32) -> Result<Arg, 
         return Ok(Arg::Lifetime(lifetime));
     }
     let term = parse_term(cursor, ast, depth)?;
-    match path_of(ast, term) {
+    match ast.path(term) {
         Some(item) if cursor.eat(Sign::Eq) => {
             Ok(Arg::Binding(item, parse_term(cursor, ast, depth)?))
         }
         _ => Ok(Arg::Term(term)),
-    }
-}
-
-/// The name with arguments that a term is, if it is no more.
-pub(crate) fn path_of(ast: &Ast, term: TermId) -> Option<Segment> {
-    match ast.term(term)?.kind {
-        TermKind::Path(segment) => Some(segment),
-        _ => None,
-    }
-}
-
-/// The name that a term is, if it is no more.
-pub(crate) fn plain_name(ast: &Ast, term: TermId) -> Option<Ident> {
-    let segment = path_of(ast, term)?;
-    match segment.args {
-        Args::Absent => Some(segment.ident),
-        _ => None,
     }
 }
