@@ -41,9 +41,7 @@ impl Mode {
         word: Ident,
         names: Run,
     ) -> Result<Mode, Ending>
-        ensures {
-            IfOk result (λ m. IfSome (slice_get ast.now.names.keys word.name.0) (λ t. IsModeNamed (string_bytes t) m.typing_mode))
-        }
+        ensures { IfOk result (λ m. IfSome (slice_get ast.now.names.keys word.name.0) (λ t. IsModeNamed (string_bytes t) m.typing_mode)) }
     {
         match Phase::of(ast.name(word.name)) {
             Some(phase) => mode_of(alloc, ast, definitions, phase, names),

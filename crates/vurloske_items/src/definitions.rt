@@ -199,10 +199,8 @@ impl Definitions {
     /// The item of this name that a trait has, by itself or through a supertrait.
     pub fn item_through(&self, trait_id: TraitId, name: Symbol) -> Option<ItemId>
         ensures own { IfSome (get ⟦<ItemKey as PartialEq>⟧.eq self.now.item_ids (item_key trait_id name)) (λ id. result ≡ Some id) }
-        ensures inherited {
-            get ⟦<ItemKey as PartialEq>⟧.eq self.now.item_ids (item_key trait_id name) ≡ None →
-            result ≡ get ⟦<ItemKey as PartialEq>⟧.eq self.now.inherited (item_key trait_id name)
-        }
+        ensures inherited { get ⟦<ItemKey as PartialEq>⟧.eq self.now.item_ids (item_key trait_id name) ≡ None →
+            result ≡ get ⟦<ItemKey as PartialEq>⟧.eq self.now.inherited (item_key trait_id name) }
     {
         match self.item(trait_id, name) {
             Some(id) => Some(id),
