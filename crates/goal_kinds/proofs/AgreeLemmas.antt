@@ -10,7 +10,7 @@ use Rattle.goal_terms.specs.declared.heads.Node.{Node}
 use Rattle.goal_terms.specs.declared.heads.Node.TheVariants as nodes
 use Rattle.goal_terms.proofs.SizeLemmas.{sizes}
 use Rattle.goal_terms.proofs.WalkLemmas.{and-false}
-use Rattle.goal_kinds.specs.FastReject.{is_open, agree, row_agrees, lists_agree, have_same_kind, may_unify, lists_may_unify}
+use Rattle.goal_kinds.specs.FastReject.{is_open, agree, row_agrees, lists_agree}
 use Rattle.goal_kinds.specs.declared.fast_reject.Parameters.{Parameters}
 use Rattle.goal_kinds.specs.declared.fast_reject.Parameters.TheVariants.{Rigid}
 
@@ -35,11 +35,11 @@ agree-walk test p (node h ts) u =
 agree-walk test p (alias k ts) u = refl
 agree-walk test p (variable v) u = refl
 
--- two terms may become the same by their tops alone, or by their tops and their parts
-abbrev by_tops : Parameters → Tree → Tree → Bool → Bool
-by_tops p t u is_some_open =
-    if is_some_open then have_same_kind (node_of t) (node_of u)
-    else same_node (compared_node Forgotten (node_of t)) (compared_node Forgotten (node_of u)) && lists_may_unify p (parts_of t) (parts_of u)
+-- two terms agree by their tops alone, or by their tops and their parts
+abbrev by_tops : (Node → Node → Bool) → Parameters → Tree → Tree → Bool → Bool
+by_tops test p t u is_some_open =
+    if is_some_open then test (node_of t) (node_of u)
+    else same_node (compared_node Forgotten (node_of t)) (compared_node Forgotten (node_of u)) && lists_agree test p (parts_of t) (parts_of u)
 
 -- whether a side is open
 sides_open : (p : Parameters) (t u : Tree) (n m : Node) (a b : Bool) → n ≡ node_of t → m ≡ node_of u →
@@ -48,22 +48,22 @@ sides_open p t u n m a b e f x y =
     ap (λ z. z || is_open p (node_of u)) (ap (is_open Rigid) (sym e) ∙ sym x) ∙ ap (λ z. a || z) (ap (is_open p) (sym f) ∙ sym y)
 
 -- where one side is open only the two tops count
-pub may_unify-open : (p : Parameters) (t u : Tree) (n m : Node) (a b : Bool) → n ≡ node_of t → m ≡ node_of u →
-    a ≡ is_open Rigid n → b ≡ is_open p m → a || b ≡ true → have_same_kind n m ≡ may_unify p t u
-may_unify-open p t u n m a b e f x y w =
-    ap (λ z. have_same_kind z m) e ∙ ap (λ z. have_same_kind (node_of t) z) f
-    ∙ sym (agree-walk have_same_kind p t u ∙ ap (by_tops p t u) (sides_open p t u n m a b e f x y ∙ w))
+pub agree-open : (test : Node → Node → Bool) (p : Parameters) (t u : Tree) (n m : Node) (a b : Bool) → n ≡ node_of t → m ≡ node_of u →
+    a ≡ is_open Rigid n → b ≡ is_open p m → a || b ≡ true → test n m ≡ agree test p t u
+agree-open test p t u n m a b e f x y w =
+    ap (λ z. test z m) e ∙ ap (λ z. test (node_of t) z) f
+    ∙ sym (agree-walk test p t u ∙ ap (by_tops test p t u) (sides_open p t u n m a b e f x y ∙ w))
 
 -- two closed tops are compared, and then the parts
-pub may_unify-closed : (p : Parameters) (t u : Tree) (n m : Node) (a b s : Bool) → n ≡ node_of t → m ≡ node_of u →
+pub agree-closed : (test : Node → Node → Bool) (p : Parameters) (t u : Tree) (n m : Node) (a b s : Bool) → n ≡ node_of t → m ≡ node_of u →
     a ≡ is_open Rigid n → b ≡ is_open p m → a || b ≡ false →
     s ≡ same_node (compared_node Forgotten n) (compared_node Forgotten m) →
-    may_unify p t u ≡ s && lists_may_unify p (parts_of t) (parts_of u)
-may_unify-closed p t u n m a b s e f x y w same =
-    agree-walk have_same_kind p t u ∙ ap (by_tops p t u) (sides_open p t u n m a b e f x y ∙ w)
-    ∙ ap (λ z. same_node (compared_node Forgotten z) (compared_node Forgotten (node_of u)) && lists_may_unify p (parts_of t) (parts_of u)) (sym e)
-    ∙ ap (λ z. same_node (compared_node Forgotten n) (compared_node Forgotten z) && lists_may_unify p (parts_of t) (parts_of u)) (sym f)
-    ∙ ap (λ z. z && lists_may_unify p (parts_of t) (parts_of u)) (sym same)
+    agree test p t u ≡ s && lists_agree test p (parts_of t) (parts_of u)
+agree-closed test p t u n m a b s e f x y w same =
+    agree-walk test p t u ∙ ap (by_tops test p t u) (sides_open p t u n m a b e f x y ∙ w)
+    ∙ ap (λ z. same_node (compared_node Forgotten z) (compared_node Forgotten (node_of u)) && lists_agree test p (parts_of t) (parts_of u)) (sym e)
+    ∙ ap (λ z. same_node (compared_node Forgotten n) (compared_node Forgotten z) && lists_agree test p (parts_of t) (parts_of u)) (sym f)
+    ∙ ap (λ z. z && lists_agree test p (parts_of t) (parts_of u)) (sym same)
 
 -- one of two tests that passes, and two that do not
 pub left_passes : (a b : Bool) → a ≡ true → a || b ≡ true
@@ -75,46 +75,46 @@ right_passes a b e f = ap (λ x. x || b) e ∙ f
 pub none_passes : (a b : Bool) → a ≡ false → b ≡ false → a || b ≡ false
 none_passes a b e f = ap (λ x. x || b) e ∙ f
 
--- whether the parts from a place on may become the same
-unfoldable pub agree_from : Parameters → List Tree → List Tree → ℕ → Bool
-agree_from p ts us i = lists_may_unify p (drop i ts) (drop i us)
+-- whether the parts from a place on agree
+unfoldable pub agree_from : (Node → Node → Bool) → Parameters → List Tree → List Tree → ℕ → Bool
+agree_from test p ts us i = lists_agree test p (drop i ts) (drop i us)
 
-agree_from-suc : (p : Parameters) (ts us : List Tree) (i : ℕ) (t u : Tree) → slice_get ts i ≡ Some t → slice_get us i ≡ Some u →
-    agree_from p ts us i ≡ may_unify p t u && agree_from p ts us (suc i)
+agree_from-suc : (test : Node → Node → Bool) (p : Parameters) (ts us : List Tree) (i : ℕ) (t u : Tree) → slice_get ts i ≡ Some t → slice_get us i ≡ Some u →
+    agree_from test p ts us i ≡ agree test p t u && agree_from test p ts us (suc i)
 unfolding agree_from lists_agree
-agree_from-suc p [] us i t u e f = absurd (cc)
-agree_from-suc p (x ∷ ts) [] i t u e f = absurd (cc)
-agree_from-suc p (x ∷ ts) (y ∷ us) zero t u e f =
+agree_from-suc test p [] us i t u e f = absurd (cc)
+agree_from-suc test p (x ∷ ts) [] i t u e f = absurd (cc)
+agree_from-suc test p (x ∷ ts) (y ∷ us) zero t u e f =
     let one : x ≡ t = cc in let two : y ≡ u = cc in
-    ap (λ w. may_unify p w y && lists_may_unify p ts us) one ∙ ap (λ w. may_unify p t w && lists_may_unify p ts us) two
-agree_from-suc p (x ∷ ts) (y ∷ us) (suc i) t u e f = agree_from-suc p ts us i t u e f
+    ap (λ w. agree test p w y && lists_agree test p ts us) one ∙ ap (λ w. agree test p t w && lists_agree test p ts us) two
+agree_from-suc test p (x ∷ ts) (y ∷ us) (suc i) t u e f = agree_from-suc test p ts us i t u e f
 
-agree_from-step : (p : Parameters) (ts us : List Tree) (i : ℕ) (t u : Tree) → slice_get ts i ≡ Some t → slice_get us i ≡ Some u →
-    agree_from p ts us i ≡ may_unify p t u && agree_from p ts us (i + 1)
-agree_from-step p ts us i t u e f = rw add-one (agree_from-suc p ts us i t u e f)
+agree_from-step : (test : Node → Node → Bool) (p : Parameters) (ts us : List Tree) (i : ℕ) (t u : Tree) → slice_get ts i ≡ Some t → slice_get us i ≡ Some u →
+    agree_from test p ts us i ≡ agree test p t u && agree_from test p ts us (i + 1)
+agree_from-step test p ts us i t u e f = rw add-one (agree_from-suc test p ts us i t u e f)
 
--- past parts that may become the same
-pub agree_from-more : (p : Parameters) (ts us : List Tree) (i : ℕ) (t u : Tree) (b : Bool) → slice_get ts i ≡ Some t → slice_get us i ≡ Some u →
-    may_unify p t u ≡ true → agree_from p ts us i ≡ b → agree_from p ts us (i + 1) ≡ b
-agree_from-more p ts us i t u b e f h k = ap (λ w. w && agree_from p ts us (i + 1)) (sym h) ∙ sym (agree_from-step p ts us i t u e f) ∙ k
+-- past parts that agree
+pub agree_from-more : (test : Node → Node → Bool) (p : Parameters) (ts us : List Tree) (i : ℕ) (t u : Tree) (b : Bool) → slice_get ts i ≡ Some t → slice_get us i ≡ Some u →
+    agree test p t u ≡ true → agree_from test p ts us i ≡ b → agree_from test p ts us (i + 1) ≡ b
+agree_from-more test p ts us i t u b e f h k = ap (λ w. w && agree_from test p ts us (i + 1)) (sym h) ∙ sym (agree_from-step test p ts us i t u e f) ∙ k
 
--- at parts that may not
-pub agree_from-none : (p : Parameters) (ts us : List Tree) (i : ℕ) (t u : Tree) (b : Bool) → slice_get ts i ≡ Some t → slice_get us i ≡ Some u →
-    may_unify p t u ≡ false → agree_from p ts us i ≡ b → b ≡ false
-agree_from-none p ts us i t u b e f h k = sym k ∙ agree_from-step p ts us i t u e f ∙ ap (λ w. w && agree_from p ts us (i + 1)) h
+-- at parts that do not
+pub agree_from-none : (test : Node → Node → Bool) (p : Parameters) (ts us : List Tree) (i : ℕ) (t u : Tree) (b : Bool) → slice_get ts i ≡ Some t → slice_get us i ≡ Some u →
+    agree test p t u ≡ false → agree_from test p ts us i ≡ b → b ≡ false
+agree_from-none test p ts us i t u b e f h k = sym k ∙ agree_from-step test p ts us i t u e f ∙ ap (λ w. w && agree_from test p ts us (i + 1)) h
 
 -- past the last parts
-pub agree_from-end : (p : Parameters) (ts us : List Tree) (i : ℕ) → length ts ≡ i → length us ≡ i → agree_from p ts us i ≡ true
+pub agree_from-end : (test : Node → Node → Bool) (p : Parameters) (ts us : List Tree) (i : ℕ) → length ts ≡ i → length us ≡ i → agree_from test p ts us i ≡ true
 unfolding agree_from lists_agree
-agree_from-end p ts us i e f =
+agree_from-end test p ts us i e f =
     let one : drop i ts ≡ [] = drop_all i ts (omega arith) in
     let two : drop i us ≡ [] = drop_all i us (omega arith) in
     rw (one, two) refl
 
 -- from the first place on
-pub agree_from-start : (p : Parameters) (ts us : List Tree) → agree_from p ts us 0 ≡ lists_may_unify p ts us
+pub agree_from-start : (test : Node → Node → Bool) (p : Parameters) (ts us : List Tree) → agree_from test p ts us 0 ≡ lists_agree test p ts us
 unfolding agree_from
-agree_from-start p ts us = refl
+agree_from-start test p ts us = refl
 
 -- lists of other lengths
 pub lists_agree-lengths : (test : Node → Node → Bool) (p : Parameters) (ts us : List Tree) → length us ≢ length ts → lists_agree test p ts us ≡ false

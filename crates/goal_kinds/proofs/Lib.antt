@@ -61,6 +61,8 @@ pub mod PremiseTerms
 pub mod CandidateTerms
 pub mod BoundTerms
 pub mod CandidateClasses
+pub mod FilteredWords
+pub mod FittingLemmas
 pub mod RowTermLemmas
 pub mod EachRuleLemmas
 pub mod SizedRuleLemmas

@@ -20,6 +20,7 @@ pub mod ExampleRows
 pub mod ExampleTables
 pub mod ExampleSettings
 pub mod FastReject
+pub mod Fitting
 pub mod Replacement
 pub mod KindedTerms
 pub mod Interned

@@ -1,6 +1,7 @@
 //! The candidates of a goal, as data over the numbers of a term table.
 pub(crate) mod bounds;
 pub(crate) mod environment;
+pub(crate) mod fitting;
 pub mod interned;
 pub mod lists;
 pub(crate) mod objects;

@@ -42,7 +42,7 @@ pub fn args_may_unify_infer(left: &[GenericArg], right: &[GenericArg]) -> bool
 
 /// Whether a node stands for terms that are not known.
 #[tactic(auto, unfolding(crate::specs::FastReject::is_open))]
-fn is_open(node: Node, parameters: Parameters) -> bool
+pub(crate) fn is_open(node: Node, parameters: Parameters) -> bool
     ensures { result ≡ is_open parameters node }
 {
     match (parameters, node) {

@@ -4,6 +4,7 @@ use Rattle.std.specs.Prelude.{IfOk, Vec}
 use Rattle.std.specs.Global.{Global}
 use Rattle.std.specs.List.{All}
 use Rattle.std.proofs.lemmas.Result.{IfOk-weaker}
+use Rattle.goal_terms.specs.Erased.{erased}
 use Rattle.goal_terms.specs.TableMeaning.{Keeps}
 use Rattle.goal_terms.specs.Tree.{Tree, node, none}
 use Rattle.goal_terms.specs.declared.answers.TraitGoalProvenVia.{TraitGoalProvenVia}
@@ -20,6 +21,7 @@ use Rattle.goal_kinds.specs.Candidates.{Candidate, environment, class_of, second
 use Rattle.goal_kinds.specs.ConstGoals.{satisfies}
 use Rattle.goal_kinds.specs.EffectLists.{effect_list}
 use Rattle.goal_kinds.specs.Entries.{Entry, ListHolds, ListRefuted, ListAsksNoTerm}
+use Rattle.goal_kinds.specs.Fitting.{trees_at, may_fit, fitting}
 use Rattle.goal_kinds.specs.Interned.{CandidateIn, AreIn, erased_at, erased_all, candidate_at}
 use Rattle.goal_kinds.specs.InternedEntries.{list_at, setting_at}
 use Rattle.goal_kinds.specs.Laws.{IsConsistent}
@@ -37,6 +39,8 @@ use Rattle.goal_kinds.proofs.ConsistentLemmas.{each_level_is_consistent}
 use Rattle.goal_kinds.proofs.ConstLemmas.{no_const_candidate_refuted}
 use Rattle.goal_kinds.proofs.ContraryWords.{Exists-Each}
 use Rattle.goal_kinds.proofs.EffectLists.{effect_list-holds, effect_list-refuted}
+use Rattle.goal_kinds.proofs.FilteredWords.{exists-kept, kept-exists, each-kept, kept-each}
+use Rattle.goal_kinds.proofs.FittingLemmas.{trees-erased, candidate_refuted, const_candidate_refuted}
 use Rattle.goal_kinds.proofs.InternedLemmas.{same-grown, are_in-grown, in-grown, all_same-grown, candidate_same-grown}
 use Rattle.goal_kinds.proofs.ListModes.{trait_list-stands, effect_list-stands}
 use Rattle.goal_kinds.proofs.ListStandIns.{list_stands_in-same}
@@ -196,10 +200,37 @@ asked-back S L T U asked xs ys o k h e s =
     subst (λ zs. SaysCandidates S L T asked zs o) e
     (subst (λ ts. Says (Exists (AskedHolds S L asked.constness asked.trait_id ts) xs) (Each (AskedRefuted S L asked.constness asked.trait_id ts) xs) o) (all_same-grown T U k asked.args.now h) s)
 
-pub asked-listed : (S : Setting) (L : Level) (T U : List Tree) (asked : AskedTrait) (xs ys : List Candidate) (res : Result Outcome Stop) → Keeps T U → AskedIn T asked → xs ≡ ys →
-    IfOk res (SaysCandidates S L U asked xs) → IfOk res (SaysCandidates S L T asked ys)
-asked-listed S L T U asked xs ys res k h e s =
-    IfOk-weaker res (SaysCandidates S L U asked xs) (SaysCandidates S L T asked ys) (λ o q. asked-back S L T U asked xs ys o k h.1 e q) s
+-- candidates that may not fit are refuted, so those that may fit say all
+asked-passed : (S : Setting) (n : ℕ) (o : Option BoundConstness) (i : TraitId) (args : List Tree) (x : Candidate) → may_fit args x ≡ false → AskedRefuted S (level S n) o i (map erased args) x
+asked-passed S n None i args x = candidate_refuted S n i args x
+asked-passed S n (Some c) i args x = const_candidate_refuted S n c i args x
+
+fitting-says : (S : Setting) (n : ℕ) (k : Option BoundConstness) (i : TraitId) (args : List Tree) (xs : List Candidate) (o : Outcome) →
+    Says (Exists (AskedHolds S (level S n) k i (map erased args)) (fitting args xs)) (Each (AskedRefuted S (level S n) k i (map erased args)) (fitting args xs)) o →
+    Says (Exists (AskedHolds S (level S n) k i (map erased args)) xs) (Each (AskedRefuted S (level S n) k i (map erased args)) xs) o
+fitting-says S n k i args xs o =
+    let P : Candidate → Type 0 = AskedHolds S (level S n) k i (map erased args) in
+    let R : Candidate → Type 0 = AskedRefuted S (level S n) k i (map erased args) in
+    let f : Candidate → Bool = may_fit args in
+    let passed : (x : Candidate) → f x ≡ false → R x = asked-passed S n k i args in
+    says-same (Exists P (fitting args xs)) (Exists P xs) (Each R (fitting args xs)) (Each R xs)
+    (exists-kept P f xs) (kept-exists P f (λ x e h. no_asked_refuted S (level S n) (each_level_is_consistent S n) k i (map erased args) x h (passed x e)) xs)
+    (kept-each R f passed xs) (each-kept R f xs) o
+
+asked-fitting : (S : Setting) (n : ℕ) (T : List Tree) (asked : AskedTrait) (xs : List Candidate) (o : Outcome) →
+    SaysCandidates S (level S n) T asked (fitting (trees_at T asked.args.now) xs) o → SaysCandidates S (level S n) T asked xs o
+asked-fitting S n T asked xs o h =
+    let ts : List Tree = trees_at T asked.args.now in
+    subst (λ args. Says (Exists (AskedHolds S (level S n) asked.constness asked.trait_id args) xs) (Each (AskedRefuted S (level S n) asked.constness asked.trait_id args) xs) o) (trees-erased T asked.args.now)
+    (fitting-says S n asked.constness asked.trait_id ts xs o
+    (subst (λ args. Says (Exists (AskedHolds S (level S n) asked.constness asked.trait_id args) (fitting ts xs)) (Each (AskedRefuted S (level S n) asked.constness asked.trait_id args) (fitting ts xs)) o)
+    (sym (trees-erased T asked.args.now)) h))
+
+pub asked-listed : (S : Setting) (n : ℕ) (T U : List Tree) (asked : AskedTrait) (xs ys : List Candidate) (res : Result Outcome Stop) → Keeps T U → AskedIn T asked →
+    xs ≡ fitting (trees_at T asked.args.now) ys → IfOk res (SaysCandidates S (level S n) U asked xs) → IfOk res (SaysCandidates S (level S n) T asked ys)
+asked-listed S n T U asked xs ys res k h e s =
+    IfOk-weaker res (SaysCandidates S (level S n) U asked xs) (SaysCandidates S (level S n) T asked ys)
+    (λ o q. asked-fitting S n T asked ys o (asked-back S (level S n) T U asked xs (fitting (trees_at T asked.args.now) ys) o k h.1 e q)) s
 
 -- those that depend on the self type
 of_self : (f : Tree → List Candidate) (T U : List Tree) (asked : AskedTrait) → Keeps T U → AskedIn T asked → f (erased_at U asked.self_ty) ≡ f (erased_at T asked.self_ty)
@@ -240,14 +271,16 @@ second-only S n T asked v o refuted h =
     (λ x. inr (refuted, x)) (λ x. ⊎_elim (λ y. absurd (none_shows y)) (λ y. y.1) x) (λ x. (refuted, x)) (λ x. x.1) o h
 
 pub groups-second : (S : Setting) (n : ℕ) (T U V : List Tree) (asked : AskedTrait) (v : TraitGoalProvenVia) (o : Outcome) (xs : List Candidate) (res : Result Outcome Stop) →
-    Keeps T U → Keeps T V → AskedIn T asked → o ≡ outcome.Refuted → xs ≡ second_group S asked.trait_id (erased_at U asked.self_ty) v →
+    Keeps T U → Keeps U V → AskedIn T asked → o ≡ outcome.Refuted → xs ≡ fitting (trees_at U asked.args.now) (second_group S asked.trait_id (erased_at U asked.self_ty) v) →
     SaysCandidates S (level S n) T asked (class_of S asked.trait_id (erased_at T asked.self_ty) class.ParamEnv) o → IfOk res (SaysCandidates S (level S n) V asked xs) →
     IfOk res (SaysGroups S (level S n) T asked v)
 unfolding class_of
 groups-second S n T U V asked v o xs res k j h e f first second =
     let L : Level = level S n in
     let ys : List Candidate = second_group S asked.trait_id (erased_at T asked.self_ty) v in
+    let zs : List Candidate = second_group S asked.trait_id (erased_at U asked.self_ty) v in
     IfOk-weaker res (SaysCandidates S L V asked xs) (SaysGroups S L T asked v)
     (λ q s.
     second-only S n T asked v q (subst (SaysCandidates S L T asked (environment S)) e first)
-    (asked-back S L T V asked xs ys q j h.1 (f ∙ of_self (λ t. second_group S asked.trait_id t v) T U asked k h) s)) second
+    (asked-back S L T U asked zs ys q k h.1 (of_self (λ t. second_group S asked.trait_id t v) T U asked k h)
+    (asked-fitting S n U asked zs q (asked-back S L U V asked xs (fitting (trees_at U asked.args.now) zs) q j (are_in-grown T U k asked.args.now h.1) f s)))) second

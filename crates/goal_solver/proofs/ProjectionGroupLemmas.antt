@@ -17,6 +17,7 @@ use Rattle.goal_tables.specs.Rows.{trait_of, item_of}
 use Rattle.goal_tables.specs.declared.rows.ItemRow.{ItemRow}
 use Rattle.goal_tables.specs.declared.rows.TraitRow.{TraitRow}
 use Rattle.goal_kinds.specs.Candidates.{Candidate, environment, second_group, class_of}
+use Rattle.goal_kinds.specs.Fitting.{fitting}
 use Rattle.goal_kinds.specs.ImplTerms.{Projection}
 use Rattle.goal_kinds.specs.Interned.{IsIn, AreIn, erased_at, erased_all}
 use Rattle.goal_kinds.specs.Laws.{IsConsistent}
@@ -25,6 +26,7 @@ use Rattle.goal_kinds.specs.Projections.{GroupGives, GroupRefuted, GroupsGive, G
 use Rattle.goal_kinds.specs.Settings.{Setting}
 use Rattle.goal_kinds.specs.Words.{OfRow}
 use Rattle.goal_kinds.proofs.EqualLemmas.{one_head_form, no_head_form_refuted}
+use Rattle.goal_kinds.proofs.FittingLemmas.{fitting-environment}
 use Rattle.goal_kinds.proofs.InternedLemmas.{same-grown, are_in-grown, all_same-grown}
 use Rattle.goal_kinds.proofs.ProjectionLemmas.{one_group_term, no_group_refuted}
 use Rattle.goal_solver.specs.Outcomes.{SaysWhich, ProjectionIn, projection_at}
@@ -35,10 +37,10 @@ use Rattle.goal_solver.proofs.MergingLemmas.{ok-map, which-map}
 use Rattle.goal_solver.proofs.ProjectionArgLemmas.{rest-erased}
 use Rattle.goal_solver.proofs.ProjectionTermLemmas.{projection_same-grown}
 
--- the environment is the first class
-pub environment-class : (S : Setting) (i : TraitId) (s : Tree) → class_of S i s class.ParamEnv ≡ environment S
+-- the environment is the first class, and all of it may fit
+pub fitting-class : (S : Setting) (i : TraitId) (s : Tree) (args : List Tree) → fitting args (class_of S i s class.ParamEnv) ≡ environment S
 unfolding class_of
-environment-class S i s = refl
+fitting-class S i s args = fitting-environment args S
 
 -- where the environment's term is undecided, all is
 pub groups-undecided : (S : Setting) (L : Level) (c : TraitGoalProvenVia) (p : Projection) (rigid_alias given : Tree) (second : List Candidate) →

@@ -1,22 +1,27 @@
 -- What is found of the parts of a projection, and what that says of the whole.
-use Rattle.std.proofs.Common.{◌≡◌, ◌⊎◌, ℕ, zero, suc, ◌+◌, ◌<◌, ◌≤◌, List, [], ◌∷◌, length, map, get_or, drop, refl, sym, subst, ap, ◌∙◌, arith, Result}
+use Rattle.std.proofs.Common.{◌≡◌, ◌⊎◌, inl, inr, Bool, false, take, ℕ, zero, suc, ◌+◌, ◌<◌, ◌≤◌, List, [], ◌∷◌, length, map, get_or, drop, refl, sym, subst, ap, ◌∙◌, arith, Result}
 use Rattle.std.specs.Prelude.{IfOk}
 use Rattle.std.specs.List.{All}
-use Rattle.std.proofs.lemmas.List.{drop-map}
+use Rattle.std.proofs.lemmas.List.{drop-map, take-map}
+use Rattle.goal_terms.specs.Erased.{erased}
 use Rattle.goal_terms.specs.TableMeaning.{Keeps}
 use Rattle.goal_terms.specs.Tree.{Tree, alias}
 use Rattle.goal_terms.specs.declared.modes.TypingMode.{TypingMode}
 use Rattle.goal_terms.specs.declared.term_nodes.TermId.{TermId}
 use Rattle.goal_kinds.specs.Candidates.{Candidate}
-use Rattle.goal_kinds.specs.ImplTerms.{Projection, own_args}
+use Rattle.goal_kinds.specs.Fitting.{trees_at, may_fit, fitting}
+use Rattle.goal_kinds.specs.ImplTerms.{Projection, trait_args, own_args}
 use Rattle.goal_kinds.specs.Interned.{IsIn, AreIn, CandidateIn, erased_at, erased_all, candidate_at}
 use Rattle.goal_kinds.specs.Laws.{IsConsistent}
 use Rattle.goal_kinds.specs.Level.{Level, HasHeadForm, HeadFormRefuted}
+use Rattle.goal_kinds.specs.Levels.{level}
 use Rattle.goal_kinds.specs.Projections.{CandidateGives, TermRefuted, GroupGives, GroupRefuted, OwnFormed, OwnUnformed}
 use Rattle.goal_kinds.specs.Settings.{Setting}
 use Rattle.goal_kinds.specs.declared.candidates.interned.InternedCandidate.{InternedCandidate}
 use Rattle.goal_kinds.proofs.ConsistentLemmas.{each_level_is_consistent}
 use Rattle.goal_kinds.proofs.EqualLemmas.{no_head_form_refuted}
+use Rattle.goal_kinds.proofs.FilteredWords.{exists-kept, kept-exists, each-kept, kept-each}
+use Rattle.goal_kinds.proofs.FittingLemmas.{trees-erased, term_refuted}
 use Rattle.goal_kinds.proofs.InternedLemmas.{same-grown, all_same-grown, candidate_same-grown}
 use Rattle.goal_kinds.proofs.TermCandidateLemmas.{one_candidate_term, no_candidate_term_refuted}
 use Rattle.goal_solver.specs.Outcomes.{Says, SaysWhich, FoundIn, ProjectionIn, projection_at, setting_in, level_in}
@@ -28,7 +33,7 @@ use Rattle.goal_solver.specs.declared.eval.outcomes.Outcome as outcomes
 use Rattle.goal_solver.specs.declared.eval.outcomes.Outcome.TheVariants as outcome
 use Rattle.goal_solver.specs.declared.eval.outcomes.Projection as projections
 use Rattle.goal_solver.proofs.BeforeLemmas.{some_before-here, some_before-whole, exists-mapped}
-use Rattle.goal_solver.proofs.MergingLemmas.{which-map, HeldBefore, held-more, held-undecided, held-end, says-mapped, AgreeBefore, agree-grown, agree-more, agree-end, which-mapped}
+use Rattle.goal_solver.proofs.MergingLemmas.{ok-map, which-map, HeldBefore, held-more, held-undecided, held-end, says-mapped, AgreeBefore, agree-grown, agree-more, agree-end, which-mapped}
 
 -- each level is consistent
 pub consistent : (s : over.Setting) (m : TypingMode) (n : ℕ) → IsConsistent (level_in s m n)
@@ -96,6 +101,37 @@ group-back S L T U V k p i xs ys e r h =
     subst (λ q. IfOk r (SaysWhich (GroupGives S L q (erased_at T p.rigid_alias) ys) (GroupRefuted S L q ys) V)) (projection_same-grown T U k p i)
     (subst (λ t. IfOk r (SaysWhich (GroupGives S L (projection_at U p) t ys) (GroupRefuted S L (projection_at U p) ys) V)) (same-grown T U k p.rigid_alias i.1)
     (subst (λ zs. IfOk r (SaysWhich (GroupGives S L (projection_at U p) (erased_at U p.rigid_alias) zs) (GroupRefuted S L (projection_at U p) zs) V)) e h))
+
+-- candidates that may not fit give no term, so those that may fit say all
+fitting-says : (S : Setting) (n : ℕ) (p : Projection) (args : List Tree) → map erased args ≡ trait_args p → (rigid_alias : Tree) (xs : List Candidate) (V : List Tree) (f : founds.Found) →
+    SaysWhich (GroupGives S (level S n) p rigid_alias (fitting args xs)) (GroupRefuted S (level S n) p (fitting args xs)) V f →
+    SaysWhich (GroupGives S (level S n) p rigid_alias xs) (GroupRefuted S (level S n) p xs) V f
+unfolding GroupGives GroupRefuted
+fitting-says S n p args same rigid_alias xs V f =
+    let G : Tree → Candidate → Type 0 = CandidateGives S (level S n) p rigid_alias in
+    let R : Candidate → Type 0 = TermRefuted S (level S n) p in
+    let fits : Candidate → Bool = may_fit args in
+    let passed : (x : Candidate) → fits x ≡ false → R x = term_refuted S n p args same in
+    which-map (GroupGives S (level S n) p rigid_alias (fitting args xs)) (GroupGives S (level S n) p rigid_alias xs) (GroupRefuted S (level S n) p (fitting args xs)) (GroupRefuted S (level S n) p xs) V
+    (λ u h. (exists-kept (G u) fits xs h.0, kept-each (λ x. G u x ⊎ R x) fits (λ x e. inr (passed x e)) xs h.1))
+    (λ u h. (
+      kept-exists (G u) fits (λ x e g. no_candidate_term_refuted S (level S n) (each_level_is_consistent S n) p rigid_alias u x g (passed x e)) xs h.0,
+      each-kept (λ x. G u x ⊎ R x) fits xs h.1,
+    ))
+    (kept-each R fits passed xs) (each-kept R fits xs) f
+
+pub group-fitting : {E : Type 0} (S : Setting) (n : ℕ) (T U V : List Tree) → Keeps T U → (p : projections.Projection) → ProjectionIn T p → (ids : List TermId) → ids ≡ take p.trait_params p.args.now →
+    (xs ys : List Candidate) → xs ≡ fitting (trees_at T ids) ys → (r : Result founds.Found E) →
+    IfOk r (SaysWhich (GroupGives S (level S n) (projection_at U p) (erased_at U p.rigid_alias) xs) (GroupRefuted S (level S n) (projection_at U p) xs) V) →
+    IfOk r (SaysWhich (GroupGives S (level S n) (projection_at T p) (erased_at T p.rigid_alias) ys) (GroupRefuted S (level S n) (projection_at T p) ys) V)
+group-fitting S n T U V k p i ids e xs ys same r h =
+    let L : Level = level S n in
+    let args : map erased (trees_at T ids) ≡ trait_args (projection_at T p) =
+    trees-erased T ids ∙ ap (erased_all T) e ∙ sym (take-map (erased_at T) p.trait_params p.args.now) in
+    ok-map (SaysWhich (GroupGives S L (projection_at T p) (erased_at T p.rigid_alias) (fitting (trees_at T ids) ys)) (GroupRefuted S L (projection_at T p) (fitting (trees_at T ids) ys)) V)
+    (SaysWhich (GroupGives S L (projection_at T p) (erased_at T p.rigid_alias) ys) (GroupRefuted S L (projection_at T p) ys) V) r
+    (λ f w. fitting-says S n (projection_at T p) (trees_at T ids) args (erased_at T p.rigid_alias) ys V f w)
+    (group-back S L T U V k p i xs (fitting (trees_at T ids) ys) same r h)
 
 -- what is found of a term once it is known whether the own arguments have head forms
 abbrev pub formed_of : TermId → outcomes.Outcome → founds.Found

@@ -8,17 +8,24 @@ ghost use Rattle.goal_terms.specs.declared.answers.ParamKind.{ParamKind};
 ghost use Rattle.goal_terms.specs.declared.heads.Head.{Head};
 ghost use Rattle.goal_terms.specs.declared.heads.Variable.{Variable};
 ghost use Rattle.goal_terms.specs.declared.ids.TraitId.{TraitId};
+ghost use Rattle.goal_terms.specs.declared.predicates.BoundConstness.{BoundConstness};
 ghost use Rattle.goal_terms.specs.declared.terms.GenericArg.{GenericArg};
 ghost use Rattle.goal_tables.specs.Faults.{IsChecked};
 ghost use Rattle.goal_tables.specs.declared.rows.ImplRow.{ImplRow};
 ghost use Rattle.goal_tables.specs.declared.rows.Tables.{Tables};
+ghost use Rattle.goal_kinds.specs.Candidates.{Candidate};
+ghost use Rattle.goal_kinds.specs.ConstGoals.{ConstCandidateRefuted};
 ghost use Rattle.goal_kinds.specs.FastReject.{lists_may_unify, heads_agree};
+ghost use Rattle.goal_kinds.specs.Fitting.{may_fit};
 ghost use Rattle.goal_kinds.specs.Headers.{Clashes};
+ghost use Rattle.goal_kinds.specs.ImplTerms.{Projection, trait_args};
 ghost use Rattle.goal_kinds.specs.KindedTerms.{kinds_of_terms, IsKinded, IsAcceptedRef};
 ghost use Rattle.goal_kinds.specs.Laws.{IsAmong};
 ghost use Rattle.goal_kinds.specs.Levels.{level};
+ghost use Rattle.goal_kinds.specs.Projections.{TermRefuted};
 ghost use Rattle.goal_kinds.specs.Replacement.{with_values, with_arguments, AreOfTheirKinds, AliasesKeepKinds};
 ghost use Rattle.goal_kinds.specs.Settings.{Setting};
+ghost use Rattle.goal_kinds.specs.TraitGoals.{CandidateRefuted};
 ghost use Rattle.goal_kinds.specs.Words.{Each, Pairs, SomePair};
 ghost use Rattle.goal_kinds.specs.declared.fast_reject.Parameters.{Parameters};
 ghost use Rattle.goal_kinds.specs.declared.fast_reject.Parameters.TheVariants.{Rigid, Inferred};
@@ -39,6 +46,14 @@ pub fn other_heads_are_final()
     ensures inferred { (S : Setting) (n : ℕ) (values : Variable → Tree) (args ts us : List Tree) → heads_agree Inferred ts us ≡ false → Pairs (level S n).equal (map (with_values values) ts) (map (with_arguments values args) us) → ⊥ }
     ensures unequal { (S : Setting) (ts us : List Tree) → heads_agree Rigid ts us ≡ false → SomePair (level S 0).unequal (map erased ts) (map erased us) }
     ensures clashes { (S : Setting) (params : List ParamKind) (gs hs : List Tree) → heads_agree Inferred gs hs ≡ false → Clashes (level S 0) params (map erased hs) (map erased gs) }
+{}
+
+/// A candidate that may not fit given arguments is refuted at every height, for a trait of these, for it as
+/// a const trait, and for a projection whose trait has these: so it may be passed over.
+pub fn what_may_not_fit_is_refuted()
+    ensures traits { (S : Setting) (n : ℕ) (i : TraitId) (args : List Tree) (x : Candidate) → may_fit args x ≡ false → CandidateRefuted S (level S n) i (map erased args) x }
+    ensures consts { (S : Setting) (n : ℕ) (c : BoundConstness) (i : TraitId) (args : List Tree) (x : Candidate) → may_fit args x ≡ false → ConstCandidateRefuted S (level S n) c i (map erased args) x }
+    ensures terms { (S : Setting) (n : ℕ) (p : Projection) (args : List Tree) (x : Candidate) → map erased args ≡ trait_args p → may_fit args x ≡ false → TermRefuted S (level S n) p x }
 {}
 
 /// Where the constructors of all terms take parts of the same kinds, only heads can differ: what is

@@ -1,6 +1,7 @@
 use Rattle.goal_kinds.specs.Level.{HasHeadForm, HeadFormRefuted}
 use Rattle.goal_kinds.proofs.InternedLemmas.{are_in-grown, all_same-grown, same-grown, in-grown}
 use Rattle.goal_solver.proofs.TraitOutcomeLemmas.{candidate-in, undecided-refuted, environment-decides, bounds-decide, rest-decides, none-decides, trait-ground, trait-bare, trait-unformed, trait-formless, trait-formed, replaced-in, replaced-formed}
+use Rattle.goal_kinds.specs.Fitting.{trees_at}
 use Rattle.goal_kinds.specs.Interned.{AreIn, erased_at, erased_all, predicate_at, premise_at, candidate_at, IsIn, trait_at, CandidateIn}
 use Rattle.goal_solver.proofs.PremiseOutcomes.{PremisesSay, SaysClause, const-predicate, equation-predicate, equation-premise, predicate-premise, premise-at, premises-end, premises-refuted, premises-start, premises-step, trait-predicate, conditions-step, conditions-refuted, conditions-end, condition-at, condition_at, equation-ground, equation-result}
 use Rattle.goal_solver.specs.Joined.{both}
@@ -26,9 +27,9 @@ use Rattle.goal_solver.proofs.HeaderArgLemmas.{known_in-grown}
 use Rattle.goal_solver.proofs.HeaderOutcomeLemmas.{behind_clash-zero, behind_clash-refuted, behind_clash-undecided, behind_clash-other, behind_clash-form, any-found, any-more, any-none, any-end, asked-of, instance-unknown, instance-says}
 use Rattle.goal_kinds.specs.Words.{SomePair, Pairs}
 use Rattle.goal_solver.proofs.HeaderMatchLemmas.{fit-says, filled-fills, match-fits, match-clashes, match-known, match-unknown, known-outcome-grown, match-given, known-outcome-given, match-says}
-use Rattle.goal_solver.proofs.ProjectionTermLemmas.{consistent, formed-says, forms-end, forms-more, forms-refuted, forms-unknown, group-back, group-end, group-more, group-stop, same_element}
+use Rattle.goal_solver.proofs.ProjectionTermLemmas.{consistent, formed-says, forms-end, forms-more, forms-refuted, forms-unknown, group-back, group-end, group-fitting, group-more, group-stop, same_element}
 use Rattle.goal_kinds.specs.Candidates.{environment, second_group, class_of}
-use Rattle.goal_solver.proofs.ProjectionGroupLemmas.{environment-class, groups-by_environment, groups-by_later, groups-undecided, item-none, item-refuted, item-says, item-undecided, later-by_second, no_args, projection-says, projection-without_item, projection-without_trait, refuted-unformed, replaced-says, self_args-grown, some_args, through-says, through-unformed}
+use Rattle.goal_solver.proofs.ProjectionGroupLemmas.{fitting-class, groups-by_environment, groups-by_later, groups-undecided, item-none, item-refuted, item-says, item-undecided, later-by_second, no_args, projection-says, projection-without_item, projection-without_trait, refuted-unformed, replaced-says, self_args-grown, some_args, through-says, through-unformed}
 use Rattle.goal_solver.proofs.MergingLemmas.{found_in-grown, merged-in}
 use Rattle.goal_solver.proofs.+closed.Goals.{normalizes_to::projections::head_forms_outcome-in-Is, normalizes_to::projections::head_forms_outcome-in-Undecided}
 use Rattle.std.proofs.lemmas.Bool.{false≢true}
@@ -457,7 +458,7 @@ normalizes_to::projections::environment_term-returns-clause-says t c = λ m s.
     group-back (setting_in c.args.setting.now m) (level_in c.args.setting.now m c.args.depth) c.args.terms.now c.candidates_of_class.new.terms c.group_term.new.terms c.in_ok-candidates.ensures.kept
     c.args.projection.now c.requires.projection (map (candidate_at c.candidates_of_class.new.terms) c.as_slice.result.now) (environment (setting_in c.args.setting.now m))
     (ap (map (candidate_at c.candidates_of_class.new.terms)) c.as_slice.ensures.value ∙ c.in_ok-candidates.ensures.candidates m
-    ∙ environment-class (setting_in c.args.setting.now m) c.args.projection.now.item.now.trait_id (erased_at c.args.terms.now c.args.self_ty))
+    ∙ fitting-class (setting_in c.args.setting.now m) c.args.projection.now.item.now.trait_id (erased_at c.args.terms.now c.args.self_ty) (trees_at c.args.terms.now c.args.projection.now.args.now))
     c.group_term.result (c.group_term.ensures.says m s)
 
 pub normalizes_to::projections::own_args_normalized-returns-in-Undecided-clause-says :
@@ -664,11 +665,15 @@ normalizes_to::projections::replaced_term-returns-clause-says t c = λ m s.
 pub normalizes_to::projections::second_term-returns-clause-says :
     goal.normalizes_to::projections::second_term-returns-clause-says
 normalizes_to::projections::second_term-returns-clause-says t c = λ m s.
-    group-back (setting_in c.args.setting.now m) (level_in c.args.setting.now m c.args.depth) c.args.terms.now c.second_group.new.terms c.group_term.new.terms c.in_ok-candidates.ensures.kept
-    c.args.projection.now c.requires.projection (map (candidate_at c.second_group.new.terms) c.as_slice.result.now)
+    group-fitting (setting_in c.args.setting.now m) c.args.depth c.args.terms.now c.second_group.new.terms c.group_term.new.terms c.in_ok-candidates.ensures.kept
+    c.args.projection.now c.requires.projection c.first_args.result.now c.first_args.ensures (map (candidate_at c.second_group.new.terms) c.as_slice.result.now)
     (second_group (setting_in c.args.setting.now m) c.args.projection.now.item.now.trait_id (erased_at c.args.terms.now c.args.self_ty) c.args.class)
-    (ap (map (candidate_at c.second_group.new.terms)) c.as_slice.ensures.value ∙ c.in_ok-candidates.ensures.candidates m)
+    (ap (map (candidate_at c.second_group.new.terms)) c.as_slice.ensures.value ∙ c.in_ok-candidates.ensures.candidates m c.args.setting.now.environment.now)
     c.group_term.result (c.group_term.ensures.says m s)
+
+pub normalizes_to::projections::second_term-second_group-requires : goal.normalizes_to::projections::second_term-second_group-requires
+normalizes_to::projections::second_term-second_group-requires t c =
+    (c.requires.self_ty, subst (AreIn c.args.terms.now) (sym c.first_args.ensures) (All-take (IsIn c.args.terms.now) c.args.projection.now.trait_params c.args.projection.now.args.now c.requires.projection.0))
 
 pub normalizes_to::projections::term_proven_via-returns-in-Refuted-clause-says :
     goal.normalizes_to::projections::term_proven_via-returns-in-Refuted-clause-says
@@ -1108,7 +1113,7 @@ assembly::candidates::candidates_outcome-returns-clause-says t c =
 
 pub assembly::candidates::class_outcome-returns-clause-says : goal.assembly::candidates::class_outcome-returns-clause-says
 assembly::candidates::class_outcome-returns-clause-says t c m s =
-    asked-listed (setting_in c.args.setting.now m) (level_in c.args.setting.now m c.args.depth) c.args.terms.now c.candidates_of_class.new.terms c.args.asked.now
+    asked-listed (setting_in c.args.setting.now m) c.args.depth c.args.terms.now c.candidates_of_class.new.terms c.args.asked.now
     (map (candidate_at c.candidates_of_class.new.terms) c.deref.result.now) (class_of (setting_in c.args.setting.now m) c.args.asked.now.trait_id (erased_at c.args.terms.now c.args.asked.now.self_ty) c.args.class)
     c.candidates_outcome.result c.in_ok-candidates.ensures.kept c.requires
     (ap (map (candidate_at c.candidates_of_class.new.terms)) c.deref.ensures.value ∙ c.in_ok-candidates.ensures.candidates m) (c.candidates_outcome.ensures.says m s)
@@ -1241,8 +1246,8 @@ pub effect_goals::evaluation::groups_outcome-returns-clause-says : goal.effect_g
 effect_goals::evaluation::groups_outcome-returns-clause-says t c m s =
     groups-second (setting_in c.args.setting.now m) c.args.depth c.args.terms.now c.class_outcome.new.terms c.second_group.new.terms c.args.asked.now c.args.class c.in_ok-first.first
     (map (candidate_at c.second_group.new.terms) c.deref.result.now) c.candidates_outcome.result c.class_outcome.ensures.kept
-    (keeps-chain c.args.terms.now c.class_outcome.new.terms c.second_group.new.terms c.class_outcome.ensures.kept c.second_group.ensures.kept) c.requires c.in-Refuted.is
-    (ap (map (candidate_at c.second_group.new.terms)) c.deref.ensures.value ∙ c.in_ok-candidates.ensures.candidates m) (c.in_ok-first.ensures.says m s) (c.candidates_outcome.ensures.says m s)
+    c.second_group.ensures.kept c.requires c.in-Refuted.is
+    (ap (map (candidate_at c.second_group.new.terms)) c.deref.ensures.value ∙ c.in_ok-candidates.ensures.candidates m c.args.setting.now.environment.now) (c.in_ok-first.ensures.says m s) (c.candidates_outcome.ensures.says m s)
 
 pub normalizes_to::alias_terms::alias_term-returns-then-depth-eq0-clause-says : goal.normalizes_to::alias_terms::alias_term-returns-then-depth-eq0-clause-says
 normalizes_to::alias_terms::alias_term-returns-then-depth-eq0-clause-says t c =

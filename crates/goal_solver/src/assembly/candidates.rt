@@ -14,7 +14,7 @@ ghost use Rattle.goal_solver.specs.Outcomes.{StandsFor, setting_in, level_in};
 use crate::eval::lists::run_list;
 use crate::eval::outcomes::{Outcome, Setting, Stop};
 use goal_kinds::candidates::interned::InternedCandidate;
-use goal_kinds::candidates::lists::candidates_of_class;
+use goal_kinds::candidates::lists::{Sought, candidates_of_class};
 use goal_kinds::lists::InternedEntry;
 use goal_kinds::lists::effects::effect_list;
 use goal_kinds::lists::traits::trait_list;
@@ -127,13 +127,12 @@ pub(crate) fn class_outcome(
     ensures stops { is_headline setting.now.typing_mode.now ≡ true → IfErr result (λ s. s ≡ Stop.OutOfMemory) }
     ensures says { (m : TypingMode) → StandsFor setting.now.typing_mode.now m → IfOk result (SaysCandidates (setting_in setting.now m) (level_in setting.now m depth) terms.old asked.now (class_of (setting_in setting.now m) asked.now.trait_id (erased_at terms.old asked.now.self_ty) class)) }
 {
-    let candidates = candidates_of_class(
-        setting.rows,
-        setting.environment,
-        terms,
-        asked.trait_id,
-        asked.self_ty,
-        class,
-    )?;
+    let sought = Sought {
+        trait_id: asked.trait_id,
+        self_ty: asked.self_ty,
+        args: asked.args,
+    };
+    let rows = setting.rows;
+    let candidates = candidates_of_class(rows, setting.environment, terms, &sought, class)?;
     candidates_outcome(setting, terms, faults, asked, &candidates, depth)
 }

@@ -12,7 +12,7 @@ use crate::eval::head_forms::head_form;
 use crate::eval::outcomes::{Found, Outcome, Setting, Stop, TraitOutcome};
 use crate::eval::self_types::{split_self_type, with_self_type};
 use crate::trait_goals::evaluation::evaluate_trait_goal;
-use goal_kinds::candidates::lists::second_group;
+use goal_kinds::candidates::lists::{Sought, second_group};
 use goal_terms::answers::{DelayedFault, TraitGoalProvenVia};
 use goal_terms::ids::TraitId;
 use goal_terms::predicates::BoundConstness;
@@ -81,13 +81,11 @@ fn groups_outcome(
     let Outcome::Refuted = first else {
         return Ok(first);
     };
-    let candidates = second_group(
-        setting.rows,
-        setting.environment,
-        terms,
-        asked.trait_id,
-        asked.self_ty,
-        class,
-    )?;
+    let sought = Sought {
+        trait_id: asked.trait_id,
+        self_ty: asked.self_ty,
+        args: asked.args,
+    };
+    let candidates = second_group(setting.rows, terms, &sought, class)?;
     candidates_outcome(setting, terms, faults, asked, &candidates, depth)
 }

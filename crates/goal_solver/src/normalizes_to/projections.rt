@@ -17,7 +17,7 @@ use crate::normalizes_to::projection_args::{first_args, intern_alias, later_args
 use crate::normalizes_to::projection_candidates::candidate_term;
 use crate::trait_goals::evaluation::evaluate_trait_goal;
 use goal_kinds::candidates::interned::InternedCandidate;
-use goal_kinds::candidates::lists::{candidates_of_class, second_group};
+use goal_kinds::candidates::lists::{Sought, candidates_of_class, second_group};
 use goal_tables::rows::{ItemRow, TraitRow};
 use goal_terms::answers::{DelayedFault, TraitGoalProvenVia};
 use goal_terms::ids::{ItemId, TraitId};
@@ -244,14 +244,14 @@ fn environment_term(
     ensures stops { is_headline setting.now.typing_mode.now ≡ true → IfErr result (λ s. s ≡ Stop.OutOfMemory) }
     ensures says { (m : TypingMode) → StandsFor setting.now.typing_mode.now m → IfOk result (SaysWhich (GroupGives (setting_in setting.now m) (level_in setting.now m depth) (projection_at terms.old projection.now) (erased_at terms.old projection.now.rigid_alias) (environment (setting_in setting.now m))) (GroupRefuted (setting_in setting.now m) (level_in setting.now m depth) (projection_at terms.old projection.now) (environment (setting_in setting.now m))) terms.new) }
 {
-    let candidates = candidates_of_class(
-        setting.rows,
-        setting.environment,
-        terms,
-        projection.item.trait_id,
+    let sought = Sought {
+        trait_id: projection.item.trait_id,
         self_ty,
-        TraitGoalProvenVia::ParamEnv,
-    )?;
+        args: projection.args,
+    };
+    let class = TraitGoalProvenVia::ParamEnv;
+    let rows = setting.rows;
+    let candidates = candidates_of_class(rows, setting.environment, terms, &sought, class)?;
     group_term(
         setting,
         terms,
@@ -280,14 +280,12 @@ fn second_term(
     ensures stops { is_headline setting.now.typing_mode.now ≡ true → IfErr result (λ s. s ≡ Stop.OutOfMemory) }
     ensures says { (m : TypingMode) → StandsFor setting.now.typing_mode.now m → IfOk result (SaysWhich (GroupGives (setting_in setting.now m) (level_in setting.now m depth) (projection_at terms.old projection.now) (erased_at terms.old projection.now.rigid_alias) (second_group (setting_in setting.now m) projection.now.item.now.trait_id (erased_at terms.old self_ty) class)) (GroupRefuted (setting_in setting.now m) (level_in setting.now m depth) (projection_at terms.old projection.now) (second_group (setting_in setting.now m) projection.now.item.now.trait_id (erased_at terms.old self_ty) class)) terms.new) }
 {
-    let candidates = second_group(
-        setting.rows,
-        setting.environment,
-        terms,
-        projection.item.trait_id,
+    let sought = Sought {
+        trait_id: projection.item.trait_id,
         self_ty,
-        class,
-    )?;
+        args: first_args(projection.args, projection.trait_params),
+    };
+    let candidates = second_group(setting.rows, terms, &sought, class)?;
     group_term(
         setting,
         terms,

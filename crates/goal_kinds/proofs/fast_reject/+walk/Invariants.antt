@@ -2,6 +2,7 @@ use Rattle.std.proofs.Common.{◌≡◌, ◌+◌, ◌*◌}
 use Rattle.goal_terms.specs.Tree.{tree_size}
 use Rattle.goal_terms.specs.View.{tree_of_ref, trees_seen}
 use Rattle.goal_terms.proofs.SizeLemmas.{sizes}
+use Rattle.goal_kinds.specs.FastReject.{have_same_kind}
 use Rattle.goal_kinds.proofs.AgreeLemmas.{agree_from}
 use Rattle.goal_kinds.proofs.fast_reject.+walk.Given as goal
 
@@ -13,5 +14,5 @@ decreases-parts_may_unify l = 2 * sizes (trees_seen l.left) + 1
 
 abbrev pub invariant-parts_may_unify-loop-i : goal.invariant-parts_may_unify-loop-i
 invariant-parts_may_unify-loop-i l =
-    agree_from l.parameters (trees_seen l.left) (trees_seen l.right) l.i
-    ≡ agree_from l.parameters (trees_seen l.left) (trees_seen l.right) 0
+    agree_from have_same_kind l.parameters (trees_seen l.left) (trees_seen l.right) l.i
+    ≡ agree_from have_same_kind l.parameters (trees_seen l.left) (trees_seen l.right) 0

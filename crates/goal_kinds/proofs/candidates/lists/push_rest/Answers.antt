@@ -3,6 +3,7 @@ use Rattle.std.specs.List.{All}
 use Rattle.std.proofs.lemmas.List.{map_push}
 use Rattle.std.proofs.lemmas.List.Elements.{All-push}
 use Rattle.goal_kinds.specs.Answers.{setting_of}
+use Rattle.goal_kinds.specs.Fitting.{trees_at}
 use Rattle.goal_kinds.specs.Interned.{CandidateIn, candidate_at, erased_at}
 use Rattle.goal_kinds.specs.declared.candidates.interned.InternedCandidate.TheVariants as candidates
 use Rattle.goal_kinds.proofs.CandidateClasses.{rest-made}
@@ -15,7 +16,7 @@ push_object_bounds-requires-clause-within c =
 
 pub returns-clause-pushed : goal.returns-clause-pushed
 returns-clause-pushed c m env =
-    rest-made (setting_of c.args.rows.now m env) c.args.trait_id (erased_at c.args.terms.now c.args.self_ty)
+    rest-made (trees_at c.args.terms.now c.args.sought.now.args.now) (setting_of c.args.rows.now m env) c.args.sought.now.trait_id (erased_at c.args.terms.now c.args.sought.now.self_ty)
     (map (candidate_at c.args.terms.now) c.args.found.now.items) (map (candidate_at c.args.terms.now) c.push_impls.new.found.items)
     (map (candidate_at c.args.terms.now) c.push.new.self.items) (map (candidate_at c.push_object_bounds.new.terms) c.push_object_bounds.new.found.items) _
     (c.in_ok-push_impls.ensures.pushed c.args.terms.now)
