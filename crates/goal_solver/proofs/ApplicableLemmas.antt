@@ -95,7 +95,7 @@ pub accepted-sort : (s : State) (m : TypingMode) (d : ℕ) (q : NormalizesTo) (e
 accepted-sort s m d q env u checked ok given =
     placed-given s.tables m env d q.alias u checked (accepted-alias s q env ok) (accepted-env s q env ok) given
 
-alias-is_term : (k : AliasTermKind) (b : Bool) → is_type_kind k ≡ b → (u : Tree) → sort_of (node_of u) ≡ sort_of (nodes.Alias k) → IsTerm u
+pub alias-is_term : (k : AliasTermKind) (b : Bool) → is_type_kind k ≡ b → (u : Tree) → sort_of (node_of u) ≡ sort_of (nodes.Alias k) → IsTerm u
 alias-is_term k true e u h = cc
 alias-is_term k false e u h = cc
 

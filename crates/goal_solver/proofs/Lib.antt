@@ -77,3 +77,4 @@ pub mod ListAnswerLemmas
 pub mod AskedTraitLemmas
 pub mod HostEffectLemmas
 pub mod ListedTermLemmas
+pub mod ComparisonLemmas

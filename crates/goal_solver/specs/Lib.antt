@@ -32,3 +32,4 @@ pub mod OpenProjections
 pub mod Promises
 pub mod Lists
 pub mod AskedTraits
+pub mod Comparisons

@@ -2,6 +2,7 @@
 #![tactic(auto)]
 
 mod assembly;
+pub mod comparison;
 pub mod context;
 pub mod effect_goals;
 pub mod eval;

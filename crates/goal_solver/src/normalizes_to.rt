@@ -95,7 +95,7 @@ impl EvalCtxt<'_> {
         if !is_closed_alias(&goal.predicate.alias, &goal.param_env) {
             return self.project_below(goal);
         }
-        match self.alias_outcome(goal) {
+        match self.alias_outcome(&goal.predicate.alias, &goal.param_env) {
             Ok(Found::Is(id)) => self.respond_found(expected, id),
             Ok(Found::Refuted) => self.refuted(),
             Ok(Found::Undecided) => Ok(self.respond(Certainty::Maybe, None)),

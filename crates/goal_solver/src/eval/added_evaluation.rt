@@ -156,7 +156,7 @@ impl EvalCtxt<'_> {
     }
 
     /// What a goal comes to at the remaining depth.
-    fn evaluate_goal(&mut self, goal: &Goal<Predicate>) -> Result<Certainty, Fault>
+    pub(crate) fn evaluate_goal(&mut self, goal: &Goal<Predicate>) -> Result<Certainty, Fault>
         ensures answer { (m : modes) → IsOwed self.new m → IsClosedGoal goal.now.predicate goal.now.param_env.items → IsGoalAnswer self.old m goal.now result }
         ensures refused { WhenRefused result (RefusesGoal self.old self.new goal.now) }
         ensures closed { IsClosedGoal goal.now.predicate goal.now.param_env.items → self.new.inference ≡ self.old.inference }

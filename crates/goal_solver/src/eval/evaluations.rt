@@ -22,12 +22,10 @@ use crate::trait_goals::evaluation::evaluate_trait_goal;
 use goal_kinds::candidates::interned::{InternedPredicate, InternedPremise};
 use goal_terms::answers::DelayedFault;
 use goal_terms::ids::TraitId;
-use goal_terms::predicates::{
-    Clause, Goal, HostEffectPredicate, NormalizesTo, ProjectionPredicate,
-};
+use goal_terms::predicates::{Clause, Goal, HostEffectPredicate, ProjectionPredicate};
 use goal_terms::term_nodes::TermId;
 use goal_terms::term_table::TermTable;
-use goal_terms::terms::GenericArg;
+use goal_terms::terms::{AliasTerm, GenericArg};
 
 impl EvalCtxt<'_> {
     /// What a trait goal comes to at a depth. Nothing changes but that there may be more terms
@@ -133,22 +131,25 @@ impl EvalCtxt<'_> {
 
     /// Which term an alias has at the remaining depth. Nothing changes but that there may be more terms
     /// and delayed faults.
-    pub(crate) fn alias_outcome(&mut self, goal: &Goal<NormalizesTo>) -> Result<Found, Stop>
+    pub(crate) fn alias_outcome(
+        &mut self,
+        alias: &AliasTerm,
+        environment: &[Clause],
+    ) -> Result<Found, Stop>
         ensures kept { Keeps self.old.terms self.new.terms }
         ensures unchanged { self.new ≡ evaluated self.old self.new }
         ensures goes_back { GoesBack self.old self.new }
         ensures within { IfOk result (FoundIn self.new.terms) }
-        ensures says { (m : TypingMode) → StandsFor self.old.typing_mode m → IfOk result (SaysWhich ((level_over self.old m goal.now.param_env.items).gives goal.now.predicate.alias.kind (erased_args goal.now.predicate.alias.args.items)) ((level_over self.old m goal.now.param_env.items).gives_refuted goal.now.predicate.alias.kind (erased_args goal.now.predicate.alias.args.items)) self.new.terms) }
+        ensures says { (m : TypingMode) → StandsFor self.old.typing_mode m → IfOk result (SaysWhich ((level_over self.old m environment.now).gives alias.now.kind (erased_args alias.now.args.items)) ((level_over self.old m environment.now).gives_refuted alias.now.kind (erased_args alias.now.args.items)) self.new.terms) }
         ensures stops { is_headline self.old.typing_mode ≡ true → IfErr result (λ s. s ≡ Stop.OutOfMemory) }
     {
-        let alias = &goal.predicate.alias;
         let mut faults = Vec::new(self.allocator());
         let alloc = self.allocator();
         let ids = intern_args(alloc, &mut self.terms, &alias.args)?;
         let setting = Setting {
             rows: self.tables.rows(),
             typing_mode: &self.typing_mode,
-            environment: &goal.param_env,
+            environment,
         };
         let depth = self.remaining_depth;
         let found = alias_term(
