@@ -2,6 +2,7 @@ mod answers;
 mod bindings;
 mod bound_variables;
 mod changes;
+mod comparisons;
 mod contexts;
 mod entries;
 mod equal_terms;
