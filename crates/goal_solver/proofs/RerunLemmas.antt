@@ -25,7 +25,7 @@ empty-contains xs x e h = nothing x (subst (λ ys. Contains ys x) e h) where
   none : {A : Type 0} (x : A) (k : ℕ) → k < length {A = A} [] → ⊥
   none x k l = absurd (omega arith)
 
-  nothing : {A : Type 0} (x : A) → Contains {A = A} [] x → ⊥
+  nothing : {A : Type 0} (x : A) → Contains [] x → ⊥
   nothing x h = none x h.0 h.1
 
 -- where an access was recorded in the erased mode no answer is owed

@@ -13,7 +13,7 @@ ghost use Rattle.goal_solver.specs.Added.{RecordsAccess};
 ghost use Rattle.goal_solver.specs.Lists.{ListTermIn, RunIn, SaysList};
 ghost use Rattle.goal_solver.specs.OpenRuns.{RunsOpen};
 ghost use Rattle.goal_solver.specs.Refusals.{WhenRefused, IsRefusedOpen};
-ghost use Rattle.goal_solver.specs.Outcomes.{StandsFor};
+ghost use Rattle.goal_solver.specs.Outcomes.{RunsAs, StandsFor};
 ghost use Rattle.goal_solver.specs.RunRules.{setting_over, asked_of, IsAskedOnce, IsClosedRule, IsRuleAnswer, IsRuleOpen, IsRecorded, IsKept, AreRecorded, IsRecordedAnswer, AreRecordedWhere, AreListed, response_of, RuleRunsOn};
 ghost use Rattle.goal_solver.specs.State.{kinds_of};
 
@@ -150,7 +150,7 @@ impl EvalCtxt<'_> {
         ensures unchanged { self.new ≡ record self.old { terms = self.new.terms } }
         ensures within { IfOk result (λ _. RunIn self.new.terms run.new) }
         ensures stops { is_of_headline self.old.typing_mode ≡ true → IfErr result (λ s. s ≡ Stop.OutOfMemory) }
-        ensures says { (m : TypingMode) → StandsFor self.old.typing_mode m → IfOk result (RuleRunsOn self.old.tables (level_over self.old m environment.now) self.old.terms run.old entry.now self.new.terms run.new) }
+        ensures says { (m : TypingMode) → RunsAs OnAccess.Stop self.old.typing_mode m → IfOk result (RuleRunsOn self.old.tables (level_over self.old m environment.now) self.old.terms run.old entry.now self.new.terms run.new) }
     {
         let mut effects = Effects::new(self.allocator());
         let setting = Setting {

@@ -19,7 +19,7 @@ ghost use Rattle.goal_kinds.specs.TraitGoals.{header_of};
 ghost use Rattle.goal_tables.specs.declared.rows.ImplRow.{ImplRow as impls};
 ghost use Rattle.goal_solver.specs.Answers.{IsOwed, level_over, erased_args};
 ghost use Rattle.goal_solver.specs.GoingBack.{GoesBack, restored};
-ghost use Rattle.goal_solver.specs.Outcomes.{StandsFor, SaysMatch, MatchIn};
+ghost use Rattle.goal_solver.specs.Outcomes.{RunsAs, SaysMatch, MatchIn};
 ghost use Rattle.goal_solver.specs.Relating.{AgreesWith, Identifies, SaysYes, Refuses, LeavesOpen, ChangesRecords, IsFaultFor, all_bound};
 ghost use Rattle.goal_solver.specs.State.{kinds_of};
 ghost use Rattle.goal_solver.specs.TranslatedArgs.{taken_by, own_after, bound_ref, AreClosedIn, certainty_in, AnswersJust, IsTranslation, IsHeaderOpen, IsFresh, BindsNothing, IsMadeEqual, IsEqualUnder, IsAdded, AddsClauses, MakesVariables, ChangesGoals};
@@ -296,7 +296,7 @@ impl EvalCtxt<'_> {
         ensures kept { Keeps self.old.terms self.new.terms }
         ensures unchanged { self.new ≡ record self.old { terms = self.new.terms } }
         ensures within { IfOk result (MatchIn self.new.terms) }
-        ensures says { (m : modes) → StandsFor self.old.typing_mode m → IfOk result (SaysMatch (level_over self.old m environment.now) other.now.params.items (header_of other.now) (erased_all self.old.terms given.now) self.new.terms) }
+        ensures says { (m : modes) → RunsAs OnAccess.Stop self.old.typing_mode m → IfOk result (SaysMatch (level_over self.old m environment.now) other.now.params.items (header_of other.now) (erased_all self.old.terms given.now) self.new.terms) }
         ensures stops { is_headline self.old.typing_mode ≡ true → IfErr result (λ s. s ≡ Stop.OutOfMemory) }
     {
         let mut effects = Effects::new(self.allocator());

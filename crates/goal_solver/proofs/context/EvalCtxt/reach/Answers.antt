@@ -1,6 +1,3 @@
-use Rattle.std.proofs.Common.{refl}
-use Rattle.goal_solver.specs.declared.eval.outcomes.OnAccess.TheVariants as on_access
-use Rattle.goal_solver.proofs.AnswerLemmas.{stops-runs}
 use Rattle.goal_solver.proofs.GoingBackLemmas.{solved-grown}
 use Rattle.goal_solver.proofs.context.EvalCtxt.reach.Goals as goal
 
@@ -14,6 +11,3 @@ invariant_of-self c = (
   solved-grown c.self.inside.terms c.run_rule_entry.new.terms c.self.inside.inference c.run_rule_entry.ensures.kept c.self.invariant.5,
   c.self.invariant.6,
 )
-
-pub returns-clause-says : goal.returns-clause-says
-returns-clause-says c = λ m stands. c.run_entry.ensures.says m (stops-runs on_access.Stop c.args.self.now.typing_mode m refl stands)

@@ -1,3 +1,5 @@
+use Rattle.goal_solver.specs.declared.eval.outcomes.OnAccess.TheVariants as on_access
+use Rattle.goal_solver.proofs.AnswerLemmas.{stops-runs}
 use Rattle.std.proofs.Common.{ap, sym, subst, refl, arith}
 use Rattle.std.proofs.lemmas.List.Elements.{All-nil}
 use Rattle.goal_solver.specs.Lists.{RunIn}
@@ -27,7 +29,7 @@ loop-entry-preserved c = record {
   recorded = recorded-next c.loop-entry.self c.record_entry.new.self c.reach.new.self c.args.entries.now c.loop-entry.entry-index c.entry-item.result c.record_entry.ensures.goes_back c.reach.ensures.unchanged (omega arith) c.entry-item.is c.loop-entry.invariant.recorded c.in_ok-record_entry.ensures.recorded;
   listed = listed-grown c.args.self.now c.record_entry.new.self c.reach.new.self c.args.entries.now c.reach.ensures.unchanged (listed-next c.args.self.now c.loop-entry.self c.record_entry.new.self c.args.entries.now c.loop-entry.entry-index c.entry-item.result (omega arith) c.entry-item.is c.loop-entry.invariant.listed c.record_entry.ensures.listed);
   so_far = runs-next c.args.self.now c.record_entry.new.self c.args.environment.now c.args.entries.now c.loop-entry.self.terms c.reach.new.self.terms c.loop-entry.run c.reach.new.run c.loop-entry.entry-index c.entry-item.result c.in_ok-reach.field-0 (goes_back-through c.args.self.now c.loop-entry.self c.record_entry.new.self c.loop-entry.invariant.back c.record_entry.ensures.goes_back)
-      (ap (λ (s : State). s.terms) c.record_entry.ensures.unchanged) (omega arith) c.entry-item.is c.loop-entry.invariant.so_far c.in_ok-reach.ensures.says c.in-Next.is;
+      (ap (λ (s : State). s.terms) c.record_entry.ensures.unchanged) (omega arith) c.entry-item.is c.loop-entry.invariant.so_far (λ m s. c.in_ok-reach.ensures.says m (stops-runs on_access.Stop _ m refl s)) c.in-Next.is;
 }
 
 pub reach-requires : goal.reach-requires
@@ -36,12 +38,12 @@ reach-requires c = subst (λ T. RunIn T c.loop-entry.run) (sym (ap (λ (s : Stat
 pub returns-in-Refuted-clause-says : goal.returns-in-Refuted-clause-says
 returns-in-Refuted-clause-says c = λ m s.
     runs-refuted c.args.self.now c.record_entry.new.self c.args.environment.now c.args.entries.now c.loop-entry.self.terms c.reach.new.self.terms c.loop-entry.run c.reach.new.run c.loop-entry.entry-index c.entry-item.result c.in_ok-reach.field-0 (goes_back-through c.args.self.now c.loop-entry.self c.record_entry.new.self c.loop-entry.invariant.back c.record_entry.ensures.goes_back)
-    (ap (λ (s : State). s.terms) c.record_entry.ensures.unchanged) (omega arith) c.entry-item.is c.loop-entry.invariant.so_far c.in_ok-reach.ensures.says c.in-Refuted.is m s c.reach.new.self.terms
+    (ap (λ (s : State). s.terms) c.record_entry.ensures.unchanged) (omega arith) c.entry-item.is c.loop-entry.invariant.so_far (λ m s. c.in_ok-reach.ensures.says m (stops-runs on_access.Stop _ m refl s)) c.in-Refuted.is m s c.reach.new.self.terms
 
 pub returns-in-Undecided-clause-says : goal.returns-in-Undecided-clause-says
 returns-in-Undecided-clause-says c = λ m s.
     runs-undecided c.args.self.now c.record_entry.new.self c.args.environment.now c.args.entries.now c.loop-entry.self.terms c.reach.new.self.terms c.loop-entry.run c.reach.new.run c.loop-entry.entry-index c.entry-item.result c.in_ok-reach.field-0 (goes_back-through c.args.self.now c.loop-entry.self c.record_entry.new.self c.loop-entry.invariant.back c.record_entry.ensures.goes_back)
-    (ap (λ (s : State). s.terms) c.record_entry.ensures.unchanged) (omega arith) c.entry-item.is c.loop-entry.invariant.so_far c.in_ok-reach.ensures.says c.in-Undecided.is m s c.reach.new.self.terms
+    (ap (λ (s : State). s.terms) c.record_entry.ensures.unchanged) (omega arith) c.entry-item.is c.loop-entry.invariant.so_far (λ m s. c.in_ok-reach.ensures.says m (stops-runs on_access.Stop _ m refl s)) c.in-Undecided.is m s c.reach.new.self.terms
 
 pub returns-in-Refuted-clause-unchanged : goal.returns-in-Refuted-clause-unchanged
 returns-in-Refuted-clause-unchanged c = restored-grown c.args.self.now c.record_entry.new.self c.reach.new.self (restored-recorded c.args.self.now c.loop-entry.self c.record_entry.new.self c.loop-entry.invariant.unchanged c.record_entry.ensures.unchanged) c.reach.ensures.unchanged
