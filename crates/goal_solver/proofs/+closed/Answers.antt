@@ -8,7 +8,7 @@ use Rattle.goal_solver.specs.Joined.{both}
 use Rattle.goal_solver.specs.Outcomes.{setting_in, level_in, SaysWhich, FoundIn, Says, projection_at, header_terms}
 use Rattle.goal_terms.proofs.InternLemmas.{keeps-chain, keeps-refl}
 use Rattle.std.proofs.Common.{◌-◌, arith, ap, map, subst, sym, ◌+◌, ◌∙◌, true, false, refl, ◌∷◌, ◌++◌, length, rules, get_or, ◌<◌, ◌≡◌, ⊎_elim, Some}
-use Rattle.std.proofs.lemmas.List.Elements.{All-push, All-nil, All-get_or, All-same}
+use Rattle.std.proofs.lemmas.List.Elements.{All-push, All-nil, All-get_or, All-same, All-take}
 use Rattle.goal_terms.specs.Sorts.{IsArgument}
 use Rattle.goal_terms.specs.TreeOf.{trees_of}
 use Rattle.goal_terms.specs.TableMeaning.{tree_at, Keeps}
@@ -670,8 +670,10 @@ normalizes_to::projections::second_term-returns-clause-says t c = λ m s.
     c.group_term.result (c.group_term.ensures.says m s)
 
 pub normalizes_to::projections::second_term-second_group-requires : goal.normalizes_to::projections::second_term-second_group-requires
-normalizes_to::projections::second_term-second_group-requires t c =
-    (c.requires.self_ty, subst (AreIn c.args.terms.now) (sym c.first_args.ensures) (All-take (IsIn c.args.terms.now) c.args.projection.now.trait_params c.args.projection.now.args.now c.requires.projection.0))
+normalizes_to::projections::second_term-second_group-requires t c = record {
+  self_ty = c.requires.self_ty;
+  args = subst (AreIn c.args.terms.now) (sym c.first_args.ensures) (All-take (IsIn c.args.terms.now) c.args.projection.now.trait_params c.args.projection.now.args.now c.requires.projection.0);
+}
 
 pub normalizes_to::projections::term_proven_via-returns-in-Refuted-clause-says :
     goal.normalizes_to::projections::term_proven_via-returns-in-Refuted-clause-says
