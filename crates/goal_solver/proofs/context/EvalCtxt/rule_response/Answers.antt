@@ -1,4 +1,5 @@
-use Rattle.std.proofs.Common.{None, Some, ap, sym, subst, ◌∙◌, ⊎_elim}
+use Rattle.std.proofs.Common.{None, Some, Err, ap, refl, sym, subst, ◌∙◌, ⊎_elim}
+use Rattle.goal_kinds.specs.declared.faults.Fault.TheVariants as fault
 use Rattle.goal_solver.specs.Answers.{level_over}
 use Rattle.goal_solver.specs.Lists.{ListTermIn}
 use Rattle.goal_solver.specs.RunRules.{setting_over, asked_of, asked_as, AreListed}
@@ -57,7 +58,7 @@ returns-in_default-clause-listed c = subst (λ es. AreListed es c.args.self.now 
 
 pub returns-in-Ok-Refuted-clause-sound : goal.returns-in-Ok-Refuted-clause-sound
 returns-in-Ok-Refuted-clause-sound c = λ m owed closed.
-    refuted-sound (setting_over c.args.self.now m c.args.environment.now) (level_over c.args.self.now m c.args.environment.now) c.args.rule.now c.run_entries.new.self.terms c.refuted.result (c.refuted.ensures.owed m owed)
+    refuted-sound (setting_over c.args.self.now m c.args.environment.now) (level_over c.args.self.now m c.args.environment.now) c.args.rule.now c.run_entries.new.self.terms (Err fault.NoSolution) refl
     (says_list-as c.args.self.now.tables (level_over c.args.self.now m c.args.environment.now) c.deref-2.result.now c.args.rule.now.entries.items c.run_entries.new.self.terms c.in-Ok-Refuted.field-0 list.Refuted c.deref-2.ensures.value c.in-Ok-Refuted.field-0-is
     (c.in-Ok-Refuted.ensures.says m (owed-run c.args.self.now c.run_entries.new.self m c.run_entries.ensures.goes_back owed)))
 
