@@ -1,9 +1,14 @@
-ghost use Rattle.std.specs.Prelude.{◌≡◌};
+ghost use Rattle.std.specs.Fmt.Cut.{cut_to};
+ghost use Rattle.std.specs.Fmt.InlineText.{inline_text};
+ghost use Rattle.std.specs.Option.{option_and_then, option_map};
+ghost use Rattle.std.specs.Prelude.{◌≡◌, Some};
+ghost use Rattle.vurloske_items.specs.Mistakes.{mistake_of, word_of};
 
 use std::alloc::{AllocError, AllocFailed};
 use thiserror::Error;
 use vurloske_syntax::ast::{Ident, Position};
 use vurloske_syntax::mistake::{Found, Mistake};
+use vurloske_syntax::phrase::Phrase;
 
 /// Why a text was not understood.
 #[derive(Clone, Copy, Debug, Error)]
@@ -27,19 +32,23 @@ impl<T: Drop> From<AllocFailed<T>> for ItemFault {
 }
 
 /// That something else than this name was expected.
-pub fn wrong_name(ident: Ident, expected: &'static str) -> ItemFault
-    ensures { result ≡ ItemFault.Mistake (record { at = ident.at; expected = expected.entry; found = Found.Name }) }
+pub fn wrong_name(ident: Ident, expected: &str) -> ItemFault
+    ensures place { option_map (λ m. m.at) (mistake_of result) ≡ Some ident.at }
+    ensures expected { option_map (λ m. inline_text m.expected.text) (mistake_of result) ≡ Some (cut_to 48 expected.now) }
+    ensures found { option_map (λ m. m.found) (mistake_of result) ≡ Some Found.Name }
 {
     ItemFault::Mistake(Mistake::at_name(ident, expected))
 }
 
 /// That something else was expected than what a word says.
-pub fn wrong(at: Position, expected: &'static str, found: &'static str) -> ItemFault
-    ensures { result ≡ ItemFault.Mistake (record { at = at; expected = expected.entry; found = Found.Word found.entry }) }
+pub fn wrong(at: Position, expected: &str, found: &str) -> ItemFault
+    ensures place { option_map (λ m. m.at) (mistake_of result) ≡ Some at }
+    ensures expected { option_map (λ m. inline_text m.expected.text) (mistake_of result) ≡ Some (cut_to 48 expected.now) }
+    ensures found { option_and_then (λ m. word_of m.found) (mistake_of result) ≡ Some (cut_to 48 found.now) }
 {
     ItemFault::Mistake(Mistake {
         at,
-        expected,
-        found: Found::Word(found),
+        expected: Phrase::new(expected),
+        found: Found::Word(Phrase::new(found)),
     })
 }

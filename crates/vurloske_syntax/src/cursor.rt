@@ -1,6 +1,7 @@
 //! The tokens that are still to be read.
 use crate::ast::{Ident, Position};
 use crate::mistake::{Found, Mistake, SyntaxFault};
+use crate::phrase::Phrase;
 use crate::token::{Keyword, Sign, Token, TokenKind};
 use std::alloc::Global;
 
@@ -126,7 +127,7 @@ impl<'t> Cursor<'t> {
     }
 
     /// A name, which a mistake calls as it is said.
-    pub(crate) fn ident(&mut self, expected: &'static str) -> Result<Ident, SyntaxFault> {
+    pub(crate) fn ident(&mut self, expected: &str) -> Result<Ident, SyntaxFault> {
         let at = self.at();
         match self.peek() {
             TokenKind::Name(name) => {
@@ -154,14 +155,14 @@ impl<'t> Cursor<'t> {
     }
 
     /// Something else is expected than the next token.
-    pub(crate) fn mistake(&self, expected: &'static str) -> SyntaxFault {
+    pub(crate) fn mistake(&self, expected: &str) -> SyntaxFault {
         let found = match self.rest.first() {
             Some(token) => Found::Text(token.span),
             None => Found::End,
         };
         SyntaxFault::Mistake(Mistake {
             at: self.at(),
-            expected,
+            expected: Phrase::new(expected),
             found,
         })
     }

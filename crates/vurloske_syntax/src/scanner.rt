@@ -3,6 +3,7 @@ ghost use Rattle.std.specs.Prelude.{◌≡◌, length, drop};
 
 use crate::ast::{Position, Span};
 use crate::mistake::{Found, Mistake, name_prefix};
+use crate::phrase::Phrase;
 use std::str::from_utf8;
 
 /// A text, what is left of it, and the line that is reached.
@@ -154,23 +155,23 @@ impl<'t> Scanner<'t> {
     }
 
     /// The text ends before what was expected.
-    fn end_mistake(&self, expected: &'static str) -> Mistake {
+    fn end_mistake(&self, expected: &str) -> Mistake {
         Mistake {
             at: self.position(),
-            expected,
+            expected: Phrase::new(expected),
             found: Found::End,
         }
     }
 
     /// Something else than expected stands between an earlier place and this one.
-    pub(crate) fn mistake_since(&self, mark: Mark<'t>, expected: &'static str) -> Mistake {
+    pub(crate) fn mistake_since(&self, mark: Mark<'t>, expected: &str) -> Mistake {
         let span = Span {
             start: mark.offset,
             end: self.offset(),
         };
         Mistake {
             at: mark.at,
-            expected,
+            expected: Phrase::new(expected),
             found: Found::Text(span),
         }
     }

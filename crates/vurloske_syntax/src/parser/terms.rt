@@ -292,7 +292,7 @@ pub(crate) fn parse_segment(
     cursor: &mut Cursor<'_>,
     ast: &mut Ast,
     depth: u32,
-    expected: &'static str,
+    expected: &str,
 ) -> Result<Segment, SyntaxFault> {
     let ident = cursor.ident(expected)?;
     let args = parse_args(cursor, ast, depth)?;
