@@ -11,7 +11,7 @@ use Rattle.goal_terms.specs.declared.scalars.UintTy.{UintTy}
 use Rattle.goal_terms.specs.declared.scalars.UintTy.TheVariants as uint
 use Rattle.goal_terms.specs.declared.terms.AliasTermKind.{AliasTermKind}
 use Rattle.goal_terms.specs.declared.terms.AliasTermKind.TheVariants.{ProjectionTy, FreeTy, InherentTy}
-use Rattle.goal_rows.specs.declared.names.TheConstants.{VEC, OUTPUT, TRAIT_ASSOC, PAIR_A, FREE_F, INHERENT_I}
+use Rattle.goal_program.specs.declared.names.TheConstants.{VEC, OUTPUT, TRAIT_ASSOC, PAIR_A, FREE_F, INHERENT_I}
 
 -- a struct with no parameters
 abbrev pub plain_tree : AdtId → Tree

@@ -4,12 +4,12 @@ use Rattle.goal_terms.specs.TreeOf.{leaf}
 use Rattle.goal_terms.specs.declared.heads.Head.TheVariants as head
 use Rattle.goal_terms.specs.declared.scalars.UintTy.TheVariants as uint
 use Rattle.goal_terms.specs.declared.terms.AliasTermKind.TheVariants.{FreeConst, OpaqueTy}
-use Rattle.goal_rows.specs.Asked.{plain_tree, struct_tree, projection_tree, uint_tree, param_tree, byte_and_str_tree, bare_tree, free_tree, inherent_tree, output_tree, assoc_tree, pair_tree}
-use Rattle.goal_rows.specs.declared.asked_terms.AskedType.{AskedType}
-use Rattle.goal_rows.specs.declared.asked_terms.AskedType.TheVariants as types
-use Rattle.goal_rows.specs.declared.asked_terms.AskedAlias.{AskedAlias}
-use Rattle.goal_rows.specs.declared.asked_terms.AskedAlias.TheVariants as aliases
-use Rattle.goal_rows.specs.declared.names.TheConstants.{A, DISCRIMINANT, METADATA, OWN_B, VEC}
+use Rattle.goal_program.specs.Asked.{plain_tree, struct_tree, projection_tree, uint_tree, param_tree, byte_and_str_tree, bare_tree, free_tree, inherent_tree, output_tree, assoc_tree, pair_tree}
+use Rattle.goal_program.specs.declared.asked_terms.AskedType.{AskedType}
+use Rattle.goal_program.specs.declared.asked_terms.AskedType.TheVariants as types
+use Rattle.goal_program.specs.declared.asked_terms.AskedAlias.{AskedAlias}
+use Rattle.goal_program.specs.declared.asked_terms.AskedAlias.TheVariants as aliases
+use Rattle.goal_program.specs.declared.names.TheConstants.{A, DISCRIMINANT, METADATA, OWN_B, VEC}
 
 -- the type that a row asks about
 abbrev pub asked_tree : AskedType → Tree

@@ -7,12 +7,12 @@ use Rattle.goal_terms.specs.declared.modes.TypingMode.TheVariants as typing
 use Rattle.goal_terms.specs.declared.predicates.BoundConstness.TheVariants as constness
 use Rattle.goal_terms.specs.declared.scalars.UintTy.{UintTy}
 use Rattle.goal_terms.specs.declared.scalars.UintTy.TheVariants as uint
-use Rattle.goal_rows.specs.Asked.{projection_tree, uint_tree, param_tree}
-use Rattle.goal_rows.specs.declared.names.TheConstants.{A, OWN, SIZED, TR}
-use Rattle.goal_rows.specs.declared.settings.Environment.{Environment}
-use Rattle.goal_rows.specs.declared.settings.Environment.TheVariants as environment
-use Rattle.goal_rows.specs.declared.settings.Mode.{Mode}
-use Rattle.goal_rows.specs.declared.settings.Mode.TheVariants as mode
+use Rattle.goal_program.specs.Asked.{projection_tree, uint_tree, param_tree}
+use Rattle.goal_program.specs.declared.names.TheConstants.{A, OWN, SIZED, TR}
+use Rattle.goal_program.specs.declared.settings.Environment.{Environment}
+use Rattle.goal_program.specs.declared.settings.Environment.TheVariants as environment
+use Rattle.goal_program.specs.declared.settings.Mode.{Mode}
+use Rattle.goal_program.specs.declared.settings.Mode.TheVariants as mode
 
 -- a clause that binds no lifetimes
 abbrev pub plain_clause : PredicateTree → ClauseTree

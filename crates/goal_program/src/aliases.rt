@@ -1,6 +1,6 @@
 //! The free aliases, the inherent item and the opaque type of the program that the rows ask about.
 use crate::names::{FREE_A, FREE_B, FREE_C, FREE_F, HID, INHERENT_I, TR, VEC};
-use crate::program_types::{struct_of, trait_clause, trait_ref};
+use crate::types::{struct_of, trait_clause, trait_ref};
 use goal_tables::rows::{FreeRow, InherentImplRow, InherentRow, OpaqueRow};
 use goal_terms::answers::ParamKind;
 use goal_terms::ids::{FreeId, InherentImplId};

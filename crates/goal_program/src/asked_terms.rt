@@ -1,13 +1,13 @@
 //! The types and the aliases that the rows ask about.
 ghost use Rattle.std.specs.Prelude.{◌≡◌, IfOk};
 ghost use Rattle.goal_terms.specs.TreeOf.{tree_of_ty, tree_of_alias};
-ghost use Rattle.goal_rows.specs.Asked.{free_tree, bare_tree, output_tree, assoc_tree, pair_tree, inherent_tree, pointer_tree, byte_and_str_tree, vec_of_u32_tree};
-ghost use Rattle.goal_rows.specs.AskedTerms.{asked_tree, asked_alias_tree};
+ghost use Rattle.goal_program.specs.Asked.{free_tree, bare_tree, output_tree, assoc_tree, pair_tree, inherent_tree, pointer_tree, byte_and_str_tree, vec_of_u32_tree};
+ghost use Rattle.goal_program.specs.AskedTerms.{asked_tree, asked_alias_tree};
 
 use crate::names::{
     A, DISCRIMINANT, FREE_F, INHERENT_I, METADATA, OUTPUT, OWN_B, PAIR_A, TRAIT_ASSOC, VEC,
 };
-use crate::program_types::{one_type, plain_type, projection_of, struct_of, two_types};
+use crate::types::{one_type, plain_type, projection_of, struct_of, two_types};
 use goal_terms::ids::{AdtId, FreeId, OpaqueId};
 use goal_terms::scalars::{IntTy, UintTy};
 use goal_terms::terms::{AliasTerm, AliasTermKind, FnSig, GenericArg, Ty};

@@ -2,7 +2,7 @@
 use crate::names::{
     A, BOX, FOO, FOO_ASSOC, PAIR, PAIR_A, Q, TR, TRAIT, TRAIT_ASSOC, VEC, W, X, Y, Z,
 };
-use crate::program_types::{
+use crate::types::{
     one_type, plain_type, projection_of, self_arguments, struct_of, trait_clause, trait_ref,
     two_types,
 };

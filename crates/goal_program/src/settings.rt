@@ -1,11 +1,11 @@
 //! Under which clauses and in which phase of checking the rows ask.
 ghost use Rattle.std.specs.Prelude.{◌≡◌, [], ◌∷◌, IfOk, map};
 ghost use Rattle.goal_terms.specs.PredicateTrees.{tree_of_trait_ref, tree_of_whole_clause, holds};
-ghost use Rattle.goal_rows.specs.Asked.{param_tree};
-ghost use Rattle.goal_rows.specs.Settings.{assumed, param_holds, param_term, IsMode};
+ghost use Rattle.goal_program.specs.Asked.{param_tree};
+ghost use Rattle.goal_program.specs.Settings.{assumed, param_holds, param_term, IsMode};
 
 use crate::names::{A, OWN, SIZED, TR};
-use crate::program_types::{const_clause, equation_clause, projection_of, trait_clause, trait_ref};
+use crate::types::{const_clause, equation_clause, projection_of, trait_clause, trait_ref};
 use goal_terms::ids::TraitId;
 use goal_terms::modes::TypingMode;
 use goal_terms::predicates::{BoundConstness, Clause, TraitRef};

@@ -1,11 +1,11 @@
 //! The tables of the program that the rows ask about.
-use crate::names::A;
-use crate::program_aliases::{inherent_impl_row, inherent_row, opaque_row, push_free_rows};
-use crate::program_impls::{
+use crate::aliases::{inherent_impl_row, inherent_row, opaque_row, push_free_rows};
+use crate::impls::{
     projection_impl, push_definition_rows, push_impl_rows, push_source_rows, source_row,
 };
-use crate::program_traits::{push_item_rows, push_lang_rows, push_trait_rows};
-use crate::program_types::push_adt_rows;
+use crate::names::A;
+use crate::traits::{push_item_rows, push_lang_rows, push_trait_rows};
+use crate::types::push_adt_rows;
 use goal_tables::rows::Tables;
 use goal_terms::ids::{DefId, ImplId};
 use std::alloc::{AllocError, Global};

@@ -4,7 +4,7 @@ use crate::names::{
     FIELD_TYPE, FN, FN_MUT, FN_ONCE, FN_PTR, FOO, FOO_ASSOC, METADATA, OUTPUT, OWN, OWN_B, PAIR,
     PAIR_A, POINTEE, SIZED, TR, TRAIT, TRAIT_ASSOC, TUPLE,
 };
-use crate::program_types::{trait_clause, trait_ref};
+use crate::types::{trait_clause, trait_ref};
 use goal_tables::lang::{LangItem, LangRow, LangTarget};
 use goal_tables::rows::{ItemRow, TraitRow};
 use goal_terms::answers::ParamKind;

@@ -1,7 +1,7 @@
 //! The terms of the program that the rows ask about, and its structs.
 ghost use Rattle.std.specs.Prelude.{◌≡◌, IfOk, [], ◌∷◌, map};
 ghost use Rattle.goal_terms.specs.TreeOf.{tree_of_ty, tree_of_arg, tree_of_alias};
-ghost use Rattle.goal_rows.specs.Asked.{plain_tree, struct_tree, projection_tree};
+ghost use Rattle.goal_program.specs.Asked.{plain_tree, struct_tree, projection_tree};
 
 use crate::names::{BOX, DYN_METADATA, P, Q, VEC, W, X, Y, Z};
 use goal_tables::rows::{AdtKind, AdtRow};

@@ -1,6 +1,6 @@
 //! Changes of the program's tables as constant data, and the tables that they make.
-use crate::program_tables::whole_tables;
 use crate::tests::sketches::{ClauseSketch, clause_of};
+use goal_program::tables::whole_tables;
 use goal_tables::rows::Tables;
 use goal_terms::ids::ImplId;
 use std::alloc::{AllocError, Global};

@@ -1,9 +1,9 @@
 //! Runs of a goal over the program's tables and over others, compared.
-use crate::program_tables::whole_tables;
 use crate::tests::scenes::checked_after;
 use crate::tests::sketches::{
     ASSOC, Asked, I32, STRUCT_X, STRUCT_Z, TR_A, TermSketch, U64, V0, VEC_OF_U32, goal_of,
 };
+use goal_program::tables::whole_tables;
 use goal_solver::comparison::{Comparison, compare_runs};
 use goal_tables::checked::{CheckedTables, check_tables};
 use goal_tables::rows::{DefRow, DefValue, ImplRow, SourceRow, Tables};

@@ -1,5 +1,4 @@
 //! What contexts are given and answer: fresh variables, hidden types, goals and responses.
-use crate::names::{BOX, FREE_A, HID, OWN, PAIR, PAIR_A, TR, VEC};
 use crate::tests::entries::ResponseSketch;
 use crate::tests::equations::Equation;
 use crate::tests::expected::{MAYBE, NO, YES};
@@ -9,6 +8,7 @@ use crate::tests::sketches::{
     Asked, BOOL, STRUCT_P, STRUCT_Z, TR_A, TermSketch, TypeSketch, U8, U16, V0, V1,
 };
 use crate::tests::steps::{AT_ONCE, Scene, Step, TWO_VARIABLES, assert_scene, assert_scenes};
+use goal_program::names::{BOX, FREE_A, HID, OWN, PAIR, PAIR_A, TR, VEC};
 use goal_solver::eval::goals::GoalFault;
 use goal_terms::answers::{ParamKind, TraitGoalProvenVia, VarKind};
 use goal_terms::ids::TraitId;

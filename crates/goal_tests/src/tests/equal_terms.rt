@@ -1,11 +1,11 @@
 //! Terms that contexts make equal, also in trials, and head forms.
-use crate::names::{FREE_F, VEC};
 use crate::tests::equations::{Equation, Form};
 use crate::tests::expected::{MAYBE, NO, YES};
 use crate::tests::sketches::{
     A_OF_X, A_OF_Z, BOOL, I32, STR, STRUCT_P, T, TR_A, TermSketch, TypeSketch, U8, U16, V0, V1,
 };
 use crate::tests::steps::{AT_ONCE, Scene, Step, TWO_VARIABLES, assert_scene, assert_scenes};
+use goal_program::names::{FREE_F, VEC};
 use goal_solver::faults::Fault;
 use goal_terms::answers::VarKind;
 use goal_terms::scalars::FloatTy;

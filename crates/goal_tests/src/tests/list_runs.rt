@@ -1,11 +1,11 @@
 //! Lists that are run, closed and with variables.
-use crate::names::{TR, VEC};
 use crate::tests::entries::{Entry, ResponseSketch};
 use crate::tests::expected::{MAYBE, NO, YES};
 use crate::tests::runs::Run;
 use crate::tests::scenes::Mode;
 use crate::tests::sketches::{I32, STRUCT_P, STRUCT_Z, TR_A, TypeSketch, U8, V0, VEC_OF_U32};
 use crate::tests::steps::{AT_ONCE, Scene, Step, TWO_VARIABLES, assert_scene, assert_scenes};
+use goal_program::names::{TR, VEC};
 use goal_terms::answers::DelayedFault;
 use goal_terms::ids::{DefId, ImplId};
 use std::test::Fail;

@@ -1,6 +1,6 @@
 //! Terms, clauses and goals as constant data, and what they stand for.
-use crate::names::{A, P, TRAIT_ASSOC, VEC, X, Z};
-use crate::program_types::{equation_clause, trait_clause};
+use goal_program::names::{A, P, TRAIT_ASSOC, VEC, X, Z};
+use goal_program::types::{equation_clause, trait_clause};
 use goal_terms::ids::{AdtId, TraitId};
 use goal_terms::predicates::{
     BoundConstness, Clause, Goal, HostEffectPredicate, NormalizesTo, Predicate,

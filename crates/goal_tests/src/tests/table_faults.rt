@@ -1,7 +1,7 @@
 //! The faults of tables that no text can make, since it has names and no numbers.
-use crate::names::P;
-use crate::program_tables::whole_tables;
-use crate::program_types::struct_row;
+use goal_program::names::P;
+use goal_program::tables::whole_tables;
+use goal_program::types::struct_row;
 use goal_tables::checked::check_tables;
 use goal_tables::faults::TableFault;
 use goal_tables::rows::Tables;

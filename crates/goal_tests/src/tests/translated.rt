@@ -1,5 +1,4 @@
 //! Arguments that are translated for a definition elsewhere.
-use crate::names::{FREE_A, HID, TR, TRAIT, VEC};
 use crate::tests::changes::Change;
 use crate::tests::equations::Equation;
 use crate::tests::expected::{NO, YES};
@@ -14,6 +13,7 @@ use crate::tests::steps::{
     AT_ONCE, Scene, Step, TWO_VARIABLES, assert_scene, assert_scene_over, assert_scenes,
 };
 use crate::tests::translations::Translation;
+use goal_program::names::{FREE_A, HID, TR, TRAIT, VEC};
 use goal_solver::faults::Fault;
 use goal_tables::rows::Container;
 use goal_terms::answers::{Certainty, OpaqueAccess, VarKind};

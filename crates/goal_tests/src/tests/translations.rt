@@ -1,6 +1,6 @@
 //! The arguments that a definition takes, by where it stands, as constant data.
-use crate::names::TRAIT;
 use crate::tests::sketches::{ASSOC, TypeSketch, U32, U64, V0, alias_goal_of, args_of, ref_of};
+use goal_program::names::TRAIT;
 use goal_solver::context::EvalCtxt;
 use goal_solver::faults::Fault;
 use goal_tables::rows::Container;

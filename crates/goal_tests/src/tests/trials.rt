@@ -1,7 +1,6 @@
 //! Trials within trials: each leaves nothing behind but records, whatever it answers.
 ghost use Rattle.goal_solver.specs.GoingBack.{GoesBack};
 
-use crate::names::{HID, TR};
 use crate::tests::equated::equate;
 use crate::tests::equations::Equation;
 use crate::tests::expected::{Expected, NO, YES};
@@ -10,6 +9,7 @@ use crate::tests::goal_steps::GoalStep;
 use crate::tests::scenes::{Mode, checked_after, context_in};
 use crate::tests::sketches::{Asked, STR, STRUCT_Z, V0, alias_goal_of};
 use crate::tests::steps::{Step, assert_steps};
+use goal_program::names::{HID, TR};
 use goal_solver::context::EvalCtxt;
 use goal_solver::context::laws::going_back_composes;
 use goal_solver::faults::Fault;

@@ -1,6 +1,6 @@
 use Rattle.goal_terms.specs.View.{tree_of_ref}
-use Rattle.goal_rows.proofs.FreeVariableLemmas.{free-as_found}
-use Rattle.goal_rows.proofs.tests.bindings.may_take.Goals as goal
+use Rattle.goal_tests.proofs.FreeVariableLemmas.{free-as_found}
+use Rattle.goal_tests.proofs.tests.bindings.may_take.Goals as goal
 
 pub returns-in-Ok : goal.returns-in-Ok
 returns-in-Ok c h =
