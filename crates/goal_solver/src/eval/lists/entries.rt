@@ -74,13 +74,13 @@ pub(crate) fn run_entry(
             let outcome = predicate_outcome(setting, terms, effects, predicate, depth)?;
             Ok(run.ask(outcome))
         }
-        InternedEntry::RowClauses(clauses, number) => {
+        InternedEntry::RowClauses(_, clauses, number) => {
             let args = named_args(&run.named, *number);
             let row = RowPremises::Clauses(clauses);
             let outcome = row_outcome(setting, terms, effects, row, args, depth)?;
             Ok(run.ask(outcome))
         }
-        InternedEntry::RowConditions(constness, refs, number) => {
+        InternedEntry::RowConditions(constness, _, refs, number) => {
             let args = named_args(&run.named, *number);
             let row = RowPremises::Conditions(*constness, refs);
             let outcome = row_outcome(setting, terms, effects, row, args, depth)?;
@@ -150,10 +150,10 @@ fn arguments_match(
             let args = own_list(setting, ids)?;
             Ok(HeaderMatch::Fits(args))
         }
-        InternedArguments::OfHeader(header, given) => {
+        InternedArguments::OfHeader(_, header, given) => {
             header_match(setting, terms, effects, header, given, depth)
         }
-        InternedArguments::OfOtherHeader(header, of, number) => {
+        InternedArguments::OfOtherHeader(_, _, header, of, number) => {
             let Some(args) = named_args(named, *number) else {
                 return Ok(HeaderMatch::Unknown);
             };
@@ -247,7 +247,7 @@ fn term_found(
     match term {
         InternedTerm::AsItStands(id) => Ok(Found::Is(*id)),
         InternedTerm::HeadFormOf(id) => head_form(setting, terms, effects, *id, depth),
-        InternedTerm::ValueUnder(value, number) => {
+        InternedTerm::ValueUnder(_, value, number) => {
             let Some(args) = named_args(named, *number) else {
                 return Ok(Found::Undecided);
             };
