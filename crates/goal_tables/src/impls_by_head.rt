@@ -23,7 +23,7 @@ pub struct ImplKey {
 }
 
 /// The head of a term, without lifetimes, unless the term stands for others.
-pub fn known_head(node: Node) -> Option<Node>
+fn known_head(node: Node) -> Option<Node>
     ensures { result ≡ known_head node }
 {
     match node {
@@ -122,7 +122,7 @@ fn list_of(lists: &IndexMap<ImplKey, Vec<usize>>, key: ImplKey) -> &[usize]
 
 /// The places of the impls of a trait whose self type may have a head, in the order of their rows. Want of
 /// memory is the only refusal.
-pub fn places_with_head(
+pub(crate) fn places_with_head(
     alloc: Global,
     lists: &IndexMap<ImplKey, Vec<usize>>,
     trait_id: TraitId,
