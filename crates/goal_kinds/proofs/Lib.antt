@@ -63,6 +63,7 @@ pub mod BoundTerms
 pub mod CandidateClasses
 pub mod FilteredWords
 pub mod FittingLemmas
+pub mod NearLemmas
 pub mod RowTermLemmas
 pub mod EachRuleLemmas
 pub mod SizedRuleLemmas
