@@ -60,6 +60,7 @@ invariant_of-self-2 c = (
 
 pub relate_resolved_lists-requires : goal.relate_resolved_lists-requires
 relate_resolved_lists-requires c = record {
+  cache = c.new-effects.ensures _ _;
   alike = subst (λ xs. AreListsOfOneKind c.follow_all-2.new.table xs c.deref-2.result.now) (sym c.deref.ensures.value)
       (subst (AreListsOfOneKind c.follow_all-2.new.table c.in_ok-lefts.lefts.items) (sym c.deref-2.ensures.value)
       (followed-alike _ c.args.self.now c.self.view_is c.follow_all.new.table c.follow_all-2.new.table c.args.left.now c.args.right.now c.in_ok-lefts.lefts.items c.in_ok-rights.rights.items (record {
