@@ -24,7 +24,7 @@ use Rattle.goal_kinds.specs.Settings.{Setting}
 use Rattle.goal_kinds.proofs.InternedLemmas.{same-grown, in-grown}
 use Rattle.goal_kinds.proofs.WithinLevels.{within-level}
 use Rattle.goal_solver.specs.CacheEntries.{IsKnownAt, entry_of, kept, Enters, trait_decided, outcome_decided, found_decided}
-use Rattle.goal_solver.specs.EvaluationCache.{SaysTraitAt, SaysConstAt, SaysAliasAt, IsRight, AreRight, IsValidCache, consts_of, KeepsButConsts}
+use Rattle.goal_solver.specs.EvaluationCache.{SaysTraitAt, SaysConstAt, SaysAliasAt, IsRight, AreRight, IsValidCache, IsEmptyCache, consts_of, KeepsButConsts}
 use Rattle.goal_solver.specs.Outcomes.{RunsFor, setting_in, level_in, Says, SaysThrough, SaysWhich, FoundIn}
 use Rattle.goal_solver.specs.declared.eval.evaluation_cache.CacheEntry.{CacheEntry}
 use Rattle.goal_solver.specs.declared.eval.evaluation_cache.EvaluationCache.{EvaluationCache as Cache}
@@ -209,13 +209,12 @@ found_in-later T U k found.Refuted i = tt
 found_in-later T U k found.Undecided i = tt
 
 -- an evaluation begins with nothing
-pub cache-new : (c : over.Setting) (T : List Tree) (k : Cache) → k.traits.entries.entries ≡ [] → k.consts.entries.entries ≡ [] → k.maybe_consts.entries.entries ≡ [] → k.aliases.entries.entries ≡ [] →
-    IsValidCache c T k
-cache-new c T k e f g h = record {
-  traits = none-right c T (λ o. Unit {0}) SaysTraitAt trait_outcome.Undecided k.traits.entries e;
-  consts = none-right c T (λ o. Unit {0}) (SaysConstAt constness.Const) outcome.Undecided k.consts.entries f;
-  maybe_consts = none-right c T (λ o. Unit {0}) (SaysConstAt constness.Maybe) outcome.Undecided k.maybe_consts.entries g;
-  aliases = none-right c T (FoundIn T) (SaysAliasAt T) found.Undecided k.aliases.entries h;
+pub cache-new : (c : over.Setting) (T : List Tree) (k : Cache) → IsEmptyCache k → IsValidCache c T k
+cache-new c T k e = record {
+  traits = none-right c T (λ o. Unit {0}) SaysTraitAt trait_outcome.Undecided k.traits.entries e.traits;
+  consts = none-right c T (λ o. Unit {0}) (SaysConstAt constness.Const) outcome.Undecided k.consts.entries e.consts;
+  maybe_consts = none-right c T (λ o. Unit {0}) (SaysConstAt constness.Maybe) outcome.Undecided k.maybe_consts.entries e.maybe_consts;
+  aliases = none-right c T (FoundIn T) (SaysAliasAt T) found.Undecided k.aliases.entries e.aliases;
 }
 
 -- what is kept stays right when the table grows

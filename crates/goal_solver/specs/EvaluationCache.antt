@@ -1,5 +1,5 @@
 -- What an evaluation keeps is right: each answer at its depth, for what the evaluation is over.
-use Rattle.std.specs.Prelude.{◌≡◌, ◌==◌, ◌<◌, ℕ, List, Some, length}
+use Rattle.std.specs.Prelude.{◌≡◌, ◌==◌, ◌<◌, ℕ, List, [], Some, length}
 use Rattle.std.specs.HashMap.{get, HashMap}
 use Rattle.goal_terms.specs.Tree.{Tree, node, alias, list_of}
 use Rattle.goal_terms.specs.declared.heads.Head.TheVariants as head
@@ -55,6 +55,13 @@ pub record IsValidCache (c : over.Setting) (T : List Tree) (k : Cache) : Type 0 
   pub consts : AreRight c T (λ o. Unit {0}) (SaysConstAt constness.Const) outcome.Undecided k.consts.entries
   pub maybe_consts : AreRight c T (λ o. Unit {0}) (SaysConstAt constness.Maybe) outcome.Undecided k.maybe_consts.entries
   pub aliases : AreRight c T (FoundIn T) (SaysAliasAt T) found.Undecided k.aliases.entries
+
+-- nothing is kept
+pub record IsEmptyCache (k : Cache) : Type 0 where
+  pub traits : k.traits.entries.entries ≡ []
+  pub consts : k.consts.entries.entries ≡ []
+  pub maybe_consts : k.maybe_consts.entries.entries ≡ []
+  pub aliases : k.aliases.entries.entries ≡ []
 
 -- what is kept of const trait goals of a constness
 abbrev pub consts_of : Cache → BoundConstness → Answered outcomes.Outcome

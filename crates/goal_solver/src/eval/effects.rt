@@ -1,8 +1,6 @@
 //! What an evaluation leaves beside its verdict, and keeps while it lasts.
-ghost use Rattle.std.specs.Prelude.{◌≡◌, List};
-ghost use Rattle.goal_terms.specs.Tree.{Tree};
-ghost use Rattle.goal_solver.specs.EvaluationCache.{IsValidCache};
-ghost use Rattle.goal_solver.specs.declared.eval.outcomes.Setting.{Setting};
+ghost use Rattle.std.specs.Prelude.{◌≡◌};
+ghost use Rattle.goal_solver.specs.EvaluationCache.{IsEmptyCache};
 
 use crate::context::records::{enter_access, enter_fault};
 use crate::eval::evaluation_cache::EvaluationCache;
@@ -22,7 +20,7 @@ pub struct Effects {
 impl Effects {
     /// No effects, and nothing kept. It takes no memory.
     pub(crate) fn new(alloc: Global) -> Self
-        ensures cache { (c : Setting) (T : List Tree) → IsValidCache c T result.cache }
+        ensures cache { IsEmptyCache result.cache }
     {
         Effects {
             accesses: Vec::new(alloc),

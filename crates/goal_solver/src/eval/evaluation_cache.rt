@@ -2,7 +2,7 @@
 ghost use Rattle.std.specs.Prelude.{◌≡◌, ◌==◌, [], IfSome, Some};
 ghost use Rattle.indexmap.specs.IndexMap.{get};
 ghost use Rattle.goal_solver.specs.CacheEntries.{IsKnownAt, entry_of, kept, Enters, trait_decided, outcome_decided, found_decided};
-ghost use Rattle.goal_solver.specs.EvaluationCache.{consts_of, KeepsButConsts};
+ghost use Rattle.goal_solver.specs.EvaluationCache.{IsEmptyCache, consts_of, KeepsButConsts};
 ghost use Rattle.goal_solver.specs.declared.eval.outcomes.Outcome.{Outcome as outcomes};
 ghost use Rattle.goal_solver.specs.declared.eval.evaluation_cache.CacheEntry.{CacheEntry as Entry};
 
@@ -116,10 +116,7 @@ pub struct EvaluationCache {
 impl EvaluationCache {
     /// Nothing is known. It takes no memory.
     pub(crate) fn new(alloc: Global) -> Self
-        ensures traits { result.traits.entries.entries ≡ [] }
-        ensures consts { result.consts.entries.entries ≡ [] }
-        ensures maybe_consts { result.maybe_consts.entries.entries ≡ [] }
-        ensures aliases { result.aliases.entries.entries ≡ [] }
+        ensures { IsEmptyCache result }
     {
         EvaluationCache {
             traits: Answered::new(alloc),
