@@ -17,6 +17,7 @@ ghost use Rattle.goal_kinds.specs.Settings.{is_headline};
 ghost use Rattle.goal_solver.specs.Lists.{AtEachLevel, RunIn};
 ghost use Rattle.goal_solver.specs.Outcomes.{header_terms};
 ghost use Rattle.goal_solver.specs.RunRules.{RuleRunsOn, header_at};
+ghost use Rattle.goal_solver.specs.EvaluationCache.{IsValidCache};
 
 use crate::eval::effects::Effects;
 use crate::eval::interning::{intern_args, intern_equation};
@@ -40,6 +41,7 @@ use goal_terms::terms::{GenericArg, Term};
 
 /// Runs an entry of a rule at a depth. One that says to record something asks for nothing; one whose row is
 /// missing is undecided, and ends the list where it names arguments.
+#[tactic(auto, using(crate::proofs::CacheLemmas::caching))]
 pub(crate) fn run_rule_entry(
     setting: &Setting<'_>,
     terms: &mut TermTable,
@@ -48,7 +50,9 @@ pub(crate) fn run_rule_entry(
     entry: &RuleEntry,
     depth: u32,
 ) -> Result<Reached, Stop>
-    requires { RunIn terms.old run.old }
+    requires cache { IsValidCache setting.now terms.old effects.old.cache }
+    requires run { RunIn terms.old run.old }
+    ensures cache { IsValidCache setting.now terms.new effects.new.cache }
     ensures kept { Keeps terms.old terms.new }
     ensures within { IfOk result (λ _. RunIn terms.new run.new) }
     ensures stops { is_headline setting.now.typing_mode.now ≡ true → IfErr result (λ s. s ≡ Stop.OutOfMemory) }
