@@ -1,4 +1,3 @@
 pub mod Spelling
 pub mod Growth
 pub mod Names
-pub mod Mistakes

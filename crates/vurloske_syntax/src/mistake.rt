@@ -1,6 +1,6 @@
 //! What is wrong with a text, and where.
 use crate::ast::{Ident, Position, Span};
-use crate::phrase::Phrase;
+use crate::phrase::{Expected, Phrase};
 use std::alloc::{AllocError, AllocFailed};
 use std::fmt;
 use std::str::from_utf8;
@@ -32,7 +32,7 @@ impl<T: Drop> From<AllocFailed<T>> for SyntaxFault {
 pub struct Mistake {
     pub at: Position,
     /// As `a type` or, of a sign or a keyword, with quotes.
-    pub expected: Phrase,
+    pub expected: Expected,
     pub found: Found,
 }
 
@@ -49,19 +49,15 @@ pub enum Found {
 }
 
 impl Mistake {
-    ghost use Rattle.std.specs.Fmt.Cut.{cut_to};
-    ghost use Rattle.std.specs.Fmt.InlineText.{inline_text};
     ghost use Rattle.std.specs.Prelude.{◌≡◌};
 
     /// That something else than this name was expected where it stands.
-    pub fn at_name(ident: Ident, expected: &str) -> Mistake
-        ensures place { result.at ≡ ident.at }
-        ensures expected { inline_text result.expected.text ≡ cut_to 48 expected.now }
-        ensures found { result.found ≡ Found.Name }
+    pub fn at_name(ident: Ident, expected: Phrase) -> Mistake
+        ensures { result ≡ record { at = ident.at; expected = Expected.Phrase expected; found = Found.Name } }
     {
         Mistake {
             at: ident.at,
-            expected: Phrase::new(expected),
+            expected: Expected::Phrase(expected),
             found: Found::Name,
         }
     }

@@ -3,7 +3,7 @@ ghost use Rattle.std.specs.Prelude.{◌≡◌, length, drop};
 
 use crate::ast::{Position, Span};
 use crate::mistake::{Found, Mistake, name_prefix};
-use crate::phrase::Phrase;
+use crate::phrase::{Expected, Phrase};
 use std::str::from_utf8;
 
 /// A text, what is left of it, and the line that is reached.
@@ -151,27 +151,27 @@ impl<'t> Scanner<'t> {
                 _ => self.skip(1),
             }
         }
-        Err(self.end_mistake("`*/`"))
+        Err(self.end_mistake(Phrase::COMMENT_END))
     }
 
     /// The text ends before what was expected.
-    fn end_mistake(&self, expected: &str) -> Mistake {
+    fn end_mistake(&self, expected: Phrase) -> Mistake {
         Mistake {
             at: self.position(),
-            expected: Phrase::new(expected),
+            expected: Expected::Phrase(expected),
             found: Found::End,
         }
     }
 
     /// Something else than expected stands between an earlier place and this one.
-    pub(crate) fn mistake_since(&self, mark: Mark<'t>, expected: &str) -> Mistake {
+    pub(crate) fn mistake_since(&self, mark: Mark<'t>, expected: Phrase) -> Mistake {
         let span = Span {
             start: mark.offset,
             end: self.offset(),
         };
         Mistake {
             at: mark.at,
-            expected: Phrase::new(expected),
+            expected: Expected::Phrase(expected),
             found: Found::Text(span),
         }
     }
