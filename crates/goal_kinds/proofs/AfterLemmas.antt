@@ -22,10 +22,12 @@ module _ (S : Setting) (L : Level) where
   undecided-holds Said named (entry.Equation ts us ∷ es) h = undecided-holds Said named es h.1
   undecided-holds Said named (entry.Clause g k ∷ es) h = undecided-holds Said named es h.1
   undecided-holds Said named (entry.RowClauses r n ∷ es) h = undecided-holds Said named es h.1
+  undecided-holds Said named (entry.RowConditions b i n ∷ es) h = undecided-holds Said named es h.1
   undecided-holds Said named (entry.Term v e ∷ es) h = undecided-holds Said named es h.1
   undecided-holds Said named (entry.Access a ∷ es) h = undecided-holds Said named es h
   undecided-holds Said named (entry.DelayedFault f ∷ es) h = undecided-holds Said named es h
   undecided-holds Said named (entry.Evaluation ∷ es) h = undecided-holds Said named es h
+  undecided-holds Said named (entry.Ambiguous ∷ es) h = h
   undecided-holds Said named (entry.Undecided ∷ es) h = h
   undecided-holds Said named (entry.Refused ∷ es) h = h
 
@@ -37,10 +39,12 @@ module _ (S : Setting) (L : Level) where
   undecided-refuted named (entry.Equation ts us ∷ es) h = ⊎_elim (λ x. inl x) (λ x. inr (undecided-refuted named es x)) h
   undecided-refuted named (entry.Clause g k ∷ es) h = ⊎_elim (λ x. inl x) (λ x. inr (undecided-refuted named es x)) h
   undecided-refuted named (entry.RowClauses r n ∷ es) h = ⊎_elim (λ x. inl x) (λ x. inr (undecided-refuted named es x)) h
+  undecided-refuted named (entry.RowConditions b i n ∷ es) h = ⊎_elim (λ x. inl x) (λ x. inr (undecided-refuted named es x)) h
   undecided-refuted named (entry.Term v e ∷ es) h = ⊎_elim (λ x. inl x) (λ x. inr (undecided-refuted named es x)) h
   undecided-refuted named (entry.Access a ∷ es) h = undecided-refuted named es h
   undecided-refuted named (entry.DelayedFault f ∷ es) h = undecided-refuted named es h
   undecided-refuted named (entry.Evaluation ∷ es) h = undecided-refuted named es h
+  undecided-refuted named (entry.Ambiguous ∷ es) h = undecided-refuted named es h
   undecided-refuted named (entry.Undecided ∷ es) h = undecided-refuted named es h
   undecided-refuted named (entry.Refused ∷ es) h = h
 
@@ -51,10 +55,12 @@ module _ (S : Setting) (L : Level) where
   refuted-undecided named (entry.Equation ts us ∷ es) h = ⊎_elim (λ x. inl x) (λ x. inr (refuted-undecided named es x)) h
   refuted-undecided named (entry.Clause g k ∷ es) h = ⊎_elim (λ x. inl x) (λ x. inr (refuted-undecided named es x)) h
   refuted-undecided named (entry.RowClauses r n ∷ es) h = ⊎_elim (λ x. inl x) (λ x. inr (refuted-undecided named es x)) h
+  refuted-undecided named (entry.RowConditions b i n ∷ es) h = ⊎_elim (λ x. inl x) (λ x. inr (refuted-undecided named es x)) h
   refuted-undecided named (entry.Term v e ∷ es) h = ⊎_elim (λ x. inl x) (λ x. inr (refuted-undecided named es x)) h
   refuted-undecided named (entry.Access a ∷ es) h = refuted-undecided named es h
   refuted-undecided named (entry.DelayedFault f ∷ es) h = refuted-undecided named es h
   refuted-undecided named (entry.Evaluation ∷ es) h = refuted-undecided named es h
+  refuted-undecided named (entry.Ambiguous ∷ es) h = refuted-undecided named es h
   refuted-undecided named (entry.Undecided ∷ es) h = refuted-undecided named es h
   refuted-undecided named (entry.Refused ∷ es) h = h
 

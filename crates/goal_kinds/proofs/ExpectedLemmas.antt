@@ -6,11 +6,9 @@ use Rattle.goal_terms.specs.declared.answers.Certainty.{Certainty}
 use Rattle.goal_terms.specs.declared.answers.Certainty.TheVariants as certainty
 use Rattle.goal_terms.specs.declared.answers.GoalSource.{GoalSource}
 use Rattle.goal_terms.specs.declared.ids.DefId.{DefId}
-use Rattle.goal_terms.specs.declared.ids.ImplId.{ImplId}
 use Rattle.goal_terms.specs.declared.ids.ItemId.{ItemId}
 use Rattle.goal_terms.specs.declared.predicates.ClauseKind.{ClauseKind}
 use Rattle.goal_terms.specs.declared.predicates.ProjectionPredicate.{ProjectionPredicate}
-use Rattle.goal_terms.specs.declared.predicates.TraitRef.{TraitRef}
 use Rattle.goal_terms.specs.declared.terms.AliasTerm.{AliasTerm}
 use Rattle.goal_terms.specs.declared.terms.Term.{Term}
 use Rattle.goal_tables.specs.declared.rows.DefValue.{DefValue}
@@ -19,7 +17,6 @@ use Rattle.goal_kinds.specs.CandidateRules.{after, entries_for}
 use Rattle.goal_kinds.specs.DefinitionEntries.{definition_entry}
 use Rattle.goal_kinds.specs.ProjectionEntries.{IsEquation, IsProjectionMatch}
 use Rattle.goal_kinds.specs.RuleWords.{TermIsFor, TermsAreFor, value_entry}
-use Rattle.goal_kinds.specs.TraitEntries.{IsMatch, IsImplMatch}
 use Rattle.goal_kinds.specs.declared.rules.RowClauses.TheVariants as clauses
 use Rattle.goal_kinds.specs.declared.rules.RowValue.{RowValue}
 use Rattle.goal_kinds.specs.declared.rules.RuleArguments.TheVariants as arguments
@@ -82,14 +79,3 @@ module _ (P : Tree → Type 0) where
       let list = entry.Equation m.0 m.1 ∷ entry.Arguments (arguments.Given m.2) ∷ entry.RowClauses (clauses.Item i) 0 ∷ entry.Term m.4 (term.Normalized m.3) ∷ [] in
       let there : TermsAreFor P list = (tt, (tt, (tt, (subst P (sym m.9) h, tt)))) in
       after-for es list c m.10 there
-
-  -- matches of trait goals
-  pub trait_match-for : (said asked : TraitRef) (c : Certainty) (es : List RuleEntry) → IsMatch said asked c es → TermsAreFor P es
-  unfolding TermsAreFor
-  trait_match-for said asked certainty.Yes es m = made-for es _ m.4 (tt, tt)
-  trait_match-for said asked certainty.Maybe es m = made-for es _ m.4 (tt, (tt, tt))
-
-  pub impl_match-for : (asked : TraitRef) (i : ImplId) (c : Certainty) (es : List RuleEntry) → IsImplMatch asked i c es → TermsAreFor P es
-  unfolding TermsAreFor
-  impl_match-for asked i certainty.Yes es m = made-for es _ m.2 (tt, (tt, tt))
-  impl_match-for asked i certainty.Maybe es m = made-for es _ m.2 (tt, (tt, (tt, tt)))

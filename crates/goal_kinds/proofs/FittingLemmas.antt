@@ -1,14 +1,13 @@
 -- The candidates that may fit: those of each class, and that the others are refuted.
-use Rattle.std.proofs.Common.{◌≡◌, ◌<◌, ◌≤◌, ◌+◌, ℕ, zero, suc, Bool, true, false, cond, List, [], ◌∷◌, ◌++◌, length, map, filter, get_or, take, Option, Some, None, refl, sym, ap, ap₂, ◌∙◌, subst, inl, inr, append-nil, append_assoc, arith, true≢false}
+use Rattle.std.proofs.Common.{◌≡◌, ◌<◌, ◌≤◌, ◌+◌, ℕ, zero, suc, true, false, cond, List, [], ◌∷◌, ◌++◌, length, map, get_or, take, Option, Some, None, refl, sym, ap, ap₂, ◌∙◌, subst, inl, inr, append_assoc, arith, true≢false}
 use Rattle.std.specs.Prelude.{slice_get}
-use Rattle.std.specs.List.{All}
 use Rattle.std.proofs.lemmas.List.{map_more, take_all}
 use Rattle.std.proofs.lemmas.List.Elements.{All-weaker, All-head, All-tail, filter-append}
 use Rattle.goal_terms.specs.Erased.{erased}
 use Rattle.goal_terms.specs.TableMeaning.{tree_at, AreBelow}
-use Rattle.goal_terms.specs.Tree.{Tree, Trees, node, alias, variable, list_of, forest}
+use Rattle.goal_terms.specs.Tree.{Tree, node, alias, variable, list_of, forest}
 use Rattle.goal_terms.specs.TreeOf.{trees_of}
-use Rattle.goal_terms.specs.PredicateTrees.{PredicateTree, tree_of_kind}
+use Rattle.goal_terms.specs.PredicateTrees.{tree_of_kind}
 use Rattle.goal_terms.specs.declared.heads.Head.TheVariants.{Dynamic, DynTrait, DynProjection}
 use Rattle.goal_terms.specs.declared.ids.TraitId.{TraitId}
 use Rattle.goal_terms.specs.declared.predicates.BoundConstness.{BoundConstness}
@@ -29,7 +28,7 @@ use Rattle.goal_kinds.specs.Fitting.{trees_at, may_fit, fitting}
 use Rattle.goal_kinds.specs.Headers.{Known, Clashes}
 use Rattle.goal_kinds.specs.ImplTerms.{Projection, trait_args, ImplTermRefuted}
 use Rattle.goal_kinds.specs.Interned.{IsIn, AreIn, erased_at, erased_all}
-use Rattle.goal_kinds.specs.Level.{Level, nothing}
+use Rattle.goal_kinds.specs.Level.{nothing}
 use Rattle.goal_kinds.specs.Levels.{level}
 use Rattle.goal_kinds.specs.Premises.{predicate_under, trait_under, traits_under}
 use Rattle.goal_kinds.specs.Projections.{TermRefuted}
@@ -63,26 +62,25 @@ pub trees-erased : (T : List Tree) (ids : List TermId) → map erased (trees_at 
 trees-erased T [] = refl
 trees-erased T (id ∷ ids) = ap (λ ts. erased_at T id ∷ ts) (trees-erased T ids)
 
--- the impl at the next place of a trait's impls
-pub next-fitting : (t : Tables) (i : TraitId) (args : List Tree) (places : List ℕ) (front so_far all : List Candidate) (r : ImplRow) (n : ℕ) →
-    map (slice_get t.impls.items) places ≡ map Some (impls_for t i) → n < length places → slice_get t.impls.items (get_or places n 0) ≡ Some r →
-    so_far ≡ front ++ fitting args (map by_impl (take n (impls_for t i))) → all ≡ so_far ++ fitting args (by_impl r ∷ []) →
-    all ≡ front ++ fitting args (map by_impl (take (n + 1) (impls_for t i)))
-next-fitting t i args places front so_far all r n h l here so e =
-    let impls : List ImplRow = impls_for t i in
-    let within : n < length impls = omega (arith, places-length t.impls.items places impls h) in
-    let same : r ≡ get_or impls n r = at-place t.impls.items places impls n r h l here in
+-- the impl at the next of some places
+pub next-fitting : (rows impls : List ImplRow) (args : List Tree) (places : List ℕ) (front so_far all : List Candidate) (r : ImplRow) (n : ℕ) →
+    map (slice_get rows) places ≡ map Some impls → n < length places → slice_get rows (get_or places n 0) ≡ Some r →
+    so_far ≡ front ++ fitting args (map by_impl (take n impls)) → all ≡ so_far ++ fitting args (by_impl r ∷ []) →
+    all ≡ front ++ fitting args (map by_impl (take (n + 1) impls))
+next-fitting rows impls args places front so_far all r n h l here so e =
+    let within : n < length impls = omega (arith, places-length rows places impls h) in
+    let same : r ≡ get_or impls n r = at-place rows places impls n r h l here in
     e ∙ ap₂ (λ xs q. xs ++ fitting args (by_impl q ∷ [])) so same
     ∙ append_assoc front (fitting args (map by_impl (take n impls))) (fitting args (by_impl (get_or impls n r) ∷ []))
     ∙ ap (λ xs. front ++ xs) (sym (filter-append (may_fit args) (map by_impl (take n impls)) (by_impl (get_or impls n r) ∷ [])))
     ∙ ap (λ xs. front ++ fitting args xs) (sym (map_more by_impl impls n r within))
 
--- all impls of a trait
-pub all-fitting : (t : Tables) (i : TraitId) (args : List Tree) (places : List ℕ) (front all : List Candidate) (n : ℕ) →
-    map (slice_get t.impls.items) places ≡ map Some (impls_for t i) → length places ≤ n →
-    all ≡ front ++ fitting args (map by_impl (take n (impls_for t i))) → all ≡ front ++ fitting args (map by_impl (impls_for t i))
-all-fitting t i args places front all n h l so =
-    so ∙ ap (λ rs. front ++ fitting args (map by_impl rs)) (take_all n (impls_for t i) (omega (arith, places-length t.impls.items places (impls_for t i) h)))
+-- all impls at the places
+pub all-fitting : (rows impls : List ImplRow) (args : List Tree) (places : List ℕ) (front all : List Candidate) (n : ℕ) →
+    map (slice_get rows) places ≡ map Some impls → length places ≤ n →
+    all ≡ front ++ fitting args (map by_impl (take n impls)) → all ≡ front ++ fitting args (map by_impl impls)
+all-fitting rows impls args places front all n h l so =
+    so ∙ ap (λ rs. front ++ fitting args (map by_impl rs)) (take_all n impls (omega (arith, places-length rows places impls h)))
 
 -- lists of which all may fit, put together
 both-fit : (args : List Tree) (xs ys : List Candidate) → fitting args xs ≡ xs → fitting args ys ≡ ys → fitting args (xs ++ ys) ≡ xs ++ ys

@@ -18,27 +18,27 @@ use Rattle.goal_kinds.proofs.InternedLemmas.{all-grow, map-same, in-grown, same-
 -- arguments that are named
 pub arguments_in-grown : (T U : List Tree) → Keeps T U → (a : InternedArguments) → ArgumentsIn T a → ArgumentsIn U a
 arguments_in-grown T U k (named.Given ids) h = are_in-grown T U k ids.items h
-arguments_in-grown T U k (named.OfHeader r ids) h = are_in-grown T U k ids.items h
-arguments_in-grown T U k (named.OfOtherHeader r args n) h = tt
+arguments_in-grown T U k (named.OfHeader i r ids) h = are_in-grown T U k ids.items h
+arguments_in-grown T U k (named.OfOtherHeader i j r args n) h = tt
 arguments_in-grown T U k (named.FollowedBy n ids) h = are_in-grown T U k ids.items h
 
 pub arguments_same-grown : (T U : List Tree) → Keeps T U → (a : InternedArguments) → ArgumentsIn T a → arguments_at U a ≡ arguments_at T a
 arguments_same-grown T U k (named.Given ids) h = ap given_arguments (all_same-grown T U k ids.items h)
-arguments_same-grown T U k (named.OfHeader r ids) h = ap (of_header r.params.now (header_trees r.terms)) (all_same-grown T U k ids.items h)
-arguments_same-grown T U k (named.OfOtherHeader r args n) h = refl
+arguments_same-grown T U k (named.OfHeader i r ids) h = ap (of_header r.params.now (header_trees r.terms)) (all_same-grown T U k ids.items h)
+arguments_same-grown T U k (named.OfOtherHeader i j r args n) h = refl
 arguments_same-grown T U k (named.FollowedBy n ids) h = ap (followed_by n) (all_same-grown T U k ids.items h)
 
 -- what the expected term is
 pub term_in-grown : (T U : List Tree) → Keeps T U → (e : InternedTerm) → TermIn T e → TermIn U e
 term_in-grown T U k (terms.AsItStands id) h = in-grown T U k id h
 term_in-grown T U k (terms.HeadFormOf id) h = in-grown T U k id h
-term_in-grown T U k (terms.ValueUnder v n) h = tt
+term_in-grown T U k (terms.ValueUnder i v n) h = tt
 term_in-grown T U k (terms.ChosenBy p a b) h = (predicate_in-grown T U k p h.0, in-grown T U k a h.1, in-grown T U k b h.2)
 
 pub term_same-grown : (T U : List Tree) → Keeps T U → (e : InternedTerm) → TermIn T e → term_at U e ≡ term_at T e
 term_same-grown T U k (terms.AsItStands id) h = ap as_it_stands (same-grown T U k id h)
 term_same-grown T U k (terms.HeadFormOf id) h = ap head_form_of (same-grown T U k id h)
-term_same-grown T U k (terms.ValueUnder v n) h = refl
+term_same-grown T U k (terms.ValueUnder i v n) h = refl
 term_same-grown T U k (terms.ChosenBy p a b) h =
     let first = predicate_same-grown T U k p h.0 in
     let second = same-grown T U k a h.1 in
@@ -50,8 +50,8 @@ pub entry_in-grown : (T U : List Tree) → Keeps T U → (e : InternedEntry) →
 entry_in-grown T U k (entries.Arguments a) h = arguments_in-grown T U k a h
 entry_in-grown T U k (entries.EqualTerms a b) h = (are_in-grown T U k a.items h.0, are_in-grown T U k b.items h.1)
 entry_in-grown T U k (entries.Clause g p) h = predicate_in-grown T U k p h
-entry_in-grown T U k (entries.RowClauses cs n) h = tt
-entry_in-grown T U k (entries.RowConditions c rs n) h = tt
+entry_in-grown T U k (entries.RowClauses r cs n) h = tt
+entry_in-grown T U k (entries.RowConditions c i rs n) h = tt
 entry_in-grown T U k (entries.Expected e) h = term_in-grown T U k e h
 entry_in-grown T U k (entries.Access a) h = tt
 entry_in-grown T U k (entries.DelayedFault f) h = tt
@@ -64,8 +64,8 @@ pub entry_same-grown : (T U : List Tree) → Keeps T U → (e : InternedEntry) �
 entry_same-grown T U k (entries.Arguments a) h = ap arguments (arguments_same-grown T U k a h)
 entry_same-grown T U k (entries.EqualTerms a b) h = ap₂ equal_terms (all_same-grown T U k a.items h.0) (all_same-grown T U k b.items h.1)
 entry_same-grown T U k (entries.Clause g p) h = ap (clause g) (predicate_same-grown T U k p h)
-entry_same-grown T U k (entries.RowClauses cs n) h = refl
-entry_same-grown T U k (entries.RowConditions c rs n) h = refl
+entry_same-grown T U k (entries.RowClauses r cs n) h = refl
+entry_same-grown T U k (entries.RowConditions c i rs n) h = refl
 entry_same-grown T U k (entries.Expected e) h = ap expected (term_same-grown T U k e h)
 entry_same-grown T U k (entries.Access a) h = refl
 entry_same-grown T U k (entries.DelayedFault f) h = refl

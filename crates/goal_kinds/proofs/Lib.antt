@@ -63,6 +63,7 @@ pub mod BoundTerms
 pub mod CandidateClasses
 pub mod FilteredWords
 pub mod FittingLemmas
+pub mod NearLemmas
 pub mod RowTermLemmas
 pub mod EachRuleLemmas
 pub mod SizedRuleLemmas
@@ -96,7 +97,6 @@ pub mod RuleLemmas
 pub mod EntryLemmas
 pub mod ExpectedLemmas
 pub mod AliasRuleLemmas
-pub mod TraitEntryLemmas
 pub mod TraitCandidateLaws
 pub mod TraitKindLemmas
 pub mod AfterLemmas
@@ -129,3 +129,8 @@ pub mod InherentListLemmas
 pub mod ClauseListLemmas
 pub mod ProjectionListLemmas
 pub mod RulesAsLists
+pub mod RebuiltLemmas
+pub mod SortedLists
+pub mod ListedRules
+pub mod NamedRowLemmas
+pub mod TraitFaceLemmas

@@ -16,7 +16,6 @@ use Rattle.goal_kinds.specs.Settings.{is_headline}
 use Rattle.goal_kinds.specs.TraitLists.{is_trait, reserved_list, list_by_polarity}
 use Rattle.goal_kinds.specs.Words.{Each, Exists, Pairs, SomePair}
 use Rattle.goal_kinds.proofs.EntryLemmas.{iff-chain, iff-either, iff-same}
-use Rattle.goal_kinds.proofs.TraitEntryLemmas.{same_trait}
 
 -- one of two, the second of which never is
 pub nothing-more : {A : Type 0} → (A ⊎ ⊥) ↔ A
@@ -37,6 +36,10 @@ known-same f = (λ h. (h.0, h.1, (f h.0).0 h.2), λ h. (h.0, h.1, (f h.0).1 h.2)
 pub test-fails : {P : Type 0} (b : Bool) → (b ≡ true) ↔ P → (b ≡ false) ↔ (P → ⊥)
 test-fails true f = (λ e. absurd (false≢true (sym e)), λ n. absurd (n (f.0 refl)))
 test-fails false f = (λ e p. false≢true (f.1 p), λ n. refl)
+
+-- traits of one number are one
+pub same_trait : (i j : TraitId) → i.0 ≡ j.0 → i ≡ j
+same_trait i j e = ap (λ n. record { 0 = n }) e
 
 -- whether two numbers are of one trait
 pub trait-tested : (j i : TraitId) → (is_trait j i ≡ true) ↔ (j ≡ i)

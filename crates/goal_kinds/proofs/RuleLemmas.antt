@@ -6,6 +6,8 @@ use Rattle.goal_terms.specs.Erased.{erased}
 use Rattle.goal_terms.specs.PredicateTrees.{tree_of_kind}
 use Rattle.goal_terms.specs.Tree.{Tree}
 use Rattle.goal_terms.specs.TreeOf.{trees_of, tree_of_ty, tree_of_term}
+use Rattle.goal_terms.specs.declared.ids.ImplId.{ImplId}
+use Rattle.goal_terms.specs.declared.predicates.BoundConstness.{BoundConstness}
 use Rattle.goal_terms.specs.declared.predicates.Clause.{Clause}
 use Rattle.goal_tables.specs.Rows.{impl_of, inherent_impl_of}
 use Rattle.goal_tables.specs.declared.rows.ImplRow.{ImplRow}
@@ -18,8 +20,8 @@ use Rattle.goal_kinds.specs.ImplTerms.{header_under}
 use Rattle.goal_kinds.specs.Laws.{IsWithin, IsConsistent}
 use Rattle.goal_kinds.specs.Level.{Level, HasHeadForm, HeadFormRefuted}
 use Rattle.goal_kinds.specs.Levels.{level}
-use Rattle.goal_kinds.specs.Premises.{clauses_under, PremisesHold, PremisesRefuted}
-use Rattle.goal_kinds.specs.Rules.{given, MatchedHeader, header_in, clauses_in, value_in, OfNumber, Names, NamesKnown, NamesNothing, RowClausesHold, RowClausesRefuted, TermIs, TermIsNone, EntriesHold, EntriesRefuted, has_term, RuleHolds, RuleGives, RuleRefuted}
+use Rattle.goal_kinds.specs.Premises.{clauses_under, traits_under, conditions_as, PremisesHold, PremisesRefuted}
+use Rattle.goal_kinds.specs.Rules.{given, MatchedHeader, header_in, clauses_in, conditions_in, value_in, OfNumber, Names, NamesKnown, NamesNothing, RowClausesHold, RowClausesRefuted, RowConditionsHold, RowConditionsRefuted, TermIs, TermIsNone, EntriesHold, EntriesRefuted, has_term, RuleHolds, RuleGives, RuleRefuted}
 use Rattle.goal_kinds.specs.Settings.{Setting}
 use Rattle.goal_kinds.specs.TraitGoals.{header_of}
 use Rattle.goal_kinds.specs.Words.{OfRow}
@@ -54,10 +56,12 @@ entries_hold-said S L P Q f named (entry.Arguments a ∷ es) h = (h.0, h.1, entr
 entries_hold-said S L P Q f named (entry.Equation ts us ∷ es) h = (h.0, entries_hold-said S L P Q f named es h.1)
 entries_hold-said S L P Q f named (entry.Clause g k ∷ es) h = (h.0, entries_hold-said S L P Q f named es h.1)
 entries_hold-said S L P Q f named (entry.RowClauses c n ∷ es) h = (h.0, entries_hold-said S L P Q f named es h.1)
+entries_hold-said S L P Q f named (entry.RowConditions b i n ∷ es) h = (h.0, entries_hold-said S L P Q f named es h.1)
 entries_hold-said S L P Q f named (entry.Term v e ∷ es) h = ((h.0.0, h.0.1, f h.0.0 h.0.2), entries_hold-said S L P Q f named es h.1)
 entries_hold-said S L P Q f named (entry.Access a ∷ es) h = entries_hold-said S L P Q f named es h
 entries_hold-said S L P Q f named (entry.DelayedFault a ∷ es) h = entries_hold-said S L P Q f named es h
 entries_hold-said S L P Q f named (entry.Evaluation ∷ es) h = entries_hold-said S L P Q f named es h
+entries_hold-said S L P Q f named (entry.Ambiguous ∷ es) h = h
 entries_hold-said S L P Q f named (entry.Undecided ∷ es) h = h
 entries_hold-said S L P Q f named (entry.Refused ∷ es) h = h
 
@@ -103,6 +107,17 @@ within-row_clauses_refuted : {L M : Level} → IsWithin L M → (S : Setting) (n
 within-row_clauses_refuted w S named c n h =
     of_row-map (clauses_in S.tables c) (λ cs. of_row-map (slice_get named n) (λ s. within-premises_refuted w (clauses_under s cs))) h
 
+-- the const conditions of an impl
+within-row_conditions_hold : {L M : Level} → IsWithin L M → (S : Setting) (named : List (List Tree)) (b : BoundConstness) (i : ImplId) (n : ℕ) →
+    RowConditionsHold S L named b i n → RowConditionsHold S M named b i n
+within-row_conditions_hold w S named b i n h =
+    of_row-map (conditions_in S.tables i) (λ rs. of_row-map (slice_get named n) (λ s. within-premises_hold w (conditions_as b (traits_under s rs)))) h
+
+within-row_conditions_refuted : {L M : Level} → IsWithin L M → (S : Setting) (named : List (List Tree)) (b : BoundConstness) (i : ImplId) (n : ℕ) →
+    RowConditionsRefuted S L named b i n → RowConditionsRefuted S M named b i n
+within-row_conditions_refuted w S named b i n h =
+    of_row-map (conditions_in S.tables i) (λ rs. of_row-map (slice_get named n) (λ s. within-premises_refuted w (conditions_as b (traits_under s rs)))) h
+
 -- the term of an entry
 within-term_is : {L M : Level} → IsWithin L M → (S : Setting) (named : List (List Tree)) (e : RuleTerm) (u : Tree) → TermIs S L named e u → TermIs S M named e u
 unfolding TermIs
@@ -110,6 +125,8 @@ within-term_is w S named (term.AsItStands e) u h = h
 within-term_is w S named (term.Normalized e) u h = within-has_head_form w (erased (tree_of_term e)) u h
 within-term_is w S named (term.Value v n) u h =
     of_row-map (value_in S.tables v) (λ e. of_row-map (slice_get named n) (λ s. within-has_head_form w (under s e) u)) h
+within-term_is w S named (term.ChosenBy k a b) u h =
+    sum-map (λ x. (within-clause_holds w (erased_predicate (tree_of_kind k)) x.0, x.1)) (λ x. (within-clause_refuted w (erased_predicate (tree_of_kind k)) x.0, x.1)) h
 
 within-term_is_none : {L M : Level} → IsWithin L M → (S : Setting) (named : List (List Tree)) (e : RuleTerm) → TermIsNone S L named e → TermIsNone S M named e
 unfolding TermIsNone
@@ -117,6 +134,7 @@ within-term_is_none w S named (term.AsItStands e) h = h
 within-term_is_none w S named (term.Normalized e) h = within-head_form_refuted w (erased (tree_of_term e)) h
 within-term_is_none w S named (term.Value v n) h =
     of_row-map (value_in S.tables v) (λ e. of_row-map (slice_get named n) (λ s. within-head_form_refuted w (under s e))) h
+within-term_is_none w S named (term.ChosenBy k a b) h = h
 
 -- entries that all hold
 pub within-entries_hold : {L M : Level} → IsWithin L M → (S : Setting) (Said : Tree → Type 0) (named : List (List Tree)) (es : List RuleEntry) →
@@ -129,11 +147,14 @@ within-entries_hold w S Said named (entry.Equation ts us ∷ es) h = (within-pai
 within-entries_hold w S Said named (entry.Clause g k ∷ es) h =
     (within-clause_holds w (erased_predicate (tree_of_kind k)) h.0, within-entries_hold w S Said named es h.1)
 within-entries_hold w S Said named (entry.RowClauses c n ∷ es) h = (within-row_clauses_hold w S named c n h.0, within-entries_hold w S Said named es h.1)
+within-entries_hold w S Said named (entry.RowConditions b i n ∷ es) h =
+    (within-row_conditions_hold w S named b i n h.0, within-entries_hold w S Said named es h.1)
 within-entries_hold w S Said named (entry.Term v e ∷ es) h =
     ((h.0.0, within-term_is w S named e h.0.0 h.0.1, h.0.2), within-entries_hold w S Said named es h.1)
 within-entries_hold w S Said named (entry.Access a ∷ es) h = within-entries_hold w S Said named es h
 within-entries_hold w S Said named (entry.DelayedFault f ∷ es) h = within-entries_hold w S Said named es h
 within-entries_hold w S Said named (entry.Evaluation ∷ es) h = within-entries_hold w S Said named es h
+within-entries_hold w S Said named (entry.Ambiguous ∷ es) h = h
 within-entries_hold w S Said named (entry.Undecided ∷ es) h = h
 within-entries_hold w S Said named (entry.Refused ∷ es) h = h
 
@@ -150,10 +171,13 @@ within-entries_refuted w S named (entry.Clause g k ∷ es) h =
     sum-map (within-clause_refuted w (erased_predicate (tree_of_kind k))) (within-entries_refuted w S named es) h
 within-entries_refuted w S named (entry.RowClauses c n ∷ es) h =
     sum-map (within-row_clauses_refuted w S named c n) (within-entries_refuted w S named es) h
+within-entries_refuted w S named (entry.RowConditions b i n ∷ es) h =
+    sum-map (within-row_conditions_refuted w S named b i n) (within-entries_refuted w S named es) h
 within-entries_refuted w S named (entry.Term v e ∷ es) h = sum-map (within-term_is_none w S named e) (within-entries_refuted w S named es) h
 within-entries_refuted w S named (entry.Access a ∷ es) h = within-entries_refuted w S named es h
 within-entries_refuted w S named (entry.DelayedFault f ∷ es) h = within-entries_refuted w S named es h
 within-entries_refuted w S named (entry.Evaluation ∷ es) h = within-entries_refuted w S named es h
+within-entries_refuted w S named (entry.Ambiguous ∷ es) h = within-entries_refuted w S named es h
 within-entries_refuted w S named (entry.Undecided ∷ es) h = within-entries_refuted w S named es h
 within-entries_refuted w S named (entry.Refused ∷ es) h = h
 
@@ -252,6 +276,13 @@ pub no_row_clauses_refuted : (S : Setting) (L : Level) → IsConsistent L → (n
 no_row_clauses_refuted S L c named r n h k =
     OfRow-twice _ _ (λ cs x y. OfRow-twice _ _ (λ s v w. no_premises_refuted L c (clauses_under s cs) v w) (slice_get named n) x y) (clauses_in S.tables r) h k
 
+-- nor are const conditions of an impl
+pub no_row_conditions_refuted : (S : Setting) (L : Level) → IsConsistent L → (named : List (List Tree)) (b : BoundConstness) (i : ImplId) (n : ℕ) →
+    RowConditionsHold S L named b i n → RowConditionsRefuted S L named b i n → ⊥
+no_row_conditions_refuted S L c named b i n h k =
+    OfRow-twice _ _
+    (λ rs x y. OfRow-twice _ _ (λ s v w. no_premises_refuted L c (conditions_as b (traits_under s rs)) v w) (slice_get named n) x y) (conditions_in S.tables i) h k
+
 -- a term that is there is not none
 pub no_term_none : (S : Setting) (L : Level) → IsConsistent L → (named : List (List Tree)) (e : RuleTerm) (u : Tree) → TermIs S L named e u → TermIsNone S L named e → ⊥
 unfolding TermIs TermIsNone
@@ -259,6 +290,7 @@ no_term_none S L c named (term.AsItStands e) u h k = k
 no_term_none S L c named (term.Normalized e) u h k = no_head_form_refuted L c.no_term_refuted (erased (tree_of_term e)) u h k
 no_term_none S L c named (term.Value v n) u h k =
     OfRow-twice _ _ (λ e x y. OfRow-twice _ _ (λ s d f. no_head_form_refuted L c.no_term_refuted (under s e) u d f) (slice_get named n) x y) (value_in S.tables v) h k
+no_term_none S L c named (term.ChosenBy p a b) u h k = k
 
 -- and it is one term
 one_term_is : (S : Setting) (L : Level) → IsConsistent L → (named : List (List Tree)) (e : RuleTerm) (t u : Tree) → TermIs S L named e t → TermIs S L named e u → t ≡ u
@@ -267,6 +299,10 @@ one_term_is S L c named (term.AsItStands e) t u h k = h ∙ sym k
 one_term_is S L c named (term.Normalized e) t u h k = one_head_form L c.one_term (erased (tree_of_term e)) t u h k
 one_term_is S L c named (term.Value v n) t u h k =
     OfRow-twice _ _ (λ e x y. OfRow-twice _ _ (λ s d f. one_head_form L c.one_term (under s e) t u d f) (slice_get named n) x y) (value_in S.tables v) h k
+one_term_is S L c named (term.ChosenBy p a b) t u h k =
+    let q = erased_predicate (tree_of_kind p) in
+    ⊎_elim (λ x. ⊎_elim (λ y. x.1 ∙ sym y.1) (λ y. absurd (no_clause_refuted L c q x.0 y.0)) k)
+    (λ x. ⊎_elim (λ y. absurd (no_clause_refuted L c q y.0 x.0)) (λ y. x.1 ∙ sym y.1) k) h
 
 -- entries that hold are not refuted
 no_entries_refuted : (S : Setting) (L : Level) → IsConsistent L → (Said : Tree → Type 0) (named : List (List Tree)) (es : List RuleEntry) →
@@ -283,11 +319,14 @@ no_entries_refuted S L c Said named (entry.Clause g p ∷ es) h k =
     ⊎_elim (λ x. no_clause_refuted L c (erased_predicate (tree_of_kind p)) h.0 x) (λ x. no_entries_refuted S L c Said named es h.1 x) k
 no_entries_refuted S L c Said named (entry.RowClauses r n ∷ es) h k =
     ⊎_elim (λ x. no_row_clauses_refuted S L c named r n h.0 x) (λ x. no_entries_refuted S L c Said named es h.1 x) k
+no_entries_refuted S L c Said named (entry.RowConditions b i n ∷ es) h k =
+    ⊎_elim (λ x. no_row_conditions_refuted S L c named b i n h.0 x) (λ x. no_entries_refuted S L c Said named es h.1 x) k
 no_entries_refuted S L c Said named (entry.Term v e ∷ es) h k =
     ⊎_elim (λ x. no_term_none S L c named e h.0.0 h.0.1 x) (λ x. no_entries_refuted S L c Said named es h.1 x) k
 no_entries_refuted S L c Said named (entry.Access a ∷ es) h k = no_entries_refuted S L c Said named es h k
 no_entries_refuted S L c Said named (entry.DelayedFault f ∷ es) h k = no_entries_refuted S L c Said named es h k
 no_entries_refuted S L c Said named (entry.Evaluation ∷ es) h k = no_entries_refuted S L c Said named es h k
+no_entries_refuted S L c Said named (entry.Ambiguous ∷ es) h k = h
 no_entries_refuted S L c Said named (entry.Undecided ∷ es) h k = h
 no_entries_refuted S L c Said named (entry.Refused ∷ es) h k = h
 
@@ -302,10 +341,12 @@ one_said S L c t u named (entry.Arguments a ∷ es) e h k =
 one_said S L c t u named (entry.Equation ts us ∷ es) e h k = one_said S L c t u named es e h.1 k.1
 one_said S L c t u named (entry.Clause g p ∷ es) e h k = one_said S L c t u named es e h.1 k.1
 one_said S L c t u named (entry.RowClauses r n ∷ es) e h k = one_said S L c t u named es e h.1 k.1
+one_said S L c t u named (entry.RowConditions b i n ∷ es) e h k = one_said S L c t u named es e h.1 k.1
 one_said S L c t u named (entry.Term v x ∷ es) e h k = sym h.0.2 ∙ one_term_is S L c named x h.0.0 k.0.0 h.0.1 k.0.1 ∙ k.0.2
 one_said S L c t u named (entry.Access a ∷ es) e h k = one_said S L c t u named es e h k
 one_said S L c t u named (entry.DelayedFault f ∷ es) e h k = one_said S L c t u named es e h k
 one_said S L c t u named (entry.Evaluation ∷ es) e h k = one_said S L c t u named es e h k
+one_said S L c t u named (entry.Ambiguous ∷ es) e h k = absurd h
 one_said S L c t u named (entry.Undecided ∷ es) e h k = absurd h
 one_said S L c t u named (entry.Refused ∷ es) e h k = absurd h
 

@@ -63,12 +63,16 @@ hold-behind S L Said named (entry.Clause g k ∷ es) ks =
 hold-behind S L Said named (entry.RowClauses c n ∷ es) ks =
     let rest = hold-behind S L Said named es ks in
     (λ h. let x = rest.0 h.1 in ((h.0, x.0), x.1), λ h. (h.0.0, rest.1 (h.0.1, h.1)))
+hold-behind S L Said named (entry.RowConditions b i n ∷ es) ks =
+    let rest = hold-behind S L Said named es ks in
+    (λ h. let x = rest.0 h.1 in ((h.0, x.0), x.1), λ h. (h.0.0, rest.1 (h.0.1, h.1)))
 hold-behind S L Said named (entry.Term v e ∷ es) ks =
     let rest = hold-behind S L Said named es ks in
     (λ h. let x = rest.0 h.1 in ((h.0, x.0), x.1), λ h. (h.0.0, rest.1 (h.0.1, h.1)))
 hold-behind S L Said named (entry.Access a ∷ es) ks = hold-behind S L Said named es ks
 hold-behind S L Said named (entry.DelayedFault f ∷ es) ks = hold-behind S L Said named es ks
 hold-behind S L Said named (entry.Evaluation ∷ es) ks = hold-behind S L Said named es ks
+hold-behind S L Said named (entry.Ambiguous ∷ es) ks = (λ h. absurd h, λ h. absurd h.0)
 hold-behind S L Said named (entry.Undecided ∷ es) ks = (λ h. absurd h, λ h. absurd h.0)
 hold-behind S L Said named (entry.Refused ∷ es) ks = (λ h. absurd h, λ h. absurd h.0)
 
@@ -97,10 +101,12 @@ refuted-behind S L named (entry.Arguments (arguments.Followed n args) ∷ es) ks
 refuted-behind S L named (entry.Equation ts us ∷ es) ks e = regroup (refuted-behind S L named es ks e)
 refuted-behind S L named (entry.Clause g k ∷ es) ks e = regroup (refuted-behind S L named es ks e)
 refuted-behind S L named (entry.RowClauses c n ∷ es) ks e = regroup (refuted-behind S L named es ks e)
+refuted-behind S L named (entry.RowConditions b i n ∷ es) ks e = regroup (refuted-behind S L named es ks e)
 refuted-behind S L named (entry.Term v x ∷ es) ks e = regroup (refuted-behind S L named es ks e)
 refuted-behind S L named (entry.Access a ∷ es) ks e = refuted-behind S L named es ks e
 refuted-behind S L named (entry.DelayedFault f ∷ es) ks e = refuted-behind S L named es ks e
 refuted-behind S L named (entry.Evaluation ∷ es) ks e = refuted-behind S L named es ks e
+refuted-behind S L named (entry.Ambiguous ∷ es) ks e = refuted-behind S L named es ks e
 refuted-behind S L named (entry.Undecided ∷ es) ks e = refuted-behind S L named es ks e
 refuted-behind S L named (entry.Refused ∷ es) ks e = (λ h. inl h, λ h. tt)
 
@@ -117,10 +123,12 @@ term-behind (entry.Arguments a ∷ es) ks = term-behind es ks
 term-behind (entry.Equation ts us ∷ es) ks = term-behind es ks
 term-behind (entry.Clause g k ∷ es) ks = term-behind es ks
 term-behind (entry.RowClauses c n ∷ es) ks = term-behind es ks
+term-behind (entry.RowConditions b i n ∷ es) ks = term-behind es ks
 term-behind (entry.Term v e ∷ es) ks = refl
 term-behind (entry.Access a ∷ es) ks = term-behind es ks
 term-behind (entry.DelayedFault f ∷ es) ks = term-behind es ks
 term-behind (entry.Evaluation ∷ es) ks = term-behind es ks
+term-behind (entry.Ambiguous ∷ es) ks = term-behind es ks
 term-behind (entry.Undecided ∷ es) ks = term-behind es ks
 term-behind (entry.Refused ∷ es) ks = term-behind es ks
 

@@ -6,17 +6,19 @@ use Rattle.goal_terms.specs.Erased.{erased}
 use Rattle.goal_terms.specs.Tree.{Tree}
 use Rattle.goal_terms.specs.TreeOf.{trees_of, tree_of_ty}
 use Rattle.goal_terms.specs.declared.answers.ParamKind.{ParamKind}
+use Rattle.goal_terms.specs.declared.predicates.BoundConstness.{BoundConstness}
 use Rattle.goal_terms.specs.declared.predicates.Clause.{Clause}
+use Rattle.goal_terms.specs.declared.predicates.TraitRef.{TraitRef}
 use Rattle.goal_tables.specs.Rows.{impl_of, inherent_impl_of}
 use Rattle.goal_tables.specs.declared.rows.ImplRow.{ImplRow}
 use Rattle.goal_kinds.specs.Aliases.{self_header}
 use Rattle.goal_kinds.specs.Entries as list
-use Rattle.goal_kinds.specs.Entries.{Arguments, of_header, of_other_header, ExpectedTerm, Entry, arguments, row_clauses, expected, value_under, OfNumbered, Named, NamedKnown, NoTerm, ListHolds, ListGives, ListRefuted}
+use Rattle.goal_kinds.specs.Entries.{Arguments, of_header, of_other_header, ExpectedTerm, Entry, arguments, row_clauses, row_conditions, expected, value_under, OfNumbered, Named, NamedKnown, NoTerm, ListHolds, ListGives, ListRefuted}
 use Rattle.goal_kinds.specs.Headers.{AllKnown, Fits, Clashes}
 use Rattle.goal_kinds.specs.Level.{Level}
-use Rattle.goal_kinds.specs.Premises.{PremisesHold, PremisesRefuted, clauses_under}
+use Rattle.goal_kinds.specs.Premises.{PremisesHold, PremisesRefuted, clauses_under, traits_under, conditions_as}
 use Rattle.goal_kinds.specs.Rules as rule
-use Rattle.goal_kinds.specs.Rules.{given, header_in, clauses_in, value_in, Names, NamesKnown, TermIsNone, has_term, RuleHolds, RuleGives, RuleRefuted}
+use Rattle.goal_kinds.specs.Rules.{given, header_in, clauses_in, conditions_in, value_in, Names, NamesKnown, TermIsNone, has_term, RuleHolds, RuleGives, RuleRefuted}
 use Rattle.goal_kinds.specs.RuleLists.{header_arguments, other_arguments, arguments_of, expected_of, before, entries_of, RuleListHolds, RuleListGives, RuleListRefuted}
 use Rattle.goal_kinds.specs.Settings.{Setting}
 use Rattle.goal_kinds.specs.TraitGoals.{header_of}
@@ -117,12 +119,14 @@ module _ (S : Setting) (L : Level) where
   term-same named (term.AsItStands e) u = iff-same
   term-same named (term.Normalized e) u = iff-same
   term-same named (term.Value v n) u = mapped-row (value_in S.tables v) (λ e. value_under e n) (λ x. list.TermIs L named x u)
+  term-same named (term.ChosenBy k a b) u = iff-same
 
   no_term-same : (named : List (List Tree)) (e : RuleTerm) → OfRow (expected_of S.tables e) (λ x. NoTerm L named x) ↔ TermIsNone S L named e
   unfolding OfRow NoTerm TermIsNone
   no_term-same named (term.AsItStands e) = iff-same
   no_term-same named (term.Normalized e) = iff-same
   no_term-same named (term.Value v n) = mapped-row (value_in S.tables v) (λ e. value_under e n) (λ x. NoTerm L named x)
+  no_term-same named (term.ChosenBy k a b) = iff-same
 
   -- an entry that names arguments, if their row is there
   arguments-hold : (Said : Tree → Type 0) (Unsaid : Type 0) (named : List (List Tree)) (o : Option Arguments) (es : List Entry) →
@@ -154,6 +158,21 @@ module _ (S : Setting) (L : Level) where
   clauses-refuted named None n es = (λ h. inr h, λ h. ⊎_elim (λ x. absurd x) (λ x. x) h)
   clauses-refuted named (Some cs) n es = iff-same
 
+  -- the const conditions of an impl, if that is there
+  conditions-hold : (Said : Tree → Type 0) (Unsaid : Type 0) (named : List (List Tree)) (b : BoundConstness) (o : Option (List TraitRef)) (n : ℕ) (es : List Entry) →
+      list.EntriesHold L Said Unsaid named (before false (option_map (λ rs. row_conditions b rs n) o) es)
+      ↔ (OfRow o (λ rs. OfNumbered named n (λ s. PremisesHold L (conditions_as b (traits_under s rs)))) × list.EntriesHold L Said Unsaid named es)
+  unfolding list.EntriesHold OfRow
+  conditions-hold Said Unsaid named b None n es = (λ h. absurd h, λ h. h.0)
+  conditions-hold Said Unsaid named b (Some rs) n es = iff-same
+
+  conditions-refuted : (named : List (List Tree)) (b : BoundConstness) (o : Option (List TraitRef)) (n : ℕ) (es : List Entry) →
+      list.EntriesRefuted L named (before false (option_map (λ rs. row_conditions b rs n) o) es)
+      ↔ (OfRow o (λ rs. OfNumbered named n (λ s. PremisesRefuted L (conditions_as b (traits_under s rs)))) ⊎ list.EntriesRefuted L named es)
+  unfolding list.EntriesRefuted OfRow
+  conditions-refuted named b None n es = (λ h. inr h, λ h. ⊎_elim (λ x. absurd x) (λ x. x) h)
+  conditions-refuted named b (Some rs) n es = iff-same
+
   -- the expected term, if its row is there
   term-holds : (Said : Tree → Type 0) (Unsaid : Type 0) (named : List (List Tree)) (o : Option ExpectedTerm) (es : List Entry) →
       list.EntriesHold L Said Unsaid named (before false (option_map expected o) es)
@@ -183,6 +202,8 @@ module _ (S : Setting) (L : Level) where
   entries-hold Said Unsaid named (entry.Clause g k ∷ es) = behind (entries-hold Said Unsaid named es)
   entries-hold Said Unsaid named (entry.RowClauses c n ∷ es) =
       iff-chain (clauses-hold Said Unsaid named (clauses_in S.tables c) n (entries_of S.tables es)) (behind (entries-hold Said Unsaid named es))
+  entries-hold Said Unsaid named (entry.RowConditions b i n ∷ es) =
+      iff-chain (conditions-hold Said Unsaid named b (conditions_in S.tables i) n (entries_of S.tables es)) (behind (entries-hold Said Unsaid named es))
   entries-hold Said Unsaid named (entry.Term v e ∷ es) =
       let rest = entries-hold Said (Unit {0}) named es in
       iff-chain (term-holds Said Unsaid named (expected_of S.tables e) (entries_of S.tables es)) (
@@ -192,6 +213,7 @@ module _ (S : Setting) (L : Level) where
   entries-hold Said Unsaid named (entry.Access a ∷ es) = entries-hold Said Unsaid named es
   entries-hold Said Unsaid named (entry.DelayedFault f ∷ es) = entries-hold Said Unsaid named es
   entries-hold Said Unsaid named (entry.Evaluation ∷ es) = entries-hold Said Unsaid named es
+  entries-hold Said Unsaid named (entry.Ambiguous ∷ es) = (λ h. absurd h, λ h. h.0)
   entries-hold Said Unsaid named (entry.Undecided ∷ es) = (λ h. absurd h, λ h. h.0)
   entries-hold Said Unsaid named (entry.Refused ∷ es) = (λ h. absurd h, λ h. h.0)
 
@@ -209,11 +231,14 @@ module _ (S : Setting) (L : Level) where
   entries-refuted named (entry.Clause g k ∷ es) = iff-either iff-same (entries-refuted named es)
   entries-refuted named (entry.RowClauses c n ∷ es) =
       iff-chain (clauses-refuted named (clauses_in S.tables c) n (entries_of S.tables es)) (iff-either iff-same (entries-refuted named es))
+  entries-refuted named (entry.RowConditions b i n ∷ es) =
+      iff-chain (conditions-refuted named b (conditions_in S.tables i) n (entries_of S.tables es)) (iff-either iff-same (entries-refuted named es))
   entries-refuted named (entry.Term v e ∷ es) =
       iff-chain (term-refuted named (expected_of S.tables e) (entries_of S.tables es)) (iff-either (no_term-same named e) (entries-refuted named es))
   entries-refuted named (entry.Access a ∷ es) = entries-refuted named es
   entries-refuted named (entry.DelayedFault f ∷ es) = entries-refuted named es
   entries-refuted named (entry.Evaluation ∷ es) = entries-refuted named es
+  entries-refuted named (entry.Ambiguous ∷ es) = entries-refuted named es
   entries-refuted named (entry.Undecided ∷ es) = entries-refuted named es
   entries-refuted named (entry.Refused ∷ es) = iff-same
 

@@ -35,7 +35,7 @@ use Rattle.goal_kinds.specs.Words.{Exists}
 use Rattle.goal_kinds.specs.declared.fast_reject.Parameters.TheVariants.{Rigid, Inferred}
 use Rattle.goal_kinds.proofs.AcceptedLemmas.{accepted-heads, rejected-clashes}
 use Rattle.goal_kinds.proofs.OtherHeadLemmas.{lists_unequal}
-use Rattle.goal_kinds.proofs.TraitEntryLemmas.{same_trait}
+use Rattle.goal_kinds.proofs.ListWords.{same_trait}
 use Rattle.goal_kinds.proofs.WithinGoals.{within-impl_holds_under, within-impl_refuted}
 use Rattle.goal_kinds.proofs.WithinLevels.{within-level}
 use Rattle.goal_kinds.proofs.WithinPremises.{within-premises_hold, within-premises_refuted}

@@ -5,6 +5,7 @@ use Rattle.goal_terms.specs.PredicateTrees.{PredicateTree, holds, equals, holds_
 use Rattle.goal_terms.specs.Tree.{Tree}
 use Rattle.goal_terms.specs.declared.answers.GoalSource.{GoalSource}
 use Rattle.goal_terms.specs.declared.ids.TraitId.{TraitId}
+use Rattle.goal_terms.specs.declared.modes.TypingMode.{TypingMode}
 use Rattle.goal_tables.specs.Rows.{trait_of}
 use Rattle.goal_tables.specs.SourceFaults.{is_positive}
 use Rattle.goal_tables.specs.declared.rows.ImplRow.{ImplRow}
@@ -86,20 +87,39 @@ pub error_list-refuted : (L : Level) (args : List Tree) → ListRefuted L (error
 unfolding ListRefuted EntriesRefuted
 error_list-refuted L args = iff-chain (tested-refuted L (any_error args) (Some [])) nothing-more
 
--- each candidate
-module _ (S : Setting) (headline : is_headline S.mode ≡ true) (L : Level) (i : TraitId) (args : List Tree) where
-  pub trait_list-holds : (c : Candidate) → ListHolds L (trait_list S i args c) ↔ CandidateHolds S L i args c
-  unfolding trait_list CandidateHolds ListHolds
-  trait_list-holds (assumption p) = assumption-holds L i args p
-  trait_list-holds (implied_bound b cs) = iff-same
-  trait_list-holds (by_impl r) = impl-holds S headline L args r
-  trait_list-holds built_in = rule-holds L (source_of_rule (trait_of S.tables i)) (trait_rule S.tables i args)
-  trait_list-holds error = error_list-holds L args
+-- a mode is one of the headline, if the list of a candidate reads it
+abbrev pub ReadsHeadline : TypingMode → Candidate → Type 0
+ReadsHeadline m (by_impl r) = is_headline m ≡ true
+ReadsHeadline m _ = Unit {0}
 
-  pub trait_list-refuted : (c : Candidate) → ListRefuted L (trait_list S i args c) ↔ CandidateRefuted S L i args c
+pub reads-headline : (m : TypingMode) (c : Candidate) → is_headline m ≡ true → ReadsHeadline m c
+reads-headline m (assumption p) e = tt
+reads-headline m (implied_bound b cs) e = tt
+reads-headline m (by_impl r) e = e
+reads-headline m built_in e = tt
+reads-headline m error e = tt
+
+-- each candidate
+module _ (S : Setting) (L : Level) (i : TraitId) (args : List Tree) where
+  pub candidate_list-holds : (c : Candidate) → ReadsHeadline S.mode c → ListHolds L (trait_list S i args c) ↔ CandidateHolds S L i args c
+  unfolding trait_list CandidateHolds ListHolds
+  candidate_list-holds (assumption p) e = assumption-holds L i args p
+  candidate_list-holds (implied_bound b cs) e = iff-same
+  candidate_list-holds (by_impl r) e = impl-holds S e L args r
+  candidate_list-holds built_in e = rule-holds L (source_of_rule (trait_of S.tables i)) (trait_rule S.tables i args)
+  candidate_list-holds error e = error_list-holds L args
+
+  pub candidate_list-refuted : (c : Candidate) → ReadsHeadline S.mode c → ListRefuted L (trait_list S i args c) ↔ CandidateRefuted S L i args c
   unfolding trait_list CandidateRefuted ListRefuted
-  trait_list-refuted (assumption p) = assumption-refuted L i args p
-  trait_list-refuted (implied_bound b cs) = iff-same
-  trait_list-refuted (by_impl r) = impl-refuted S headline L args r
-  trait_list-refuted built_in = rule-refuted L (source_of_rule (trait_of S.tables i)) (trait_rule S.tables i args)
-  trait_list-refuted error = error_list-refuted L args
+  candidate_list-refuted (assumption p) e = assumption-refuted L i args p
+  candidate_list-refuted (implied_bound b cs) e = iff-same
+  candidate_list-refuted (by_impl r) e = impl-refuted S e L args r
+  candidate_list-refuted built_in e = rule-refuted L (source_of_rule (trait_of S.tables i)) (trait_rule S.tables i args)
+  candidate_list-refuted error e = error_list-refuted L args
+
+module _ (S : Setting) (headline : is_headline S.mode ≡ true) (L : Level) (i : TraitId) (args : List Tree) (c : Candidate) where
+  pub trait_list-holds : ListHolds L (trait_list S i args c) ↔ CandidateHolds S L i args c
+  trait_list-holds = candidate_list-holds S L i args c (reads-headline S.mode c headline)
+
+  pub trait_list-refuted : ListRefuted L (trait_list S i args c) ↔ CandidateRefuted S L i args c
+  trait_list-refuted = candidate_list-refuted S L i args c (reads-headline S.mode c headline)

@@ -18,11 +18,17 @@ use Rattle.goal_terms.specs.declared.terms.Ty.{Ty}
 use Rattle.goal_tables.specs.Clauses.{lies_in_clause_kind}
 use Rattle.goal_tables.specs.ImplFaults.{is_reservation}
 use Rattle.goal_tables.specs.SourceFaults.{is_positive}
+use Rattle.goal_terms.specs.declared.ids.TraitId.{TraitId}
+use Rattle.goal_tables.specs.Rows.{trait_of}
+use Rattle.goal_tables.specs.declared.lang.LangItem.{LangItem}
+use Rattle.goal_tables.specs.declared.lang.LangItem.TheVariants as lang
 use Rattle.goal_tables.specs.declared.rows.ImplRow.{ImplRow}
+use Rattle.goal_tables.specs.declared.rows.TraitRow.{TraitRow}
 use Rattle.goal_tables.specs.declared.rows.Tables.{Tables}
 use Rattle.goal_tables.specs.declared.sites.TermFault.{TermFault}
 use Rattle.goal_tables.specs.declared.sites.TermFault.TheVariants.{UnknownItem, WrongArgumentCount, WrongArgumentKind}
 use Rattle.goal_kinds.specs.Answers.{erased_predicate}
+use Rattle.goal_kinds.specs.Builtins.{lang_of_trait}
 use Rattle.goal_kinds.specs.Candidates.{Candidate, assumption}
 use Rattle.goal_kinds.specs.FastReject.{lists_may_unify}
 use Rattle.goal_kinds.specs.Levels.{level}
@@ -160,10 +166,12 @@ only_given (entry.Arguments (arguments.Followed n args) ∷ es) = false
 only_given (entry.Equation ts us ∷ es) = only_given es
 only_given (entry.Clause g k ∷ es) = only_given es
 only_given (entry.RowClauses c n ∷ es) = only_given es
+only_given (entry.RowConditions b i n ∷ es) = only_given es
 only_given (entry.Term v e ∷ es) = only_given es
 only_given (entry.Access a ∷ es) = only_given es
 only_given (entry.DelayedFault f ∷ es) = only_given es
 only_given (entry.Evaluation ∷ es) = only_given es
+only_given (entry.Ambiguous ∷ es) = only_given es
 only_given (entry.Undecided ∷ es) = only_given es
 only_given (entry.Refused ∷ es) = only_given es
 
@@ -179,6 +187,32 @@ pub data NamedRule : Type 0 where
   discriminant_kind : NamedRule
   destruct : NamedRule
   field : NamedRule
+
+-- whether the function of a rule is for a lang trait
+abbrev pub is_rule_of : NamedRule → Option LangItem → Bool
+is_rule_of sizedness (Some lang.Sized) = true
+is_rule_of copy_clone (Some lang.Copy) = true
+is_rule_of copy_clone (Some lang.Clone) = true
+is_rule_of fn_ptr_trait (Some lang.FnPtr) = true
+is_rule_of fn_trait (Some lang.Fn) = true
+is_rule_of fn_trait (Some lang.FnMut) = true
+is_rule_of fn_trait (Some lang.FnOnce) = true
+is_rule_of tuple (Some lang.Tuple) = true
+is_rule_of pointee (Some lang.Pointee) = true
+is_rule_of discriminant_kind (Some lang.DiscriminantKind) = true
+is_rule_of destruct (Some lang.Destruct) = true
+is_rule_of field (Some lang.Field) = true
+is_rule_of _ _ = false
+
+-- whether a row is that of a trait alias
+abbrev pub is_alias_row : Option TraitRow → Bool
+is_alias_row None = false
+is_alias_row (Some r) = r.is_alias
+
+-- whether the function of a rule is for a trait
+abbrev pub is_rule_for : Tables → TraitId → NamedRule → Bool
+is_rule_for t i trait_alias = is_alias_row (trait_of t i)
+is_rule_for t i k = is_rule_of k (lang_of_trait t i)
 
 -- what a function of such a rule answers: it says no more than the candidate does; it isn't for some goals, and else refuses what is refuted with no height
 pub record IsNamedAnswer (is_for b : Bool) (S : Setting) (Gives : ℕ → Tree → Type 0) (Refuted : ℕ → Type 0) (r : Result Rule Fault) : Type 0 where

@@ -37,27 +37,27 @@ value_tree (value.Ty ty) = tree_of_ty ty.now
 -- arguments that are named
 abbrev pub arguments_at : List Tree → InternedArguments → Arguments
 arguments_at T (named.Given ids) = given_arguments (erased_all T ids.items)
-arguments_at T (named.OfHeader h ids) = of_header h.params.now (header_trees h.terms) (erased_all T ids.items)
-arguments_at T (named.OfOtherHeader h args n) = of_other_header h.params.now (header_trees h.terms) (trees_of args.now) n
+arguments_at T (named.OfHeader i h ids) = of_header h.params.now (header_trees h.terms) (erased_all T ids.items)
+arguments_at T (named.OfOtherHeader i j h args n) = of_other_header h.params.now (header_trees h.terms) (trees_of args.now) n
 arguments_at T (named.FollowedBy n ids) = followed_by n (erased_all T ids.items)
 
 abbrev pub ArgumentsIn : List Tree → InternedArguments → Type 0
 ArgumentsIn T (named.Given ids) = AreIn T ids.items
-ArgumentsIn T (named.OfHeader h ids) = AreIn T ids.items
-ArgumentsIn T (named.OfOtherHeader h args n) = Unit {0}
+ArgumentsIn T (named.OfHeader i h ids) = AreIn T ids.items
+ArgumentsIn T (named.OfOtherHeader i j h args n) = Unit {0}
 ArgumentsIn T (named.FollowedBy n ids) = AreIn T ids.items
 
 -- what the expected term is
 abbrev pub term_at : List Tree → InternedTerm → ExpectedTerm
 term_at T (terms.AsItStands id) = as_it_stands (erased_at T id)
 term_at T (terms.HeadFormOf id) = head_form_of (erased_at T id)
-term_at T (terms.ValueUnder v n) = value_under (value_tree v) n
+term_at T (terms.ValueUnder i v n) = value_under (value_tree v) n
 term_at T (terms.ChosenBy p a b) = chosen_by (predicate_at T p) (erased_at T a) (erased_at T b)
 
 abbrev pub TermIn : List Tree → InternedTerm → Type 0
 TermIn T (terms.AsItStands id) = IsIn T id
 TermIn T (terms.HeadFormOf id) = IsIn T id
-TermIn T (terms.ValueUnder v n) = Unit {0}
+TermIn T (terms.ValueUnder i v n) = Unit {0}
 TermIn T (terms.ChosenBy p a b) = PredicateIn T p × IsIn T a × IsIn T b
 
 -- an entry
@@ -65,8 +65,8 @@ abbrev pub entry_at : List Tree → InternedEntry → Entry
 entry_at T (entries.Arguments a) = arguments (arguments_at T a)
 entry_at T (entries.EqualTerms a b) = equal_terms (erased_all T a.items) (erased_all T b.items)
 entry_at T (entries.Clause g p) = clause g (predicate_at T p)
-entry_at T (entries.RowClauses cs n) = row_clauses cs.now n
-entry_at T (entries.RowConditions c rs n) = row_conditions c rs.now n
+entry_at T (entries.RowClauses r cs n) = row_clauses cs.now n
+entry_at T (entries.RowConditions c i rs n) = row_conditions c rs.now n
 entry_at T (entries.Expected e) = expected (term_at T e)
 entry_at T (entries.Access a) = access a
 entry_at T (entries.DelayedFault f) = delayed_fault f
@@ -80,8 +80,8 @@ abbrev pub EntryIn : List Tree → InternedEntry → Type 0
 EntryIn T (entries.Arguments a) = ArgumentsIn T a
 EntryIn T (entries.EqualTerms a b) = AreIn T a.items × AreIn T b.items
 EntryIn T (entries.Clause g p) = PredicateIn T p
-EntryIn T (entries.RowClauses cs n) = Unit {0}
-EntryIn T (entries.RowConditions c rs n) = Unit {0}
+EntryIn T (entries.RowClauses r cs n) = Unit {0}
+EntryIn T (entries.RowConditions c i rs n) = Unit {0}
 EntryIn T (entries.Expected e) = TermIn T e
 EntryIn T (entries.Access a) = Unit {0}
 EntryIn T (entries.DelayedFault f) = Unit {0}

@@ -32,7 +32,6 @@ pub mod RuleWords
 pub mod ProjectionEntries
 pub mod DefinitionEntries
 pub mod CandidateRules
-pub mod TraitEntries
 pub mod ProjectionKind
 pub mod Entries
 pub mod TraitLists
@@ -44,3 +43,4 @@ pub mod ListLaws
 pub mod ExampleLists
 pub mod InternedEntries
 pub mod RuleLists
+pub mod NamedRows

@@ -1,17 +1,19 @@
 -- The list of entries that a rule stands for over the tables, and what it means that both say the same.
-use Rattle.std.specs.Prelude.{◌↔◌, ℕ, Bool, true, false, List, [], ◌∷◌, Option, Some, None}
+use Rattle.std.specs.Prelude.{◌≡◌, ◌↔◌, ℕ, Bool, true, false, List, [], ◌∷◌, ◌++◌, map, Option, Some, None, IfSome}
 use Rattle.std.specs.Option.{option_map, option_and_then}
 use Rattle.goal_terms.specs.Erased.{erased}
 use Rattle.goal_terms.specs.PredicateTrees.{tree_of_kind}
 use Rattle.goal_terms.specs.Tree.{Tree}
 use Rattle.goal_terms.specs.TreeOf.{trees_of, tree_of_ty, tree_of_term}
+use Rattle.goal_terms.specs.declared.answers.Certainty.{Certainty}
+use Rattle.goal_terms.specs.declared.answers.Certainty.TheVariants as certainty
 use Rattle.goal_tables.specs.Rows.{impl_of, inherent_impl_of}
 use Rattle.goal_tables.specs.declared.rows.ImplRow.{ImplRow}
 use Rattle.goal_tables.specs.declared.rows.Tables.{Tables}
 use Rattle.goal_kinds.specs.Answers.{erased_predicate}
-use Rattle.goal_kinds.specs.Entries.{Arguments, given_arguments, of_header, of_other_header, followed_by, ExpectedTerm, as_it_stands, head_form_of, value_under, Entry, arguments, equal_terms, clause, row_clauses, expected, access, delayed_fault, evaluation, undecided, refused, ListHolds, ListGives, ListRefuted}
+use Rattle.goal_kinds.specs.Entries.{Arguments, given_arguments, of_header, of_other_header, followed_by, ExpectedTerm, as_it_stands, head_form_of, value_under, chosen_by, Entry, arguments, equal_terms, clause, row_clauses, row_conditions, expected, access, delayed_fault, evaluation, ambiguous, undecided, refused, ListHolds, ListGives, ListRefuted}
 use Rattle.goal_kinds.specs.Level.{Level}
-use Rattle.goal_kinds.specs.Rules.{given, clauses_in, value_in, RuleHolds, RuleGives, RuleRefuted}
+use Rattle.goal_kinds.specs.Rules.{given, clauses_in, conditions_in, value_in, RuleHolds, RuleGives, RuleRefuted}
 use Rattle.goal_kinds.specs.Settings.{Setting}
 use Rattle.goal_kinds.specs.declared.rules.Rule.{Rule}
 use Rattle.goal_kinds.specs.declared.rules.RuleArguments.{RuleArguments}
@@ -45,6 +47,7 @@ abbrev pub expected_of : Tables → RuleTerm → Option ExpectedTerm
 expected_of t (term.AsItStands e) = Some (as_it_stands (erased (tree_of_term e)))
 expected_of t (term.Normalized e) = Some (head_form_of (erased (tree_of_term e)))
 expected_of t (term.Value v n) = option_map (λ e. value_under e n) (value_in t v)
+expected_of t (term.ChosenBy k a b) = Some (chosen_by (erased_predicate (tree_of_kind k)) (erased (tree_of_term a)) (erased (tree_of_term b)))
 
 -- an entry, if its rows are there; the goal's variable for the expected term says nothing
 abbrev pub entry_of : Tables → RuleEntry → Option Entry
@@ -52,10 +55,12 @@ entry_of t (entry.Arguments a) = option_map arguments (arguments_of t a)
 entry_of t (entry.Equation ts us) = Some (equal_terms (given ts) (given us))
 entry_of t (entry.Clause g k) = Some (clause g (erased_predicate (tree_of_kind k)))
 entry_of t (entry.RowClauses c n) = option_map (λ cs. row_clauses cs n) (clauses_in t c)
+entry_of t (entry.RowConditions c i n) = option_map (λ rs. row_conditions c rs n) (conditions_in t i)
 entry_of t (entry.Term v e) = option_map expected (expected_of t e)
 entry_of t (entry.Access a) = Some (access a)
 entry_of t (entry.DelayedFault f) = Some (delayed_fault f)
 entry_of t entry.Evaluation = Some evaluation
+entry_of t entry.Ambiguous = Some ambiguous
 entry_of t entry.Undecided = Some undecided
 entry_of t entry.Refused = Some refused
 
@@ -88,3 +93,20 @@ RuleListGives S L r t = ListGives L (list_of_rule S.tables r) t ↔ RuleGives S 
 
 abbrev pub RuleListRefuted : Setting → Level → Rule → Type 0
 RuleListRefuted S L r = ListRefuted L (list_of_rule S.tables r) ↔ RuleRefuted S L r
+
+-- a list, behind which nothing is decided where the certainty is `Maybe`
+abbrev pub entries_then : Certainty → List Entry
+entries_then certainty.Yes = []
+entries_then certainty.Maybe = undecided ∷ []
+
+abbrev pub list_then : Certainty → Option (List Entry) → Option (List Entry)
+list_then c o = option_map (λ es. es ++ entries_then c) o
+
+-- a rule's entries are those of a list one by one, and all rows that they name are there
+abbrev pub IsListed : Tables → Rule → Option (List Entry) → Type 0
+IsListed t r None = ⊥
+IsListed t r (Some es) = map (entry_of t) r.entries.items ≡ map Some es
+
+-- a rule stands for the list of a candidate, if that is told, with nothing decided behind it by a certainty
+abbrev pub IsToldBy : Tables → Certainty → Option (Option (List Entry)) → Rule → Type 0
+IsToldBy t c told r = IfSome told (λ o. list_of_rule t r ≡ list_then c o)

@@ -6,7 +6,10 @@ use Rattle.goal_terms.specs.PredicateTrees.{tree_of_kind}
 use Rattle.goal_terms.specs.Tree.{Tree}
 use Rattle.goal_terms.specs.TreeOf.{trees_of, tree_of_ty, tree_of_term}
 use Rattle.goal_terms.specs.declared.answers.ParamKind.{ParamKind}
+use Rattle.goal_terms.specs.declared.ids.ImplId.{ImplId}
+use Rattle.goal_terms.specs.declared.predicates.BoundConstness.{BoundConstness}
 use Rattle.goal_terms.specs.declared.predicates.Clause.{Clause}
+use Rattle.goal_terms.specs.declared.predicates.TraitRef.{TraitRef}
 use Rattle.goal_terms.specs.declared.terms.GenericArg.{GenericArg}
 use Rattle.goal_tables.specs.Rows.{impl_of, item_of, definition_of, free_of, inherent_of, inherent_impl_of, opaque_of}
 use Rattle.goal_tables.specs.declared.rows.DefValue.{DefValue}
@@ -17,7 +20,7 @@ use Rattle.goal_kinds.specs.Answers.{erased_predicate}
 use Rattle.goal_kinds.specs.Headers.{under, AllKnown, Fits, Clashes}
 use Rattle.goal_kinds.specs.ImplTerms.{header_under}
 use Rattle.goal_kinds.specs.Level.{Level, HasHeadForm, HeadFormRefuted}
-use Rattle.goal_kinds.specs.Premises.{ClauseHolds, ClauseRefuted, PremisesHold, PremisesRefuted, clauses_under}
+use Rattle.goal_kinds.specs.Premises.{ClauseHolds, ClauseRefuted, PremisesHold, PremisesRefuted, clauses_under, traits_under, conditions_as}
 use Rattle.goal_kinds.specs.Settings.{Setting}
 use Rattle.goal_kinds.specs.TraitGoals.{header_of}
 use Rattle.goal_kinds.specs.Words.{OfRow, Pairs, SomePair}
@@ -55,6 +58,10 @@ clauses_in t (clauses.Impl i) = option_map (λ r. r.predicates.items) (impl_of t
 clauses_in t (clauses.Item i) = option_map (λ r. r.own_predicates.items) (item_of t i)
 clauses_in t (clauses.Free i) = option_map (λ r. r.predicates.items) (free_of t i)
 clauses_in t (clauses.Inherent i) = option_map (λ r. r.predicates.items) (inherent_of t i)
+
+-- the const conditions of an impl
+abbrev pub conditions_in : Tables → ImplId → Option (List TraitRef)
+conditions_in t i = option_map (λ r. r.const_conditions.items) (impl_of t i)
 
 -- the value of a definition, if it has one that is no constant to be evaluated
 abbrev pub value_term : DefValue → Option Tree
@@ -104,16 +111,27 @@ RowClausesHold S L named c n = OfRow (clauses_in S.tables c) (λ cs. OfNumber na
 abbrev pub RowClausesRefuted : Setting → Level → List (List Tree) → RowClauses → ℕ → Type 0
 RowClausesRefuted S L named c n = OfRow (clauses_in S.tables c) (λ cs. OfNumber named n (λ s. PremisesRefuted L (clauses_under s cs)))
 
+-- the const conditions of an impl hold with a constness under arguments, or one of them is refuted
+abbrev pub RowConditionsHold : Setting → Level → List (List Tree) → BoundConstness → ImplId → ℕ → Type 0
+RowConditionsHold S L named c i n = OfRow (conditions_in S.tables i) (λ rs. OfNumber named n (λ s. PremisesHold L (conditions_as c (traits_under s rs))))
+
+abbrev pub RowConditionsRefuted : Setting → Level → List (List Tree) → BoundConstness → ImplId → ℕ → Type 0
+RowConditionsRefuted S L named c i n = OfRow (conditions_in S.tables i) (λ rs. OfNumber named n (λ s. PremisesRefuted L (conditions_as c (traits_under s rs))))
+
 -- the term that the expected variable stands for; that there is none
 unfoldable pub TermIs : Setting → Level → List (List Tree) → RuleTerm → Tree → Type 0
 TermIs S L named (term.AsItStands e) u = u ≡ erased (tree_of_term e)
 TermIs S L named (term.Normalized e) u = HasHeadForm L (erased (tree_of_term e)) u
 TermIs S L named (term.Value v n) u = OfRow (value_in S.tables v) (λ e. OfNumber named n (λ s. HasHeadForm L (under s e) u))
+TermIs S L named (term.ChosenBy k a b) u =
+    (ClauseHolds L (erased_predicate (tree_of_kind k)) × (u ≡ erased (tree_of_term a)))
+    ⊎ (ClauseRefuted L (erased_predicate (tree_of_kind k)) × (u ≡ erased (tree_of_term b)))
 
 unfoldable pub TermIsNone : Setting → Level → List (List Tree) → RuleTerm → Type 0
 TermIsNone S L named (term.AsItStands e) = ⊥
 TermIsNone S L named (term.Normalized e) = HeadFormRefuted L (erased (tree_of_term e))
 TermIsNone S L named (term.Value v n) = OfRow (value_in S.tables v) (λ e. OfNumber named n (λ s. HeadFormRefuted L (under s e)))
+TermIsNone S L named (term.ChosenBy k a b) = ⊥
 
 -- all entries hold, and the term of each that has one is as said; the arguments named before them are given
 unfoldable pub EntriesHold : Setting → Level → (Tree → Type 0) → List (List Tree) → List RuleEntry → Type 0
@@ -122,10 +140,12 @@ EntriesHold S L Said named (entry.Arguments a ∷ es) = (s : List Tree) × Names
 EntriesHold S L Said named (entry.Equation ts us ∷ es) = Pairs L.equal (given ts) (given us) × EntriesHold S L Said named es
 EntriesHold S L Said named (entry.Clause g k ∷ es) = ClauseHolds L (erased_predicate (tree_of_kind k)) × EntriesHold S L Said named es
 EntriesHold S L Said named (entry.RowClauses c n ∷ es) = RowClausesHold S L named c n × EntriesHold S L Said named es
+EntriesHold S L Said named (entry.RowConditions c i n ∷ es) = RowConditionsHold S L named c i n × EntriesHold S L Said named es
 EntriesHold S L Said named (entry.Term v e ∷ es) = ((u : Tree) × TermIs S L named e u × Said u) × EntriesHold S L Said named es
 EntriesHold S L Said named (entry.Access a ∷ es) = EntriesHold S L Said named es
 EntriesHold S L Said named (entry.DelayedFault f ∷ es) = EntriesHold S L Said named es
 EntriesHold S L Said named (entry.Evaluation ∷ es) = EntriesHold S L Said named es
+EntriesHold S L Said named (entry.Ambiguous ∷ es) = ⊥
 EntriesHold S L Said named (entry.Undecided ∷ es) = ⊥
 EntriesHold S L Said named (entry.Refused ∷ es) = ⊥
 
@@ -137,10 +157,12 @@ EntriesRefuted S L named (entry.Arguments a ∷ es) =
 EntriesRefuted S L named (entry.Equation ts us ∷ es) = SomePair L.unequal (given ts) (given us) ⊎ EntriesRefuted S L named es
 EntriesRefuted S L named (entry.Clause g k ∷ es) = ClauseRefuted L (erased_predicate (tree_of_kind k)) ⊎ EntriesRefuted S L named es
 EntriesRefuted S L named (entry.RowClauses c n ∷ es) = RowClausesRefuted S L named c n ⊎ EntriesRefuted S L named es
+EntriesRefuted S L named (entry.RowConditions c i n ∷ es) = RowConditionsRefuted S L named c i n ⊎ EntriesRefuted S L named es
 EntriesRefuted S L named (entry.Term v e ∷ es) = TermIsNone S L named e ⊎ EntriesRefuted S L named es
 EntriesRefuted S L named (entry.Access a ∷ es) = EntriesRefuted S L named es
 EntriesRefuted S L named (entry.DelayedFault f ∷ es) = EntriesRefuted S L named es
 EntriesRefuted S L named (entry.Evaluation ∷ es) = EntriesRefuted S L named es
+EntriesRefuted S L named (entry.Ambiguous ∷ es) = EntriesRefuted S L named es
 EntriesRefuted S L named (entry.Undecided ∷ es) = EntriesRefuted S L named es
 EntriesRefuted S L named (entry.Refused ∷ es) = Unit {0}
 
@@ -152,9 +174,11 @@ has_term (entry.Arguments a ∷ es) = has_term es
 has_term (entry.Equation ts us ∷ es) = has_term es
 has_term (entry.Clause g k ∷ es) = has_term es
 has_term (entry.RowClauses c n ∷ es) = has_term es
+has_term (entry.RowConditions c i n ∷ es) = has_term es
 has_term (entry.Access a ∷ es) = has_term es
 has_term (entry.DelayedFault f ∷ es) = has_term es
 has_term (entry.Evaluation ∷ es) = has_term es
+has_term (entry.Ambiguous ∷ es) = has_term es
 has_term (entry.Undecided ∷ es) = has_term es
 has_term (entry.Refused ∷ es) = has_term es
 

@@ -15,8 +15,10 @@ ghost use Rattle.goal_kinds.specs.Answers.{setting_of};
 ghost use Rattle.goal_kinds.specs.CandidateRules.{RuleSays, GivesAs, RefutedAs, IsRefusal, HoldsError, AllHold, OneRefuted, HasNoKindFault, IsAcceptedClause, said_by, seen_trait, entries_for, only_given, IsNamedAnswer};
 ghost use Rattle.goal_kinds.specs.CandidateRules.{NamedRule as named_rule, trait_alias, sizedness, copy_clone, fn_ptr_trait, fn_trait, tuple, pointee, discriminant_kind, destruct, field};
 ghost use Rattle.goal_kinds.specs.Candidates.{Candidate as candidate, by_impl, built_in, error};
+ghost use Rattle.goal_kinds.specs.Entries.{Entry as list_entry};
 ghost use Rattle.goal_kinds.specs.Levels.{level};
 ghost use Rattle.goal_kinds.specs.Premises.{TraitTree as trait_tree};
+ghost use Rattle.goal_kinds.specs.RuleLists.{IsToldBy};
 ghost use Rattle.goal_kinds.specs.Rules.{RuleRefuted};
 ghost use Rattle.goal_kinds.specs.RuleWords.{TermsAreFor};
 ghost use Rattle.goal_kinds.specs.Settings.{Setting as setting, is_headline};
@@ -89,6 +91,9 @@ pub trait GoalKind: PredicateTerms {
     /// That a candidate is refuted at a height.
     ghost candidate_refuted: { Self → setting → ℕ → candidate → Type 0 };
 
+    /// The list of a candidate, by the mode; none where the rules of a kind aren't told by lists yet.
+    ghost candidate_list: { Self → setting → candidate → Option (Option (List list_entry)) };
+
     /// Whether the trait alias or a built-in rule is for a goal.
     ghost is_for: { Self → tables → named_rule → Bool };
 
@@ -132,6 +137,7 @@ pub trait GoalKind: PredicateTerms {
     ) -> Result<Rule, Fault>
         requires passes { passes goal.now.predicate assumption.now.kind ≡ true }
         ensures source { IfOk result (λ r. r.source ≡ source) }
+        ensures list { IfOk result (IsToldBy tables.now then (candidate_list goal.now.predicate (setting_of tables.now mode.now goal.now.param_env.items) (said_by assumption.now.kind))) }
         ensures gives { IfOk result (GivesAs has_term (setting_of tables.now mode.now goal.now.param_env.items) then (λ n t. candidate_gives goal.now.predicate (setting_of tables.now mode.now goal.now.param_env.items) n (said_by assumption.now.kind) t)) }
         ensures refuted { IfOk result (RefutedAs (setting_of tables.now mode.now goal.now.param_env.items) (λ n. candidate_refuted goal.now.predicate (setting_of tables.now mode.now goal.now.param_env.items) n (said_by assumption.now.kind))) }
         ensures given { IfOk result (λ r. only_given r.entries.items ≡ true) }
@@ -150,6 +156,7 @@ pub trait GoalKind: PredicateTerms {
         requires accepted { HasNoKindFault (λ f. Self.has_fault goal.now.predicate tables.now f) }
         ensures expected { IfOk result (λ r. TermsAreFor (expected goal.now.predicate) r.entries.items) }
         ensures source { IfOk result (λ r. r.source ≡ CandidateSource.Impl impl_id) }
+        ensures list { (row : impl_row) → impl_of tables.now impl_id ≡ Some row → IfOk result (IsToldBy tables.now then (candidate_list goal.now.predicate (setting_of tables.now mode.now goal.now.param_env.items) (by_impl row))) }
         ensures gives { (row : impl_row) → is_headline mode.now ≡ true → impl_of tables.now impl_id ≡ Some row → is_impl_for goal.now.predicate tables.now row → IfOk result (GivesAs has_term (setting_of tables.now mode.now goal.now.param_env.items) then (λ n t. candidate_gives goal.now.predicate (setting_of tables.now mode.now goal.now.param_env.items) n (by_impl row) t)) }
         ensures refuted { (row : impl_row) → is_headline mode.now ≡ true → impl_of tables.now impl_id ≡ Some row → is_impl_for goal.now.predicate tables.now row → IfOk result (RefutedAs (setting_of tables.now mode.now goal.now.param_env.items) (λ n. candidate_refuted goal.now.predicate (setting_of tables.now mode.now goal.now.param_env.items) n (by_impl row))) }
         ensures fault { (row : impl_row) → impl_of tables.now impl_id ≡ Some row → is_impl_for goal.now.predicate tables.now row → IfErr result (IsRefusal (candidate_refuted goal.now.predicate (setting_of tables.now mode.now goal.now.param_env.items) 0 (by_impl row))) };
@@ -162,6 +169,7 @@ pub trait GoalKind: PredicateTerms {
     ) -> Result<Rule, Fault>
         requires stands { HoldsError (trait_asked goal.now.predicate tables.now) }
         ensures source { IfOk result (λ r. r.source ≡ CandidateSource.BuiltinImpl BuiltinImplSource.Misc) }
+        ensures list { IfOk result (IsToldBy tables.now Certainty.Yes (candidate_list goal.now.predicate (setting_of tables.now mode.now goal.now.param_env.items) error)) }
         ensures gives { IfOk result (GivesAs has_term (setting_of tables.now mode.now goal.now.param_env.items) Certainty.Yes (λ n t. candidate_gives goal.now.predicate (setting_of tables.now mode.now goal.now.param_env.items) n error t)) }
         ensures refuted { IfOk result (RefutedAs (setting_of tables.now mode.now goal.now.param_env.items) (λ n. candidate_refuted goal.now.predicate (setting_of tables.now mode.now goal.now.param_env.items) n error)) }
         ensures fault { IfErr result (IsRefusal (candidate_refuted goal.now.predicate (setting_of tables.now mode.now goal.now.param_env.items) 0 error)) };
@@ -188,6 +196,7 @@ pub trait GoalKind: PredicateTerms {
         then: Certainty,
     ) -> Result<Rule, Fault>
         ensures source { IfOk result (λ r. r.source ≡ source) }
+        ensures list { IfOk result (IsToldBy tables.now then (candidate_list goal.now.predicate (setting_of tables.now mode.now goal.now.param_env.items) (said_by assumption.now.kind))) }
         ensures gives { IfOk result (GivesAs has_term (setting_of tables.now mode.now goal.now.param_env.items) then (λ n t. candidate_gives goal.now.predicate (setting_of tables.now mode.now goal.now.param_env.items) n (said_by assumption.now.kind) t)) }
         ensures refuted { IfOk result (RefutedAs (setting_of tables.now mode.now goal.now.param_env.items) (λ n. candidate_refuted goal.now.predicate (setting_of tables.now mode.now goal.now.param_env.items) n (said_by assumption.now.kind))) }
         ensures given { IfOk result (λ r. only_given r.entries.items ≡ true) }
@@ -236,6 +245,7 @@ pub trait GoalKind: PredicateTerms {
         assumption: &Clause,
     ) -> Result<Rule, Fault>
         ensures source { IfOk result (λ r. r.source ≡ source) }
+        ensures list { IfOk result (IsToldBy tables.now Certainty.Yes (candidate_list goal.now.predicate (setting_of tables.now mode.now goal.now.param_env.items) (said_by assumption.now.kind))) }
         ensures gives { IfOk result (GivesAs has_term (setting_of tables.now mode.now goal.now.param_env.items) Certainty.Yes (λ n t. candidate_gives goal.now.predicate (setting_of tables.now mode.now goal.now.param_env.items) n (said_by assumption.now.kind) t)) }
         ensures refuted { IfOk result (RefutedAs (setting_of tables.now mode.now goal.now.param_env.items) (λ n. candidate_refuted goal.now.predicate (setting_of tables.now mode.now goal.now.param_env.items) n (said_by assumption.now.kind))) }
         ensures expected { IfOk result (λ r. TermsAreFor (expected goal.now.predicate) r.entries.items) }
@@ -268,85 +278,95 @@ pub trait GoalKind: PredicateTerms {
         Ok(auto_trait_rule(*goal.param_env.allocator(), id)?)
     }
 
-    /// The rule of a trait alias, which asks for its predicates. Nothing is said of it yet beyond that it says no more than the built-in candidate.
+    /// The rule of a trait alias, which asks for its predicates. It says no more than the built-in candidate, and just its list where the kind tells it.
     fn consider_trait_alias_candidate(
         tables: &CheckedTables,
         mode: &TypingMode,
         goal: &Goal<Self>,
     ) -> Result<Rule, Fault>
-        ensures { IsNamedAnswer (is_for goal.now.predicate tables.now trait_alias) has_term (setting_of tables.now mode.now goal.now.param_env.items) (λ n t. candidate_gives goal.now.predicate (setting_of tables.now mode.now goal.now.param_env.items) n built_in t) (λ n. candidate_refuted goal.now.predicate (setting_of tables.now mode.now goal.now.param_env.items) n built_in) result };
+        ensures answer { IsNamedAnswer (is_for goal.now.predicate tables.now trait_alias) has_term (setting_of tables.now mode.now goal.now.param_env.items) (λ n t. candidate_gives goal.now.predicate (setting_of tables.now mode.now goal.now.param_env.items) n built_in t) (λ n. candidate_refuted goal.now.predicate (setting_of tables.now mode.now goal.now.param_env.items) n built_in) result }
+        ensures list { IfOk result (IsToldBy tables.now Certainty.Yes (candidate_list goal.now.predicate (setting_of tables.now mode.now goal.now.param_env.items) built_in)) };
 
-    /// The rule of sized types. Nothing is said of it yet beyond that it says no more than the built-in candidate.
+    /// The rule of sized types. It says no more than the built-in candidate, and just its list where the kind tells it.
     fn consider_builtin_sizedness_candidates(
         tables: &CheckedTables,
         mode: &TypingMode,
         goal: &Goal<Self>,
     ) -> Result<Rule, Fault>
-        ensures { IsNamedAnswer (is_for goal.now.predicate tables.now sizedness) has_term (setting_of tables.now mode.now goal.now.param_env.items) (λ n t. candidate_gives goal.now.predicate (setting_of tables.now mode.now goal.now.param_env.items) n built_in t) (λ n. candidate_refuted goal.now.predicate (setting_of tables.now mode.now goal.now.param_env.items) n built_in) result };
+        ensures answer { IsNamedAnswer (is_for goal.now.predicate tables.now sizedness) has_term (setting_of tables.now mode.now goal.now.param_env.items) (λ n t. candidate_gives goal.now.predicate (setting_of tables.now mode.now goal.now.param_env.items) n built_in t) (λ n. candidate_refuted goal.now.predicate (setting_of tables.now mode.now goal.now.param_env.items) n built_in) result }
+        ensures list { IfOk result (IsToldBy tables.now Certainty.Yes (candidate_list goal.now.predicate (setting_of tables.now mode.now goal.now.param_env.items) built_in)) };
 
-    /// The rule of types that are copied or cloned. Nothing is said of it yet beyond that it says no more than the built-in candidate.
+    /// The rule of types that are copied or cloned. It says no more than the built-in candidate, and just its list where the kind tells it.
     fn consider_builtin_copy_clone_candidate(
         tables: &CheckedTables,
         mode: &TypingMode,
         goal: &Goal<Self>,
     ) -> Result<Rule, Fault>
-        ensures { IsNamedAnswer (is_for goal.now.predicate tables.now copy_clone) has_term (setting_of tables.now mode.now goal.now.param_env.items) (λ n t. candidate_gives goal.now.predicate (setting_of tables.now mode.now goal.now.param_env.items) n built_in t) (λ n. candidate_refuted goal.now.predicate (setting_of tables.now mode.now goal.now.param_env.items) n built_in) result };
+        ensures answer { IsNamedAnswer (is_for goal.now.predicate tables.now copy_clone) has_term (setting_of tables.now mode.now goal.now.param_env.items) (λ n t. candidate_gives goal.now.predicate (setting_of tables.now mode.now goal.now.param_env.items) n built_in t) (λ n. candidate_refuted goal.now.predicate (setting_of tables.now mode.now goal.now.param_env.items) n built_in) result }
+        ensures list { IfOk result (IsToldBy tables.now Certainty.Yes (candidate_list goal.now.predicate (setting_of tables.now mode.now goal.now.param_env.items) built_in)) };
 
-    /// The rule of function pointers. Nothing is said of it yet beyond that it says no more than the built-in candidate.
+    /// The rule of function pointers. It says no more than the built-in candidate, and just its list where the kind tells it.
     fn consider_builtin_fn_ptr_trait_candidate(
         tables: &CheckedTables,
         mode: &TypingMode,
         goal: &Goal<Self>,
     ) -> Result<Rule, Fault>
-        ensures { IsNamedAnswer (is_for goal.now.predicate tables.now fn_ptr_trait) has_term (setting_of tables.now mode.now goal.now.param_env.items) (λ n t. candidate_gives goal.now.predicate (setting_of tables.now mode.now goal.now.param_env.items) n built_in t) (λ n. candidate_refuted goal.now.predicate (setting_of tables.now mode.now goal.now.param_env.items) n built_in) result };
+        ensures answer { IsNamedAnswer (is_for goal.now.predicate tables.now fn_ptr_trait) has_term (setting_of tables.now mode.now goal.now.param_env.items) (λ n t. candidate_gives goal.now.predicate (setting_of tables.now mode.now goal.now.param_env.items) n built_in t) (λ n. candidate_refuted goal.now.predicate (setting_of tables.now mode.now goal.now.param_env.items) n built_in) result }
+        ensures list { IfOk result (IsToldBy tables.now Certainty.Yes (candidate_list goal.now.predicate (setting_of tables.now mode.now goal.now.param_env.items) built_in)) };
 
-    /// The rule of types that are called. Nothing is said of it yet beyond that it says no more than the built-in candidate.
+    /// The rule of types that are called. It says no more than the built-in candidate, and just its list where the kind tells it.
     fn consider_builtin_fn_trait_candidates(
         tables: &CheckedTables,
         mode: &TypingMode,
         goal: &Goal<Self>,
     ) -> Result<Rule, Fault>
-        ensures { IsNamedAnswer (is_for goal.now.predicate tables.now fn_trait) has_term (setting_of tables.now mode.now goal.now.param_env.items) (λ n t. candidate_gives goal.now.predicate (setting_of tables.now mode.now goal.now.param_env.items) n built_in t) (λ n. candidate_refuted goal.now.predicate (setting_of tables.now mode.now goal.now.param_env.items) n built_in) result };
+        ensures answer { IsNamedAnswer (is_for goal.now.predicate tables.now fn_trait) has_term (setting_of tables.now mode.now goal.now.param_env.items) (λ n t. candidate_gives goal.now.predicate (setting_of tables.now mode.now goal.now.param_env.items) n built_in t) (λ n. candidate_refuted goal.now.predicate (setting_of tables.now mode.now goal.now.param_env.items) n built_in) result }
+        ensures list { IfOk result (IsToldBy tables.now Certainty.Yes (candidate_list goal.now.predicate (setting_of tables.now mode.now goal.now.param_env.items) built_in)) };
 
-    /// The rule of tuples. Nothing is said of it yet beyond that it says no more than the built-in candidate.
+    /// The rule of tuples. It says no more than the built-in candidate, and just its list where the kind tells it.
     fn consider_builtin_tuple_candidate(
         tables: &CheckedTables,
         mode: &TypingMode,
         goal: &Goal<Self>,
     ) -> Result<Rule, Fault>
-        ensures { IsNamedAnswer (is_for goal.now.predicate tables.now tuple) has_term (setting_of tables.now mode.now goal.now.param_env.items) (λ n t. candidate_gives goal.now.predicate (setting_of tables.now mode.now goal.now.param_env.items) n built_in t) (λ n. candidate_refuted goal.now.predicate (setting_of tables.now mode.now goal.now.param_env.items) n built_in) result };
+        ensures answer { IsNamedAnswer (is_for goal.now.predicate tables.now tuple) has_term (setting_of tables.now mode.now goal.now.param_env.items) (λ n t. candidate_gives goal.now.predicate (setting_of tables.now mode.now goal.now.param_env.items) n built_in t) (λ n. candidate_refuted goal.now.predicate (setting_of tables.now mode.now goal.now.param_env.items) n built_in) result }
+        ensures list { IfOk result (IsToldBy tables.now Certainty.Yes (candidate_list goal.now.predicate (setting_of tables.now mode.now goal.now.param_env.items) built_in)) };
 
-    /// The rule of what a pointer points to, and its metadata. Nothing is said of it yet beyond that it says no more than the built-in candidate.
+    /// The rule of what a pointer points to, and its metadata. It says no more than the built-in candidate, and just its list where the kind tells it.
     fn consider_builtin_pointee_candidate(
         tables: &CheckedTables,
         mode: &TypingMode,
         goal: &Goal<Self>,
     ) -> Result<Rule, Fault>
-        ensures { IsNamedAnswer (is_for goal.now.predicate tables.now pointee) has_term (setting_of tables.now mode.now goal.now.param_env.items) (λ n t. candidate_gives goal.now.predicate (setting_of tables.now mode.now goal.now.param_env.items) n built_in t) (λ n. candidate_refuted goal.now.predicate (setting_of tables.now mode.now goal.now.param_env.items) n built_in) result };
+        ensures answer { IsNamedAnswer (is_for goal.now.predicate tables.now pointee) has_term (setting_of tables.now mode.now goal.now.param_env.items) (λ n t. candidate_gives goal.now.predicate (setting_of tables.now mode.now goal.now.param_env.items) n built_in t) (λ n. candidate_refuted goal.now.predicate (setting_of tables.now mode.now goal.now.param_env.items) n built_in) result }
+        ensures list { IfOk result (IsToldBy tables.now Certainty.Yes (candidate_list goal.now.predicate (setting_of tables.now mode.now goal.now.param_env.items) built_in)) };
 
-    /// The rule of discriminants. Nothing is said of it yet beyond that it says no more than the built-in candidate.
+    /// The rule of discriminants. It says no more than the built-in candidate, and just its list where the kind tells it.
     fn consider_builtin_discriminant_kind_candidate(
         tables: &CheckedTables,
         mode: &TypingMode,
         goal: &Goal<Self>,
     ) -> Result<Rule, Fault>
-        ensures { IsNamedAnswer (is_for goal.now.predicate tables.now discriminant_kind) has_term (setting_of tables.now mode.now goal.now.param_env.items) (λ n t. candidate_gives goal.now.predicate (setting_of tables.now mode.now goal.now.param_env.items) n built_in t) (λ n. candidate_refuted goal.now.predicate (setting_of tables.now mode.now goal.now.param_env.items) n built_in) result };
+        ensures answer { IsNamedAnswer (is_for goal.now.predicate tables.now discriminant_kind) has_term (setting_of tables.now mode.now goal.now.param_env.items) (λ n t. candidate_gives goal.now.predicate (setting_of tables.now mode.now goal.now.param_env.items) n built_in t) (λ n. candidate_refuted goal.now.predicate (setting_of tables.now mode.now goal.now.param_env.items) n built_in) result }
+        ensures list { IfOk result (IsToldBy tables.now Certainty.Yes (candidate_list goal.now.predicate (setting_of tables.now mode.now goal.now.param_env.items) built_in)) };
 
-    /// The rule of types that are dropped. Nothing is said of it yet beyond that it says no more than the built-in candidate.
+    /// The rule of types that are dropped. It says no more than the built-in candidate, and just its list where the kind tells it.
     fn consider_builtin_destruct_candidate(
         tables: &CheckedTables,
         mode: &TypingMode,
         goal: &Goal<Self>,
     ) -> Result<Rule, Fault>
-        ensures { IsNamedAnswer (is_for goal.now.predicate tables.now destruct) has_term (setting_of tables.now mode.now goal.now.param_env.items) (λ n t. candidate_gives goal.now.predicate (setting_of tables.now mode.now goal.now.param_env.items) n built_in t) (λ n. candidate_refuted goal.now.predicate (setting_of tables.now mode.now goal.now.param_env.items) n built_in) result };
+        ensures answer { IsNamedAnswer (is_for goal.now.predicate tables.now destruct) has_term (setting_of tables.now mode.now goal.now.param_env.items) (λ n t. candidate_gives goal.now.predicate (setting_of tables.now mode.now goal.now.param_env.items) n built_in t) (λ n. candidate_refuted goal.now.predicate (setting_of tables.now mode.now goal.now.param_env.items) n built_in) result }
+        ensures list { IfOk result (IsToldBy tables.now Certainty.Yes (candidate_list goal.now.predicate (setting_of tables.now mode.now goal.now.param_env.items) built_in)) };
 
-    /// The rule of fields. Nothing is said of it yet beyond that it says no more than the built-in candidate.
+    /// The rule of fields. It says no more than the built-in candidate, and just its list where the kind tells it.
     fn consider_builtin_field_candidate(
         tables: &CheckedTables,
         mode: &TypingMode,
         goal: &Goal<Self>,
     ) -> Result<Rule, Fault>
-        ensures { IsNamedAnswer (is_for goal.now.predicate tables.now field) has_term (setting_of tables.now mode.now goal.now.param_env.items) (λ n t. candidate_gives goal.now.predicate (setting_of tables.now mode.now goal.now.param_env.items) n built_in t) (λ n. candidate_refuted goal.now.predicate (setting_of tables.now mode.now goal.now.param_env.items) n built_in) result };
+        ensures answer { IsNamedAnswer (is_for goal.now.predicate tables.now field) has_term (setting_of tables.now mode.now goal.now.param_env.items) (λ n t. candidate_gives goal.now.predicate (setting_of tables.now mode.now goal.now.param_env.items) n built_in t) (λ n. candidate_refuted goal.now.predicate (setting_of tables.now mode.now goal.now.param_env.items) n built_in) result }
+        ensures list { IfOk result (IsToldBy tables.now Certainty.Yes (candidate_list goal.now.predicate (setting_of tables.now mode.now goal.now.param_env.items) built_in)) };
 
     /// What a candidate gives at a height it gives at every greater one, and so is it refuted. It does
     /// nothing.

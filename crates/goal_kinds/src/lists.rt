@@ -1,5 +1,5 @@
 //! Entries of lists whose terms are given by their numbers in a table. What is a row's is borrowed from
-//! the tables, and read under arguments when the list is run.
+//! the tables, beside the row's id, and read under arguments when the list is run.
 pub mod aliases;
 pub mod effects;
 pub(crate) mod parts;
@@ -7,9 +7,11 @@ pub mod projections;
 pub mod traits;
 
 use crate::candidates::interned::InternedPredicate;
+use crate::rules::{RowClauses, RowValue, RuleHeader};
 use goal_tables::lookup::IndexedTables;
 use goal_tables::rows::ItemRow;
 use goal_terms::answers::{DelayedFault, GoalSource, OpaqueAccess, ParamKind};
+use goal_terms::ids::ImplId;
 use goal_terms::modes::TypingMode;
 use goal_terms::predicates::{BoundConstness, Clause, TraitRef};
 use goal_terms::term_nodes::TermId;
@@ -59,10 +61,10 @@ pub enum InternedArguments<'t> {
     /// These, as they stand.
     Given(Vec<TermId>),
     /// Those of a row's header, which is matched with given arguments.
-    OfHeader(RowHeader<'t>, Vec<TermId>),
-    /// Those of another impl's header, which is matched with the terms of a row's header under the
+    OfHeader(RuleHeader, RowHeader<'t>, Vec<TermId>),
+    /// Those of an impl's header, which is matched with the terms of the second impl's header under the
     /// arguments of a number.
-    OfOtherHeader(RowHeader<'t>, &'t [GenericArg], usize),
+    OfOtherHeader(ImplId, ImplId, RowHeader<'t>, &'t [GenericArg], usize),
     /// Those of a number, and own ones behind them.
     FollowedBy(usize, Vec<TermId>),
 }
@@ -71,8 +73,8 @@ impl Drop for InternedArguments<'_> {
     fn drop(self) {
         match self {
             InternedArguments::Given(_) => {}
-            InternedArguments::OfHeader(_, _) => {}
-            InternedArguments::OfOtherHeader(_, _, _) => {}
+            InternedArguments::OfHeader(_, _, _) => {}
+            InternedArguments::OfOtherHeader(_, _, _, _, _) => {}
             InternedArguments::FollowedBy(_, _) => {}
         }
     }
@@ -86,7 +88,7 @@ pub enum InternedTerm<'t> {
     /// The head form of this term.
     HeadFormOf(TermId),
     /// The head form of a row's value, under the arguments of a number.
-    ValueUnder(RowValueTerm<'t>, usize),
+    ValueUnder(RowValue, RowValueTerm<'t>, usize),
     /// The first of two terms where a clause holds, the second where it is refuted.
     ChosenBy(InternedPredicate, TermId, TermId),
 }
@@ -96,7 +98,7 @@ impl Drop for InternedTerm<'_> {
         match self {
             InternedTerm::AsItStands(_) => {}
             InternedTerm::HeadFormOf(_) => {}
-            InternedTerm::ValueUnder(_, _) => {}
+            InternedTerm::ValueUnder(_, _, _) => {}
             InternedTerm::ChosenBy(_, _, _) => {}
         }
     }
@@ -112,9 +114,9 @@ pub enum InternedEntry<'t> {
     /// A clause holds.
     Clause(GoalSource, InternedPredicate),
     /// The clauses of a row hold, under the arguments of a number.
-    RowClauses(&'t [Clause], usize),
-    /// The const conditions of a row hold with a constness, under the arguments of a number.
-    RowConditions(BoundConstness, &'t [TraitRef], usize),
+    RowClauses(RowClauses, &'t [Clause], usize),
+    /// The const conditions of an impl hold with a constness, under the arguments of a number.
+    RowConditions(BoundConstness, ImplId, &'t [TraitRef], usize),
     /// The goal's expected term.
     Expected(InternedTerm<'t>),
     /// An access to an opaque type is recorded.
@@ -137,8 +139,8 @@ impl Drop for InternedEntry<'_> {
             InternedEntry::Arguments(_) => {}
             InternedEntry::EqualTerms(_, _) => {}
             InternedEntry::Clause(_, _) => {}
-            InternedEntry::RowClauses(_, _) => {}
-            InternedEntry::RowConditions(_, _, _) => {}
+            InternedEntry::RowClauses(_, _, _) => {}
+            InternedEntry::RowConditions(_, _, _, _) => {}
             InternedEntry::Expected(_) => {}
             InternedEntry::Access(_) => {}
             InternedEntry::DelayedFault(_) => {}

@@ -4,15 +4,17 @@ pub(crate) mod assoc_items;
 pub(crate) mod definitions;
 pub mod impl_terms;
 pub(crate) mod lists;
+pub(crate) mod named;
 pub(crate) mod parts;
 pub(crate) mod projection_goal_kind;
 pub mod projections;
+pub mod rebuilt;
 pub(crate) mod trait_goal_kind;
 pub mod traits;
 
 use goal_terms::answers::{CandidateSource, DelayedFault, GoalSource, OpaqueAccess, Response};
 use goal_terms::ids::{DefId, FreeId, ImplId, InherentId, InherentImplId, ItemId, OpaqueId};
-use goal_terms::predicates::ClauseKind;
+use goal_terms::predicates::{BoundConstness, ClauseKind};
 use goal_terms::terms::{GenericArg, Term};
 
 /// A candidate that was considered: where it comes from, and what its rule is answered.
@@ -51,6 +53,8 @@ pub enum RuleEntry {
     Clause(GoalSource, ClauseKind),
     /// The clauses of a row hold, under the arguments of that number.
     RowClauses(RowClauses, u32),
+    /// The const conditions of an impl hold with a constness, under the arguments of that number.
+    RowConditions(BoundConstness, ImplId, u32),
     /// The goal's expected term, the first, stands for the second.
     Term(Term, RuleTerm),
     /// An access to an opaque type is recorded.
@@ -59,6 +63,8 @@ pub enum RuleEntry {
     DelayedFault(DelayedFault),
     /// What was asked for so far is evaluated before the rest is.
     Evaluation,
+    /// The goal that is always ambiguous.
+    Ambiguous,
     /// Nothing decides the rule here.
     Undecided,
     /// The rule doesn't stand.
@@ -72,10 +78,12 @@ impl Drop for RuleEntry {
             RuleEntry::Equation(_, _) => {}
             RuleEntry::Clause(_, _) => {}
             RuleEntry::RowClauses(_, _) => {}
+            RuleEntry::RowConditions(_, _, _) => {}
             RuleEntry::Term(_, _) => {}
             RuleEntry::Access(_) => {}
             RuleEntry::DelayedFault(_) => {}
             RuleEntry::Evaluation => {}
+            RuleEntry::Ambiguous => {}
             RuleEntry::Undecided => {}
             RuleEntry::Refused => {}
         }
@@ -132,6 +140,8 @@ pub enum RuleTerm {
     Normalized(Term),
     /// The head form of a row's value, under the arguments of a number.
     Value(RowValue, u32),
+    /// The first of two terms where a clause holds, the second where it is refuted.
+    ChosenBy(ClauseKind, Term, Term),
 }
 
 impl Drop for RuleTerm {
@@ -140,6 +150,7 @@ impl Drop for RuleTerm {
             RuleTerm::AsItStands(_) => {}
             RuleTerm::Normalized(_) => {}
             RuleTerm::Value(_, _) => {}
+            RuleTerm::ChosenBy(_, _, _) => {}
         }
     }
 }

@@ -1,4 +1,4 @@
-use crate::names::ProgramNames;
+use goal_program::names::ProgramNames;
 use goal_solver::eval::goals::GoalFault;
 use goal_solver::faults::{DepthTooLarge, Fault};
 use goal_tables::faults::TableFault;

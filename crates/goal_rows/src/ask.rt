@@ -1,11 +1,11 @@
 //! The questions of the rows, one function a kind.
 use crate::answer::{Answer, Refusal};
-use crate::asked_terms::{AskedAlias, AskedType};
 use crate::faults::RowsFault;
-use crate::names::TR;
-use crate::program_tables::tables_with_projection_impl;
-use crate::program_types::{trait_ref, two_types};
-use crate::settings::{Environment, Mode};
+use goal_program::asked_terms::{AskedAlias, AskedType};
+use goal_program::names::TR;
+use goal_program::settings::{Environment, Mode};
+use goal_program::tables::tables_with_projection_impl;
+use goal_program::types::{trait_ref, two_types};
 use goal_solver::context::EvalCtxt;
 use goal_solver::eval::goals::check_goal;
 use goal_solver::faults::Fault;

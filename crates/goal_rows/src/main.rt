@@ -6,16 +6,8 @@ use std::process::ExitCode;
 
 mod answer;
 mod ask;
-mod asked_terms;
 mod faults;
-mod names;
-mod program_aliases;
-mod program_impls;
-mod program_tables;
-mod program_traits;
-mod program_types;
 mod rows;
-mod settings;
 #[cfg(test)]
 mod tests;
 

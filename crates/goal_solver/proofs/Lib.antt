@@ -12,6 +12,7 @@ pub mod OutcomeLists
 pub mod PremiseOutcomes
 pub mod TermErrorLemmas
 pub mod RunModes
+pub mod CacheLemmas
 pub mod TraitOutcomeLemmas
 pub mod BeforeLemmas
 pub mod ProjectionArgLemmas

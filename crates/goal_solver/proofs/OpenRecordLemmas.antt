@@ -37,12 +37,14 @@ steps-recorded env (entry.Arguments a) s p u q h sure = ((both-yes p.certainty h
 steps-recorded env (entry.Equation ts us) s p u q h sure = ((joins-yes p q _ h sure).0, tt)
 steps-recorded env (entry.Clause g k) s p u q h sure = ((joins-yes p q _ h sure).0, tt)
 steps-recorded env (entry.RowClauses w n) s p u q h sure = ((joins-yes p q _ h sure).0, tt)
+steps-recorded env (entry.RowConditions b i n) s p u q h sure = ((both-yes p.certainty certainty.Maybe (sym (ap (λ (x : OpenProgress). x.certainty) h.1) ∙ sure)).0, tt)
 steps-recorded env (entry.Term v e) s p u q h sure = ((joins-yes p q _ h sure).0, tt)
 steps-recorded env (entry.Access a) s p u q h sure =
     let done = joins-yes p q _ h sure in
     (done.0, ⊎_elim (λ r. entered-contains a s.accesses u.accesses r.0.0) (λ r. absurd (cc)) done.1)
 steps-recorded env (entry.DelayedFault f) s p u q h sure = (sym (ap (λ (x : OpenProgress). x.certainty) h.1) ∙ sure, entered-contains f s.delayed_faults u.delayed_faults h.0.0)
 steps-recorded env entry.Evaluation s p u q h sure = (sym (ap (λ (x : OpenProgress). x.certainty) h.2) ∙ sure, tt)
+steps-recorded env entry.Ambiguous s p u q h sure = ((both-yes p.certainty certainty.Maybe (sym (ap (λ (x : OpenProgress). x.certainty) h.1) ∙ sure)).0, tt)
 steps-recorded env entry.Undecided s p u q h sure = ((both-yes p.certainty certainty.Maybe (sym (ap (λ (x : OpenProgress). x.certainty) h.1) ∙ sure)).0, tt)
 steps-recorded env entry.Refused s p u q h sure = ((joins-yes p q _ h sure).0, tt)
 

@@ -16,6 +16,8 @@ use Rattle.goal_terms.specs.declared.answers.Certainty.TheVariants as certainty
 use Rattle.goal_terms.specs.declared.answers.DelayedFault.{DelayedFault}
 use Rattle.goal_terms.specs.declared.answers.GoalSource.{GoalSource}
 use Rattle.goal_terms.specs.declared.answers.OpaqueAccess.{OpaqueAccess}
+use Rattle.goal_terms.specs.declared.ids.ImplId.{ImplId}
+use Rattle.goal_terms.specs.declared.predicates.BoundConstness.{BoundConstness}
 use Rattle.goal_terms.specs.declared.predicates.Clause.{Clause}
 use Rattle.goal_terms.specs.declared.predicates.ClauseKind.{ClauseKind}
 use Rattle.goal_terms.specs.declared.predicates.Predicate.{Predicate}
@@ -227,9 +229,15 @@ pub evaluation-step : (env : List Clause) (e : RuleEntry) (s : State) (p : OpenP
 unfolding Steps
 evaluation-step env e s p u is h = subst (λ x. Steps env x s p u p) (sym is) (h.0, h.1, refl)
 
-pub undecided-step : (env : List Clause) (e : RuleEntry) (s : State) (p q : OpenProgress) → e ≡ entry.Undecided → q ≡ after_entry p certainty.Maybe → Steps env e s p s q
+-- an entry that such a list leaves undecided
+abbrev pub StaysOpen : RuleEntry → Type 0
+StaysOpen e = (e ≡ entry.Ambiguous) ⊎ ((e ≡ entry.Undecided) ⊎ ((b : BoundConstness) × (i : ImplId) × (n : ℕ) × (e ≡ entry.RowConditions b i n)))
+
+pub undecided-step : (env : List Clause) (e : RuleEntry) (s : State) (p q : OpenProgress) → StaysOpen e → q ≡ after_entry p certainty.Maybe → Steps env e s p s q
 unfolding Steps
-undecided-step env e s p q is after = subst (λ x. Steps env x s p s q) (sym is) (refl, after)
+undecided-step env e s p q stays after =
+    ⊎_elim (λ is. subst (λ x. Steps env x s p s q) (sym is) (refl, after))
+    (λ more. ⊎_elim (λ is. subst (λ x. Steps env x s p s q) (sym is) (refl, after)) (λ w. subst (λ x. Steps env x s p s q) (sym w.3) (refl, after)) more) stays
 
 pub refused-step : (env : List Clause) (e : RuleEntry) (s : State) (p q : OpenProgress) (c : Certainty) → e ≡ entry.Refused → refusal_in s.typing_mode ≡ Ok c → q ≡ after_entry p c → Steps env e s p s q
 unfolding Steps

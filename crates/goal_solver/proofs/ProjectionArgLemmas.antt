@@ -1,11 +1,13 @@
 -- The arguments of projections in a table of terms.
-use Rattle.std.proofs.Common.{◌≡◌, ◌<◌, List, [], ◌∷◌, map, refl, sym, ap, ◌∙◌, subst}
+use Rattle.std.proofs.Common.{◌≡◌, ◌<◌, ℕ, List, [], ◌∷◌, map, refl, sym, ap, ◌∙◌, subst}
 use Rattle.std.specs.List.{All}
 use Rattle.std.proofs.lemmas.List.Elements.{All-map}
 use Rattle.goal_terms.specs.Erased.{erased, erased_row}
 use Rattle.goal_terms.specs.Sorts.{IsArgument}
 use Rattle.goal_terms.specs.TableMeaning.{tree_at}
-use Rattle.goal_terms.specs.Tree.{Tree, Trees, alias, none, more, forest, list_of}
+use Rattle.goal_terms.specs.Tree.{Tree, Trees, node, alias, none, more, forest, list_of}
+use Rattle.goal_terms.specs.declared.heads.Head.TheVariants as head
+use Rattle.goal_terms.specs.declared.ids.TraitId.{TraitId}
 use Rattle.goal_terms.specs.declared.term_nodes.TermId.{TermId}
 use Rattle.goal_terms.specs.declared.terms.AliasTermKind.{AliasTermKind}
 use Rattle.goal_kinds.specs.Interned.{erased_at, erased_all, AreIn}
@@ -33,6 +35,13 @@ pub alias-erased : (T U : List Tree) (id : TermId) (k : AliasTermKind) (ids othe
 unfolding erased
 alias-erased T U id k ids others o e =
     ap erased e ∙ ap (alias k) (forest-erased (map (tree_at T) others) ∙ ap forest (map-map (tree_at T) erased others ∙ ap (erased_all T) o))
+
+-- the clause of a trait with arguments of a table
+pub clause-erased : (T U : List Tree) (id : TermId) (i : TraitId) (n : ℕ) (ids others : List TermId) → others ≡ ids →
+    tree_at U id ≡ node (head.DynTrait i n) (forest (map (tree_at T) others)) → erased_at U id ≡ node (head.DynTrait i n) (forest (erased_all T ids))
+unfolding erased
+clause-erased T U id i n ids others o e =
+    ap erased e ∙ ap (node (head.DynTrait i n)) (forest-erased (map (tree_at T) others) ∙ ap forest (map-map (tree_at T) erased others ∙ ap (erased_all T) o))
 
 -- so they fit an alias
 pub args_fit : (T : List Tree) (ids others : List TermId) → others ≡ ids → AreIn T ids → All IsArgument (map (tree_at T) others)

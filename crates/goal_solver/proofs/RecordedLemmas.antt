@@ -57,8 +57,10 @@ stays-recorded a b x f (entry.Arguments y) h = tt
 stays-recorded a b x f (entry.Equation y z) h = tt
 stays-recorded a b x f (entry.Clause y z) h = tt
 stays-recorded a b x f (entry.RowClauses y z) h = tt
+stays-recorded a b x f (entry.RowConditions c y z) h = tt
 stays-recorded a b x f (entry.Term y z) h = tt
 stays-recorded a b x f entry.Evaluation h = tt
+stays-recorded a b x f entry.Ambiguous h = tt
 stays-recorded a b x f entry.Undecided h = tt
 stays-recorded a b x f entry.Refused h = tt
 
@@ -90,8 +92,10 @@ only-fault (entry.Arguments y) f h = cc
 only-fault (entry.Equation y z) f h = cc
 only-fault (entry.Clause y z) f h = cc
 only-fault (entry.RowClauses y z) f h = cc
+only-fault (entry.RowConditions c y z) f h = cc
 only-fault (entry.Term y z) f h = cc
 only-fault entry.Evaluation f h = cc
+only-fault entry.Ambiguous f h = cc
 only-fault entry.Undecided f h = cc
 only-fault entry.Refused f h = cc
 

@@ -8,17 +8,19 @@ use Rattle.goal_terms.specs.TableMeaning.{Keeps}
 use Rattle.goal_terms.specs.Tree.{Tree}
 use Rattle.goal_terms.proofs.InternLemmas.{keeps-refl}
 use Rattle.goal_tables.specs.declared.rows.Tables.{Tables}
-use Rattle.goal_kinds.specs.Entries.{Arguments, ExpectedTerm, Entry, arguments, row_clauses, expected, access, delayed_fault, undecided, EntriesHold, EntriesRefuted, AsksNoTerm}
+use Rattle.goal_kinds.specs.Entries.{Arguments, ExpectedTerm, Entry, arguments, row_clauses, row_conditions, expected, access, delayed_fault, undecided, EntriesHold, EntriesRefuted, AsksNoTerm}
 use Rattle.goal_kinds.specs.InternedEntries.{entry_at}
 use Rattle.goal_kinds.specs.Level.{Level}
 use Rattle.goal_kinds.specs.RuleLists.{arguments_of, expected_of, entry_of, names_arguments, before, entries_of}
-use Rattle.goal_kinds.specs.Rules.{clauses_in, has_term}
+use Rattle.goal_kinds.specs.Rules.{clauses_in, conditions_in, has_term}
 use Rattle.goal_kinds.specs.declared.lists.InternedEntry.{InternedEntry}
 use Rattle.goal_kinds.specs.declared.rules.RuleEntry.{RuleEntry}
 use Rattle.goal_kinds.specs.declared.rules.RuleEntry.TheVariants as entry
 use Rattle.goal_terms.specs.declared.answers.DelayedFault.{DelayedFault}
 use Rattle.goal_terms.specs.declared.answers.OpaqueAccess.{OpaqueAccess}
+use Rattle.goal_terms.specs.declared.predicates.BoundConstness.{BoundConstness}
 use Rattle.goal_terms.specs.declared.predicates.Clause.{Clause}
+use Rattle.goal_terms.specs.declared.predicates.TraitRef.{TraitRef}
 use Rattle.goal_solver.specs.Lists.{named_at, progress_at, RunIn, Leads, RunsOn, run_asking, reached_asking}
 use Rattle.goal_solver.specs.RunRules.{asked_by, asked_of, IsAskedOnce, asked_as, asked_and, asked_next, to_record, RuleRunsOn}
 use Rattle.goal_solver.specs.declared.eval.lists.progress.ListRun.{ListRun}
@@ -73,8 +75,10 @@ recording-runs t L T r i (entry.Arguments a) some = absurd (some refl)
 recording-runs t L T r i (entry.Equation ts us) some = absurd (some refl)
 recording-runs t L T r i (entry.Clause g k) some = absurd (some refl)
 recording-runs t L T r i (entry.RowClauses c n) some = absurd (some refl)
+recording-runs t L T r i (entry.RowConditions b j n) some = absurd (some refl)
 recording-runs t L T r i (entry.Term v x) some = absurd (some refl)
 recording-runs t L T r i entry.Evaluation some = absurd (some refl)
+recording-runs t L T r i entry.Ambiguous some = absurd (some refl)
 recording-runs t L T r i entry.Undecided some = absurd (some refl)
 recording-runs t L T r i entry.Refused some = absurd (some refl)
 
@@ -95,6 +99,11 @@ unfolding AsksNoTerm
 clauses-ask_none None n es h = (tt, h)
 clauses-ask_none (Some cs) n es h = (tt, h)
 
+conditions-ask_none : (o : Option (List TraitRef)) (c : BoundConstness) (n : ℕ) (es : List Entry) → AsksNoTerm es → AsksNoTerm (before false (option_map (λ rs. row_conditions c rs n) o) es)
+unfolding AsksNoTerm
+conditions-ask_none None c n es h = (tt, h)
+conditions-ask_none (Some rs) c n es h = (tt, h)
+
 pub no_term-asks_none : (t : Tables) (es : List RuleEntry) → has_term es ≡ false → AsksNoTerm (entries_of t es)
 unfolding entries_of has_term AsksNoTerm
 no_term-asks_none t [] none = tt
@@ -102,10 +111,12 @@ no_term-asks_none t (entry.Arguments a ∷ es) none = arguments-ask_none (argume
 no_term-asks_none t (entry.Equation ts us ∷ es) none = (tt, no_term-asks_none t es none)
 no_term-asks_none t (entry.Clause g k ∷ es) none = (tt, no_term-asks_none t es none)
 no_term-asks_none t (entry.RowClauses c n ∷ es) none = clauses-ask_none (clauses_in t c) n (entries_of t es) (no_term-asks_none t es none)
+no_term-asks_none t (entry.RowConditions c i n ∷ es) none = conditions-ask_none (conditions_in t i) c n (entries_of t es) (no_term-asks_none t es none)
 no_term-asks_none t (entry.Term v x ∷ es) none = absurd (false≢true (sym none))
 no_term-asks_none t (entry.Access a ∷ es) none = (tt, no_term-asks_none t es none)
 no_term-asks_none t (entry.DelayedFault f ∷ es) none = (tt, no_term-asks_none t es none)
 no_term-asks_none t (entry.Evaluation ∷ es) none = (tt, no_term-asks_none t es none)
+no_term-asks_none t (entry.Ambiguous ∷ es) none = (tt, no_term-asks_none t es none)
 no_term-asks_none t (entry.Undecided ∷ es) none = (tt, no_term-asks_none t es none)
 no_term-asks_none t (entry.Refused ∷ es) none = (tt, no_term-asks_none t es none)
 
@@ -117,10 +128,12 @@ asked-has_term (entry.Arguments a ∷ es) n e = asked-has_term es n e
 asked-has_term (entry.Equation ts us ∷ es) n e = asked-has_term es n e
 asked-has_term (entry.Clause g k ∷ es) n e = asked-has_term es n e
 asked-has_term (entry.RowClauses c i ∷ es) n e = asked-has_term es n e
+asked-has_term (entry.RowConditions c i m ∷ es) n e = asked-has_term es n e
 asked-has_term (entry.Term v x ∷ es) n e = refl
 asked-has_term (entry.Access a ∷ es) n e = asked-has_term es n e
 asked-has_term (entry.DelayedFault f ∷ es) n e = asked-has_term es n e
 asked-has_term (entry.Evaluation ∷ es) n e = asked-has_term es n e
+asked-has_term (entry.Ambiguous ∷ es) n e = asked-has_term es n e
 asked-has_term (entry.Undecided ∷ es) n e = asked-has_term es n e
 asked-has_term (entry.Refused ∷ es) n e = asked-has_term es n e
 

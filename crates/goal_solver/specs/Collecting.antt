@@ -1,5 +1,5 @@
 -- Which candidates of a goal the rules of a list speak for.
-use Rattle.std.specs.Prelude.{◌≡◌, ◌⊎◌, ◌||◌, ℕ, Bool, true, false, not, is_some, List, [], ◌∷◌, ◌++◌, map, Option, Some, None}
+use Rattle.std.specs.Prelude.{◌≡◌, ◌⊎◌, ◌||◌, ℕ, Bool, true, false, List, [], ◌∷◌, ◌++◌, map, Option, Some, None}
 use Rattle.goal_terms.specs.Erased.{erased}
 use Rattle.goal_terms.specs.Tree.{Tree}
 use Rattle.goal_terms.specs.TreeOf.{tree_of_ty, trees_of}
@@ -7,7 +7,6 @@ use Rattle.goal_terms.specs.declared.answers.Certainty.TheVariants as certainty
 use Rattle.goal_terms.specs.declared.answers.TraitGoalProvenVia.{TraitGoalProvenVia}
 use Rattle.goal_terms.specs.declared.answers.TraitGoalProvenVia.TheVariants as class
 use Rattle.goal_terms.specs.declared.modes.TypingMode.{TypingMode}
-use Rattle.goal_terms.specs.declared.ids.TraitId.{TraitId}
 use Rattle.goal_terms.specs.declared.predicates.Clause.{Clause}
 use Rattle.goal_terms.specs.declared.predicates.ClauseKind.{ClauseKind}
 use Rattle.goal_terms.specs.declared.predicates.Goal.{Goal}
@@ -18,16 +17,14 @@ use Rattle.goal_terms.specs.declared.terms.AliasTermKind.TheVariants.{Projection
 use Rattle.goal_terms.specs.declared.terms.Ty.{Ty}
 use Rattle.goal_terms.specs.declared.terms.Ty.TheVariants as types
 use Rattle.goal_tables.specs.Clauses.{lies_in_trait_ref}
-use Rattle.goal_tables.specs.Rows.{item_of, lang_naming, opaque_of, trait_of}
-use Rattle.goal_tables.specs.declared.lang.LangTarget.TheVariants as target
+use Rattle.goal_tables.specs.Rows.{item_of, opaque_of}
 use Rattle.goal_tables.specs.declared.rows.ImplRow.{ImplRow}
 use Rattle.goal_tables.specs.declared.rows.ItemRow.{ItemRow}
 use Rattle.goal_tables.specs.declared.rows.OpaqueRow.{OpaqueRow}
 use Rattle.goal_tables.specs.declared.rows.Tables.{Tables}
-use Rattle.goal_tables.specs.declared.rows.TraitRow.{TraitRow}
 use Rattle.goal_tables.specs.declared.sites.TermFault.{TermFault}
 use Rattle.goal_kinds.specs.Answers.{setting_of}
-use Rattle.goal_kinds.specs.CandidateRules.{RuleSays, GivesAs, RefutedAs, HoldsError, NamedRule, trait_alias, sizedness, copy_clone, fn_ptr_trait, fn_trait, tuple, pointee, discriminant_kind, destruct, field, said_by, first_type, asked_trait, may_match, IsWithSelf, TraitCandidateHolds, TraitCandidateRefuted}
+use Rattle.goal_kinds.specs.CandidateRules.{RuleSays, GivesAs, RefutedAs, HoldsError, NamedRule, trait_alias, sizedness, copy_clone, fn_ptr_trait, fn_trait, tuple, pointee, discriminant_kind, destruct, field, said_by, first_type, asked_trait, is_rule_for, may_match, IsWithSelf, TraitCandidateHolds, TraitCandidateRefuted}
 use Rattle.goal_kinds.specs.Candidates.{Candidate, assumption, implied_bound, by_impl, built_in, error, bounds_under, environment, rest}
 use Rattle.goal_kinds.specs.Levels.{level}
 use Rattle.goal_kinds.specs.Premises.{TraitTree}
@@ -96,25 +93,9 @@ abbrev pub is_any_named : (NamedRule → Bool) → Bool
 is_any_named is_for =
     is_for trait_alias || is_for sizedness || is_for copy_clone || is_for fn_ptr_trait || is_for fn_trait || is_later_named is_for
 
--- whether a row says that a trait is a trait alias
-abbrev pub is_alias_row : Option TraitRow → Bool
-is_alias_row None = false
-is_alias_row (Some r) = r.is_alias
-
--- whether something built in may show a trait: it is a trait alias, or a lang item names it
-abbrev pub may_be_built_in : Tables → TraitId → Bool
-may_be_built_in t i = is_alias_row (trait_of t i) || is_some (lang_naming t (target.Trait i))
-
--- whether a trait goal asks for another trait
-abbrev pub is_plain_goal : Tables → MergeRule → Option TraitTree → Bool
-is_plain_goal t merge.TraitGoals None = false
-is_plain_goal t merge.TraitGoals (Some q) = not (may_be_built_in t q.def_id)
-is_plain_goal t merge.HostEffectGoals a = false
-is_plain_goal t merge.Projections a = false
-
--- no built-in rule is for a goal: it asks for such a trait, or no function is for it
+-- no built-in rule is for a goal
 abbrev pub HasNoneBuiltIn : GoalWords → Type 0
-HasNoneBuiltIn W = (is_plain_goal W.setting.tables W.merging W.asked ≡ true) ⊎ (is_any_named W.is_for ≡ false)
+HasNoneBuiltIn W = is_any_named W.is_for ≡ false
 
 -- why a candidate has no rule: nothing is there that would show the goal by it
 abbrev pub IsMissing : GoalWords → Candidate → Type 0
@@ -224,7 +205,7 @@ abbrev pub trait_words : KindWords TraitPredicate
 trait_words =
     kind_words merge.TraitGoals false (λ p. first_type p.trait_ref.args.items) (λ p t q. IsWithSelf p.trait_ref t q.trait_ref) (λ p t f. lies_in_trait_ref t [] f p.trait_ref)
     (λ p t. Some (asked_trait p.trait_ref)) (λ p k. may_match p.trait_ref k) (λ p t r. r.trait_id ≡ p.trait_ref.def_id) (λ p S n c t. TraitCandidateHolds p.trait_ref S n c)
-    (λ p S n c. TraitCandidateRefuted p.trait_ref S n c) (λ p t k. true) (λ p S a. [])
+    (λ p S n c. TraitCandidateRefuted p.trait_ref S n c) (λ p t k. is_rule_for t p.trait_ref.def_id k) (λ p S a. [])
 
 -- what such a kind says of the candidates of one goal, in a mode
 abbrev pub words_for : {P : Type 0} → KindWords P → Tables → Goal P → TypingMode → GoalWords

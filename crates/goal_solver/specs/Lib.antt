@@ -6,6 +6,8 @@ pub mod Stored
 pub mod Goals
 pub mod MergedRules
 pub mod Outcomes
+pub mod CacheEntries
+pub mod EvaluationCache
 pub mod Answers
 pub mod Pending
 pub mod Joined

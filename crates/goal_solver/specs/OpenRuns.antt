@@ -178,11 +178,12 @@ GivesValue env v (Some t) (Some ts) s c u = GivesForm env v (instance ts t) s c 
 GivesValue env v (Some t) None s c u = StaysUndecided s c u
 GivesValue env v None o s c u = StaysUndecided s c u
 
--- the expected term is given what an entry says; a term as it stands is made equal to it
+-- the expected term is given what an entry says; a term as it stands is made equal to it, and one that a clause chooses stays undecided
 abbrev pub GivesTerm : List Clause → List (List Tree) → Tree → RuleTerm → State → Certainty → State → Type 0
 GivesTerm env named v (term.AsItStands e) s c u = Equates env (v ∷ []) (tree_of_term e ∷ []) s u c
 GivesTerm env named v (term.Normalized e) s c u = GivesForm env v (tree_of_term e) s c u
 GivesTerm env named v (term.Value w n) s c u = GivesValue env v (value_in s.tables w) (slice_get named n) s c u
+GivesTerm env named v (term.ChosenBy k a b) s c u = StaysUndecided s c u
 
 -- that the mode is read is recorded; outside the headline modes the list may stay undecided in place of this
 abbrev pub ReadsMode : OpaqueAccess → State → Certainty → State → Type 0
@@ -199,16 +200,18 @@ refusal_in _ = Err fault.NoSolution
 abbrev pub Joins : OpenProgress → OpenProgress → (Certainty → Type 0) → Type 0
 Joins p q Does = (c : Certainty) × Does c × (q ≡ after_entry p c)
 
--- the step of an entry: what the call that it stands for may do to a context, and how far the list was run then
+-- the step of an entry: what the call that it stands for may do to a context, and how far the list was run then; const conditions stay undecided
 unfoldable pub Steps : List Clause → RuleEntry → State → OpenProgress → State → OpenProgress → Type 0
 Steps env (entry.Arguments a) s p u q = (ts : List Tree) × (c : Certainty) × NamesOpen env p.named a s ts c u × (q ≡ after_naming p ts c)
 Steps env (entry.Equation ts us) s p u q = Joins p q (λ c. Equates env (trees_of ts.items) (trees_of us.items) s u c)
 Steps env (entry.Clause g k) s p u q = Joins p q (λ c. AddsGoals g env (tree_of_kind k ∷ []) s u × (c ≡ certainty.Yes))
 Steps env (entry.RowClauses w n) s p u q = Joins p q (λ c. AddsRow (source_of w) env (clauses_in s.tables w) (slice_get p.named n) s c u)
+Steps env (entry.RowConditions b i n) s p u q = (u ≡ s) × (q ≡ after_entry p certainty.Maybe)
 Steps env (entry.Term v e) s p u q = Joins p q (λ c. GivesTerm env p.named (tree_of_term v) e s c u)
 Steps env (entry.Access a) s p u q = Joins p q (λ c. ReadsMode a s c u)
 Steps env (entry.DelayedFault f) s p u q = RecordsFault f s u × (q ≡ p)
 Steps env entry.Evaluation s p u q = (c : Certainty) × Evaluates s u c × (q ≡ p)
+Steps env entry.Ambiguous s p u q = (u ≡ s) × (q ≡ after_entry p certainty.Maybe)
 Steps env entry.Undecided s p u q = (u ≡ s) × (q ≡ after_entry p certainty.Maybe)
 Steps env entry.Refused s p u q = Joins p q (λ c. (u ≡ s) × (refusal_in s.typing_mode ≡ Ok c))
 

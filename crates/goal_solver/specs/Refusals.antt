@@ -91,6 +91,7 @@ abbrev pub RefusesTerm : List Clause → List (List Tree) → Tree → RuleTerm 
 RefusesTerm env named v (term.AsItStands e) s u = RefusesEqual env (v ∷ []) (tree_of_term e ∷ []) s u
 RefusesTerm env named v (term.Normalized e) s u = RefusesForm env v (tree_of_term e) s u
 RefusesTerm env named v (term.Value w n) s u = RefusesValue env v (value_in s.tables w) (slice_get named n) s u
+RefusesTerm env named v (term.ChosenBy k a b) s u = ⊥
 
 -- the step of an entry is refused, and what is left then: only a header, an equation, a term, an evaluation and a rule that doesn't stand can be
 unfoldable pub StepRefused : List Clause → RuleEntry → State → OpenProgress → State → Type 0
@@ -98,10 +99,12 @@ StepRefused env (entry.Arguments a) s p u = RefusesNames env p.named a s u
 StepRefused env (entry.Equation ts us) s p u = RefusesEqual env (trees_of ts.items) (trees_of us.items) s u
 StepRefused env (entry.Clause g k) s p u = ⊥
 StepRefused env (entry.RowClauses w n) s p u = ⊥
+StepRefused env (entry.RowConditions b i n) s p u = ⊥
 StepRefused env (entry.Term v e) s p u = RefusesTerm env p.named (tree_of_term v) e s u
 StepRefused env (entry.Access a) s p u = ⊥
 StepRefused env (entry.DelayedFault f) s p u = ⊥
 StepRefused env entry.Evaluation s p u = RefusesPending s u
+StepRefused env entry.Ambiguous s p u = ⊥
 StepRefused env entry.Undecided s p u = ⊥
 StepRefused env entry.Refused s p u = (u ≡ s) × (refusal_in s.typing_mode ≡ Err fault.NoSolution)
 

@@ -56,6 +56,7 @@ abbrev pub some_in_term : (Node → Bool) → RuleTerm → Bool
 some_in_term p (term.AsItStands e) = some_node p (tree_of_term e)
 some_in_term p (term.Normalized e) = some_node p (tree_of_term e)
 some_in_term p (term.Value v n) = false
+some_in_term p (term.ChosenBy k a b) = some_in_clause_kind p k || some_node p (tree_of_term a) || some_node p (tree_of_term b)
 
 -- whether something in an entry passes, expected terms aside
 abbrev pub some_in_entry : (Node → Bool) → RuleEntry → Bool
@@ -63,10 +64,12 @@ some_in_entry p (entry.Arguments a) = some_in_arguments p a
 some_in_entry p (entry.Equation ts us) = some_in_args p ts.items || some_in_args p us.items
 some_in_entry p (entry.Clause g k) = some_in_clause_kind p k
 some_in_entry p (entry.RowClauses c n) = false
+some_in_entry p (entry.RowConditions b i n) = false
 some_in_entry p (entry.Term v e) = some_in_term p e
 some_in_entry p (entry.Access a) = false
 some_in_entry p (entry.DelayedFault f) = false
 some_in_entry p entry.Evaluation = false
+some_in_entry p entry.Ambiguous = false
 some_in_entry p entry.Undecided = false
 some_in_entry p entry.Refused = false
 
@@ -81,9 +84,11 @@ asked_by (entry.Arguments a) = []
 asked_by (entry.Equation ts us) = []
 asked_by (entry.Clause g k) = []
 asked_by (entry.RowClauses c n) = []
+asked_by (entry.RowConditions b i n) = []
 asked_by (entry.Access a) = []
 asked_by (entry.DelayedFault f) = []
 asked_by entry.Evaluation = []
+asked_by entry.Ambiguous = []
 asked_by entry.Undecided = []
 asked_by entry.Refused = []
 
@@ -133,8 +138,10 @@ to_record (entry.Arguments a) = recorded.Nothing
 to_record (entry.Equation ts us) = recorded.Nothing
 to_record (entry.Clause g k) = recorded.Nothing
 to_record (entry.RowClauses c n) = recorded.Nothing
+to_record (entry.RowConditions b i n) = recorded.Nothing
 to_record (entry.Term v e) = recorded.Nothing
 to_record entry.Evaluation = recorded.Nothing
+to_record entry.Ambiguous = recorded.Nothing
 to_record entry.Undecided = recorded.Nothing
 to_record entry.Refused = recorded.Nothing
 

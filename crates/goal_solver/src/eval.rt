@@ -3,6 +3,7 @@ pub mod added_evaluation;
 pub(crate) mod closed_goals;
 pub(crate) mod conclusions;
 pub mod effects;
+pub mod evaluation_cache;
 pub(crate) mod evaluations;
 pub(crate) mod free_variables;
 pub(crate) mod goal_outcomes;

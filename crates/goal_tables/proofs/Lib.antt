@@ -1,8 +1,10 @@
 pub mod FaultLemmas
 pub mod IndexLemmas
+pub mod KeyLemmas
 pub mod KindLemmas
 pub mod LookupLemmas
 pub mod MarkLemmas
 pub mod ParamLemmas
 pub mod PlaceLemmas
+pub mod PlacesLemmas
 pub mod SiteLemmas

@@ -3,6 +3,7 @@ use Rattle.std.specs.Prelude.{◌≡◌, ◌==◌, ◌||◌, ℕ, Bool, List, []
 use Rattle.std.specs.HashMap.{get, HashMap}
 use Rattle.std.specs.List.{list_any}
 use Rattle.goal_tables.specs.FixedParams.{impl_has_unfixed, inherent_has_unfixed}
+use Rattle.goal_tables.specs.ImplsByHead.{AreKeyLists}
 use Rattle.goal_tables.specs.Places.{IsIndexOf, same_pair, has_double}
 use Rattle.goal_tables.specs.Rows.{same_lang_item, same_lang_target}
 use Rattle.goal_tables.specs.declared.index.RowIndex.{RowIndex}
@@ -65,11 +66,12 @@ pub record IsTraitIndex (t : Tables) (i : TraitIndex) : Type 0 where
   pub items : IsRowIndex (map (λ r. r.id.0) t.items.items) i.items
   pub listings : AreListings t.traits.items i.listings.items
 
--- the places of impls and definitions are right, those of each trait's impls, and whether a parameter stands in no header
+-- the places of impls and definitions are right, those of each trait's impls, also by the head of their self type, and whether a parameter stands in no header
 pub record IsImplIndex (t : Tables) (i : ImplIndex) : Type 0 where
   pub impls : IsRowIndex (map (λ r. r.id.0) t.impls.items) i.impls
   pub definitions : IsRowIndex (map (λ r. r.id.0) t.definitions.items) i.definitions
   pub by_trait : AreImplLists t.impls.items i.by_trait
+  pub by_head : AreKeyLists t.impls.items i.by_head
   pub unfixed : i.unfixed ≡ list_any impl_has_unfixed t.impls.items
 
 -- the places of sources are right, and whether an impl has two for one item

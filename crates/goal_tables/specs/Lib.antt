@@ -2,6 +2,7 @@ pub mod Clauses
 pub mod Faults
 pub mod FixedParams
 pub mod ImplFaults
+pub mod ImplsByHead
 pub mod Indexed
 pub mod LangFaults
 pub mod Options

@@ -7,6 +7,7 @@ pub mod faults;
 pub mod fixed_params;
 pub mod impl_faults;
 pub mod impl_lists;
+pub mod impls_by_head;
 pub mod index;
 pub mod kinds;
 pub mod lang;

@@ -4,11 +4,13 @@ ghost use Rattle.std.specs.List.{list_any};
 ghost use Rattle.std.specs.Option.{option_copied};
 ghost use Rattle.std.specs.HashMap.{get};
 ghost use Rattle.goal_tables.specs.ImplFaults.{unfixed_parameter};
+ghost use Rattle.goal_tables.specs.ImplsByHead.{impls_with_head};
 ghost use Rattle.goal_tables.specs.Options.{option_holds};
 ghost use Rattle.goal_tables.specs.Places.{same_pair};
 ghost use Rattle.goal_tables.specs.Indexed.{IsRowIndex, IsSourceIndex, IsLangIndex, AreListings, list_at, lists_number as lists_item_number, lists_twice};
 ghost use Rattle.goal_tables.specs.Rows.{trait_of, item_of, impl_of, definition_of, free_of, inherent_impl_of, inherent_of, opaque_of, adt_of, function_of, closure_of, source_of, impls_of, items_of, impl_of_inherent, same_lang_item, same_lang_target, lang_of, lang_naming, lang_trait_of, lang_item_of, lang_adt_of, doubled_id, doubled_source, doubled_lang};
 
+use crate::impls_by_head::places_with_head;
 use crate::index::{place_of, row_at};
 use crate::lang::{LangItem, LangRow, LangTarget};
 use crate::listings::{lists_number, some_lists_twice};
@@ -17,6 +19,7 @@ use crate::rows::{
     OpaqueRow, SourceRow, Tables, TraitRow,
 };
 use crate::tables_index::{Index, LangIndex, SourceIndex, TraitIndex};
+use goal_terms::heads::Node;
 use goal_terms::ids::{
     AdtId, ClosureId, DefId, FnId, FreeId, ImplId, InherentId, InherentImplId, ItemId, OpaqueId,
     TraitId,
@@ -209,6 +212,15 @@ impl IndexedTables {
         ensures { map (slice_get self.now.impls.items) result.now ≡ map Some (impls_of self.now id) }
     {
         list_of(&self.index.holds.of_impls.by_trait, id.0)
+    }
+
+    /// The places of the impls of a trait whose self type may have a head, in the order of their rows. Want of
+    /// memory is the only refusal.
+    pub fn impls_with_head(&self, id: TraitId, head: Node) -> Result<Vec<usize>, AllocError>
+        ensures { IfOk result (λ places. map (slice_get self.now.impls.items) places.items ≡ map Some (impls_with_head self.now id head)) }
+    {
+        let alloc = *self.tables.traits.allocator();
+        places_with_head(alloc, &self.index.holds.of_impls.by_head, id, head)
     }
 
     /// The impl at a place.

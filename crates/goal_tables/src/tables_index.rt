@@ -6,6 +6,7 @@ ghost use Rattle.goal_tables.specs.Rows.{same_lang_item, same_lang_target};
 
 use crate::fixed_params::{some_impl_has_unfixed, some_inherent_has_unfixed};
 use crate::impl_lists::impl_lists;
+use crate::impls_by_head::{ImplKey, key_lists};
 use crate::index::{RowIndex, index_of};
 use crate::lang::{LangItem, LangRow, LangTarget};
 use crate::listings::listings;
@@ -45,12 +46,13 @@ impl Drop for SourceIndex {
     }
 }
 
-/// Where the rows of impls and definitions stand, where those of each trait's impls do, and whether a
-/// parameter of an impl doesn't stand in its header.
+/// Where the rows of impls and definitions stand, where those of each trait's impls do, also by the head of
+/// their self type, and whether a parameter of an impl doesn't stand in its header.
 pub struct ImplIndex {
     pub impls: RowIndex,
     pub definitions: RowIndex,
     pub by_trait: IndexMap<u32, Vec<usize>>,
+    pub by_head: IndexMap<ImplKey, Vec<usize>>,
     pub unfixed: bool,
 }
 
@@ -60,6 +62,7 @@ impl Drop for ImplIndex {
             impls: _,
             definitions: _,
             by_trait: _,
+            by_head: _,
             unfixed: _,
         } = self;
     }
@@ -213,11 +216,13 @@ impl ImplIndex {
         let impls = RowIndex::new(alloc, tables.impls.as_slice())?;
         let definitions = RowIndex::new(alloc, tables.definitions.as_slice())?;
         let by_trait = impl_lists(alloc, tables.impls.as_slice())?;
+        let by_head = key_lists(alloc, tables.impls.as_slice())?;
         let unfixed = some_impl_has_unfixed(alloc, tables.impls.as_slice())?;
         Ok(ImplIndex {
             impls,
             definitions,
             by_trait,
+            by_head,
             unfixed,
         })
     }

@@ -10,6 +10,7 @@ use std::alloc::{AllocError, Global};
 use vurloske_items::names::ItemNames;
 use vurloske_syntax::ast::{Ast, Attr, AttrArg, AttrValue, Ident, Position, Run, Symbol, TermId};
 use vurloske_syntax::mistake::Mistake;
+use vurloske_syntax::phrase::Phrase;
 
 /// What `#[expect(..)]` says, and where it stands.
 #[derive(Clone, Copy)]
@@ -44,11 +45,11 @@ pub fn expectation_of(ast: &Ast, attrs: Run) -> Result<Option<Expectation>, Mist
 /// The answer that an attribute expects.
 fn expected_answer(ast: &Ast, attr: Attr) -> Result<Expected, Mistake> {
     if ast.name(attr.ident.name) != "expect" {
-        return Err(Mistake::at_name(attr.ident, "`expect`"));
+        return Err(Mistake::at_name(attr.ident, Phrase::EXPECT));
     }
     match attr.value {
         AttrValue::Args(args) => answer_named(ast, ast.attr_args(args), attr.ident),
-        _ => Err(Mistake::at_name(attr.ident, "`expect(..)`")),
+        _ => Err(Mistake::at_name(attr.ident, Phrase::EXPECT_ARGS)),
     }
 }
 
@@ -58,11 +59,11 @@ fn answer_named(ast: &Ast, args: &[AttrArg], at: Ident) -> Result<Expected, Mist
         [AttrArg::Binding(word, term)] if ast.name(word.name) == "refused" => {
             match ast.plain_name(*term) {
                 Some(fault) => Ok(Expected::Refused(fault.name)),
-                None => Err(Mistake::at_name(*word, "`refused = NAME`")),
+                None => Err(Mistake::at_name(*word, Phrase::REFUSED_NAME)),
             }
         }
         [AttrArg::Term(term)] => Ok(answer_written(ast, *term)),
-        _ => Err(Mistake::at_name(at, "`expect` with one answer")),
+        _ => Err(Mistake::at_name(at, Phrase::ONE_ANSWER)),
     }
 }
 

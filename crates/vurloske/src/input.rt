@@ -4,6 +4,7 @@ use std::alloc::Global;
 use std::io::{BufReader, ErrorKind, Read};
 use vurloske_syntax::ast::Position;
 use vurloske_syntax::mistake::{Found, Mistake};
+use vurloske_syntax::phrase::{Expected, Phrase};
 
 /// The text that a reader has, to its end. A mistake where it is no UTF-8.
 pub fn read_text<R: Read + Drop>(alloc: Global, reader: R) -> Result<String, Ending> {
@@ -35,7 +36,7 @@ fn read_bytes<R: Read + Drop>(alloc: Global, reader: R) -> Result<Vec<u8>, Endin
 fn no_text(bytes: &[u8], good: usize) -> Ending {
     Ending::Mistake(Mistake {
         at: Position::behind(bytes.get(..good).unwrap_or(&[])),
-        expected: "UTF-8",
-        found: Found::Word("other bytes"),
+        expected: Expected::Phrase(Phrase::UTF_8),
+        found: Found::Word(Phrase::OTHER_BYTES),
     })
 }

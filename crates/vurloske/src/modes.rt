@@ -13,6 +13,7 @@ use std::alloc::Global;
 use vurloske_items::definitions::{Definition, Definitions};
 use vurloske_syntax::ast::{Ast, Ident, Run};
 use vurloske_syntax::mistake::Mistake;
+use vurloske_syntax::phrase::Phrase;
 
 /// The phase of checking in which goals are asked, and whether a goal is refused for which the erased
 /// mode doesn't suffice.
@@ -45,7 +46,7 @@ impl Mode {
     {
         match Phase::of(ast.name(word.name)) {
             Some(phase) => mode_of(alloc, ast, definitions, phase, names),
-            None => Err(Ending::Mistake(Mistake::at_name(word, "a mode"))),
+            None => Err(Ending::Mistake(Mistake::at_name(word, Phrase::MODE))),
         }
     }
 }
@@ -128,7 +129,7 @@ fn erased(ast: &Ast, names: Run) -> Result<Mode, Ending>
             typing_mode: TypingMode::ErasedNotCoherence,
             stop_on_rerun: true,
         }),
-        [first, ..] => Err(Ending::Mistake(Mistake::at_name(*first, "`stop`"))),
+        [first, ..] => Err(Ending::Mistake(Mistake::at_name(*first, Phrase::STOP))),
     }
 }
 
@@ -138,7 +139,7 @@ fn without_names(ast: &Ast, names: Run, mode: TypingMode) -> Result<Mode, Ending
 {
     match ast.idents(names) {
         [] => Ok(Mode::from(mode)),
-        [first, ..] => Err(Ending::Mistake(Mistake::at_name(*first, "no name"))),
+        [first, ..] => Err(Ending::Mistake(Mistake::at_name(*first, Phrase::NO_NAME))),
     }
 }
 
@@ -160,8 +161,8 @@ fn opaque_type(definitions: &Definitions, name: Ident) -> Result<OpaqueId, Endin
     match definitions.named(name.name) {
         Some(named) => match named.definition {
             Definition::Opaque(id) => Ok(id),
-            _ => Err(Ending::Mistake(Mistake::at_name(name, "an opaque type"))),
+            _ => Err(Ending::Mistake(Mistake::at_name(name, Phrase::OPAQUE_TYPE))),
         },
-        None => Err(Ending::Mistake(Mistake::at_name(name, "an opaque type"))),
+        None => Err(Ending::Mistake(Mistake::at_name(name, Phrase::OPAQUE_TYPE))),
     }
 }

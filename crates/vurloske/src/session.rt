@@ -15,6 +15,7 @@ use vurloske_items::environment::Environment;
 use vurloske_items::goals::{AskedGoal, lower_goal};
 use vurloske_syntax::ast::{Goal, Ident, Position, Run, Statement, StatementKind};
 use vurloske_syntax::mistake::{Found, Mistake};
+use vurloske_syntax::phrase::{Expected, Phrase};
 
 /// How deep blocks may nest.
 const MAX_NESTING: u32 = 500;
@@ -112,8 +113,8 @@ fn deeper(at: Position, depth: u32) -> Result<u32, Mistake>
         Some(depth) => Ok(depth),
         None => Err(Mistake {
             at,
-            expected: "less nesting",
-            found: Found::Word("a block"),
+            expected: Expected::Phrase(Phrase::LESS_NESTING),
+            found: Found::Word(Phrase::BLOCK),
         }),
     }
 }

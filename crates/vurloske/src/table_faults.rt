@@ -4,6 +4,7 @@ use goal_tables::faults::TableFault;
 use std::alloc::Global;
 use vurloske_syntax::ast::{Ast, Attr, AttrArg, AttrValue, Position, Symbol};
 use vurloske_syntax::mistake::Mistake;
+use vurloske_syntax::phrase::Phrase;
 
 /// That the tables are to be refused for a fault of this name.
 #[derive(Clone, Copy)]
@@ -24,7 +25,7 @@ pub fn expected_tables(ast: &Ast) -> Result<Option<ExpectedTables>, Mistake> {
                     fault: only_name(ast, ast.attr_args(args), *attr)?,
                 });
             }
-            _ => return Err(Mistake::at_name(attr.ident, "`no_core` or `expect_tables(NAME)`")),
+            _ => return Err(Mistake::at_name(attr.ident, Phrase::INNER_ATTRIBUTE)),
         }
     }
     Ok(expected)
@@ -38,7 +39,7 @@ fn only_name(ast: &Ast, args: &[AttrArg], attr: Attr) -> Result<Symbol, Mistake>
     };
     match name {
         Some(name) => Ok(name.name),
-        None => Err(Mistake::at_name(attr.ident, "`expect_tables(NAME)`")),
+        None => Err(Mistake::at_name(attr.ident, Phrase::EXPECT_TABLES)),
     }
 }
 

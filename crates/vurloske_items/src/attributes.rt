@@ -1,16 +1,17 @@
 //! What attributes say of items.
 use crate::faults::{ItemFault, wrong_name};
 use vurloske_syntax::ast::{Ast, Attr, AttrArg, AttrValue, Ident, Run, TermId, TermKind};
+use vurloske_syntax::phrase::Phrase;
 
 /// A mistake where an attribute is none of some names, or stands twice.
 pub(crate) fn expect_attrs(ast: &Ast, attrs: Run, names: &[&str]) -> Result<(), ItemFault> {
     let attrs = ast.attrs(attrs);
     for (place, attr) in attrs.iter().enumerate() {
         if !is_among(ast.name(attr.ident.name), names) {
-            return Err(wrong_name(attr.ident, "an attribute of such an item"));
+            return Err(wrong_name(attr.ident, Phrase::ATTRIBUTE_OF_SUCH_AN_ITEM));
         }
         if first_of_name(attrs, attr.ident) != Some(place) {
-            return Err(wrong_name(attr.ident, "an attribute that is new here"));
+            return Err(wrong_name(attr.ident, Phrase::NEW_ATTRIBUTE));
         }
     }
     Ok(())
@@ -37,7 +38,7 @@ pub(crate) fn args_in_attr<'a>(ast: &'a Ast, attr: &Attr) -> &'a [AttrArg] {
 pub(crate) fn term_in_attr(ast: &Ast, attr: &Attr) -> Result<TermId, ItemFault> {
     match args_in_attr(ast, attr) {
         [AttrArg::Term(id)] => Ok(*id),
-        _ => Err(wrong_name(attr.ident, "an attribute with one term")),
+        _ => Err(wrong_name(attr.ident, Phrase::ATTRIBUTE_WITH_ONE_TERM)),
     }
 }
 
@@ -45,7 +46,7 @@ pub(crate) fn term_in_attr(ast: &Ast, attr: &Attr) -> Result<TermId, ItemFault> 
 pub(crate) fn name_in_attr(ast: &Ast, attr: &Attr) -> Result<Ident, ItemFault> {
     match ast.plain_name(term_in_attr(ast, attr)?) {
         Some(ident) => Ok(ident),
-        None => Err(wrong_name(attr.ident, "an attribute with one name")),
+        None => Err(wrong_name(attr.ident, Phrase::ATTRIBUTE_WITH_ONE_NAME)),
     }
 }
 
@@ -57,7 +58,7 @@ pub(crate) fn number_in_attr(ast: &Ast, attr: &Attr) -> Result<u32, ItemFault> {
             return Ok(number);
         }
     }
-    Err(wrong_name(attr.ident, "an attribute with one number"))
+    Err(wrong_name(attr.ident, Phrase::ATTRIBUTE_WITH_ONE_NUMBER))
 }
 
 /// The one term of the attribute of a name, where there is this attribute.

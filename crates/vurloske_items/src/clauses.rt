@@ -13,6 +13,7 @@ use std::alloc::Global;
 use vurloske_syntax::ast::{
     self, Bound, Constness, Generics, Ident, Position, Run, TermId, WhereClause, WhereKind,
 };
+use vurloske_syntax::phrase::Phrase;
 
 /// What a `[const]` bound is beside its plain form.
 #[derive(Clone, Copy)]
@@ -102,11 +103,7 @@ impl Conditions {
             return self.push_host_effect(trait_ref, BoundConstness::Maybe, bound_regions);
         }
         if bound_regions > 0 {
-            return Err(wrong(
-                at,
-                "a const condition without `for`",
-                "one that binds lifetimes",
-            ));
+            return Err(wrong(at, Phrase::CONDITION_WITHOUT_FOR, Phrase::BINDS_LIFETIMES));
         }
         self.const_conditions.push(trait_ref)?;
         Ok(())
@@ -319,7 +316,11 @@ impl Lowering<'_> {
     fn declare_ty(&mut self, id: TermId) -> Result<(), ItemFault> {
         match self.ast.plain_name(id) {
             Some(ident) => self.declare_new(ParamName::Named(ident.name), ParamKind::Ty, ident),
-            None => Err(wrong(self.at(id), "the name of a parameter", "another term")),
+            None => Err(wrong(
+                self.at(id),
+                Phrase::NAME_OF_A_PARAMETER,
+                Phrase::ANOTHER_TERM,
+            )),
         }
     }
 
@@ -332,7 +333,7 @@ impl Lowering<'_> {
     ) -> Result<(), ItemFault> {
         match name {
             ParamName::Named(symbol) if self.definitions.named(symbol).is_some() => {
-                Err(wrong_name(ident, "a name that no item has"))
+                Err(wrong_name(ident, Phrase::NO_ITEM_NAME))
             }
             _ => self.scope.declare(name, kind, ident.at),
         }

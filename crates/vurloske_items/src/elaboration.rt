@@ -11,6 +11,7 @@ use goal_terms::terms::{AliasTermKind, DynClause, GenericArg, Region, Term};
 use goal_terms::view::TermRef;
 use std::alloc::Global;
 use vurloske_syntax::ast::Position;
+use vurloske_syntax::phrase::Phrase;
 
 /// Adds what the clauses of a list say through supertraits, once each, behind the clauses. A mistake
 /// at the place where more generations follow than there are traits: some trait is its own supertrait
@@ -33,7 +34,7 @@ pub fn elaborate(
         add_implied(alloc, definitions, clauses, done, known)?;
         done = known;
     }
-    Err(wrong(at, "supertraits that end", "too many"))
+    Err(wrong(at, Phrase::SUPERTRAITS_THAT_END, Phrase::TOO_MANY))
 }
 
 /// Adds what the clauses at some places say through supertraits.
@@ -251,7 +252,7 @@ pub(crate) fn dyn_clauses(
     for clause in clauses.as_slice() {
         if let Some(new) = dyn_clause(alloc, clause)? {
             if names_self(&new) {
-                return Err(wrong(at, "bounds that do not name `Self`", "one that does"));
+                return Err(wrong(at, Phrase::BOUNDS_WITHOUT_SELF, Phrase::ONE_THAT_DOES));
             }
             all.push(new)?;
         }

@@ -12,6 +12,7 @@ use goal_terms::predicates::{
 use goal_terms::terms::{AliasTerm, Term};
 use std::alloc::Global;
 use vurloske_syntax::ast::{Arg, Args, Ast, Bound, Constness, Goal, GoalKind, Segment, TermId};
+use vurloske_syntax::phrase::Phrase;
 
 /// What a goal asks.
 #[derive(Drop)]
@@ -74,7 +75,7 @@ impl Lowering<'_> {
 
     fn asked_bound(&mut self, self_ty: TermId, bound: Bound) -> Result<Asked, ItemFault> {
         if bound.binder.len > 0 || bound.is_relaxed {
-            return Err(wrong(bound.at, "a trait", "another bound"));
+            return Err(wrong(bound.at, Phrase::TRAIT, Phrase::ANOTHER_BOUND));
         }
         self.without_equations(bound.trait_)?;
         let self_ty = self.ty(self_ty)?;
@@ -101,7 +102,7 @@ impl Lowering<'_> {
             }
         };
         if has_equation {
-            Err(wrong_name(trait_.ident, "a trait without items"))
+            Err(wrong_name(trait_.ident, Phrase::TRAIT_WITHOUT_ITEMS))
         } else {
             Ok(())
         }

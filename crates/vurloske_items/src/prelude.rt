@@ -1,6 +1,7 @@
 //! The lang items that a text has where it names none.
 use crate::faults::{ItemFault, wrong_name};
 use vurloske_syntax::ast::{Ast, Ident, ItemKind};
+use vurloske_syntax::phrase::Phrase;
 
 /// The traits, the items and the struct that built-in rules know.
 pub const PRELUDE: &str = "#[lang = \"sized\"]
@@ -70,7 +71,7 @@ pub fn check_names(ast: &Ast) -> Result<(), ItemFault> {
     for item in ast.items.as_slice() {
         if let Some(ident) = declared(&item.kind) {
             if is_name(ast.name(ident.name)) {
-                return Err(wrong_name(ident, "a name that no other item has"));
+                return Err(wrong_name(ident, Phrase::NEW_ITEM_NAME));
             }
         }
     }

@@ -24,6 +24,7 @@ use goal_terms::ids::TraitId;
 use std::alloc::Global;
 use vurloske_syntax::ast;
 use vurloske_syntax::ast::{Ast, Generics, Run, Segment};
+use vurloske_syntax::phrase::Phrase;
 
 /// The rows of a text's items, in order of their ids.
 ///
@@ -132,7 +133,7 @@ impl<'a> Text<'a> {
     fn trait_named(self, trait_: Segment) -> Result<TraitId, ItemFault> {
         match self.definitions.trait_id(trait_.ident.name) {
             Some(id) => Ok(id),
-            None => Err(wrong_name(trait_.ident, "a trait")),
+            None => Err(wrong_name(trait_.ident, Phrase::TRAIT)),
         }
     }
 }

@@ -9,6 +9,7 @@ use std::alloc::Global;
 use vurloske_syntax::ast::{
     Ast, Ident, Lifetime, LifetimeKind, Position, Run, Segment, Symbol, TermId,
 };
+use vurloske_syntax::phrase::Phrase;
 
 /// How a parameter is named.
 #[derive(Clone, Copy, PartialEq, Eq, Hash)]
@@ -361,7 +362,7 @@ impl<'a> Scope<'a> {
         at: Position,
     ) -> Result<(), ItemFault> {
         if self.param(name).is_some() {
-            return Err(wrong(at, "a new name", "one that is declared already"));
+            return Err(wrong(at, Phrase::NEW_NAME, Phrase::DECLARED_ALREADY));
         }
         self.params.kinds.insert(name, kind)?;
         Ok(())
@@ -434,7 +435,7 @@ impl<'a> Scope<'a> {
         }
         match self.param(ParamName::Lifetime(ident.name)) {
             Some(param) => Ok(Region::Param(param.number)),
-            None => Err(wrong(ident.at, "a lifetime in scope", "another one")),
+            None => Err(wrong(ident.at, Phrase::LIFETIME_IN_SCOPE, Phrase::ANOTHER_ONE)),
         }
     }
 }

@@ -15,6 +15,7 @@ use vurloske_syntax::ast;
 use vurloske_syntax::ast::{
     Ast, FnPtr, Generics, Impl, Position, Run, Segment, Symbol, TermId, WhereKind,
 };
+use vurloske_syntax::phrase::Phrase;
 
 /// How deep terms may nest. What a text's own nesting is allowed to be fits in.
 pub const DEPTH: u32 = 600;
@@ -149,7 +150,7 @@ impl<'a> Lowering<'a> {
         match self.term_within(id, Wanted::Ty, DEPTH)? {
             Term::Ty(Ty::Alias(alias)) => Ok(alias),
             Term::Const(Const::Alias(alias)) => Ok(alias),
-            _ => Err(wrong(self.at(id), "an alias", "a term that is none")),
+            _ => Err(wrong(self.at(id), Phrase::ALIAS, Phrase::TERM_THAT_IS_NONE)),
         }
     }
 

@@ -1,6 +1,7 @@
 //! The tokens that are still to be read.
 use crate::ast::{Ident, Position};
 use crate::mistake::{Found, Mistake, SyntaxFault};
+use crate::phrase::{Expected, Phrase};
 use crate::token::{Keyword, Sign, Token, TokenKind};
 use std::alloc::Global;
 
@@ -113,7 +114,7 @@ impl<'t> Cursor<'t> {
         if self.eat(sign) {
             Ok(())
         } else {
-            Err(self.mistake(sign.quoted()))
+            Err(self.unexpected(Expected::Sign(sign)))
         }
     }
 
@@ -121,12 +122,12 @@ impl<'t> Cursor<'t> {
         if self.eat_keyword(keyword) {
             Ok(())
         } else {
-            Err(self.mistake(keyword.quoted()))
+            Err(self.unexpected(Expected::Keyword(keyword)))
         }
     }
 
     /// A name, which a mistake calls as it is said.
-    pub(crate) fn ident(&mut self, expected: &'static str) -> Result<Ident, SyntaxFault> {
+    pub(crate) fn ident(&mut self, expected: Phrase) -> Result<Ident, SyntaxFault> {
         let at = self.at();
         match self.peek() {
             TokenKind::Name(name) => {
@@ -143,18 +144,22 @@ impl<'t> Cursor<'t> {
                 self.advance();
                 Ok(value)
             }
-            _ => Err(self.mistake("a number")),
+            _ => Err(self.mistake(Phrase::NUMBER)),
         }
     }
 
     /// A number that fits 32 bits.
     pub(crate) fn short_number(&mut self) -> Result<u32, SyntaxFault> {
-        let mistake = self.mistake("a number of at most 32 bits");
+        let mistake = self.mistake(Phrase::NUMBER_OF_32_BITS);
         u32::try_from(self.number()?).map_err(|_| mistake)
     }
 
     /// Something else is expected than the next token.
-    pub(crate) fn mistake(&self, expected: &'static str) -> SyntaxFault {
+    pub(crate) fn mistake(&self, expected: Phrase) -> SyntaxFault {
+        self.unexpected(Expected::Phrase(expected))
+    }
+
+    fn unexpected(&self, expected: Expected) -> SyntaxFault {
         let found = match self.rest.first() {
             Some(token) => Found::Text(token.span),
             None => Found::End,

@@ -4,6 +4,7 @@ ghost use Rattle.vurloske_syntax.specs.Cuts.{offset_of, Advances, Cuts, InOrder,
 
 use crate::ast::{Ast, LifetimeKind, Span};
 use crate::mistake::{Mistake, SyntaxFault, is_name_byte};
+use crate::phrase::Phrase;
 use crate::scanner::{Mark, Scanner};
 use crate::token::{Keyword, Sign, Token, TokenKind};
 use std::alloc::{AllocError, Global};
@@ -102,7 +103,7 @@ fn lifetime<'t>(
     }
     let name = scanner.take_name();
     if name.is_empty() || scanner.rest().first() == Some(&b'\'') {
-        let mistake = scanner.mistake_since(mark, "a lifetime");
+        let mistake = scanner.mistake_since(mark, Phrase::LIFETIME);
         return Err(SyntaxFault::Mistake(mistake));
     }
     let kind = match name {
@@ -128,7 +129,7 @@ fn quoted<'t>(
     let text = rest.get(..end.unwrap_or(rest.len())).unwrap_or(&[]);
     scanner.skip(text.len());
     if scanner.rest().first() != Some(&b'"') {
-        let mistake = scanner.mistake_since(mark, "a text that ends on its line");
+        let mistake = scanner.mistake_since(mark, Phrase::TEXT_ON_ONE_LINE);
         return Err(SyntaxFault::Mistake(mistake));
     }
     scanner.skip(1);
@@ -147,7 +148,7 @@ fn number<'t>(scanner: &mut Scanner<'t>, mark: Mark<'t>) -> Result<TokenKind, Mi
     };
     match value {
         Some(value) => Ok(TokenKind::Number(value)),
-        None => Err(scanner.mistake_since(mark, "a number of at most 128 bits")),
+        None => Err(scanner.mistake_since(mark, Phrase::NUMBER_OF_128_BITS)),
     }
 }
 
@@ -220,5 +221,5 @@ fn foreign<'t>(scanner: &mut Scanner<'t>, mark: Mark<'t>) -> Mistake
     let rest = scanner.rest();
     let further = rest.iter().position(|b| !matches!(*b, 0x80..=0xbf));
     scanner.skip(further.unwrap_or(rest.len()));
-    scanner.mistake_since(mark, "a word or a sign")
+    scanner.mistake_since(mark, Phrase::WORD_OR_A_SIGN)
 }

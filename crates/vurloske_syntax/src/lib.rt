@@ -6,6 +6,7 @@ mod cursor;
 pub mod lexer;
 pub mod mistake;
 mod parser;
+pub mod phrase;
 mod scanner;
 pub mod token;
 

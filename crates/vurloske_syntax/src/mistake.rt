@@ -1,5 +1,6 @@
 //! What is wrong with a text, and where.
 use crate::ast::{Ident, Position, Span};
+use crate::phrase::{Expected, Phrase};
 use std::alloc::{AllocError, AllocFailed};
 use std::fmt;
 use std::str::from_utf8;
@@ -31,7 +32,7 @@ impl<T: Drop> From<AllocFailed<T>> for SyntaxFault {
 pub struct Mistake {
     pub at: Position,
     /// As `a type` or, of a sign or a keyword, with quotes.
-    pub expected: &'static str,
+    pub expected: Expected,
     pub found: Found,
 }
 
@@ -44,19 +45,19 @@ pub enum Found {
     /// The name that begins at the place.
     Name,
     /// A word of the one who found the mistake.
-    Word(&'static str),
+    Word(Phrase),
 }
 
 impl Mistake {
     ghost use Rattle.std.specs.Prelude.{◌≡◌};
 
     /// That something else than this name was expected where it stands.
-    pub fn at_name(ident: Ident, expected: &'static str) -> Mistake
-        ensures { result ≡ record { at = ident.at; expected = expected.entry; found = Found.Name } }
+    pub fn at_name(ident: Ident, expected: Phrase) -> Mistake
+        ensures { result ≡ record { at = ident.at; expected = Expected.Phrase expected; found = Found.Name } }
     {
         Mistake {
             at: ident.at,
-            expected,
+            expected: Expected::Phrase(expected),
             found: Found::Name,
         }
     }
@@ -73,7 +74,7 @@ impl Mistake {
 impl fmt::Display for Mistake {
     fn fmt<W: fmt::Write>(&self, f: &mut fmt::Formatter<W>) -> fmt::Result {
         let Position { line, column } = self.at;
-        let expected = self.expected;
+        let expected = self.expected.as_str();
         write!(f, "{line}:{column}: expected {expected}")
     }
 }
@@ -98,7 +99,10 @@ impl fmt::Display for ShownMistake<'_> {
                 let found = name_at(self.text, mistake.at);
                 write!(f, "{mistake}, found `{found}`")
             }
-            Found::Word(found) => write!(f, "{mistake}, found {found}"),
+            Found::Word(word) => {
+                let found = word.as_str();
+                write!(f, "{mistake}, found {found}")
+            }
         }
     }
 }

@@ -3,6 +3,7 @@ ghost use Rattle.std.specs.Prelude.{◌≡◌, length, drop};
 
 use crate::ast::{Position, Span};
 use crate::mistake::{Found, Mistake, name_prefix};
+use crate::phrase::{Expected, Phrase};
 use std::str::from_utf8;
 
 /// A text, what is left of it, and the line that is reached.
@@ -150,27 +151,27 @@ impl<'t> Scanner<'t> {
                 _ => self.skip(1),
             }
         }
-        Err(self.end_mistake("`*/`"))
+        Err(self.end_mistake(Phrase::COMMENT_END))
     }
 
     /// The text ends before what was expected.
-    fn end_mistake(&self, expected: &'static str) -> Mistake {
+    fn end_mistake(&self, expected: Phrase) -> Mistake {
         Mistake {
             at: self.position(),
-            expected,
+            expected: Expected::Phrase(expected),
             found: Found::End,
         }
     }
 
     /// Something else than expected stands between an earlier place and this one.
-    pub(crate) fn mistake_since(&self, mark: Mark<'t>, expected: &'static str) -> Mistake {
+    pub(crate) fn mistake_since(&self, mark: Mark<'t>, expected: Phrase) -> Mistake {
         let span = Span {
             start: mark.offset,
             end: self.offset(),
         };
         Mistake {
             at: mark.at,
-            expected,
+            expected: Expected::Phrase(expected),
             found: Found::Text(span),
         }
     }

@@ -17,7 +17,10 @@ use goal_terms::terms::GenericArg;
 use goal_terms::view::TermRef;
 
 /// Arguments as they stand. The table gets them. Want of memory or of numbers is the only refusal.
-fn args_given(terms: &mut TermTable, given: &[GenericArg]) -> Result<Vec<TermId>, OutOfMemory>
+pub(crate) fn args_given(
+    terms: &mut TermTable,
+    given: &[GenericArg],
+) -> Result<Vec<TermId>, OutOfMemory>
     ensures kept { Keeps terms.old terms.new }
     ensures within { IfOk result (λ ids. AreIn terms.new ids.items) }
     ensures trees { IfOk result (λ ids. erased_all terms.new ids.items ≡ map erased (trees_of given.now)) }
@@ -32,7 +35,7 @@ fn args_given(terms: &mut TermTable, given: &[GenericArg]) -> Result<Vec<TermId>
 
 /// What a clause says, as it stands. The table gets its terms. Want of memory or of numbers is the only
 /// refusal.
-fn predicate_given(
+pub(crate) fn predicate_given(
     terms: &mut TermTable,
     given: &ClauseKind,
 ) -> Result<InternedPredicate, OutOfMemory>

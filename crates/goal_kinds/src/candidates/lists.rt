@@ -1,12 +1,13 @@
 //! The candidates for a goal of a trait, whose self type is a head form.
-ghost use Rattle.std.specs.Prelude.{◌≡◌, ◌++◌, ◌∷◌, [], List, map, IfOk};
+ghost use Rattle.std.specs.Prelude.{◌≡◌, ◌++◌, ◌∷◌, ◌<◌, [], List, Some, length, map, slice_get, IfOk};
 ghost use Rattle.std.specs.List.{All};
 ghost use Rattle.goal_terms.specs.TableMeaning.{Keeps};
 ghost use Rattle.goal_terms.specs.Tree.{Tree};
 ghost use Rattle.goal_terms.specs.declared.modes.TypingMode.{TypingMode};
+ghost use Rattle.goal_tables.specs.declared.rows.ImplRow.{ImplRow as impl_row};
 ghost use Rattle.goal_kinds.specs.Answers.{setting_of};
 ghost use Rattle.goal_kinds.specs.Candidates.{by_impl, impls_for, rest, class_of, second_group};
-ghost use Rattle.goal_kinds.specs.Fitting.{trees_at, fitting};
+ghost use Rattle.goal_kinds.specs.Fitting.{trees_at, first_constructor, fitting};
 ghost use Rattle.goal_kinds.specs.Interned.{IsIn, AreIn, CandidateIn, erased_at, candidate_at};
 
 use crate::candidates::bounds::push_alias_bounds;
@@ -17,6 +18,7 @@ use crate::candidates::objects::push_object_bounds;
 use goal_tables::lookup::IndexedTables;
 use goal_tables::rows::ImplRow;
 use goal_terms::answers::TraitGoalProvenVia;
+use goal_terms::heads::Node;
 use goal_terms::ids::TraitId;
 use goal_terms::predicates::Clause;
 use goal_terms::term_nodes::{OutOfMemory, TermId};
@@ -47,6 +49,42 @@ fn push_impl<'t>(
     Ok(())
 }
 
+/// The constructor at the top of the first of some arguments. There is none where that is an alias or an
+/// inference variable.
+fn first_constructor(terms: &TermTable, args: &[TermId]) -> Option<Node>
+    requires { AreIn terms.now args.now }
+    ensures { result ≡ first_constructor (trees_at terms.now args.now) }
+{
+    if args.is_empty() {
+        return None;
+    }
+    let node = terms.node(args[0]);
+    match node {
+        Node::Head(_) => Some(node),
+        Node::Alias(_) | Node::Variable(_) => None,
+    }
+}
+
+/// Adds the impls at some places that may fit given arguments, in their order. Want of memory is the only
+/// refusal.
+fn push_places<'t>(
+    rows: &'t IndexedTables,
+    terms: &TermTable,
+    found: &mut Vec<InternedCandidate<'t>>,
+    places: &[usize],
+    args: &[TermId],
+) -> Result<(), OutOfMemory>
+    requires known { AreIn terms.now args.now }
+    requires places { All (λ p. p < length rows.now.impls.items) places.now }
+    ensures within { (T : List Tree) → All (CandidateIn T) found.old.items → IfOk result (λ _. All (CandidateIn T) found.new.items) }
+    ensures pushed { (T : List Tree) (impls : List impl_row) → map (slice_get rows.now.impls.items) places.now ≡ map Some impls → IfOk result (λ _. map (candidate_at T) found.new.items ≡ map (candidate_at T) found.old.items ++ fitting (trees_at terms.now args.now) (map by_impl impls)) }
+{
+    for i in 0..places.len() {
+        push_impl(terms, found, args, rows.impl_at(places[i]))?;
+    }
+    Ok(())
+}
+
 /// Adds the impls of a trait that may fit given arguments, in the order of their rows. Want of memory is
 /// the only refusal.
 fn push_impls<'t>(
@@ -60,11 +98,11 @@ fn push_impls<'t>(
     ensures within { (T : List Tree) → All (CandidateIn T) found.old.items → IfOk result (λ _. All (CandidateIn T) found.new.items) }
     ensures pushed { (T : List Tree) → IfOk result (λ _. map (candidate_at T) found.new.items ≡ map (candidate_at T) found.old.items ++ fitting (trees_at terms.now args.now) (map by_impl (impls_for rows.now trait_id))) }
 {
-    let places = rows.impls_of_trait(trait_id);
-    for i in 0..places.len() {
-        push_impl(terms, found, args, rows.impl_at(places[i]))?;
-    }
-    Ok(())
+    let Some(head) = first_constructor(terms, args) else {
+        return push_places(rows, terms, found, rows.impls_of_trait(trait_id), args);
+    };
+    let places = rows.impls_with_head(trait_id, head)?;
+    push_places(rows, terms, found, places.as_slice(), args)
 }
 
 /// Adds the impls of a trait that may fit, its meaning or built-in rule, what a `dyn` self type's clauses

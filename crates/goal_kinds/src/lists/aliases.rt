@@ -16,6 +16,7 @@ use crate::lists::{
     HeaderTerms, InternedEntry, InternedTerm, ListSetting, RowHeader, RowValueTerm,
 };
 use crate::rules::aliases::{OpaqueUse, use_of};
+use crate::rules::{RowClauses, RowValue, RuleHeader};
 use goal_tables::rows::{FreeRow, InherentImplRow, InherentRow, OpaqueRow};
 use goal_terms::ids::{FreeId, InherentId, OpaqueId};
 use goal_terms::modes::TypingMode;
@@ -24,7 +25,7 @@ use goal_terms::terms::{AliasTermKind, Term};
 use std::alloc::Global;
 
 /// A row's value under the arguments of a number; a constant that lacks it is undecided.
-fn row_value<'t>(value: &'t Option<Term>, number: usize) -> InternedEntry<'t>
+fn row_value<'t>(row: RowValue, value: &'t Option<Term>, number: usize) -> InternedEntry<'t>
     ensures within { (T : List Tree) → EntryIn T result }
     ensures entry { (T : List Tree) → entry_at T result ≡ row_value value.now number }
 {
@@ -32,7 +33,7 @@ fn row_value<'t>(value: &'t Option<Term>, number: usize) -> InternedEntry<'t>
         None => InternedEntry::Undecided,
         Some(term) => {
             let of = RowValueTerm::Term(term);
-            InternedEntry::Expected(InternedTerm::ValueUnder(of, number))
+            InternedEntry::Expected(InternedTerm::ValueUnder(row, of, number))
         }
     }
 }
@@ -48,8 +49,8 @@ fn free_list<'t>(
     ensures entries { (T : List Tree) → IfOk result (λ es. entries_at T es.items ≡ free_list (erased_all T args.now) row.now) }
 {
     let named = given_arguments(alloc, args)?;
-    let clauses = InternedEntry::RowClauses(row.predicates.as_slice(), 0);
-    let value = row_value(&row.value, 0);
+    let clauses = InternedEntry::RowClauses(RowClauses::Free(row.id), row.predicates.as_slice(), 0);
+    let value = row_value(RowValue::Free(row.id), &row.value, 0);
     Ok(vec![in alloc; named, clauses, value]?)
 }
 
@@ -70,10 +71,11 @@ fn inherent_list<'t>(
         params: of.params.as_slice(),
         terms: HeaderTerms::SelfType(&of.self_ty),
     };
-    let matched = of_header(alloc, header, &[self_ty])?;
+    let matched = of_header(alloc, RuleHeader::InherentImpl(of.id), header, &[self_ty])?;
     let followed = followed_by(alloc, 0, own)?;
-    let clauses = InternedEntry::RowClauses(row.predicates.as_slice(), 1);
-    let value = row_value(&row.value, 1);
+    let asked = RowClauses::Inherent(row.id);
+    let clauses = InternedEntry::RowClauses(asked, row.predicates.as_slice(), 1);
+    let value = row_value(RowValue::Inherent(row.id), &row.value, 1);
     Ok(vec![in alloc; matched, followed, clauses, value]?)
 }
 
@@ -127,7 +129,7 @@ fn hidden_list<'t>(
 {
     let named = given_arguments(alloc, args)?;
     let of = RowValueTerm::Ty(&row.hidden);
-    let hidden = InternedEntry::Expected(InternedTerm::ValueUnder(of, 0));
+    let hidden = InternedEntry::Expected(InternedTerm::ValueUnder(RowValue::Opaque(row.id), of, 0));
     Ok(vec![in alloc; named, hidden]?)
 }
 

@@ -108,7 +108,7 @@ fn impl_list<'t>(
     if row.is_const {
         let mut entries = impl_match(alloc, row, args)?;
         let conditions = row.const_conditions.as_slice();
-        entries.push(InternedEntry::RowConditions(constness, conditions, 0))?;
+        entries.push(InternedEntry::RowConditions(constness, row.id, conditions, 0))?;
         return list_by_polarity(alloc, mode, row.polarity, entries);
     }
     Ok(None)

@@ -1,16 +1,20 @@
 //! Entries that the lists of several kinds of goals have.
-ghost use Rattle.std.specs.Prelude.{◌≡◌, ◌∷◌, [], List, map, IfOk};
+ghost use Rattle.std.specs.Prelude.{◌≡◌, ◌∷◌, [], List, Some, map, IfOk};
 ghost use Rattle.std.specs.List.{All};
 ghost use Rattle.goal_terms.specs.Tree.{Tree};
+ghost use Rattle.goal_tables.specs.Rows.{impl_of};
+ghost use Rattle.goal_tables.specs.declared.rows.Tables.{Tables};
 ghost use Rattle.goal_kinds.specs.Entries.{arguments, equal_terms, given_arguments, of_header, followed_by, premise_entry, premise_entries, undecided};
 ghost use Rattle.goal_kinds.specs.Interned.{IsIn, AreIn, PremiseIn, TraitIn, erased_at, erased_all, premise_at, trait_at};
 ghost use Rattle.goal_kinds.specs.InternedEntries.{EntryIn, EntriesIn, ListIn, entry_at, entries_at, list_at, header_trees};
+ghost use Rattle.goal_kinds.specs.NamedRows.{HeaderIsOf, NamesItsRows, ListNamesItsRows};
 ghost use Rattle.goal_kinds.specs.Premises.{conditions_as};
 ghost use Rattle.goal_kinds.specs.ProjectionLists.{standing};
 ghost use Rattle.goal_kinds.specs.TraitLists.{impl_match, reserved_list, list_by_polarity, error_list};
 
 use crate::candidates::interned::{InternedPredicate, InternedPremise, InternedTrait};
 use crate::lists::{HeaderTerms, InternedArguments, InternedEntry, InternedTerm, RowHeader};
+use crate::rules::{RowClauses, RuleHeader};
 use crate::term_errors::any_error;
 use goal_tables::rows::{ImplPolarity, ImplRow};
 use goal_terms::answers::GoalSource;
@@ -33,6 +37,7 @@ pub(crate) fn copied(alloc: Global, ids: &[TermId]) -> Result<Vec<TermId>, OutOf
 pub(crate) fn undecided<'t>(alloc: Global) -> Result<Vec<InternedEntry<'t>>, OutOfMemory>
     ensures within { (T : List Tree) → IfOk result (λ es. EntriesIn T es.items) }
     ensures entries { (T : List Tree) → IfOk result (λ es. entries_at T es.items ≡ undecided ∷ []) }
+    ensures named { (t : Tables) → IfOk result (λ es. All (NamesItsRows t) es.items) }
 {
     Ok(vec![in alloc; InternedEntry::Undecided]?)
 }
@@ -54,6 +59,7 @@ pub(crate) fn equal_terms<'t>(
 ) -> Result<InternedEntry<'t>, OutOfMemory>
     ensures within { (T : List Tree) → AreIn T left.now → AreIn T right.now → IfOk result (EntryIn T) }
     ensures entry { (T : List Tree) → IfOk result (λ e. entry_at T e ≡ equal_terms (erased_all T left.now) (erased_all T right.now)) }
+    ensures named { (t : Tables) → IfOk result (NamesItsRows t) }
 {
     let first = copied(alloc, left)?;
     let second = copied(alloc, right)?;
@@ -89,14 +95,16 @@ pub(crate) fn followed_by<'t>(
 /// refusal.
 pub(crate) fn of_header<'t>(
     alloc: Global,
+    row: RuleHeader,
     header: RowHeader<'t>,
     args: &[TermId],
 ) -> Result<InternedEntry<'t>, OutOfMemory>
     ensures within { (T : List Tree) → AreIn T args.now → IfOk result (EntryIn T) }
     ensures entry { (T : List Tree) → IfOk result (λ e. entry_at T e ≡ arguments (of_header header.entry.params.now (header_trees header.entry.terms) (erased_all T args.now))) }
+    ensures named { (t : Tables) → HeaderIsOf t row header.entry → IfOk result (NamesItsRows t) }
 {
     let made = copied(alloc, args)?;
-    Ok(InternedEntry::Arguments(InternedArguments::OfHeader(header, made)))
+    Ok(InternedEntry::Arguments(InternedArguments::OfHeader(row, header, made)))
 }
 
 /// A premise that is asked for. Want of memory is the only refusal.
@@ -167,13 +175,14 @@ pub(crate) fn impl_match<'t>(
 ) -> Result<Vec<InternedEntry<'t>>, OutOfMemory>
     ensures within { (T : List Tree) → AreIn T args.now → IfOk result (λ es. EntriesIn T es.items) }
     ensures entries { (T : List Tree) → IfOk result (λ es. entries_at T es.items ≡ impl_match row.now (erased_all T args.now) []) }
+    ensures named { (t : Tables) → impl_of t row.now.id ≡ Some row.now → IfOk result (λ es. All (NamesItsRows t) es.items) }
 {
     let header = RowHeader {
         params: row.params.as_slice(),
         terms: HeaderTerms::Arguments(row.trait_args.as_slice()),
     };
-    let matched = of_header(alloc, header, args)?;
-    let clauses = InternedEntry::RowClauses(row.predicates.as_slice(), 0);
+    let matched = of_header(alloc, RuleHeader::Impl(row.id), header, args)?;
+    let clauses = InternedEntry::RowClauses(RowClauses::Impl(row.id), row.predicates.as_slice(), 0);
     Ok(vec![in alloc; matched, clauses]?)
 }
 
@@ -185,6 +194,7 @@ fn reserved_list<'t>(
 ) -> Result<Option<Vec<InternedEntry<'t>>>, OutOfMemory>
     ensures within { (T : List Tree) → IfOk result (ListIn T) }
     ensures list { (T : List Tree) → IfOk result (λ o. list_at T o ≡ reserved_list mode.now) }
+    ensures named { (t : Tables) → IfOk result (ListNamesItsRows t) }
 {
     match mode {
         TypingMode::Coherence => {
@@ -209,6 +219,7 @@ pub(crate) fn list_by_polarity<'t>(
 ) -> Result<Option<Vec<InternedEntry<'t>>>, OutOfMemory>
     ensures within { (T : List Tree) → EntriesIn T entries.entry.items → IfOk result (ListIn T) }
     ensures list { (T : List Tree) → IfOk result (λ o. list_at T o ≡ list_by_polarity mode.now polarity (entries_at T entries.entry.items)) }
+    ensures named { (t : Tables) → All (NamesItsRows t) entries.entry.items → IfOk result (ListNamesItsRows t) }
 {
     match polarity {
         ImplPolarity::Positive => Ok(Some(entries)),
@@ -222,6 +233,7 @@ pub(crate) fn error_list<'t>(terms: &TermTable, args: &[TermId]) -> Option<Vec<I
     requires { AreIn terms.now args.now }
     ensures within { (T : List Tree) → ListIn T result }
     ensures list { (T : List Tree) → list_at T result ≡ error_list (erased_all terms.now args.now) }
+    ensures named { (t : Tables) → ListNamesItsRows t result }
 {
     if any_error(terms, args) {
         return Some(Vec::new(terms.allocator()));

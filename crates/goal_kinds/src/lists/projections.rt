@@ -26,6 +26,7 @@ use crate::lists::{
     RowHeader, RowValueTerm,
 };
 use crate::rules::assoc_items::projects;
+use crate::rules::{RowClauses, RowValue};
 use goal_tables::rows::{Container, DefRow, DefValue, ImplRow, Source};
 use goal_terms::answers::{DelayedFault, GoalSource, OpaqueAccess};
 use goal_terms::heads::{Head, Node};
@@ -57,16 +58,17 @@ fn behind(ids: &[TermId], count: usize) -> &[TermId]
 
 /// The value of a definition under the arguments of a number; a constant that would have to be evaluated
 /// is undecided.
-fn definition_value<'t>(value: &'t DefValue, number: usize) -> InternedEntry<'t>
+fn definition_value<'t>(definition: &'t DefRow, number: usize) -> InternedEntry<'t>
     ensures within { (T : List Tree) → EntryIn T result }
-    ensures entry { (T : List Tree) → entry_at T result ≡ definition_value value.now number }
+    ensures entry { (T : List Tree) → entry_at T result ≡ definition_value definition.now.value number }
 {
-    match value {
+    match &definition.value {
         DefValue::Missing => InternedEntry::Undecided,
         DefValue::Evaluated => InternedEntry::Undecided,
         DefValue::Term(term) => {
             let of = RowValueTerm::Term(term);
-            InternedEntry::Expected(InternedTerm::ValueUnder(of, number))
+            let row = RowValue::Definition(definition.id);
+            InternedEntry::Expected(InternedTerm::ValueUnder(row, of, number))
         }
     }
 }
@@ -77,20 +79,22 @@ fn other_impl_entries<'t>(
     alloc: Global,
     row: &'t ImplRow,
     asked: &AskedProjection<'t, '_>,
-    value: &'t DefValue,
+    definition: &'t DefRow,
     other: &'t ImplRow,
 ) -> Result<Vec<InternedEntry<'t>>, OutOfMemory>
     ensures within { (T : List Tree) → ProjectionIn T asked.now → IfOk result (λ es. EntriesIn T es.items) }
-    ensures entries { (T : List Tree) → IfOk result (λ es. entries_at T es.items ≡ other_impl_entries row.now (projection_at T asked.now) value.now other.now) }
+    ensures entries { (T : List Tree) → IfOk result (λ es. entries_at T es.items ≡ other_impl_entries row.now (projection_at T asked.now) definition.now.value other.now) }
 {
     let header = RowHeader {
         params: other.params.as_slice(),
         terms: HeaderTerms::Arguments(other.trait_args.as_slice()),
     };
-    let named = InternedArguments::OfOtherHeader(header, row.trait_args.as_slice(), 0);
-    let clauses = InternedEntry::RowClauses(other.predicates.as_slice(), 2);
+    let args = row.trait_args.as_slice();
+    let named = InternedArguments::OfOtherHeader(other.id, row.id, header, args, 0);
+    let asked_of = RowClauses::Impl(other.id);
+    let clauses = InternedEntry::RowClauses(asked_of, other.predicates.as_slice(), 2);
     let followed = followed_by(alloc, 2, behind(asked.args, asked.trait_params))?;
-    let said = definition_value(value, 3);
+    let said = definition_value(definition, 3);
     Ok(vec![in alloc; InternedEntry::Arguments(named), clauses, followed, said]?)
 }
 
@@ -107,19 +111,18 @@ fn taken_entries<'t>(
     ensures within { (T : List Tree) → ProjectionIn T asked.now → IfOk result (λ es. EntriesIn T es.items) }
     ensures entries { (T : List Tree) (env : List Clause) → IfOk result (λ es. entries_at T es.items ≡ taken_entries row.now (projection_at T asked.now) definition.now.value (taken (setting_at setting.entry env) row.now definition.now.container)) }
 {
-    let value = &definition.value;
     match definition.container {
-        Container::Trait(_) => Ok(vec![in alloc; definition_value(value, 1)]?),
+        Container::Trait(_) => Ok(vec![in alloc; definition_value(definition, 1)]?),
         Container::Impl(other) => {
             if other.0 == row.id.0 {
                 let own = behind(asked.args, asked.trait_params);
                 let followed = followed_by(alloc, 0, own)?;
-                return Ok(vec![in alloc; followed, definition_value(value, 2)]?);
+                return Ok(vec![in alloc; followed, definition_value(definition, 2)]?);
             }
             let Some(found) = setting.rows.impl_row(other) else {
                 return undecided(alloc);
             };
-            other_impl_entries(alloc, row, asked, value, found)
+            other_impl_entries(alloc, row, asked, definition, found)
         }
     }
 }
@@ -307,7 +310,8 @@ fn impl_entries<'t>(
 {
     let mut entries = impl_match(alloc, row, first_of(asked.args, asked.trait_params))?;
     let named = given_arguments(alloc, asked.args)?;
-    let own = InternedEntry::RowClauses(asked.item.own_predicates.as_slice(), 1);
+    let asked_of = RowClauses::Item(asked.item.id);
+    let own = InternedEntry::RowClauses(asked_of, asked.item.own_predicates.as_slice(), 1);
     let mut further = vec![in alloc; InternedEntry::Evaluation, named, own]?;
     entries.append(&mut further)?;
     entries.append(&mut said)?;
@@ -377,7 +381,8 @@ fn equation_list<'t>(
     let alloc = terms.allocator();
     let equal = equal_terms(alloc, terms.parts(alias), asked.args)?;
     let named = given_arguments(alloc, asked.args)?;
-    let own = InternedEntry::RowClauses(asked.item.own_predicates.as_slice(), 0);
+    let asked_of = RowClauses::Item(asked.item.id);
+    let own = InternedEntry::RowClauses(asked_of, asked.item.own_predicates.as_slice(), 0);
     let given = InternedEntry::Expected(InternedTerm::HeadFormOf(term));
     Ok(Some(vec![in alloc; equal, named, own, given]?))
 }

@@ -1,11 +1,13 @@
 //! The lists of the candidates for trait goals, over numbers of a term table.
-ghost use Rattle.std.specs.Prelude.{◌≡◌, List, IfOk};
+ghost use Rattle.std.specs.Prelude.{◌≡◌, List, Some, IfOk};
 ghost use Rattle.goal_terms.specs.TableMeaning.{Keeps};
 ghost use Rattle.goal_terms.specs.Tree.{Tree};
 ghost use Rattle.goal_terms.specs.declared.predicates.Clause.{Clause};
-ghost use Rattle.goal_tables.specs.Rows.{trait_of};
+ghost use Rattle.goal_tables.specs.Rows.{impl_of, trait_of};
+ghost use Rattle.goal_tables.specs.declared.rows.Tables.{Tables};
 ghost use Rattle.goal_kinds.specs.Interned.{AreIn, PredicateIn, CandidateIn, erased_all, predicate_at, candidate_at};
 ghost use Rattle.goal_kinds.specs.InternedEntries.{ListIn, list_at, setting_at};
+ghost use Rattle.goal_kinds.specs.NamedRows.{CandidateIsOf, ListNamesItsRows};
 ghost use Rattle.goal_kinds.specs.TraitLists.{trait_assumption_list, trait_impl_list, source_of_rule, trait_rule_list, trait_list};
 
 use crate::builtin::traits::trait_rule;
@@ -32,6 +34,7 @@ fn assumption_list<'t>(
 ) -> Result<Option<Vec<InternedEntry<'t>>>, OutOfMemory>
     ensures within { (T : List Tree) → AreIn T args.now → PredicateIn T clause.now → IfOk result (ListIn T) }
     ensures list { (T : List Tree) → IfOk result (λ o. list_at T o ≡ trait_assumption_list trait_id (erased_all T args.now) (predicate_at T clause.now)) }
+    ensures named { (t : Tables) → IfOk result (ListNamesItsRows t) }
 {
     match clause {
         InternedPredicate::Trait(said) => {
@@ -56,6 +59,7 @@ fn impl_list<'t>(
 ) -> Result<Option<Vec<InternedEntry<'t>>>, OutOfMemory>
     ensures within { (T : List Tree) → AreIn T args.now → IfOk result (ListIn T) }
     ensures list { (T : List Tree) → IfOk result (λ o. list_at T o ≡ trait_impl_list mode.now (erased_all T args.now) row.now) }
+    ensures named { (t : Tables) → impl_of t row.now.id ≡ Some row.now → IfOk result (ListNamesItsRows t) }
 {
     let entries = impl_match(alloc, row, args)?;
     list_by_polarity(alloc, mode, row.polarity, entries)
@@ -89,6 +93,7 @@ fn rule_list<'t>(
     ensures kept { Keeps terms.old terms.new }
     ensures within { IfOk result (ListIn terms.new) }
     ensures list { IfOk result (λ o. list_at terms.new o ≡ trait_rule_list rows.now trait_id (erased_all terms.old args.now)) }
+    ensures named { (t : Tables) → IfOk result (ListNamesItsRows t) }
 {
     let rule = trait_rule(rows, terms, trait_id, args)?;
     let Some(premises) = rule else {
@@ -114,6 +119,7 @@ pub fn trait_list<'t>(
     ensures kept { Keeps terms.old terms.new }
     ensures within { IfOk result (ListIn terms.new) }
     ensures list { (env : List Clause) → IfOk result (λ o. list_at terms.new o ≡ trait_list (setting_at setting.entry env) trait_id (erased_all terms.old args.now) (candidate_at terms.old candidate.now)) }
+    ensures named { (t : Tables) → CandidateIsOf t candidate.now → IfOk result (ListNamesItsRows t) }
 {
     let alloc = terms.allocator();
     match candidate {

@@ -65,7 +65,7 @@ fn with_self(asked: &NormalizesTo, self_ty: Ty) -> Result<NormalizesTo, OutOfMem
 }
 
 impl GoalKind for NormalizesTo {
-    ghost use Rattle.std.specs.Prelude.{◌≡◌, true, false, [], Some};
+    ghost use Rattle.std.specs.Prelude.{◌≡◌, true, false, [], None, Some};
     ghost use Rattle.goal_terms.specs.TreeOf.{tree_of_term};
     ghost use Rattle.goal_kinds.specs.CandidateRules.{first_type};
     ghost use Rattle.goal_kinds.specs.ProjectionEntries.{may_match_term};
@@ -92,6 +92,8 @@ impl GoalKind for NormalizesTo {
     ghost candidate_gives = { λ p S n c t. ProjectionCandidateGives p.alias S n c t };
 
     ghost candidate_refuted = { λ p S n c. ProjectionCandidateRefuted p.alias S n c };
+
+    ghost candidate_list = { λ p S c. None };
 
     ghost is_for = { λ p t k. is_for_alias k (lang_of_alias t p.alias.kind) };
 

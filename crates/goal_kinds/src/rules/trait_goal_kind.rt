@@ -1,15 +1,26 @@
 //! Trait goals as a kind of goals with candidates.
-ghost use Rattle.std.specs.Prelude.{◌≡◌, Err, Ok, IfOk, option_copied};
+ghost use Rattle.std.specs.Prelude.{◌≡◌, true, false, List, None, Err, Ok, IfOk, IfErr, option_copied};
 ghost use Rattle.goal_terms.specs.TreeOf.{tree_of_ty};
-ghost use Rattle.goal_kinds.specs.CandidateRules.{IsWithSelf as is_trait_with_self, first_type as first_of};
+ghost use Rattle.goal_terms.specs.declared.predicates.Clause.{Clause as clause};
+ghost use Rattle.goal_tables.specs.Faults.{IsChecked};
+ghost use Rattle.goal_kinds.specs.CandidateRules.{IsRefusal, IsWithSelf as is_trait_with_self, first_type as first_of};
+ghost use Rattle.goal_kinds.specs.Candidates.{built_in};
+ghost use Rattle.goal_kinds.specs.InternedEntries.{setting_at};
+ghost use Rattle.goal_kinds.specs.RuleLists.{IsListed};
+ghost use Rattle.goal_kinds.specs.Rules.{given};
+ghost use Rattle.goal_kinds.specs.TraitLists.{trait_list};
 
 use crate::faults::Fault;
 use crate::goal_kind::{GoalKind, MergeRule, TraitView};
+use crate::lists::ListSetting;
 use crate::rules::Rule;
-use crate::rules::lists::undecided_builtin;
-use crate::rules::traits::{impl_rule, match_trait, may_match_trait};
+use crate::rules::named::{
+    is_alias, is_copy_clone, is_destruct, is_discriminant_kind, is_field, is_fn_ptr_trait,
+    is_fn_trait, is_pointee, is_sizedness, is_tuple, lang_item,
+};
+use crate::rules::traits::{built_in_rule, error_rule, impl_rule, match_trait, may_match_trait};
 use goal_tables::checked::CheckedTables;
-use goal_terms::answers::{BuiltinImplSource, CandidateSource, Certainty};
+use goal_terms::answers::{CandidateSource, Certainty};
 use goal_terms::ids::{ImplId, TraitId};
 use goal_terms::instantiate::rebase_onto;
 use goal_terms::modes::TypingMode;
@@ -40,9 +51,37 @@ fn with_self(asked: &TraitRef, self_ty: Ty) -> Result<TraitRef, OutOfMemory>
     })
 }
 
+/// What lists are made for: the tables, and a typing mode.
+fn setting_of<'t, 'm>(tables: &'t CheckedTables, mode: &'m TypingMode) -> ListSetting<'t, 'm>
+    ensures rows { result.rows.now ≡ tables.now }
+    ensures mode { result.mode.now ≡ mode.now }
+    ensures checked { IsChecked tables.now }
+{
+    ListSetting {
+        rows: tables.rows(),
+        mode,
+    }
+}
+
+/// The rule of a trait alias, or a built-in rule, where its function is for the goal's trait. It isn't for
+/// other traits, which takes no memory.
+fn named_rule(setting: ListSetting<'_, '_>, asked: &TraitRef, is_for: bool) -> Result<Rule, Fault>
+    ensures other { is_for ≡ false → result ≡ Err Fault.NotForThisKind }
+    ensures listed { (env : List clause) → IfOk result (λ r. IsListed setting.entry.rows.now r (trait_list (setting_at setting.entry env) asked.now.def_id (given asked.now.args) built_in)) }
+    ensures refused { (env : List clause) → is_for ≡ true → IfErr result (IsRefusal (trait_list (setting_at setting.entry env) asked.now.def_id (given asked.now.args) built_in ≡ None)) }
+{
+    if is_for {
+        built_in_rule(setting, asked)
+    } else {
+        Err(Fault::NotForThisKind)
+    }
+}
+
 impl GoalKind for TraitPredicate {
     ghost use Rattle.std.specs.Prelude.{◌≡◌, true, false, [], Some};
-    ghost use Rattle.goal_kinds.specs.CandidateRules.{asked_trait, first_type, IsWithSelf, may_match, TraitCandidateHolds, TraitCandidateRefuted};
+    ghost use Rattle.goal_kinds.specs.CandidateRules.{asked_trait, first_type, is_rule_for, IsWithSelf, may_match, TraitCandidateHolds, TraitCandidateRefuted};
+    ghost use Rattle.goal_kinds.specs.Rules.{given};
+    ghost use Rattle.goal_kinds.specs.TraitLists.{trait_list};
     ghost use Rattle.goal_kinds.specs.declared.goal_kind.MergeRule.TheVariants as merging_by;
 
     ghost merging = { merging_by.TraitGoals };
@@ -65,7 +104,9 @@ impl GoalKind for TraitPredicate {
 
     ghost candidate_refuted = { λ p S n c. TraitCandidateRefuted p.trait_ref S n c };
 
-    ghost is_for = { λ p t k. true };
+    ghost candidate_list = { λ p S c. Some (trait_list S p.trait_ref.def_id (given p.trait_ref.args) c) };
+
+    ghost is_for = { λ p t k. is_rule_for t p.trait_ref.def_id k };
 
     ghost additional = { λ p S a. [] };
 
@@ -102,14 +143,15 @@ impl GoalKind for TraitPredicate {
     }
 
     fn match_assumption(
-        _tables: &CheckedTables,
-        _mode: &TypingMode,
+        tables: &CheckedTables,
+        mode: &TypingMode,
         goal: &Goal<Self>,
         source: CandidateSource,
         assumption: &Clause,
         then: Certainty,
     ) -> Result<Rule, Fault> {
-        match_trait(&goal.predicate.trait_ref, source, assumption, then)
+        let setting = setting_of(tables, mode);
+        match_trait(setting, &goal.predicate.trait_ref, source, assumption, then)
     }
 
     fn consider_impl_candidate(
@@ -119,24 +161,16 @@ impl GoalKind for TraitPredicate {
         impl_id: ImplId,
         then: Certainty,
     ) -> Result<Rule, Fault> {
-        impl_rule(
-            tables.rows(),
-            mode,
-            &goal.predicate.trait_ref,
-            impl_id,
-            then,
-        )
+        let setting = setting_of(tables, mode);
+        impl_rule(setting, &goal.predicate.trait_ref, impl_id, then)
     }
 
     fn consider_error_guaranteed_candidate(
-        _tables: &CheckedTables,
-        _mode: &TypingMode,
+        tables: &CheckedTables,
+        mode: &TypingMode,
         goal: &Goal<Self>,
     ) -> Result<Rule, Fault> {
-        Ok(Rule {
-            source: CandidateSource::BuiltinImpl(BuiltinImplSource::Misc),
-            entries: Vec::new(*goal.predicate.trait_ref.args.allocator()),
-        })
+        error_rule(setting_of(tables, mode), &goal.predicate.trait_ref)
     }
 
     fn consider_additional_alias_assumptions(
@@ -149,83 +183,103 @@ impl GoalKind for TraitPredicate {
     }
 
     fn consider_trait_alias_candidate(
-        _tables: &CheckedTables,
-        _mode: &TypingMode,
+        tables: &CheckedTables,
+        mode: &TypingMode,
         goal: &Goal<Self>,
     ) -> Result<Rule, Fault> {
-        undecided_builtin(*goal.param_env.allocator())
+        let asked = &goal.predicate.trait_ref;
+        let is_for = is_alias(tables.rows(), asked.def_id);
+        named_rule(setting_of(tables, mode), asked, is_for)
     }
 
     fn consider_builtin_sizedness_candidates(
-        _tables: &CheckedTables,
-        _mode: &TypingMode,
+        tables: &CheckedTables,
+        mode: &TypingMode,
         goal: &Goal<Self>,
     ) -> Result<Rule, Fault> {
-        undecided_builtin(*goal.param_env.allocator())
+        let asked = &goal.predicate.trait_ref;
+        let is_for = is_sizedness(lang_item(tables.rows(), asked.def_id));
+        named_rule(setting_of(tables, mode), asked, is_for)
     }
 
     fn consider_builtin_copy_clone_candidate(
-        _tables: &CheckedTables,
-        _mode: &TypingMode,
+        tables: &CheckedTables,
+        mode: &TypingMode,
         goal: &Goal<Self>,
     ) -> Result<Rule, Fault> {
-        undecided_builtin(*goal.param_env.allocator())
+        let asked = &goal.predicate.trait_ref;
+        let is_for = is_copy_clone(lang_item(tables.rows(), asked.def_id));
+        named_rule(setting_of(tables, mode), asked, is_for)
     }
 
     fn consider_builtin_fn_ptr_trait_candidate(
-        _tables: &CheckedTables,
-        _mode: &TypingMode,
+        tables: &CheckedTables,
+        mode: &TypingMode,
         goal: &Goal<Self>,
     ) -> Result<Rule, Fault> {
-        undecided_builtin(*goal.param_env.allocator())
+        let asked = &goal.predicate.trait_ref;
+        let is_for = is_fn_ptr_trait(lang_item(tables.rows(), asked.def_id));
+        named_rule(setting_of(tables, mode), asked, is_for)
     }
 
     fn consider_builtin_fn_trait_candidates(
-        _tables: &CheckedTables,
-        _mode: &TypingMode,
+        tables: &CheckedTables,
+        mode: &TypingMode,
         goal: &Goal<Self>,
     ) -> Result<Rule, Fault> {
-        undecided_builtin(*goal.param_env.allocator())
+        let asked = &goal.predicate.trait_ref;
+        let is_for = is_fn_trait(lang_item(tables.rows(), asked.def_id));
+        named_rule(setting_of(tables, mode), asked, is_for)
     }
 
     fn consider_builtin_tuple_candidate(
-        _tables: &CheckedTables,
-        _mode: &TypingMode,
+        tables: &CheckedTables,
+        mode: &TypingMode,
         goal: &Goal<Self>,
     ) -> Result<Rule, Fault> {
-        undecided_builtin(*goal.param_env.allocator())
+        let asked = &goal.predicate.trait_ref;
+        let is_for = is_tuple(lang_item(tables.rows(), asked.def_id));
+        named_rule(setting_of(tables, mode), asked, is_for)
     }
 
     fn consider_builtin_pointee_candidate(
-        _tables: &CheckedTables,
-        _mode: &TypingMode,
+        tables: &CheckedTables,
+        mode: &TypingMode,
         goal: &Goal<Self>,
     ) -> Result<Rule, Fault> {
-        undecided_builtin(*goal.param_env.allocator())
+        let asked = &goal.predicate.trait_ref;
+        let is_for = is_pointee(lang_item(tables.rows(), asked.def_id));
+        named_rule(setting_of(tables, mode), asked, is_for)
     }
 
     fn consider_builtin_discriminant_kind_candidate(
-        _tables: &CheckedTables,
-        _mode: &TypingMode,
+        tables: &CheckedTables,
+        mode: &TypingMode,
         goal: &Goal<Self>,
     ) -> Result<Rule, Fault> {
-        undecided_builtin(*goal.param_env.allocator())
+        let asked = &goal.predicate.trait_ref;
+        let is_for = is_discriminant_kind(lang_item(tables.rows(), asked.def_id));
+        named_rule(setting_of(tables, mode), asked, is_for)
     }
 
     fn consider_builtin_destruct_candidate(
-        _tables: &CheckedTables,
-        _mode: &TypingMode,
+        tables: &CheckedTables,
+        mode: &TypingMode,
         goal: &Goal<Self>,
     ) -> Result<Rule, Fault> {
-        undecided_builtin(*goal.param_env.allocator())
+        let asked = &goal.predicate.trait_ref;
+        let is_for = is_destruct(lang_item(tables.rows(), asked.def_id));
+        named_rule(setting_of(tables, mode), asked, is_for)
     }
 
     fn consider_builtin_field_candidate(
-        _tables: &CheckedTables,
-        _mode: &TypingMode,
+        tables: &CheckedTables,
+        mode: &TypingMode,
         goal: &Goal<Self>,
     ) -> Result<Rule, Fault> {
-        undecided_builtin(*goal.param_env.allocator())
+        let asked = &goal.predicate.trait_ref;
+        let is_for = is_field(lang_item(tables.rows(), asked.def_id));
+        named_rule(setting_of(tables, mode), asked, is_for)
     }
 
     fn more_height_keeps_candidates() {}

@@ -5,7 +5,10 @@ use Rattle.goal_kinds.specs.Fitting.{trees_at}
 use Rattle.goal_kinds.specs.Interned.{AreIn, erased_at, erased_all, predicate_at, premise_at, candidate_at, IsIn, trait_at, CandidateIn}
 use Rattle.goal_solver.proofs.PremiseOutcomes.{PremisesSay, SaysClause, const-predicate, equation-predicate, equation-premise, predicate-premise, premise-at, premises-end, premises-refuted, premises-start, premises-step, trait-predicate, conditions-step, conditions-refuted, conditions-end, condition-at, condition_at, equation-ground, equation-result}
 use Rattle.goal_solver.specs.Joined.{both}
-use Rattle.goal_solver.specs.Outcomes.{setting_in, level_in, SaysWhich, FoundIn, Says, projection_at, header_terms}
+use Rattle.goal_solver.proofs.CacheLemmas.{caching, cache-grown, known-trait, keep-trait, known-const, keep-const, known-alias, keep-alias}
+use Rattle.goal_solver.specs.EvaluationCache.{IsValidCache}
+use Rattle.goal_terms.specs.Erased.{erased}
+use Rattle.goal_solver.specs.Outcomes.{setting_in, level_in, SaysWhich, SaysThrough, FoundIn, Says, projection_at, header_terms}
 use Rattle.goal_terms.proofs.InternLemmas.{keeps-chain, keeps-refl}
 use Rattle.std.proofs.Common.{◌-◌, arith, ap, map, subst, sym, ◌+◌, ◌∙◌, true, false, refl, ◌∷◌, ◌++◌, length, rules, get_or, ◌<◌, ◌≡◌, ⊎_elim, Some}
 use Rattle.std.proofs.lemmas.List.Elements.{All-push, All-nil, All-get_or, All-same, All-take}
@@ -89,23 +92,25 @@ eval::premises::premise_outcome-returns-in-Equation-clause-says t c =
 pub eval::premises::premises_outcome-loop-premise-init : goal.eval::premises::premises_outcome-loop-premise-init
 eval::premises::premises_outcome-loop-premise-init t c = record {
   kept = keeps-refl c.args.terms.now;
+  cache = search (rules, caching);
   so_far = premises-start c.args.setting.now c.args.depth (premise_at c.args.terms.now) c.args.premises.now;
 }
 
 pub eval::premises::premises_outcome-loop-premise-preserved : goal.eval::premises::premises_outcome-loop-premise-preserved
 eval::premises::premises_outcome-loop-premise-preserved t c = record {
   kept = keeps-chain c.args.terms.now c.loop-premise.terms c.premise_outcome.new.terms c.loop-premise.invariant.kept c.premise_outcome.ensures.kept;
+  cache = search (rules, caching);
   so_far =
       subst (PremisesSay c.args.setting.now c.args.depth (premise_at c.args.terms.now) c.args.premises.now (c.loop-premise.premise-index + 1)) (sym c.and-found.ensures)
       (premises-step c.args.setting.now c.args.depth c.args.terms.now c.loop-premise.terms c.args.premises.now c.loop-premise.premise-index c.premise-item.result c.loop-premise.found c.in_ok-next.next
-      c.loop-premise.invariant.kept c.requires (omega arith) c.premise-item.is c.loop-premise.invariant.so_far c.in_ok-next.ensures.says);
+      c.loop-premise.invariant.kept c.requires.within (omega arith) c.premise-item.is c.loop-premise.invariant.so_far c.in_ok-next.ensures.says);
 }
 
 pub eval::premises::premises_outcome-returns-in-Refuted-clause-says : goal.eval::premises::premises_outcome-returns-in-Refuted-clause-says
 eval::premises::premises_outcome-returns-in-Refuted-clause-says t c =
     premises-refuted c.args.setting.now c.args.depth (premise_at c.args.terms.now) c.args.premises.now (c.loop-premise.premise-index + 1) (both c.loop-premise.found c.in_ok-next.next) (sym c.and-found.ensures ∙ c.in-Refuted.is)
     (premises-step c.args.setting.now c.args.depth c.args.terms.now c.loop-premise.terms c.args.premises.now c.loop-premise.premise-index c.premise-item.result c.loop-premise.found c.in_ok-next.next
-    c.loop-premise.invariant.kept c.requires (omega arith) c.premise-item.is c.loop-premise.invariant.so_far c.in_ok-next.ensures.says)
+    c.loop-premise.invariant.kept c.requires.within (omega arith) c.premise-item.is c.loop-premise.invariant.so_far c.in_ok-next.ensures.says)
 
 pub eval::premises::premises_outcome-returns-clause-says : goal.eval::premises::premises_outcome-returns-clause-says
 eval::premises::premises_outcome-returns-clause-says t c =
@@ -115,14 +120,18 @@ eval::premises::premises_outcome-returns-clause-says t c =
 pub eval::premises::premises_outcome-premise_outcome-requires : goal.eval::premises::premises_outcome-premise_outcome-requires
 eval::premises::premises_outcome-premise_outcome-requires t c = (
   omega arith,
-  (premise-at c.args.terms.now c.loop-premise.terms c.args.premises.now c.loop-premise.premise-index c.premise-item.result
-      c.loop-premise.invariant.kept c.requires (omega arith) c.premise-item.is).0,
+  (
+    search (rules, caching),
+    (premise-at c.args.terms.now c.loop-premise.terms c.args.premises.now c.loop-premise.premise-index c.premise-item.result
+        c.loop-premise.invariant.kept c.requires.within (omega arith) c.premise-item.is).0,
+  ),
 )
 
 pub eval::head_forms::head_form-returns-in_default : goal.eval::head_forms::head_form-returns-in_default
 eval::head_forms::head_form-returns-in_default t c = record {
   kept = keeps-refl c.args.terms.now;
-  within = c.requires;
+  cache = search (rules, caching);
+  within = c.requires.within;
   stops = λ h. tt;
   says = λ m s. own_form (level_in c.args.setting.now m c.args.depth) (tree_at c.args.terms.now c.args.id) (λ k e. c.in_default.not-Alias k (c.node.ensures.top ∙ e));
 }
@@ -130,8 +139,11 @@ eval::head_forms::head_form-returns-in_default t c = record {
 pub eval::head_forms::head_form-alias_term-requires : goal.eval::head_forms::head_form-alias_term-requires
 eval::head_forms::head_form-alias_term-requires t c = (
   omega arith,
-  parts_in c.args.terms.now c.as_slice.result.now c.parts.result.now c.in-Alias.kind c.args.id.0 (tree_at c.args.terms.now c.args.id) c.node.result
-      c.requires.0 c.parts.ensures.earlier c.in-Alias.is c.node.ensures.fits c.parts.ensures.trees (c.as_slice.ensures.value ∙ c.in_ok-args.ensures),
+  (
+    search (rules, caching),
+    parts_in c.args.terms.now c.as_slice.result.now c.parts.result.now c.in-Alias.kind c.args.id.0 (tree_at c.args.terms.now c.args.id) c.node.result
+        c.requires.within.0 c.parts.ensures.earlier c.in-Alias.is c.node.ensures.fits c.parts.ensures.trees (c.as_slice.ensures.value ∙ c.in_ok-args.ensures),
+  ),
 )
 
 pub eval::head_forms::head_form-returns-clause-says : goal.eval::head_forms::head_form-returns-clause-says
@@ -142,36 +154,36 @@ eval::head_forms::head_form-returns-clause-says t c = λ m s.
 
 pub relate::header_parts::part_behind-returns-then-depth-eq0-clause-says : goal.relate::header_parts::part_behind-returns-then-depth-eq0-clause-says
 relate::header_parts::part_behind-returns-then-depth-eq0-clause-says t c =
-    behind-zero c.args.setting.now c.args.terms.now c.args.terms.now c.args.number c.args.depth c.args.header c.args.given c.requires c.if-depth-eq0.true
+    behind-zero c.args.setting.now c.args.terms.now c.args.terms.now c.args.number c.args.depth c.args.header c.args.given c.requires.within c.if-depth-eq0.true
 
 pub relate::header_parts::part_behind-returns-then-not-is_same-clause-says : goal.relate::header_parts::part_behind-returns-then-not-is_same-clause-says
 relate::header_parts::part_behind-returns-then-not-is_same-clause-says t c =
-    behind-other c.args.setting.now c.args.terms.now c.head_form.new.terms c.head_form.new.terms c.args.number c.args.depth (c.args.depth - 1) c.args.header c.args.given c.in-Is.form c.requires (omega arith)
+    behind-other c.args.setting.now c.args.terms.now c.head_form.new.terms c.head_form.new.terms c.args.number c.args.depth (c.args.depth - 1) c.args.header c.args.given c.in-Is.form c.requires.within (omega arith)
     (found-is c.args.setting.now (c.args.depth - 1) c.args.terms.now c.head_form.new.terms c.args.given c.in-Is.form c.in_ok-head_form.field-0 c.in_ok-head_form.ensures.says c.in-Is.is)
     (heads-other (tree_of_ref c.args.header) (tree_at c.head_form.new.terms c.in-Is.form) c.node.result c.node-in-Is.result c.is_same.result c.node.ensures c.node-in-Is.ensures.top c.is_same.ensures c.if-not-is_same.true)
 
 pub relate::header_parts::part_behind-returns-in-Refuted-clause-says : goal.relate::header_parts::part_behind-returns-in-Refuted-clause-says
 relate::header_parts::part_behind-returns-in-Refuted-clause-says t c =
-    behind-refuted c.args.setting.now c.args.terms.now c.head_form.new.terms c.args.number c.args.depth (c.args.depth - 1) c.args.header c.args.given c.requires (omega arith)
+    behind-refuted c.args.setting.now c.args.terms.now c.head_form.new.terms c.args.number c.args.depth (c.args.depth - 1) c.args.header c.args.given c.requires.within (omega arith)
     (found-refuted c.args.setting.now (c.args.depth - 1) c.args.terms.now c.head_form.new.terms c.args.given c.in_ok-head_form.field-0 c.in_ok-head_form.ensures.says c.in-Refuted.is)
 
 pub relate::header_parts::part_behind-returns-in-Undecided-clause-says : goal.relate::header_parts::part_behind-returns-in-Undecided-clause-says
 relate::header_parts::part_behind-returns-in-Undecided-clause-says t c =
-    behind-undecided c.args.setting.now c.args.terms.now c.head_form.new.terms c.args.number c.args.depth (c.args.depth - 1) c.args.header c.args.given c.requires (omega arith)
+    behind-undecided c.args.setting.now c.args.terms.now c.head_form.new.terms c.args.number c.args.depth (c.args.depth - 1) c.args.header c.args.given c.requires.within (omega arith)
     (found-undecided c.args.setting.now (c.args.depth - 1) c.args.terms.now c.head_form.new.terms c.args.given c.in_ok-head_form.field-0 c.in_ok-head_form.ensures.says c.in-Undecided.is)
 
 pub relate::header_parts::part_behind-returns-else-not-is_same-clause-says : goal.relate::header_parts::part_behind-returns-else-not-is_same-clause-says
 relate::header_parts::part_behind-returns-else-not-is_same-clause-says t c =
     behind-form c.args.setting.now c.args.terms.now c.head_form.new.terms c.part_at.new.terms c.args.number c.args.depth (c.args.depth - 1) c.args.header c.args.given c.in-Is.form
-    c.find_place-place.result c.part_at.result c.requires (omega arith)
+    c.find_place-place.result c.part_at.result c.requires.within (omega arith)
     (found-is c.args.setting.now (c.args.depth - 1) c.args.terms.now c.head_form.new.terms c.args.given c.in-Is.form c.in_ok-head_form.field-0 c.in_ok-head_form.ensures.says c.in-Is.is)
     (heads-same (tree_of_ref c.args.header) (tree_at c.head_form.new.terms c.in-Is.form) c.node.result c.node-in-Is.result c.is_same.result c.node.ensures c.node-in-Is.ensures.top c.is_same.ensures c.if-not-is_same.false)
     c.find_place-place.ensures.says c.part_at.ensures.says
 
 pub relate::header_parts::known_part-find_among-place-requires : goal.relate::header_parts::known_part-find_among-place-requires
 relate::header_parts::known_part-find_among-place-requires t c = record {
-  within = are_in-below c.args.terms.now c.args.given.now c.requires;
-  stand = stand-arguments (trees_of c.args.header.now) (map (tree_at c.args.terms.now) c.args.given.now) (are_in-arguments c.args.terms.now c.args.given.now c.requires);
+  within = are_in-below c.args.terms.now c.args.given.now c.requires.given;
+  stand = stand-arguments (trees_of c.args.header.now) (map (tree_at c.args.terms.now) c.args.given.now) (are_in-arguments c.args.terms.now c.args.given.now c.requires.given);
 }
 
 pub relate::header_parts::known_part-returns-clause-says : goal.relate::header_parts::known_part-returns-clause-says
@@ -182,6 +194,7 @@ relate::header_parts::known_part-returns-clause-says t c =
 pub relate::header_parts::known_args-loop-i-init : goal.relate::header_parts::known_args-loop-i-init
 relate::header_parts::known_args-loop-i-init t c = record {
   kept = keeps-refl c.args.terms.now;
+  cache = search (rules, caching);
   within = subst (KnownIn c.args.terms.now) (sym c.new-known.ensures.items) (All-nil (OptionIn c.args.terms.now));
   count = ap length c.new-known.ensures.items;
   says = known-start c.args.setting.now c.args.depth (header_terms c.args.header.now) (erased_all c.args.terms.now c.args.given.now) c.args.terms.now c.new-known.result.items c.new-known.ensures.items;
@@ -190,6 +203,7 @@ relate::header_parts::known_args-loop-i-init t c = record {
 pub relate::header_parts::known_args-loop-i-preserved : goal.relate::header_parts::known_args-loop-i-preserved
 relate::header_parts::known_args-loop-i-preserved t c = record {
   kept = keeps-chain _ _ _ c.loop-i.invariant.kept c.in_ok-next.ensures.kept;
+  cache = search (rules, caching);
   within =
       subst (KnownIn c.known_arg.new.terms) (sym c.in_ok-add_known.ensures)
       (All-push (OptionIn c.known_arg.new.terms) c.loop-i.known.items c.in_ok-next.next
@@ -200,7 +214,7 @@ relate::header_parts::known_args-loop-i-preserved t c = record {
       c.loop-i.known.items c.add_known.new.known.items c.in_ok-next.next c.loop-i.i _ (omega arith) c.in_ok-next.ensures.kept c.loop-i.invariant.within c.in_ok-add_known.ensures
       c.loop-i.invariant.says
       (known-same_given c.args.setting.now c.args.depth (header_terms c.args.header.now) _ _ _ c.loop-i.i _
-      (all_same-grown c.args.terms.now c.loop-i.terms c.loop-i.invariant.kept c.args.given.now c.requires) c.in_ok-next.ensures.says);
+      (all_same-grown c.args.terms.now c.loop-i.terms c.loop-i.invariant.kept c.args.given.now c.requires.given) c.in_ok-next.ensures.says);
 }
 
 pub relate::header_parts::known_args-returns-clause-says : goal.relate::header_parts::known_args-returns-clause-says
@@ -211,6 +225,7 @@ relate::header_parts::known_args-returns-clause-says t c =
 pub relate::header_clashes::any_clash-loop-i-init : goal.relate::header_clashes::any_clash-loop-i-init
 relate::header_clashes::any_clash-loop-i-init t c = record {
   kept = keeps-refl c.args.terms.now;
+  cache = search (rules, caching);
   none = λ m s x. any-none (ClashAt (level_in c.args.setting.now m c.args.depth) (known_trees c.args.terms.now c.args.known.now) c.args.terms.now) x;
 }
 
@@ -223,6 +238,7 @@ relate::header_clashes::any_clash-returns-then-branch-clause-says t c =
 pub relate::header_clashes::any_clash-loop-i-preserved : goal.relate::header_clashes::any_clash-loop-i-preserved
 relate::header_clashes::any_clash-loop-i-preserved t c = record {
   kept = keeps-chain _ _ _ c.loop-i.invariant.kept c.in_ok-question_clashes.ensures.kept;
+  cache = search (rules, caching);
   none =
       any-more c.args.setting.now c.args.depth c.args.terms.now c.loop-i.terms c.args.known.now c.args.questions.now c.loop-i.i c.index-questions-i.result c.in_ok-question_clashes.field-0
       (omega arith) c.index-questions-i.is c.loop-i.invariant.kept c.requires.known c.requires.within
@@ -364,19 +380,22 @@ relate::headers::match_header-returns-clause-says t c =
     match-says c.args.setting.now c.args.depth c.args.params.now (header_terms c.args.header.now) (erased_all c.args.terms.now c.args.given.now) c.match_known.new.terms c.match_known.result
     (match-given c.args.setting.now c.args.depth c.args.params.now (header_terms c.args.header.now) (erased_all c.args.terms.now c.args.given.now) (erased_all c.known_args.new.terms c.args.given.now)
     c.match_known.new.terms c.match_known.result
-    (all_same-grown c.args.terms.now c.known_args.new.terms c.in_ok-known.ensures.kept c.args.given.now c.requires) c.match_known.ensures.says)
+    (all_same-grown c.args.terms.now c.known_args.new.terms c.in_ok-known.ensures.kept c.args.given.now c.requires.given) c.match_known.ensures.says)
 
 pub relate::headers::match_complete-header_clashes-requires : goal.relate::headers::match_complete-header_clashes-requires
 relate::headers::match_complete-header_clashes-requires t c = (
   omega (arith, c.decreases),
   (
-    are_in-grown c.args.terms.now c.instances_fit.new.terms c.in_ok-instances_fit.ensures.kept c.args.given.now c.requires.given,
+    search (rules, caching),
     (
-      known_in-grown c.args.terms.now c.instances_fit.new.terms c.in_ok-instances_fit.ensures.kept c.args.known.now c.requires.known,
+      are_in-grown c.args.terms.now c.instances_fit.new.terms c.in_ok-instances_fit.ensures.kept c.args.given.now c.requires.given,
       (
-        subst (AreIn c.instances_fit.new.terms) (sym c.deref-2.ensures.value)
-            (are_in-grown c.args.terms.now c.instances_fit.new.terms c.in_ok-instances_fit.ensures.kept c.args.args.items c.requires.args),
-        subst (Fills c.args.known.now) (sym c.deref-2.ensures.value) (filled-fills c.args.terms.now c.args.known.now c.args.args.items c.requires.filled),
+        known_in-grown c.args.terms.now c.instances_fit.new.terms c.in_ok-instances_fit.ensures.kept c.args.known.now c.requires.known,
+        (
+          subst (AreIn c.instances_fit.new.terms) (sym c.deref-2.ensures.value)
+              (are_in-grown c.args.terms.now c.instances_fit.new.terms c.in_ok-instances_fit.ensures.kept c.args.args.items c.requires.args),
+          subst (Fills c.args.known.now) (sym c.deref-2.ensures.value) (filled-fills c.args.terms.now c.args.known.now c.args.args.items c.requires.filled),
+        ),
       ),
     ),
   ),
@@ -385,24 +404,27 @@ relate::headers::match_complete-header_clashes-requires t c = (
 pub relate::headers::match_incomplete-header_clashes-requires : goal.relate::headers::match_incomplete-header_clashes-requires
 relate::headers::match_incomplete-header_clashes-requires t c = (
   omega (arith, c.decreases),
-  (c.requires.given, (c.requires.known, (c.requires.args, filled-fills c.args.terms.now c.args.known.now c.args.args.now c.requires.filled))),
+  (search (rules, caching), (c.requires.given, (c.requires.known, (c.requires.args, filled-fills c.args.terms.now c.args.known.now c.args.args.now c.requires.filled)))),
 )
 
 pub relate::headers::match_known-match_complete-requires : goal.relate::headers::match_known-match_complete-requires
 relate::headers::match_known-match_complete-requires t c = (
   omega (arith, c.decreases),
   (
-    are_in-grown c.args.terms.now c.filled_args.new.terms c.in_ok-args.ensures.kept c.args.given.now c.requires.given,
+    search (rules, caching),
     (
-      known_in-grown c.args.terms.now c.filled_args.new.terms c.in_ok-args.ensures.kept c.args.known.now c.requires.known,
+      are_in-grown c.args.terms.now c.filled_args.new.terms c.in_ok-args.ensures.kept c.args.given.now c.requires.given,
       (
-        c.in_ok-args.ensures.within,
+        known_in-grown c.args.terms.now c.filled_args.new.terms c.in_ok-args.ensures.kept c.args.known.now c.requires.known,
         (
-          c.in_ok-args.ensures.filled,
+          c.in_ok-args.ensures.within,
           (
-            sym c.is_complete.ensures ∙ c.if-is_complete.true,
-            known-outcome-grown c.args.setting.now c.args.depth c.args.terms.now c.filled_args.new.terms (header_terms c.args.header.now) c.args.params.now c.args.given.now c.args.known.now
-                c.in_ok-args.ensures.kept c.requires.given c.requires.known c.requires.says,
+            c.in_ok-args.ensures.filled,
+            (
+              sym c.is_complete.ensures ∙ c.if-is_complete.true,
+              known-outcome-grown c.args.setting.now c.args.depth c.args.terms.now c.filled_args.new.terms (header_terms c.args.header.now) c.args.params.now c.args.given.now c.args.known.now
+                  c.in_ok-args.ensures.kept c.requires.given c.requires.known c.requires.says,
+            ),
           ),
         ),
       ),
@@ -414,17 +436,20 @@ pub relate::headers::match_known-match_incomplete-requires : goal.relate::header
 relate::headers::match_known-match_incomplete-requires t c = (
   omega (arith, c.decreases),
   (
-    are_in-grown c.args.terms.now c.filled_args.new.terms c.in_ok-args.ensures.kept c.args.given.now c.requires.given,
+    search (rules, caching),
     (
-      known_in-grown c.args.terms.now c.filled_args.new.terms c.in_ok-args.ensures.kept c.args.known.now c.requires.known,
+      are_in-grown c.args.terms.now c.filled_args.new.terms c.in_ok-args.ensures.kept c.args.given.now c.requires.given,
       (
-        subst (AreIn c.filled_args.new.terms) (sym c.deref.ensures.value) c.in_ok-args.ensures.within,
+        known_in-grown c.args.terms.now c.filled_args.new.terms c.in_ok-args.ensures.kept c.args.known.now c.requires.known,
         (
-          subst (AreFilled c.filled_args.new.terms c.args.known.now) (sym c.deref.ensures.value) c.in_ok-args.ensures.filled,
+          subst (AreIn c.filled_args.new.terms) (sym c.deref.ensures.value) c.in_ok-args.ensures.within,
           (
-            sym c.is_complete.ensures ∙ c.if-is_complete.false,
-            known-outcome-grown c.args.setting.now c.args.depth c.args.terms.now c.filled_args.new.terms (header_terms c.args.header.now) c.args.params.now c.args.given.now c.args.known.now
-                c.in_ok-args.ensures.kept c.requires.given c.requires.known c.requires.says,
+            subst (AreFilled c.filled_args.new.terms c.args.known.now) (sym c.deref.ensures.value) c.in_ok-args.ensures.filled,
+            (
+              sym c.is_complete.ensures ∙ c.if-is_complete.false,
+              known-outcome-grown c.args.setting.now c.args.depth c.args.terms.now c.filled_args.new.terms (header_terms c.args.header.now) c.args.params.now c.args.given.now c.args.known.now
+                  c.in_ok-args.ensures.kept c.requires.given c.requires.known c.requires.says,
+            ),
           ),
         ),
       ),
@@ -436,15 +461,18 @@ pub relate::headers::match_header-match_known-requires : goal.relate::headers::m
 relate::headers::match_header-match_known-requires t c = (
   omega (arith, c.decreases),
   (
-    are_in-grown c.args.terms.now c.known_args.new.terms c.in_ok-known.ensures.kept c.args.given.now c.requires,
+    search (rules, caching),
     (
-      subst (KnownIn c.known_args.new.terms) (sym c.deref.ensures.value) c.in_ok-known.ensures.within,
+      are_in-grown c.args.terms.now c.known_args.new.terms c.in_ok-known.ensures.kept c.args.given.now c.requires.given,
       (
-        sym c.in_ok-known.ensures.count ∙ ap length (sym c.deref.ensures.value),
-        known-outcome-given c.args.setting.now c.args.depth (header_terms c.args.header.now) (erased_all c.args.terms.now c.args.given.now) (erased_all c.known_args.new.terms c.args.given.now) c.args.params.now
-            (known_trees c.known_args.new.terms c.in_ok-known.known.items) (known_trees c.known_args.new.terms c.deref.result.now)
-            (sym (all_same-grown c.args.terms.now c.known_args.new.terms c.in_ok-known.ensures.kept c.args.given.now c.requires)) (ap (known_trees c.known_args.new.terms) (sym c.deref.ensures.value))
-            c.in_ok-known.ensures.says,
+        subst (KnownIn c.known_args.new.terms) (sym c.deref.ensures.value) c.in_ok-known.ensures.within,
+        (
+          sym c.in_ok-known.ensures.count ∙ ap length (sym c.deref.ensures.value),
+          known-outcome-given c.args.setting.now c.args.depth (header_terms c.args.header.now) (erased_all c.args.terms.now c.args.given.now) (erased_all c.known_args.new.terms c.args.given.now) c.args.params.now
+              (known_trees c.known_args.new.terms c.in_ok-known.known.items) (known_trees c.known_args.new.terms c.deref.result.now)
+              (sym (all_same-grown c.args.terms.now c.known_args.new.terms c.in_ok-known.ensures.kept c.args.given.now c.requires.given)) (ap (known_trees c.known_args.new.terms) (sym c.deref.ensures.value))
+              c.in_ok-known.ensures.says,
+        ),
       ),
     ),
   ),
@@ -491,11 +519,14 @@ pub normalizes_to::projections::group_term-candidate_term-requires : goal.normal
 normalizes_to::projections::group_term-candidate_term-requires t c = (
   omega arith,
   (
+    search (rules, caching),
     (
-      are_in-grown c.args.terms.now c.loop-candidate.terms c.loop-candidate.invariant.kept c.args.projection.now.args.now c.requires.projection.0,
-      in-grown c.args.terms.now c.loop-candidate.terms c.loop-candidate.invariant.kept c.args.projection.now.rigid_alias c.requires.projection.1,
+      (
+        are_in-grown c.args.terms.now c.loop-candidate.terms c.loop-candidate.invariant.kept c.args.projection.now.args.now c.requires.projection.0,
+        in-grown c.args.terms.now c.loop-candidate.terms c.loop-candidate.invariant.kept c.args.projection.now.rigid_alias c.requires.projection.1,
+      ),
+      candidate-in c.args.terms.now c.loop-candidate.terms c.args.candidates.now c.loop-candidate.candidate-index c.candidate-item.result c.loop-candidate.invariant.kept c.requires.candidates (omega arith) c.candidate-item.is,
     ),
-    candidate-in c.args.terms.now c.loop-candidate.terms c.args.candidates.now c.loop-candidate.candidate-index c.candidate-item.result c.loop-candidate.invariant.kept c.requires.candidates (omega arith) c.candidate-item.is,
   ),
 )
 
@@ -503,6 +534,7 @@ pub normalizes_to::projections::group_term-loop-candidate-preserved :
     goal.normalizes_to::projections::group_term-loop-candidate-preserved
 normalizes_to::projections::group_term-loop-candidate-preserved t c = record {
   kept = keeps-chain c.args.terms.now c.loop-candidate.terms c.candidate_term.new.terms c.loop-candidate.invariant.kept c.in_ok-next.ensures.kept;
+  cache = search (rules, caching);
   within = merged-in c.candidate_term.new.terms c.loop-candidate.found c.in_ok-next.next c.merge_terms-found.result c.merge_terms-found.ensures
       (found_in-grown c.loop-candidate.terms c.candidate_term.new.terms c.in_ok-next.ensures.kept c.loop-candidate.found c.loop-candidate.invariant.within) c.in_ok-next.ensures.within;
   says = λ m s.
@@ -544,7 +576,7 @@ normalizes_to::projections::groups_term-returns-in-Refuted-clause-says t c = λ 
 pub normalizes_to::projections::head_forms_outcome-returns-in-Refuted-clause-says :
     goal.normalizes_to::projections::head_forms_outcome-returns-in-Refuted-clause-says
 normalizes_to::projections::head_forms_outcome-returns-in-Refuted-clause-says t c = λ m s.
-    forms-refuted (level_in c.args.setting.now m c.args.depth) c.args.terms.now c.loop-id.terms c.head_form.new.terms c.loop-id.invariant.kept c.args.ids.now c.requires c.loop-id.id-index
+    forms-refuted (level_in c.args.setting.now m c.args.depth) c.args.terms.now c.loop-id.terms c.head_form.new.terms c.loop-id.invariant.kept c.args.ids.now c.requires.ids c.loop-id.id-index
     (get_or c.args.ids.now c.loop-id.id-index (record { 0 = 0 })) c.loop-id-test.true (same_element c.args.ids.now c.loop-id.id-index (record { 0 = 0 }) c.loop-id-test.true)
     c.in_ok-head_form.field-0 c.in-Refuted.is (c.in_ok-head_form.ensures.says m s)
 
@@ -554,17 +586,19 @@ normalizes_to::projections::head_forms_outcome-loop-id-preserved t c =
     elim c.match-branch-2.branch [
       | normalizes_to::projections::head_forms_outcome-in-Undecided w ↦ record {
         kept = keeps-chain c.args.terms.now c.loop-id.terms c.head_form.new.terms c.loop-id.invariant.kept c.in_ok-head_form.ensures.kept;
+        cache = search (rules, caching);
         says = λ m s.
             forms-unknown (level_in c.args.setting.now m c.args.depth) (consistent c.args.setting.now m c.args.depth) c.args.terms.now c.loop-id.terms c.head_form.new.terms c.loop-id.invariant.kept
-            c.args.ids.now c.requires c.loop-id.id-index (get_or c.args.ids.now c.loop-id.id-index (record { 0 = 0 })) c.loop-id-test.true
+            c.args.ids.now c.requires.ids c.loop-id.id-index (get_or c.args.ids.now c.loop-id.id-index (record { 0 = 0 })) c.loop-id-test.true
             (same_element c.args.ids.now c.loop-id.id-index (record { 0 = 0 }) c.loop-id-test.true) c.in_ok-head_form.field-0 w.in-Undecided.is (c.in_ok-head_form.ensures.says m s)
             c.loop-id.outcome c.match-branch-2.outcome w.outcome-is (c.loop-id.invariant.says m s);
       }
       | normalizes_to::projections::head_forms_outcome-in-Is w ↦ record {
         kept = keeps-chain c.args.terms.now c.loop-id.terms c.head_form.new.terms c.loop-id.invariant.kept c.in_ok-head_form.ensures.kept;
+        cache = search (rules, caching);
         says = λ m s.
             forms-more (level_in c.args.setting.now m c.args.depth) (consistent c.args.setting.now m c.args.depth) c.args.terms.now c.loop-id.terms c.head_form.new.terms c.loop-id.invariant.kept
-            c.args.ids.now c.requires c.loop-id.id-index (get_or c.args.ids.now c.loop-id.id-index (record { 0 = 0 })) c.loop-id-test.true
+            c.args.ids.now c.requires.ids c.loop-id.id-index (get_or c.args.ids.now c.loop-id.id-index (record { 0 = 0 })) c.loop-id-test.true
             (same_element c.args.ids.now c.loop-id.id-index (record { 0 = 0 }) c.loop-id-test.true) c.in_ok-head_form.field-0 w.in-Is.field-0 w.in-Is.is (c.in_ok-head_form.ensures.says m s)
             c.loop-id.outcome c.match-branch-2.outcome w.outcome-is (c.loop-id.invariant.says m s);
       }
@@ -599,7 +633,7 @@ pub normalizes_to::projections::item_term-returns-in-Holds-clause-says :
     goal.normalizes_to::projections::item_term-returns-in-Holds-clause-says
 normalizes_to::projections::item_term-returns-in-Holds-clause-says t c = λ m s.
     item-says (setting_in c.args.setting.now m) (level_in c.args.setting.now m c.args.depth) (consistent c.args.setting.now m c.args.depth) c.args.kind c.args.item.now c.args.trait_row.now c.in-Holds.class
-    c.args.terms.now c.evaluate_trait_goal.new.terms c.term_proven_via.new.terms c.in_ok-evaluate_trait_goal.ensures.kept c.args.args.now c.first_args-trait_args.result.now c.requires
+    c.args.terms.now c.evaluate_trait_goal.new.terms c.term_proven_via.new.terms c.in_ok-evaluate_trait_goal.ensures.kept c.args.args.now c.first_args-trait_args.result.now c.requires.args
     c.len-trait_params.result (c.len-trait_params.ensures ∙ c.args.trait_row.now.params.ok.0) c.first_args-trait_args.ensures
     (rw c.in-Holds.is at (c.in_ok-evaluate_trait_goal.ensures.says m s)) c.term_proven_via.result (c.term_proven_via.ensures.says m s)
 
@@ -641,10 +675,13 @@ normalizes_to::projections::replaced_term-groups_term-requires t c =
     keeps-chain c.args.terms.now c.intern_alias.new.terms c.intern_alias-2.new.terms c.in_ok-alias.ensures.kept c.in_ok-rigid_alias.ensures.kept in (
       search rules,
       (
-        (self_args-grown c.args.terms.now c.intern_alias-2.new.terms chain c.args.self_ty c.args.given.now.args.now c.as_slice-2.result.now c.requires.self_ty c.requires.args (c.as_slice-2.ensures.value ∙ c.in_ok-args.ensures), c.in_ok-rigid_alias.ensures.within),
+        cache-grown c.args.setting.now c.args.terms.now c.intern_alias-2.new.terms c.args.effects.now.cache chain c.requires.cache,
         (
-          in-grown c.args.terms.now c.intern_alias-2.new.terms chain c.args.self_ty c.requires.self_ty,
-          in-grown c.intern_alias.new.terms c.intern_alias-2.new.terms c.in_ok-rigid_alias.ensures.kept c.in_ok-alias.alias c.in_ok-alias.ensures.within,
+          (self_args-grown c.args.terms.now c.intern_alias-2.new.terms chain c.args.self_ty c.args.given.now.args.now c.as_slice-2.result.now c.requires.self_ty c.requires.args (c.as_slice-2.ensures.value ∙ c.in_ok-args.ensures), c.in_ok-rigid_alias.ensures.within),
+          (
+            in-grown c.args.terms.now c.intern_alias-2.new.terms chain c.args.self_ty c.requires.self_ty,
+            in-grown c.intern_alias.new.terms c.intern_alias-2.new.terms c.in_ok-rigid_alias.ensures.kept c.in_ok-alias.alias c.in_ok-alias.ensures.within,
+          ),
         ),
       ),
     )
@@ -689,7 +726,7 @@ pub normalizes_to::projections::term_proven_via-returns-in-Is-clause-says :
 normalizes_to::projections::term_proven_via-returns-in-Is-clause-says t c = λ m s.
     let some : 0 < length c.args.given.now.args.now = some_args c.args.given.now.args.now c.is_empty.result c.is_empty.ensures c.if-is_empty.false in
     through-says (setting_in c.args.setting.now m) (level_in c.args.setting.now m c.args.depth) (consistent c.args.setting.now m c.args.depth) c.args.given.now.kind c.args.given.now.item.now
-    c.args.given.now.trait_params c.args.given.now.class c.args.terms.now c.head_form.new.terms c.replaced_term.new.terms c.in_ok-head_form.ensures.kept c.args.given.now.args.now c.requires
+    c.args.given.now.trait_params c.args.given.now.class c.args.terms.now c.head_form.new.terms c.replaced_term.new.terms c.in_ok-head_form.ensures.kept c.args.given.now.args.now c.requires.args
     (get_or c.args.given.now.args.now 0 (record { 0 = 0 })) (erased_at c.head_form.new.terms c.in-Is.self_ty) some (same_element c.args.given.now.args.now 0 (record { 0 = 0 }) some)
     (rw c.in-Is.is at (c.in_ok-head_form.ensures.says m s)) c.replaced_term.result (c.replaced_term.ensures.says m s)
 
@@ -729,19 +766,19 @@ relate::equality::compare_forms-returns-clause-says t c = λ m stands.
 pub relate::equality::compare_pair-returns-then-depth-eq0-clause-says : goal.relate::equality::compare_pair-returns-then-depth-eq0-clause-says
 relate::equality::compare_pair-returns-then-depth-eq0-clause-says t c = λ m stands.
     pair-ground (setting_in c.args.setting.now m) c.args.depth (omega arith)
-    (erased_at c.args.terms.now c.args.pair.left) (erased_at c.args.terms.now c.args.pair.right) c.requires.2
+    (erased_at c.args.terms.now c.args.pair.left) (erased_at c.args.terms.now c.args.pair.right) c.requires.within.2
 
 pub relate::equality::compare_pair-returns-in-Found-clause-says : goal.relate::equality::compare_pair-returns-in-Found-clause-says
 relate::equality::compare_pair-returns-in-Found-clause-says t c = λ m stands.
     pair-found_ok (setting_in c.args.setting.now m) (c.args.depth - 1) c.args.depth (omega arith)
-    c.args.terms.now c.head_form.new.terms c.head_form-2.new.terms c.head_form.ensures.kept c.head_form-2.ensures.kept c.args.pair c.requires
+    c.args.terms.now c.head_form.new.terms c.head_form-2.new.terms c.head_form.ensures.kept c.head_form-2.ensures.kept c.args.pair c.requires.within
     c.in_ok-left.left c.in_ok-right.right (c.in_ok-left.ensures.says m stands) (c.in_ok-right.ensures.says m stands)
     c.compare_forms.result c.in_ok-left.ensures.within c.in-Found.form c.in-Found.other c.in-Found.ensures (c.compare_forms.ensures.says m stands)
 
 pub relate::equality::compare_pair-returns-in-Lacking-clause-says : goal.relate::equality::compare_pair-returns-in-Lacking-clause-says
 relate::equality::compare_pair-returns-in-Lacking-clause-says t c = λ m stands.
     pair-lacking (setting_in c.args.setting.now m) (c.args.depth - 1) c.args.depth (omega arith)
-    c.args.terms.now c.head_form.new.terms c.head_form-2.new.terms c.head_form.ensures.kept c.head_form-2.ensures.kept c.args.pair c.requires
+    c.args.terms.now c.head_form.new.terms c.head_form-2.new.terms c.head_form.ensures.kept c.head_form-2.ensures.kept c.args.pair c.requires.within
     c.in_ok-left.left c.in_ok-right.right (c.in_ok-left.ensures.says m stands) (c.in_ok-right.ensures.says m stands)
     c.in-Lacking.outcome c.in-Lacking.ensures
 
@@ -753,8 +790,9 @@ relate::equality::compare_pending-loop-pair-preserved t c = (
       c.args.pending.now.outcome c.args.pending.now.pairs.items c.loop-pair.outcome c.deref-pair-items.result.now c.loop-pair.pair-index (record { left = record { 0 = 0 }; right = record { 0 = 0 } })
       (omega arith) (c.loop-pair.invariant.1 m stands)
       (All-get_or (IsOpen c.args.terms.now) c.deref-pair-items.result.now c.loop-pair.pair-index _ (omega arith)
-      (All-same (IsOpen c.args.terms.now) c.deref-pair-items.result.now c.args.pending.now.pairs.items c.deref-pair-items.ensures.value c.requires))
+      (All-same (IsOpen c.args.terms.now) c.deref-pair-items.result.now c.args.pending.now.pairs.items c.deref-pair-items.ensures.value c.requires.within))
       c.in_ok-next.next (c.in_ok-next.ensures.says m stands) c.and-outcome.result c.and-outcome.ensures,
+  search (rules, caching),
 )
 
 pub relate::equality::compare_pending-returns-clause-says : goal.relate::equality::compare_pending-returns-clause-says
@@ -765,16 +803,22 @@ relate::equality::compare_pending-returns-clause-says t c = λ m stands.
 pub relate::equality::compare_pending-compare_pair-requires : goal.relate::equality::compare_pending-compare_pair-requires
 relate::equality::compare_pending-compare_pair-requires t c = (
   omega arith,
-  open-grown c.args.terms.now c.loop-pair.terms c.loop-pair.invariant.0 _
-      (All-get_or (IsOpen c.args.terms.now) c.deref-pair-items.result.now c.loop-pair.pair-index (record { left = record { 0 = 0 }; right = record { 0 = 0 } }) (omega arith)
-      (All-same (IsOpen c.args.terms.now) c.deref-pair-items.result.now c.args.pending.now.pairs.items c.deref-pair-items.ensures.value c.requires)),
+  (
+    search (rules, caching),
+    open-grown c.args.terms.now c.loop-pair.terms c.loop-pair.invariant.0 _
+        (All-get_or (IsOpen c.args.terms.now) c.deref-pair-items.result.now c.loop-pair.pair-index (record { left = record { 0 = 0 }; right = record { 0 = 0 } }) (omega arith)
+        (All-same (IsOpen c.args.terms.now) c.deref-pair-items.result.now c.args.pending.now.pairs.items c.deref-pair-items.ensures.value c.requires.within)),
+  ),
 )
 
 pub relate::equality::compare_pair-compare_forms-requires : goal.relate::equality::compare_pair-compare_forms-requires
 relate::equality::compare_pair-compare_forms-requires t c = (
   omega arith,
-  found-in c.head_form.new.terms c.head_form-2.new.terms c.head_form-2.ensures.kept c.in_ok-left.left c.in_ok-right.right
-      c.in_ok-left.ensures.within c.in_ok-right.ensures.within c.in-Found.form c.in-Found.other c.in-Found.ensures,
+  (
+    search (rules, caching),
+    found-in c.head_form.new.terms c.head_form-2.new.terms c.head_form-2.ensures.kept c.in_ok-left.left c.in_ok-right.right
+        c.in_ok-left.ensures.within c.in_ok-right.ensures.within c.in-Found.form c.in-Found.other c.in-Found.ensures,
+  ),
 )
 
 pub relate::equality::compare_pending-returns-then-is_refuted-clause-says : goal.relate::equality::compare_pending-returns-then-is_refuted-clause-says
@@ -799,23 +843,25 @@ relate::equality::compare_terms-returns-clause-says t c = λ m stands.
 pub eval::premises::conditions_outcome-loop-condition-init : goal.eval::premises::conditions_outcome-loop-condition-init
 eval::premises::conditions_outcome-loop-condition-init t c = record {
   kept = keeps-refl c.args.terms.now;
+  cache = search (rules, caching);
   so_far = premises-start c.args.setting.now c.args.depth (condition_at c.args.constness c.args.terms.now) c.args.conditions.now;
 }
 
 pub eval::premises::conditions_outcome-loop-condition-preserved : goal.eval::premises::conditions_outcome-loop-condition-preserved
 eval::premises::conditions_outcome-loop-condition-preserved t c = record {
   kept = keeps-chain c.args.terms.now c.loop-condition.terms c.evaluate_host_effect_goal.new.terms c.loop-condition.invariant.kept c.evaluate_host_effect_goal.ensures.kept;
+  cache = search (rules, caching);
   so_far =
       subst (PremisesSay c.args.setting.now c.args.depth (condition_at c.args.constness c.args.terms.now) c.args.conditions.now (c.loop-condition.condition-index + 1)) (sym c.and-found.ensures)
       (conditions-step c.args.setting.now c.args.depth c.args.constness c.args.terms.now c.loop-condition.terms c.args.conditions.now c.loop-condition.condition-index c.condition-item.result c.deref.result.now c.loop-condition.found c.in_ok-next.next
-      c.loop-condition.invariant.kept c.requires (omega arith) c.condition-item.is c.deref.ensures.value c.loop-condition.invariant.so_far c.in_ok-next.ensures.says);
+      c.loop-condition.invariant.kept c.requires.within (omega arith) c.condition-item.is c.deref.ensures.value c.loop-condition.invariant.so_far c.in_ok-next.ensures.says);
 }
 
 pub eval::premises::conditions_outcome-returns-in-Refuted-clause-says : goal.eval::premises::conditions_outcome-returns-in-Refuted-clause-says
 eval::premises::conditions_outcome-returns-in-Refuted-clause-says t c =
     conditions-refuted c.args.setting.now c.args.depth c.args.constness c.args.terms.now c.args.conditions.now (c.loop-condition.condition-index + 1) (both c.loop-condition.found c.in_ok-next.next) (sym c.and-found.ensures ∙ c.in-Refuted.is)
     (conditions-step c.args.setting.now c.args.depth c.args.constness c.args.terms.now c.loop-condition.terms c.args.conditions.now c.loop-condition.condition-index c.condition-item.result c.deref.result.now c.loop-condition.found c.in_ok-next.next
-    c.loop-condition.invariant.kept c.requires (omega arith) c.condition-item.is c.deref.ensures.value c.loop-condition.invariant.so_far c.in_ok-next.ensures.says)
+    c.loop-condition.invariant.kept c.requires.within (omega arith) c.condition-item.is c.deref.ensures.value c.loop-condition.invariant.so_far c.in_ok-next.ensures.says)
 
 pub eval::premises::conditions_outcome-returns-clause-says : goal.eval::premises::conditions_outcome-returns-clause-says
 eval::premises::conditions_outcome-returns-clause-says t c =
@@ -825,9 +871,12 @@ eval::premises::conditions_outcome-returns-clause-says t c =
 pub eval::premises::conditions_outcome-evaluate_host_effect_goal-requires : goal.eval::premises::conditions_outcome-evaluate_host_effect_goal-requires
 eval::premises::conditions_outcome-evaluate_host_effect_goal-requires t c = (
   omega (arith, c.decreases),
-  subst (AreIn c.loop-condition.terms) (sym c.deref.ensures.value)
-      (condition-at c.args.constness c.args.terms.now c.loop-condition.terms c.args.conditions.now c.loop-condition.condition-index c.condition-item.result
-      c.loop-condition.invariant.kept c.requires (omega arith) c.condition-item.is).0,
+  (
+    search (rules, caching),
+    subst (AreIn c.loop-condition.terms) (sym c.deref.ensures.value)
+        (condition-at c.args.constness c.args.terms.now c.loop-condition.terms c.args.conditions.now c.loop-condition.condition-index c.condition-item.result
+        c.loop-condition.invariant.kept c.requires.within (omega arith) c.condition-item.is).0,
+  ),
 )
 
 pub eval::premises::equation_outcome-returns-then-depth-eq0-clause-says : goal.eval::premises::equation_outcome-returns-then-depth-eq0-clause-says
@@ -852,21 +901,22 @@ eval::lists::run_list-returns-in-Some-clause-says t c = λ m s.
 pub eval::lists::run_entries-loop-entry-preserved : goal.eval::lists::run_entries-loop-entry-preserved
 eval::lists::run_entries-loop-entry-preserved t c = record {
   kept = keeps-chain c.args.terms.now c.loop-entry.terms c.run_entry.new.terms c.loop-entry.invariant.kept c.run_entry.ensures.kept;
+  cache = search (rules, caching);
   within = c.in_ok-run_entry.ensures.within;
-  so_far = runs-next c.args.setting.now c.args.depth c.args.terms.now c.loop-entry.terms c.run_entry.new.terms c.loop-entry.invariant.kept c.args.entries.now c.requires
+  so_far = runs-next c.args.setting.now c.args.depth c.args.terms.now c.loop-entry.terms c.run_entry.new.terms c.loop-entry.invariant.kept c.args.entries.now c.requires.entries
       c.loop-entry.run c.run_entry.new.run c.loop-entry.entry-index c.entry-item.result c.in_ok-run_entry.field-0 (omega arith) c.entry-item.is c.loop-entry.invariant.so_far
       c.in_ok-run_entry.ensures.reads c.in_ok-run_entry.ensures.says c.in-Next.is;
 }
 
 pub eval::lists::run_entries-returns-in-Refuted-clause-says : goal.eval::lists::run_entries-returns-in-Refuted-clause-says
 eval::lists::run_entries-returns-in-Refuted-clause-says t c =
-    runs-refuted c.args.setting.now c.args.depth c.args.terms.now c.loop-entry.terms c.run_entry.new.terms c.loop-entry.invariant.kept c.args.entries.now c.requires
+    runs-refuted c.args.setting.now c.args.depth c.args.terms.now c.loop-entry.terms c.run_entry.new.terms c.loop-entry.invariant.kept c.args.entries.now c.requires.entries
     c.loop-entry.run c.run_entry.new.run c.loop-entry.entry-index c.entry-item.result c.in_ok-run_entry.field-0 (omega arith) c.entry-item.is c.loop-entry.invariant.so_far
     c.in_ok-run_entry.ensures.reads c.in_ok-run_entry.ensures.says c.in-Refuted.is c.run_entry.new.terms
 
 pub eval::lists::run_entries-returns-in-Undecided-clause-says : goal.eval::lists::run_entries-returns-in-Undecided-clause-says
 eval::lists::run_entries-returns-in-Undecided-clause-says t c =
-    runs-undecided c.args.setting.now c.args.depth c.args.terms.now c.loop-entry.terms c.run_entry.new.terms c.loop-entry.invariant.kept c.args.entries.now c.requires
+    runs-undecided c.args.setting.now c.args.depth c.args.terms.now c.loop-entry.terms c.run_entry.new.terms c.loop-entry.invariant.kept c.args.entries.now c.requires.entries
     c.loop-entry.run c.run_entry.new.run c.loop-entry.entry-index c.entry-item.result c.in_ok-run_entry.field-0 (omega arith) c.entry-item.is c.loop-entry.invariant.so_far
     c.in_ok-run_entry.ensures.reads c.in_ok-run_entry.ensures.says c.in-Undecided.is c.run_entry.new.terms
 
@@ -919,8 +969,11 @@ eval::lists::entries::run_entry-returns-in_ok-outcome-in-RowClauses-clause-says 
 pub eval::lists::entries::run_entry-row_outcome-requires : goal.eval::lists::entries::run_entry-row_outcome-requires
 eval::lists::entries::run_entry-row_outcome-requires t c = (
   omega arith,
-  (λ x e.
-      subst (λ o. IfSome o (AreIn c.args.terms.now)) e (c.named_args-args.ensures.within c.args.terms.now (subst (NamedIn c.args.terms.now) (sym c.deref-in-RowClauses.ensures.value) c.requires.run.0))),
+  (
+    search (rules, caching),
+    (λ x e.
+        subst (λ o. IfSome o (AreIn c.args.terms.now)) e (c.named_args-args.ensures.within c.args.terms.now (subst (NamedIn c.args.terms.now) (sym c.deref-in-RowClauses.ensures.value) c.requires.run.0))),
+  ),
 )
 
 pub eval::lists::entries::run_entry-returns-in_ok-outcome-in-RowConditions-clause-says : goal.eval::lists::entries::run_entry-returns-in_ok-outcome-in-RowConditions-clause-says
@@ -933,8 +986,11 @@ eval::lists::entries::run_entry-returns-in_ok-outcome-in-RowConditions-clause-sa
 pub eval::lists::entries::run_entry-row_outcome-requires-in-RowConditions : goal.eval::lists::entries::run_entry-row_outcome-requires-in-RowConditions
 eval::lists::entries::run_entry-row_outcome-requires-in-RowConditions t c = (
   omega arith,
-  (λ x e.
-      subst (λ o. IfSome o (AreIn c.args.terms.now)) e (c.named_args-args-in-RowConditions.ensures.within c.args.terms.now (subst (NamedIn c.args.terms.now) (sym c.deref-in-RowConditions.ensures.value) c.requires.run.0))),
+  (
+    c.requires.cache,
+    (λ x e.
+        subst (λ o. IfSome o (AreIn c.args.terms.now)) e (c.named_args-args-in-RowConditions.ensures.within c.args.terms.now (subst (NamedIn c.args.terms.now) (sym c.deref-in-RowConditions.ensures.value) c.requires.run.0))),
+  ),
 )
 
 pub eval::lists::entries::run_entry-returns-in-Access-clause-says : goal.eval::lists::entries::run_entry-returns-in-Access-clause-says
@@ -1078,22 +1134,27 @@ assembly::candidates::consider_candidate-returns-clause-says t c m s =
 pub assembly::candidates::candidates_outcome-loop-candidate-init : goal.assembly::candidates::candidates_outcome-loop-candidate-init
 assembly::candidates::candidates_outcome-loop-candidate-init t c = record {
   kept = keeps-refl c.args.terms.now;
+  cache = search (rules, caching);
   so_far = asked-start c.args.setting.now c.args.depth c.args.terms.now c.args.asked.now c.args.candidates.now;
 }
 
 pub assembly::candidates::candidates_outcome-consider_candidate-requires : goal.assembly::candidates::candidates_outcome-consider_candidate-requires
 assembly::candidates::candidates_outcome-consider_candidate-requires t c = (
   omega arith,
-  ((
-    asked_in-grown c.args.terms.now c.loop-candidate.terms c.args.asked.now c.loop-candidate.invariant.kept c.requires.asked,
-    candidate-in c.args.terms.now c.loop-candidate.terms c.args.candidates.now c.loop-candidate.candidate-index c.candidate-item.result c.loop-candidate.invariant.kept
-        c.requires.candidates (omega arith) c.candidate-item.is,
-  )),
+  (
+    search (rules, caching),
+    ((
+      asked_in-grown c.args.terms.now c.loop-candidate.terms c.args.asked.now c.loop-candidate.invariant.kept c.requires.asked,
+      candidate-in c.args.terms.now c.loop-candidate.terms c.args.candidates.now c.loop-candidate.candidate-index c.candidate-item.result c.loop-candidate.invariant.kept
+          c.requires.candidates (omega arith) c.candidate-item.is,
+    )),
+  ),
 )
 
 pub assembly::candidates::candidates_outcome-loop-candidate-preserved : goal.assembly::candidates::candidates_outcome-loop-candidate-preserved
 assembly::candidates::candidates_outcome-loop-candidate-preserved t c = record {
   kept = keeps-chain c.args.terms.now c.loop-candidate.terms c.consider_candidate.new.terms c.loop-candidate.invariant.kept c.in_ok-next.ensures.kept;
+  cache = search (rules, caching);
   so_far = asked-more c.args.setting.now c.args.depth c.args.terms.now c.loop-candidate.terms c.args.asked.now c.args.candidates.now c.loop-candidate.candidate-index c.candidate-item.result
       c.loop-candidate.found c.in_ok-next.next c.or-found.result c.loop-candidate.invariant.kept c.requires.asked c.requires.candidates (omega arith) c.candidate-item.is c.or-found.ensures
       c.loop-candidate.invariant.so_far c.in_ok-next.ensures.says;
@@ -1115,38 +1176,38 @@ pub assembly::candidates::class_outcome-returns-clause-says : goal.assembly::can
 assembly::candidates::class_outcome-returns-clause-says t c m s =
     asked-listed (setting_in c.args.setting.now m) c.args.depth c.args.terms.now c.candidates_of_class.new.terms c.args.asked.now
     (map (candidate_at c.candidates_of_class.new.terms) c.deref.result.now) (class_of (setting_in c.args.setting.now m) c.args.asked.now.trait_id (erased_at c.args.terms.now c.args.asked.now.self_ty) c.args.class)
-    c.candidates_outcome.result c.in_ok-candidates.ensures.kept c.requires
+    c.candidates_outcome.result c.in_ok-candidates.ensures.kept c.requires.asked
     (ap (map (candidate_at c.candidates_of_class.new.terms)) c.deref.ensures.value ∙ c.in_ok-candidates.ensures.candidates m) (c.candidates_outcome.ensures.says m s)
 
 pub trait_goals::evaluation::evaluate_trait_goal-returns-then-depth-eq0-clause-says : goal.trait_goals::evaluation::evaluate_trait_goal-returns-then-depth-eq0-clause-says
 trait_goals::evaluation::evaluate_trait_goal-returns-then-depth-eq0-clause-says t c m s = trait-ground (setting_in c.args.setting.now m) c.args.depth c.args.trait_id (erased_all c.args.terms.now c.args.args.now) c.if-depth-eq0.true
 
-pub trait_goals::evaluation::evaluate_trait_goal-returns-in_default-clause-says : goal.trait_goals::evaluation::evaluate_trait_goal-returns-in_default-clause-says
-trait_goals::evaluation::evaluate_trait_goal-returns-in_default-clause-says t c m s =
-    trait-bare (setting_in c.args.setting.now m) c.args.depth c.args.trait_id (erased_all c.args.terms.now c.args.args.now) c.if-depth-eq0.false (ap (erased_all c.args.terms.now) c.in_default.ensures)
+pub trait_goals::evaluation::fresh_trait_outcome-returns-in_default-clause-says : goal.trait_goals::evaluation::fresh_trait_outcome-returns-in_default-clause-says
+trait_goals::evaluation::fresh_trait_outcome-returns-in_default-clause-says t c m s =
+    trait-bare (setting_in c.args.setting.now m) c.args.depth c.args.trait_id (erased_all c.args.terms.now c.args.args.now) c.requires.above (ap (erased_all c.args.terms.now) c.in_default.ensures)
 
-pub trait_goals::evaluation::evaluate_trait_goal-returns-in-Undecided-clause-says : goal.trait_goals::evaluation::evaluate_trait_goal-returns-in-Undecided-clause-says
-trait_goals::evaluation::evaluate_trait_goal-returns-in-Undecided-clause-says t c m s =
+pub trait_goals::evaluation::fresh_trait_outcome-returns-in-Undecided-clause-says : goal.trait_goals::evaluation::fresh_trait_outcome-returns-in-Undecided-clause-says
+trait_goals::evaluation::fresh_trait_outcome-returns-in-Undecided-clause-says t c m s =
     trait-unformed (setting_in c.args.setting.now m) c.args.depth c.args.trait_id (erased_at c.args.terms.now c.in-Some.first) (erased_all c.args.terms.now c.in-Some.rest.now)
-    (erased_all c.args.terms.now c.args.args.now) c.if-depth-eq0.false (ap (erased_all c.args.terms.now) c.in-Some.ensures)
+    (erased_all c.args.terms.now c.args.args.now) c.requires.above (ap (erased_all c.args.terms.now) c.in-Some.ensures)
     (subst (SaysWhich (HasHeadForm (level_in c.args.setting.now m (c.args.depth - 1)) (erased_at c.args.terms.now c.in-Some.first)) (HeadFormRefuted (level_in c.args.setting.now m (c.args.depth - 1)) (erased_at c.args.terms.now c.in-Some.first)) c.head_form.new.terms)
     c.in-Undecided.is (c.in_ok-head_form.ensures.says m s))
 
-pub trait_goals::evaluation::evaluate_trait_goal-returns-in-Refuted-clause-says : goal.trait_goals::evaluation::evaluate_trait_goal-returns-in-Refuted-clause-says
-trait_goals::evaluation::evaluate_trait_goal-returns-in-Refuted-clause-says t c m s =
+pub trait_goals::evaluation::fresh_trait_outcome-returns-in-Refuted-clause-says : goal.trait_goals::evaluation::fresh_trait_outcome-returns-in-Refuted-clause-says
+trait_goals::evaluation::fresh_trait_outcome-returns-in-Refuted-clause-says t c m s =
     trait-formless (setting_in c.args.setting.now m) c.args.depth c.args.trait_id (erased_at c.args.terms.now c.in-Some.first) (erased_all c.args.terms.now c.in-Some.rest.now)
-    (erased_all c.args.terms.now c.args.args.now) c.if-depth-eq0.false (ap (erased_all c.args.terms.now) c.in-Some.ensures)
+    (erased_all c.args.terms.now c.args.args.now) c.requires.above (ap (erased_all c.args.terms.now) c.in-Some.ensures)
     (subst (SaysWhich (HasHeadForm (level_in c.args.setting.now m (c.args.depth - 1)) (erased_at c.args.terms.now c.in-Some.first)) (HeadFormRefuted (level_in c.args.setting.now m (c.args.depth - 1)) (erased_at c.args.terms.now c.in-Some.first)) c.head_form.new.terms)
     c.in-Refuted.is (c.in_ok-head_form.ensures.says m s))
 
-pub trait_goals::evaluation::evaluate_trait_goal-returns-in_ok-replaced-in-Is-clause-says : goal.trait_goals::evaluation::evaluate_trait_goal-returns-in_ok-replaced-in-Is-clause-says
-trait_goals::evaluation::evaluate_trait_goal-returns-in_ok-replaced-in-Is-clause-says t c m s =
+pub trait_goals::evaluation::fresh_trait_outcome-returns-in_ok-replaced-in-Is-clause-says : goal.trait_goals::evaluation::fresh_trait_outcome-returns-in_ok-replaced-in-Is-clause-says
+trait_goals::evaluation::fresh_trait_outcome-returns-in_ok-replaced-in-Is-clause-says t c m s =
     trait-formed (setting_in c.args.setting.now m) c.args.depth c.args.trait_id (erased_at c.args.terms.now c.in-Some.first) (erased_at c.head_form.new.terms c.in-Is.self_ty)
-    (erased_all c.args.terms.now c.in-Some.rest.now) (erased_all c.args.terms.now c.args.args.now) c.decide_trait.result c.if-depth-eq0.false (ap (erased_all c.args.terms.now) c.in-Some.ensures)
+    (erased_all c.args.terms.now c.in-Some.rest.now) (erased_all c.args.terms.now c.args.args.now) c.decide_trait.result c.requires.above (ap (erased_all c.args.terms.now) c.in-Some.ensures)
     (subst (SaysWhich (HasHeadForm (level_in c.args.setting.now m (c.args.depth - 1)) (erased_at c.args.terms.now c.in-Some.first)) (HeadFormRefuted (level_in c.args.setting.now m (c.args.depth - 1)) (erased_at c.args.terms.now c.in-Some.first)) c.head_form.new.terms)
     c.in-Is.is (c.in_ok-head_form.ensures.says m s))
     (replaced-formed (setting_in c.args.setting.now m) (level_in c.args.setting.now m (c.args.depth - 1)) c.args.trait_id c.args.terms.now c.head_form.new.terms c.in-Is.self_ty c.in-Some.first
-    c.in-Some.rest.now c.as_slice.result.now c.decide_trait.result c.head_form.ensures.kept (subst (AreIn c.args.terms.now) c.in-Some.ensures c.requires)
+    c.in-Some.rest.now c.as_slice.result.now c.decide_trait.result c.head_form.ensures.kept (subst (AreIn c.args.terms.now) c.in-Some.ensures c.requires.args)
     (c.as_slice.ensures.value ∙ c.in_ok-replaced-in-Is.ensures) (c.decide_trait.ensures.says m s))
 
 pub trait_goals::evaluation::decide_trait-returns-in-Some-clause-says : goal.trait_goals::evaluation::decide_trait-returns-in-Some-clause-says
@@ -1202,38 +1263,41 @@ pub effect_goals::evaluation::evaluate_host_effect_goal-returns-then-depth-eq0-c
 effect_goals::evaluation::evaluate_host_effect_goal-returns-then-depth-eq0-clause-says t c m s =
     const-ground (setting_in c.args.setting.now m) c.args.depth c.args.constness c.args.trait_id (erased_all c.args.terms.now c.args.args.now) c.if-depth-eq0.true
 
-pub effect_goals::evaluation::evaluate_host_effect_goal-returns-in_default-clause-says : goal.effect_goals::evaluation::evaluate_host_effect_goal-returns-in_default-clause-says
-effect_goals::evaluation::evaluate_host_effect_goal-returns-in_default-clause-says t c m s =
+pub effect_goals::evaluation::fresh_host_effect_outcome-returns-in_default-clause-says : goal.effect_goals::evaluation::fresh_host_effect_outcome-returns-in_default-clause-says
+effect_goals::evaluation::fresh_host_effect_outcome-returns-in_default-clause-says t c m s =
     const-no_self (setting_in c.args.setting.now m) c.args.depth c.args.constness c.args.trait_id c.args.terms.now c.args.args.now c.in_default.ensures
 
-pub effect_goals::evaluation::evaluate_host_effect_goal-returns-in_default-plain-clause-says : goal.effect_goals::evaluation::evaluate_host_effect_goal-returns-in_default-plain-clause-says
-effect_goals::evaluation::evaluate_host_effect_goal-returns-in_default-plain-clause-says t c m s =
+pub effect_goals::evaluation::fresh_host_effect_outcome-returns-in_default-plain-clause-says : goal.effect_goals::evaluation::fresh_host_effect_outcome-returns-in_default-plain-clause-says
+effect_goals::evaluation::fresh_host_effect_outcome-returns-in_default-plain-clause-says t c m s =
     subst (SaysHost (setting_in c.args.setting.now m) c.args.depth c.args.constness c.args.trait_id (erased_all c.args.terms.now c.args.args.now)) (sym c.held.ensures)
     (plain-decides (setting_in c.args.setting.now m) c.args.depth c.args.constness c.args.trait_id c.args.terms.now c.in-Some.first c.in-Some.rest.now c.args.args.now c.in_ok-plain.plain
-    c.if-depth-eq0.false c.in-Some.ensures c.in_default-plain.not-Holds (c.in_ok-plain.ensures.says m s))
+    c.requires.above c.in-Some.ensures c.in_default-plain.not-Holds (c.in_ok-plain.ensures.says m s))
 
-pub effect_goals::evaluation::evaluate_host_effect_goal-returns-in_default-found-clause-says : goal.effect_goals::evaluation::evaluate_host_effect_goal-returns-in_default-found-clause-says
-effect_goals::evaluation::evaluate_host_effect_goal-returns-in_default-found-clause-says t c m s =
+pub effect_goals::evaluation::fresh_host_effect_outcome-returns-in_default-found-clause-says : goal.effect_goals::evaluation::fresh_host_effect_outcome-returns-in_default-found-clause-says
+effect_goals::evaluation::fresh_host_effect_outcome-returns-in_default-found-clause-says t c m s =
     host-unformed (setting_in c.args.setting.now m) c.args.depth c.args.constness c.args.trait_id c.in-Holds.class c.args.terms.now c.evaluate_trait_goal.new.terms c.in-Some.first
-    c.in-Some.rest.now c.args.args.now c.in_ok-plain.plain c.in_ok-plain.ensures.kept c.requires c.if-depth-eq0.false c.in-Some.ensures c.in-Holds.is (c.in_ok-plain.ensures.says m s)
+    c.in-Some.rest.now c.args.args.now c.in_ok-plain.plain c.in_ok-plain.ensures.kept c.requires.args c.requires.above c.in-Some.ensures c.in-Holds.is (c.in_ok-plain.ensures.says m s)
     c.head_form.new.terms c.in_ok-found.found c.in_default-found.not-Is (c.in_ok-found.ensures.says m s)
 
-pub effect_goals::evaluation::evaluate_host_effect_goal-groups_outcome-requires : goal.effect_goals::evaluation::evaluate_host_effect_goal-groups_outcome-requires
-effect_goals::evaluation::evaluate_host_effect_goal-groups_outcome-requires t c = (
+pub effect_goals::evaluation::fresh_host_effect_outcome-groups_outcome-requires : goal.effect_goals::evaluation::fresh_host_effect_outcome-groups_outcome-requires
+effect_goals::evaluation::fresh_host_effect_outcome-groups_outcome-requires t c = (
   omega arith,
-  (let form_in : IsIn c.head_form.new.terms c.in-Is.self_ty = subst (FoundIn c.head_form.new.terms) c.in-Is.is c.in_ok-found.ensures.within in
-      let args_in : AreIn c.evaluate_trait_goal.new.terms (c.in-Some.first ∷ c.in-Some.rest.now) =
-      are_in-grown c.args.terms.now c.evaluate_trait_goal.new.terms c.in_ok-plain.ensures.kept (c.in-Some.first ∷ c.in-Some.rest.now) (subst (AreIn c.args.terms.now) c.in-Some.ensures c.requires) in (
-        form_in,
-        replaced-in c.evaluate_trait_goal.new.terms c.head_form.new.terms c.in-Is.self_ty c.in-Some.first c.in-Some.rest.now c.as_slice.result.now c.in_ok-found.ensures.kept args_in form_in
-            (c.as_slice.ensures.value ∙ c.in_ok-replaced.ensures),
-      )),
+  (
+    search (rules, caching),
+    (let form_in : IsIn c.head_form.new.terms c.in-Is.self_ty = subst (FoundIn c.head_form.new.terms) c.in-Is.is c.in_ok-found.ensures.within in
+        let args_in : AreIn c.evaluate_trait_goal.new.terms (c.in-Some.first ∷ c.in-Some.rest.now) =
+        are_in-grown c.args.terms.now c.evaluate_trait_goal.new.terms c.in_ok-plain.ensures.kept (c.in-Some.first ∷ c.in-Some.rest.now) (subst (AreIn c.args.terms.now) c.in-Some.ensures c.requires.args) in (
+          form_in,
+          replaced-in c.evaluate_trait_goal.new.terms c.head_form.new.terms c.in-Is.self_ty c.in-Some.first c.in-Some.rest.now c.as_slice.result.now c.in_ok-found.ensures.kept args_in form_in
+              (c.as_slice.ensures.value ∙ c.in_ok-replaced.ensures),
+        )),
+  ),
 )
 
-pub effect_goals::evaluation::evaluate_host_effect_goal-returns-clause-says : goal.effect_goals::evaluation::evaluate_host_effect_goal-returns-clause-says
-effect_goals::evaluation::evaluate_host_effect_goal-returns-clause-says t c m s =
+pub effect_goals::evaluation::fresh_host_effect_outcome-returns-clause-says : goal.effect_goals::evaluation::fresh_host_effect_outcome-returns-clause-says
+effect_goals::evaluation::fresh_host_effect_outcome-returns-clause-says t c m s =
     host-formed (setting_in c.args.setting.now m) c.args.depth c.args.constness c.args.trait_id c.in-Holds.class c.args.terms.now c.evaluate_trait_goal.new.terms c.in-Some.first
-    c.in-Some.rest.now c.args.args.now c.in_ok-plain.plain c.in_ok-plain.ensures.kept c.requires c.if-depth-eq0.false c.in-Some.ensures c.in-Holds.is (c.in_ok-plain.ensures.says m s)
+    c.in-Some.rest.now c.args.args.now c.in_ok-plain.plain c.in_ok-plain.ensures.kept c.requires.args c.requires.above c.in-Some.ensures c.in-Holds.is (c.in_ok-plain.ensures.says m s)
     c.head_form.new.terms c.in-Is.self_ty c.as_slice.result c.in_ok-found.found c.groups_outcome.result c.in_ok-found.ensures.kept c.in-Is.is
     (c.as_slice.ensures.value ∙ c.in_ok-replaced.ensures) (c.in_ok-found.ensures.says m s) (c.groups_outcome.ensures.says m s)
 
@@ -1246,20 +1310,20 @@ pub effect_goals::evaluation::groups_outcome-returns-clause-says : goal.effect_g
 effect_goals::evaluation::groups_outcome-returns-clause-says t c m s =
     groups-second (setting_in c.args.setting.now m) c.args.depth c.args.terms.now c.class_outcome.new.terms c.second_group.new.terms c.args.asked.now c.args.class c.in_ok-first.first
     (map (candidate_at c.second_group.new.terms) c.deref.result.now) c.candidates_outcome.result c.class_outcome.ensures.kept
-    c.second_group.ensures.kept c.requires c.in-Refuted.is
+    c.second_group.ensures.kept c.requires.asked c.in-Refuted.is
     (ap (map (candidate_at c.second_group.new.terms)) c.deref.ensures.value ∙ c.in_ok-candidates.ensures.candidates m c.args.setting.now.environment.now) (c.in_ok-first.ensures.says m s) (c.candidates_outcome.ensures.says m s)
 
 pub normalizes_to::alias_terms::alias_term-returns-then-depth-eq0-clause-says : goal.normalizes_to::alias_terms::alias_term-returns-then-depth-eq0-clause-says
 normalizes_to::alias_terms::alias_term-returns-then-depth-eq0-clause-says t c =
     λ m s. depth-zero (setting_in c.args.setting.now m) c.args.depth c.args.kind (erased_all c.args.terms.now c.args.args.now) c.if-depth-eq0.true
 
-pub normalizes_to::alias_terms::alias_term-returns-in-ProjectionTy-clause-says : goal.normalizes_to::alias_terms::alias_term-returns-in-ProjectionTy-clause-says
-normalizes_to::alias_terms::alias_term-returns-in-ProjectionTy-clause-says t c =
+pub normalizes_to::alias_terms::fresh_alias_term-returns-in-ProjectionTy-clause-says : goal.normalizes_to::alias_terms::fresh_alias_term-returns-in-ProjectionTy-clause-says
+normalizes_to::alias_terms::fresh_alias_term-returns-in-ProjectionTy-clause-says t c =
     λ m s. projection-above (setting_in c.args.setting.now m) c.args.depth (c.args.depth - 1) c.args.kind c.in-ProjectionTy.kind c.in-ProjectionTy.item (erased_all c.args.terms.now c.args.args.now)
     c.projection_term.new.terms c.projection_term.result (omega arith) c.in-ProjectionTy.is c.in-ProjectionTy.kind-is (c.projection_term.ensures.says m s)
 
-pub normalizes_to::alias_terms::alias_term-returns-in_ok-outcome-in_default-clause-says : goal.normalizes_to::alias_terms::alias_term-returns-in_ok-outcome-in_default-clause-says
-normalizes_to::alias_terms::alias_term-returns-in_ok-outcome-in_default-clause-says t c = λ m s.
+pub normalizes_to::alias_terms::fresh_alias_term-returns-in_ok-outcome-in_default-clause-says : goal.normalizes_to::alias_terms::fresh_alias_term-returns-in_ok-outcome-in_default-clause-says
+normalizes_to::alias_terms::fresh_alias_term-returns-in_ok-outcome-in_default-clause-says t c = λ m s.
     let args = erased_all c.args.terms.now c.args.args.now in
     alias-says (setting_in c.args.setting.now m) s.0 (c.args.depth - 1) c.args.depth (omega arith) c.args.kind (no_item c.args.kind c.in_default.not-ProjectionTy c.in_default.not-ProjectionConst)
     args c.run_list.new.terms c.in_ok-outcome-in_default.outcome c.term.result c.term.ensures
@@ -1274,24 +1338,108 @@ normalizes_to::projection_candidates::candidate_term-returns-clause-says t c = �
     (c.in_ok-outcome.ensures.says m s (projection_list (setting_in c.args.setting.now m) p itself candidate) (c.in_ok-list.ensures.list m s))
 
 pub eval::lists::run_entries-run_entry-requires : goal.eval::lists::run_entries-run_entry-requires
-eval::lists::run_entries-run_entry-requires t c = (omega arith, (c.loop-entry.invariant.within, (entry-in c.args.terms.now c.loop-entry.terms c.loop-entry.invariant.kept c.args.entries.now c.loop-entry.entry-index c.entry-item.result c.requires (omega arith) c.entry-item.is)))
+eval::lists::run_entries-run_entry-requires t c = (
+  omega arith,
+  (search (rules, caching), (c.loop-entry.invariant.within, (entry-in c.args.terms.now c.loop-entry.terms c.loop-entry.invariant.kept c.args.entries.now c.loop-entry.entry-index c.entry-item.result c.requires.entries (omega arith) c.entry-item.is))),
+)
 
 pub eval::lists::entries::term_found-head_form_under-requires : goal.eval::lists::entries::term_found-head_form_under-requires
-eval::lists::entries::term_found-head_form_under-requires t c = (omega arith, ((c.in-Some.ensures.within c.args.terms.now c.requires.named), (subst IsArgument (sym c.value_view-value.ensures) (value-argument c.in-ValueUnder.value))))
+eval::lists::entries::term_found-head_form_under-requires t c = (
+  omega arith,
+  (search (rules, caching), ((c.in-Some.ensures.within c.args.terms.now c.requires.named), (subst IsArgument (sym c.value_view-value.ensures) (value-argument c.in-ValueUnder.value)))),
+)
 
 pub assembly::candidates::class_outcome-candidates_outcome-requires : goal.assembly::candidates::class_outcome-candidates_outcome-requires
-assembly::candidates::class_outcome-candidates_outcome-requires t c = (omega arith, ((asked_in-grown c.args.terms.now c.candidates_of_class.new.terms c.args.asked.now c.in_ok-candidates.ensures.kept c.requires), subst (All (CandidateIn c.candidates_of_class.new.terms)) (sym c.deref.ensures.value) c.in_ok-candidates.ensures.within))
+assembly::candidates::class_outcome-candidates_outcome-requires t c = (
+  omega arith,
+  (search (rules, caching), ((asked_in-grown c.args.terms.now c.candidates_of_class.new.terms c.args.asked.now c.in_ok-candidates.ensures.kept c.requires.asked), subst (All (CandidateIn c.candidates_of_class.new.terms)) (sym c.deref.ensures.value) c.in_ok-candidates.ensures.within)),
+)
 
-pub trait_goals::evaluation::evaluate_trait_goal-decide_trait-requires : goal.trait_goals::evaluation::evaluate_trait_goal-decide_trait-requires
-trait_goals::evaluation::evaluate_trait_goal-decide_trait-requires t c = (
+pub trait_goals::evaluation::fresh_trait_outcome-decide_trait-requires : goal.trait_goals::evaluation::fresh_trait_outcome-decide_trait-requires
+trait_goals::evaluation::fresh_trait_outcome-decide_trait-requires t c = (
   omega arith,
   (
-    ((
-      subst (FoundIn c.head_form.new.terms) c.in-Is.is c.in_ok-head_form.ensures.within,
-      replaced-in c.args.terms.now c.head_form.new.terms c.in-Is.self_ty c.in-Some.first c.in-Some.rest.now c.as_slice.result.now c.head_form.ensures.kept
-          (subst (AreIn c.args.terms.now) c.in-Some.ensures c.requires) (subst (FoundIn c.head_form.new.terms) c.in-Is.is c.in_ok-head_form.ensures.within)
-          (c.as_slice.ensures.value ∙ c.in_ok-replaced-in-Is.ensures),
-    )),
-    refl,
+    search (rules, caching),
+    (
+      ((
+        subst (FoundIn c.head_form.new.terms) c.in-Is.is c.in_ok-head_form.ensures.within,
+        replaced-in c.args.terms.now c.head_form.new.terms c.in-Is.self_ty c.in-Some.first c.in-Some.rest.now c.as_slice.result.now c.head_form.ensures.kept
+            (subst (AreIn c.args.terms.now) c.in-Some.ensures c.requires.args) (subst (FoundIn c.head_form.new.terms) c.in-Is.is c.in_ok-head_form.ensures.within)
+            (c.as_slice.ensures.value ∙ c.in_ok-replaced-in-Is.ensures),
+      )),
+      refl,
+    ),
   ),
 )
+
+pub eval::lists::entries::run_entry-returns-in-Access-clause-cache : goal.eval::lists::entries::run_entry-returns-in-Access-clause-cache
+eval::lists::entries::run_entry-returns-in-Access-clause-cache t c = subst (IsValidCache c.args.setting.now c.args.terms.now) (sym c.reads_mode.ensures.cache) c.requires.cache
+
+pub trait_goals::evaluation::evaluate_trait_goal-returns-in-Some-clause-says : goal.trait_goals::evaluation::evaluate_trait_goal-returns-in-Some-clause-says
+trait_goals::evaluation::evaluate_trait_goal-returns-in-Some-clause-says t c m s =
+    known-trait c.args.setting.now c.intern_trait_ref.new.terms c.args.effects.now.cache c.in_ok-goal.goal c.args.trait_id (length c.args.args.now) (erased_all c.args.terms.now c.args.args.now) c.args.depth c.in-Some.known
+    (cache-grown c.args.setting.now c.args.terms.now c.intern_trait_ref.new.terms c.args.effects.now.cache c.intern_trait_ref.ensures.kept c.requires.cache) c.in_ok-goal.ensures.tree
+    c.in-Some.ensures m s
+
+pub trait_goals::evaluation::evaluate_trait_goal-returns-clause-cache : goal.trait_goals::evaluation::evaluate_trait_goal-returns-clause-cache
+trait_goals::evaluation::evaluate_trait_goal-returns-clause-cache t c =
+    let T = c.intern_trait_ref.new.terms in
+    let U = c.fresh_trait_outcome.new.terms in
+    let xs = erased_all c.args.terms.now c.args.args.now in
+    let keeps : Keeps T U = c.fresh_trait_outcome.ensures.kept in
+    keep-trait c.args.setting.now U c.fresh_trait_outcome.new.effects.cache c.keep_trait.new.self c.in_ok-goal.goal c.args.trait_id (length c.args.args.now) xs c.args.depth c.in_ok-outcome.outcome
+    c.fresh_trait_outcome.ensures.cache (ap erased (keeps.same c.in_ok-goal.goal c.in_ok-goal.ensures.within) ∙ c.in_ok-goal.ensures.tree) (omega (arith, keeps.longer, c.in_ok-goal.ensures.within))
+    (λ m s. subst (λ ys. SaysThrough (λ x. (level_in c.args.setting.now m c.args.depth).through x c.args.trait_id ys) ((level_in c.args.setting.now m c.args.depth).trait_refuted c.args.trait_id ys) c.in_ok-outcome.outcome)
+    (all_same-grown c.args.terms.now T c.intern_trait_ref.ensures.kept c.args.args.now c.requires.args) (c.in_ok-outcome.ensures.says m s))
+    c.keep_trait.ensures.entered c.keep_trait.ensures.unchanged
+
+pub trait_goals::evaluation::evaluate_trait_goal-returns-clause-says : goal.trait_goals::evaluation::evaluate_trait_goal-returns-clause-says
+trait_goals::evaluation::evaluate_trait_goal-returns-clause-says t c m s =
+    subst (λ ys. SaysThrough (λ x. (level_in c.args.setting.now m c.args.depth).through x c.args.trait_id ys) ((level_in c.args.setting.now m c.args.depth).trait_refuted c.args.trait_id ys) c.in_ok-outcome.outcome)
+    (all_same-grown c.args.terms.now c.intern_trait_ref.new.terms c.intern_trait_ref.ensures.kept c.args.args.now c.requires.args) (c.in_ok-outcome.ensures.says m s)
+
+pub effect_goals::evaluation::evaluate_host_effect_goal-returns-in-Some-clause-says : goal.effect_goals::evaluation::evaluate_host_effect_goal-returns-in-Some-clause-says
+effect_goals::evaluation::evaluate_host_effect_goal-returns-in-Some-clause-says t c m s =
+    known-const c.args.setting.now c.intern_trait_ref.new.terms c.args.effects.now.cache c.in_ok-goal.goal c.args.constness c.args.trait_id (length c.args.args.now) (erased_all c.args.terms.now c.args.args.now) c.args.depth c.in-Some.known
+    (cache-grown c.args.setting.now c.args.terms.now c.intern_trait_ref.new.terms c.args.effects.now.cache c.intern_trait_ref.ensures.kept c.requires.cache) c.in_ok-goal.ensures.tree
+    c.in-Some.ensures m s
+
+pub effect_goals::evaluation::evaluate_host_effect_goal-returns-clause-cache : goal.effect_goals::evaluation::evaluate_host_effect_goal-returns-clause-cache
+effect_goals::evaluation::evaluate_host_effect_goal-returns-clause-cache t c =
+    let T = c.intern_trait_ref.new.terms in
+    let U = c.fresh_host_effect_outcome.new.terms in
+    let xs = erased_all c.args.terms.now c.args.args.now in
+    let keeps : Keeps T U = c.fresh_host_effect_outcome.ensures.kept in
+    keep-const c.args.setting.now U c.fresh_host_effect_outcome.new.effects.cache c.keep_const.new.self c.in_ok-goal.goal c.args.constness c.args.trait_id (length c.args.args.now) xs c.args.depth c.in_ok-outcome.outcome
+    c.fresh_host_effect_outcome.ensures.cache (ap erased (keeps.same c.in_ok-goal.goal c.in_ok-goal.ensures.within) ∙ c.in_ok-goal.ensures.tree) (omega (arith, keeps.longer, c.in_ok-goal.ensures.within))
+    (λ m s. subst (λ ys. Says ((level_in c.args.setting.now m c.args.depth).const_holds c.args.constness c.args.trait_id ys) ((level_in c.args.setting.now m c.args.depth).const_refuted c.args.constness c.args.trait_id ys) c.in_ok-outcome.outcome)
+    (all_same-grown c.args.terms.now T c.intern_trait_ref.ensures.kept c.args.args.now c.requires.args) (c.in_ok-outcome.ensures.says m s))
+    c.keep_const.ensures.entered c.keep_const.ensures.unchanged
+
+pub effect_goals::evaluation::evaluate_host_effect_goal-returns-clause-says : goal.effect_goals::evaluation::evaluate_host_effect_goal-returns-clause-says
+effect_goals::evaluation::evaluate_host_effect_goal-returns-clause-says t c m s =
+    subst (λ ys. Says ((level_in c.args.setting.now m c.args.depth).const_holds c.args.constness c.args.trait_id ys) ((level_in c.args.setting.now m c.args.depth).const_refuted c.args.constness c.args.trait_id ys) c.in_ok-outcome.outcome)
+    (all_same-grown c.args.terms.now c.intern_trait_ref.new.terms c.intern_trait_ref.ensures.kept c.args.args.now c.requires.args) (c.in_ok-outcome.ensures.says m s)
+
+pub normalizes_to::alias_terms::alias_term-returns-in-Some-clause-says : goal.normalizes_to::alias_terms::alias_term-returns-in-Some-clause-says
+normalizes_to::alias_terms::alias_term-returns-in-Some-clause-says t c m s =
+    known-alias c.args.setting.now c.intern_alias.new.terms c.args.effects.now.cache c.in_ok-alias.alias c.args.kind (erased_all c.args.terms.now c.args.args.now) c.args.depth c.in-Some.known
+    (cache-grown c.args.setting.now c.args.terms.now c.intern_alias.new.terms c.args.effects.now.cache c.intern_alias.ensures.kept c.requires.cache) c.in_ok-alias.ensures.tree
+    c.in-Some.ensures m s
+
+pub normalizes_to::alias_terms::alias_term-returns-clause-cache : goal.normalizes_to::alias_terms::alias_term-returns-clause-cache
+normalizes_to::alias_terms::alias_term-returns-clause-cache t c =
+    let T = c.intern_alias.new.terms in
+    let U = c.fresh_alias_term.new.terms in
+    let xs = erased_all c.args.terms.now c.args.args.now in
+    let keeps : Keeps T U = c.fresh_alias_term.ensures.kept in
+    keep-alias c.args.setting.now U c.fresh_alias_term.new.effects.cache c.keep_alias.new.self c.in_ok-alias.alias c.args.kind xs c.args.depth c.in_ok-found.found
+    c.fresh_alias_term.ensures.cache (ap erased (keeps.same c.in_ok-alias.alias (c.in_ok-alias.ensures.within).0) ∙ c.in_ok-alias.ensures.tree) (omega (arith, keeps.longer, (c.in_ok-alias.ensures.within).0)) c.in_ok-found.ensures.within
+    (λ m s. subst (λ ys. SaysWhich ((level_in c.args.setting.now m c.args.depth).gives c.args.kind ys) ((level_in c.args.setting.now m c.args.depth).gives_refuted c.args.kind ys) U c.in_ok-found.found)
+    (all_same-grown c.args.terms.now T c.intern_alias.ensures.kept c.args.args.now c.requires.args) (c.in_ok-found.ensures.says m s))
+    c.keep_alias.ensures.entered c.keep_alias.ensures.unchanged
+
+pub normalizes_to::alias_terms::alias_term-returns-clause-says : goal.normalizes_to::alias_terms::alias_term-returns-clause-says
+normalizes_to::alias_terms::alias_term-returns-clause-says t c m s =
+    subst (λ ys. SaysWhich ((level_in c.args.setting.now m c.args.depth).gives c.args.kind ys) ((level_in c.args.setting.now m c.args.depth).gives_refuted c.args.kind ys) c.fresh_alias_term.new.terms c.in_ok-found.found)
+    (all_same-grown c.args.terms.now c.intern_alias.new.terms c.intern_alias.ensures.kept c.args.args.now c.requires.args) (c.in_ok-found.ensures.says m s)

@@ -10,6 +10,7 @@ ghost use Rattle.goal_kinds.specs.Settings.{is_headline};
 ghost use Rattle.goal_solver.specs.AskedTraits.{AskedIn, candidate_list, SaysCandidate, SaysCandidates};
 ghost use Rattle.goal_solver.specs.Lists.{IsListFor};
 ghost use Rattle.goal_solver.specs.Outcomes.{RunsFor, setting_in, level_in};
+ghost use Rattle.goal_solver.specs.EvaluationCache.{IsValidCache};
 
 use crate::eval::effects::Effects;
 use crate::eval::lists::run_list;
@@ -66,6 +67,7 @@ fn candidate_list<'e>(
 }
 
 /// Whether a candidate shows at a depth that a trait holds.
+#[tactic(auto, using(crate::proofs::CacheLemmas::caching))]
 #[cycle(closed)]
 pub(crate) fn consider_candidate(
     setting: &Setting<'_>,
@@ -75,8 +77,10 @@ pub(crate) fn consider_candidate(
     candidate: &InternedCandidate<'_>,
     depth: u32,
 ) -> Result<Outcome, Stop>
+    requires cache { IsValidCache setting.now terms.old effects.old.cache }
     requires asked { AskedIn terms.old asked.now }
     requires candidate { CandidateIn terms.old candidate.now }
+    ensures cache { IsValidCache setting.now terms.new effects.new.cache }
     ensures kept { Keeps terms.old terms.new }
     ensures stops { is_headline setting.now.typing_mode.now ≡ true → IfErr result (λ s. s ≡ Stop.OutOfMemory) }
     ensures says { (m : TypingMode) → RunsFor setting.now m → IfOk result (SaysCandidate (setting_in setting.now m) (level_in setting.now m depth) terms.old asked.now (candidate_at terms.old candidate.now)) }
@@ -96,8 +100,10 @@ pub(crate) fn candidates_outcome(
     candidates: &[InternedCandidate<'_>],
     depth: u32,
 ) -> Result<Outcome, Stop>
+    requires cache { IsValidCache setting.now terms.old effects.old.cache }
     requires asked { AskedIn terms.old asked.now }
     requires candidates { All (CandidateIn terms.old) candidates.now }
+    ensures cache { IsValidCache setting.now terms.new effects.new.cache }
     ensures kept { Keeps terms.old terms.new }
     ensures stops { is_headline setting.now.typing_mode.now ≡ true → IfErr result (λ s. s ≡ Stop.OutOfMemory) }
     ensures says { (m : TypingMode) → RunsFor setting.now m → IfOk result (SaysCandidates (setting_in setting.now m) (level_in setting.now m depth) terms.old asked.now (map (candidate_at terms.old) candidates.now)) }
@@ -114,6 +120,7 @@ pub(crate) fn candidates_outcome(
 }
 
 /// Whether one of the candidates of a class shows at a depth that a trait holds.
+#[tactic(auto, using(crate::proofs::CacheLemmas::caching))]
 #[cycle(closed)]
 pub(crate) fn class_outcome(
     setting: &Setting<'_>,
@@ -123,7 +130,9 @@ pub(crate) fn class_outcome(
     class: TraitGoalProvenVia,
     depth: u32,
 ) -> Result<Outcome, Stop>
-    requires { AskedIn terms.old asked.now }
+    requires cache { IsValidCache setting.now terms.old effects.old.cache }
+    requires asked { AskedIn terms.old asked.now }
+    ensures cache { IsValidCache setting.now terms.new effects.new.cache }
     ensures kept { Keeps terms.old terms.new }
     ensures stops { is_headline setting.now.typing_mode.now ≡ true → IfErr result (λ s. s ≡ Stop.OutOfMemory) }
     ensures says { (m : TypingMode) → RunsFor setting.now m → IfOk result (SaysCandidates (setting_in setting.now m) (level_in setting.now m depth) terms.old asked.now (class_of (setting_in setting.now m) asked.now.trait_id (erased_at terms.old asked.now.self_ty) class)) }

@@ -6,7 +6,7 @@ ghost use Rattle.goal_terms.specs.Occurrences.{has_error};
 ghost use Rattle.goal_terms.specs.PredicateTrees.{tree_of_kind};
 ghost use Rattle.goal_terms.specs.TreeOf.{tree_of_arg, tree_of_clause, tree_of_ty, trees_of};
 ghost use Rattle.goal_terms.specs.declared.terms.Ty.{Ty as ty};
-ghost use Rattle.goal_tables.specs.Rows.{impl_of, item_of, opaque_of, trait_of};
+ghost use Rattle.goal_tables.specs.Rows.{impl_of, item_of, opaque_of};
 ghost use Rattle.goal_tables.specs.declared.rows.ImplRow.{ImplRow as impl_row};
 ghost use Rattle.goal_kinds.specs.Answers.{setting_of};
 ghost use Rattle.goal_kinds.specs.CandidateRules.{HasNoKindFault, IsAcceptedClause, IsNamedAnswer, said_by};
@@ -14,13 +14,12 @@ ghost use Rattle.goal_kinds.specs.Candidates.{assumption, by_impl, built_in, err
 ghost use Rattle.goal_kinds.specs.Premises.{TraitTree as trait_tree, predicate_under};
 ghost use Rattle.goal_kinds.specs.RuleWords.{TermsAreFor};
 ghost use Rattle.goal_kinds.specs.Settings.{is_headline};
-ghost use Rattle.goal_solver.specs.Collecting.{words_over, is_later_named, is_any_named, is_alias_row, may_be_built_in, is_plain_goal, args_and_itself, clauses_of_item, clauses_of_opaque, Speaks, Lacks, Adds, AreCollected, Collects, CollectsBounds};
+ghost use Rattle.goal_solver.specs.Collecting.{words_over, is_later_named, is_any_named, args_and_itself, clauses_of_item, clauses_of_opaque, Speaks, Lacks, Adds, AreCollected, Collects, CollectsBounds};
 
 use crate::faults::Fault;
-use goal_kinds::goal_kind::{GoalKind, MergeRule};
+use goal_kinds::goal_kind::GoalKind;
 use goal_kinds::rules::Rule;
 use goal_tables::checked::CheckedTables;
-use goal_tables::lang::LangTarget;
 use goal_tables::rows::ImplRow;
 use goal_terms::answers::{BuiltinImplSource, CandidateSource, Certainty, TraitGoalProvenVia};
 use goal_terms::ids::{ItemId, OpaqueId, TraitId};
@@ -213,39 +212,8 @@ fn later_named_rule<G: GoalKind>(
     G::consider_builtin_field_candidate(tables, mode, goal)
 }
 
-/// Whether a trait is a trait alias.
-fn is_alias(tables: &CheckedTables, trait_id: TraitId) -> bool
-    ensures { result ≡ is_alias_row (trait_of tables.now trait_id) }
-{
-    match tables.rows().trait_row(trait_id) {
-        None => false,
-        Some(row) => row.is_alias,
-    }
-}
-
-/// Whether something built in may show a trait: it is a trait alias, or a lang item names it.
-fn may_be_built_in(tables: &CheckedTables, trait_id: TraitId) -> bool
-    ensures { result ≡ may_be_built_in tables.now trait_id }
-{
-    let target = LangTarget::Trait(trait_id);
-    is_alias(tables, trait_id) || tables.rows().lang_naming(target).is_some()
-}
-
-/// Whether a trait goal asks for a trait that nothing built in shows.
-fn is_plain_goal<G: GoalKind>(tables: &CheckedTables, goal: &Goal<G>) -> bool
-    ensures { result ≡ is_plain_goal tables.now G.merging (G.trait_asked goal.now.predicate tables.now) }
-{
-    match G::merge_rule() {
-        MergeRule::TraitGoals => match goal.predicate.trait_def_id(tables) {
-            None => false,
-            Some(trait_id) => !may_be_built_in(tables, trait_id),
-        },
-        MergeRule::HostEffectGoals | MergeRule::Projections => false,
-    }
-}
-
-/// Adds the rule of the trait alias, or the built-in rule, if one is for the goal. None is for a trait goal whose
-/// trait is no trait alias and no lang item. Want of memory is the only refusal.
+/// Adds the rule of the trait alias, or the built-in rule, if one is for the goal. Want of memory is the only
+/// refusal.
 fn push_built_in_rule<G: GoalKind>(
     tables: &CheckedTables,
     mode: &TypingMode,
@@ -255,9 +223,6 @@ fn push_built_in_rule<G: GoalKind>(
     ensures adds { IfOk result (λ _. Adds (Speaks (words_over G.merging G.has_term (G.candidate_gives goal.now.predicate) (G.candidate_refuted goal.now.predicate) (G.passes goal.now.predicate) (G.is_for goal.now.predicate tables.now) (G.trait_asked goal.now.predicate tables.now) (setting_of tables.now mode.now goal.now.param_env.items))) (Lacks (words_over G.merging G.has_term (G.candidate_gives goal.now.predicate) (G.candidate_refuted goal.now.predicate) (G.passes goal.now.predicate) (G.is_for goal.now.predicate tables.now) (G.trait_asked goal.now.predicate tables.now) (setting_of tables.now mode.now goal.now.param_env.items))) built_in found.old.items found.new.items) }
     ensures only_memory { IsOkUnless result Fault.OutOfMemory }
 {
-    if is_plain_goal(tables, goal) {
-        return Ok(());
-    }
     match named_rule(tables, mode, goal) {
         Ok(rule) => Ok(push_rule(found, rule)?),
         Err(Fault::OutOfMemory) => Err(Fault::OutOfMemory),

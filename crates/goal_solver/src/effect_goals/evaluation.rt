@@ -1,15 +1,17 @@
 //! Host effect goals: whether a trait holds as a const trait.
-ghost use Rattle.std.specs.Prelude.{IfErr, ◌≡◌, true, IfOk};
+ghost use Rattle.std.specs.Prelude.{IfErr, ◌≡◌, ◌≢◌, true, IfOk};
 ghost use Rattle.goal_terms.specs.TableMeaning.{Keeps};
 ghost use Rattle.goal_terms.specs.declared.modes.TypingMode.{TypingMode};
 ghost use Rattle.goal_kinds.specs.Interned.{AreIn, erased_all};
 ghost use Rattle.goal_kinds.specs.Settings.{is_headline};
 ghost use Rattle.goal_solver.specs.AskedTraits.{AskedIn, SaysGroups};
 ghost use Rattle.goal_solver.specs.Outcomes.{RunsFor, setting_in, level_in, Says};
+ghost use Rattle.goal_solver.specs.EvaluationCache.{IsValidCache};
 
 use crate::assembly::candidates::{AskedTrait, candidates_outcome, class_outcome};
 use crate::eval::effects::Effects;
 use crate::eval::head_forms::head_form;
+use crate::eval::interning::intern_trait_ref;
 use crate::eval::outcomes::{Found, Outcome, Setting, Stop, TraitOutcome};
 use crate::eval::self_types::{split_self_type, with_self_type};
 use crate::trait_goals::evaluation::evaluate_trait_goal;
@@ -20,8 +22,9 @@ use goal_terms::predicates::BoundConstness;
 use goal_terms::term_nodes::TermId;
 use goal_terms::term_table::TermTable;
 
-/// Whether a trait holds at a depth as a const trait of a constness: where the plain goal holds, by the
-/// candidates for the head form of its self type.
+/// Whether a trait holds at a depth as a const trait of a constness. What an evaluation knows isn't evaluated
+/// again.
+#[tactic(auto, using(crate::proofs::CacheLemmas::caching))]
 #[cycle(closed)]
 pub fn evaluate_host_effect_goal(
     setting: &Setting<'_>,
@@ -32,7 +35,9 @@ pub fn evaluate_host_effect_goal(
     args: &[TermId],
     depth: u32,
 ) -> Result<Outcome, Stop>
-    requires { AreIn terms.old args.now }
+    requires cache { IsValidCache setting.now terms.old effects.old.cache }
+    requires args { AreIn terms.old args.now }
+    ensures cache { IsValidCache setting.now terms.new effects.new.cache }
     ensures kept { Keeps terms.old terms.new }
     ensures stops { is_headline setting.now.typing_mode.now ≡ true → IfErr result (λ s. s ≡ Stop.OutOfMemory) }
     ensures says { (m : TypingMode) → RunsFor setting.now m → IfOk result (Says ((level_in setting.now m depth).const_holds constness trait_id (erased_all terms.old args.now)) ((level_in setting.now m depth).const_refuted constness trait_id (erased_all terms.old args.now))) }
@@ -40,6 +45,37 @@ pub fn evaluate_host_effect_goal(
     if depth == 0 {
         return Ok(Outcome::Undecided);
     }
+    let goal = intern_trait_ref(setting.allocator(), terms, trait_id, args)?;
+    if let Some(known) = effects.cache.const_outcome(constness, goal, depth) {
+        return Ok(known);
+    }
+    let outcome = fresh_host_effect_outcome(
+        setting, terms, effects, constness, trait_id, args, depth,
+    )?;
+    effects.cache.keep_const(constness, goal, depth, outcome);
+    Ok(outcome)
+}
+
+/// Whether a const trait goal that isn't known holds at a depth: where the plain goal holds, by the candidates
+/// for the head form of its self type.
+#[cycle(closed)]
+fn fresh_host_effect_outcome(
+    setting: &Setting<'_>,
+    terms: &mut TermTable,
+    effects: &mut Effects,
+    constness: BoundConstness,
+    trait_id: TraitId,
+    args: &[TermId],
+    depth: u32,
+) -> Result<Outcome, Stop>
+    requires cache { IsValidCache setting.now terms.old effects.old.cache }
+    requires args { AreIn terms.old args.now }
+    requires above { depth ≢ 0 }
+    ensures cache { IsValidCache setting.now terms.new effects.new.cache }
+    ensures kept { Keeps terms.old terms.new }
+    ensures stops { is_headline setting.now.typing_mode.now ≡ true → IfErr result (λ s. s ≡ Stop.OutOfMemory) }
+    ensures says { (m : TypingMode) → RunsFor setting.now m → IfOk result (Says ((level_in setting.now m depth).const_holds constness trait_id (erased_all terms.old args.now)) ((level_in setting.now m depth).const_refuted constness trait_id (erased_all terms.old args.now))) }
+{
     let Some((first, rest)) = split_self_type(args) else {
         return Ok(Outcome::Undecided);
     };
@@ -63,6 +99,7 @@ pub fn evaluate_host_effect_goal(
 
 /// Whether the candidates for a trait that holds through a class show at a depth that it does so as it is
 /// asked: those of the environment, and if these are refuted, those that go by the class.
+#[tactic(auto, using(crate::proofs::CacheLemmas::caching))]
 #[cycle(closed)]
 fn groups_outcome(
     setting: &Setting<'_>,
@@ -72,7 +109,9 @@ fn groups_outcome(
     class: TraitGoalProvenVia,
     depth: u32,
 ) -> Result<Outcome, Stop>
-    requires { AskedIn terms.old asked.now }
+    requires cache { IsValidCache setting.now terms.old effects.old.cache }
+    requires asked { AskedIn terms.old asked.now }
+    ensures cache { IsValidCache setting.now terms.new effects.new.cache }
     ensures kept { Keeps terms.old terms.new }
     ensures stops { is_headline setting.now.typing_mode.now ≡ true → IfErr result (λ s. s ≡ Stop.OutOfMemory) }
     ensures says { (m : TypingMode) → RunsFor setting.now m → IfOk result (SaysGroups (setting_in setting.now m) (level_in setting.now m depth) terms.old asked.now class) }

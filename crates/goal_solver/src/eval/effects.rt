@@ -1,32 +1,45 @@
-//! What an evaluation leaves beside its verdict.
+//! What an evaluation leaves beside its verdict, and keeps while it lasts.
+ghost use Rattle.std.specs.Prelude.{◌≡◌};
+ghost use Rattle.goal_solver.specs.EvaluationCache.{IsEmptyCache};
+
 use crate::context::records::{enter_access, enter_fault};
+use crate::eval::evaluation_cache::EvaluationCache;
 use goal_terms::answers::{DelayedFault, OpaqueAccess};
 use goal_terms::term_nodes::OutOfMemory;
 use std::alloc::Global;
 
-/// The opaque accesses and the delayed faults that an evaluation met, each once, in the order of first entry.
+/// The opaque accesses and the delayed faults that an evaluation met, each once, in the order of first entry;
+/// and the answers that it keeps while it lasts.
 #[derive(Drop)]
 pub struct Effects {
     pub(crate) accesses: Vec<OpaqueAccess>,
     pub(crate) delayed_faults: Vec<DelayedFault>,
+    pub(crate) cache: EvaluationCache,
 }
 
 impl Effects {
-    /// No effects. It takes no memory.
-    pub(crate) fn new(alloc: Global) -> Self {
+    /// No effects, and nothing kept. It takes no memory.
+    pub(crate) fn new(alloc: Global) -> Self
+        ensures cache { IsEmptyCache result.cache }
+    {
         Effects {
             accesses: Vec::new(alloc),
             delayed_faults: Vec::new(alloc),
+            cache: EvaluationCache::new(alloc),
         }
     }
 
     /// Enters an access. Only memory is refused.
-    pub(crate) fn read_mode(&mut self, access: OpaqueAccess) -> Result<(), OutOfMemory> {
+    pub(crate) fn read_mode(&mut self, access: OpaqueAccess) -> Result<(), OutOfMemory>
+        ensures cache { self.new.cache ≡ self.old.cache }
+    {
         enter_access(&mut self.accesses, access)
     }
 
     /// Enters a delayed fault. Only memory is refused.
-    pub(crate) fn meet_fault(&mut self, fault: DelayedFault) -> Result<(), OutOfMemory> {
+    pub(crate) fn meet_fault(&mut self, fault: DelayedFault) -> Result<(), OutOfMemory>
+        ensures cache { self.new.cache ≡ self.old.cache }
+    {
         enter_fault(&mut self.delayed_faults, fault)
     }
 }

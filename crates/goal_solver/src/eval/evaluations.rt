@@ -12,6 +12,7 @@ ghost use Rattle.goal_kinds.specs.Interned.{IsIn, erased_at};
 ghost use Rattle.goal_solver.specs.GoingBack.{GoesBack, restored};
 ghost use Rattle.goal_solver.specs.Recording.{FitsKind};
 ghost use Rattle.goal_solver.specs.Outcomes.{RunsAs, RunsFor, StandsFor, level_in, Says, SaysThrough, SaysWhich, FoundIn};
+ghost use Rattle.goal_solver.specs.EvaluationCache.{IsValidCache};
 
 use crate::context::EvalCtxt;
 use crate::effect_goals::evaluation::evaluate_host_effect_goal;
@@ -292,8 +293,10 @@ fn equation_outcome(
     term: TermId,
     depth: u32,
 ) -> Result<Outcome, Stop>
+    requires cache { IsValidCache setting.now terms.old effects.old.cache }
     requires alias { IsIn terms.old alias }
     requires term { IsIn terms.old term }
+    ensures cache { IsValidCache setting.now terms.new effects.new.cache }
     ensures kept { Keeps terms.old terms.new }
     ensures stops { is_headline setting.now.typing_mode.now ≡ true → IfErr result (λ s. s ≡ Stop.OutOfMemory) }
     ensures says { (m : TypingMode) → RunsFor setting.now m → IfOk result (Says ((level_in setting.now m depth).equation_holds (erased_at terms.old alias) (erased_at terms.old term)) ((level_in setting.now m depth).equation_refuted (erased_at terms.old alias) (erased_at terms.old term))) }

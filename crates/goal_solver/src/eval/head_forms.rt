@@ -9,6 +9,7 @@ ghost use Rattle.goal_kinds.specs.Interned.{IsIn, AreIn, erased_at, erased_all};
 ghost use Rattle.goal_kinds.specs.Level.{HasHeadForm, HeadFormRefuted};
 ghost use Rattle.goal_kinds.specs.Settings.{is_headline};
 ghost use Rattle.goal_solver.specs.Outcomes.{RunsFor, level_in, SaysWhich, FoundIn};
+ghost use Rattle.goal_solver.specs.EvaluationCache.{IsValidCache};
 
 use crate::eval::effects::Effects;
 use crate::eval::id_lists::own_list;
@@ -29,7 +30,9 @@ pub fn head_form(
     id: TermId,
     depth: u32,
 ) -> Result<Found, Stop>
-    requires { IsIn terms.old id }
+    requires cache { IsValidCache setting.now terms.old effects.old.cache }
+    requires within { IsIn terms.old id }
+    ensures cache { IsValidCache setting.now terms.new effects.new.cache }
     ensures kept { Keeps terms.old terms.new }
     ensures within { IfOk result (FoundIn terms.new) }
     ensures stops { is_headline setting.now.typing_mode.now ≡ true → IfErr result (λ s. s ≡ Stop.OutOfMemory) }
@@ -43,6 +46,7 @@ pub fn head_form(
 }
 
 /// The head form at a depth of a row's term under arguments.
+#[tactic(auto, using(crate::proofs::CacheLemmas::caching))]
 #[cycle(closed)]
 pub(crate) fn head_form_under(
     setting: &Setting<'_>,
@@ -52,8 +56,10 @@ pub(crate) fn head_form_under(
     args: &[TermId],
     depth: u32,
 ) -> Result<Found, Stop>
+    requires cache { IsValidCache setting.now terms.old effects.old.cache }
     requires args { AreIn terms.old args.now }
     requires term { IsArgument (tree_of_ref term) }
+    ensures cache { IsValidCache setting.now terms.new effects.new.cache }
     ensures kept { Keeps terms.old terms.new }
     ensures within { IfOk result (FoundIn terms.new) }
     ensures stops { is_headline setting.now.typing_mode.now ≡ true → IfErr result (λ s. s ≡ Stop.OutOfMemory) }

@@ -1,11 +1,16 @@
 //! The numbers of a goal's terms.
-ghost use Rattle.std.specs.Prelude.{◌≡◌, map, IfOk};
+ghost use Rattle.std.specs.Prelude.{◌≡◌, ◌<◌, map, length, IfOk};
 ghost use Rattle.goal_terms.specs.Erased.{erased};
 ghost use Rattle.goal_terms.specs.TableMeaning.{tree_at, Keeps};
+ghost use Rattle.goal_terms.specs.Tree.{node, forest};
+ghost use Rattle.goal_terms.specs.declared.heads.Head.{Head as heads};
 ghost use Rattle.goal_terms.specs.TreeOf.{tree_of_alias, tree_of_arg, tree_of_term};
 ghost use Rattle.goal_kinds.specs.Interned.{IsIn, AreIn, erased_at, erased_all};
 ghost use Rattle.goal_solver.specs.Answers.{erased_args};
 
+use crate::normalizes_to::projection_args::copied_args;
+use goal_terms::heads::{Head, Node};
+use goal_terms::ids::TraitId;
 use goal_terms::term_nodes::{OutOfMemory, TermId};
 use goal_terms::term_table::TermTable;
 use goal_terms::terms::{AliasTerm, GenericArg, Term};
@@ -60,4 +65,21 @@ pub(crate) fn intern_pair(
     let first = terms.intern(left)?;
     let second = terms.intern(right)?;
     Ok((first, second))
+}
+
+/// The number of a trait with its arguments, the self type among them, which the table gets. Want of memory or
+/// of numbers is the only refusal.
+pub(crate) fn intern_trait_ref(
+    alloc: Global,
+    terms: &mut TermTable,
+    trait_id: TraitId,
+    args: &[TermId],
+) -> Result<TermId, OutOfMemory>
+    requires { AreIn terms.old args.now }
+    ensures kept { Keeps terms.old terms.new }
+    ensures within { IfOk result (λ id. id.0 < length terms.new) }
+    ensures tree { IfOk result (λ id. erased_at terms.new id ≡ node (heads.DynTrait trait_id (length args.now)) (forest (erased_all terms.old args.now))) }
+{
+    let parts = copied_args(alloc, args)?;
+    terms.intern_node(Node::Head(Head::DynTrait(trait_id, args.len())), parts)
 }

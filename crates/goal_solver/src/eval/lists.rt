@@ -7,6 +7,7 @@ ghost use Rattle.goal_kinds.specs.InternedEntries.{EntriesIn, entries_at, ListIn
 ghost use Rattle.goal_kinds.specs.Settings.{is_headline};
 ghost use Rattle.goal_solver.specs.Lists.{list_mode, IsListFor, SaysList, SaysEntries, AtEachLevel, ListTermIn, list_held, list_term};
 ghost use Rattle.goal_solver.specs.Outcomes.{RunsFor, level_in};
+ghost use Rattle.goal_solver.specs.EvaluationCache.{IsValidCache};
 
 pub(crate) mod entries;
 pub(crate) mod progress;
@@ -81,7 +82,9 @@ pub(crate) fn run_list(
     list: &Option<Vec<InternedEntry<'_>>>,
     depth: u32,
 ) -> Result<ListOutcome, Stop>
-    requires { ListIn terms.old list.now }
+    requires cache { IsValidCache setting.now terms.old effects.old.cache }
+    requires list { ListIn terms.old list.now }
+    ensures cache { IsValidCache setting.now terms.new effects.new.cache }
     ensures kept { Keeps terms.old terms.new }
     ensures within { IfOk result (ListTermIn terms.new) }
     ensures stops { is_headline setting.now.typing_mode.now ≡ true → IfErr result (λ s. s ≡ Stop.OutOfMemory) }
@@ -102,7 +105,9 @@ fn run_entries(
     entries: &[InternedEntry<'_>],
     depth: u32,
 ) -> Result<ListOutcome, Stop>
-    requires { EntriesIn terms.old entries.now }
+    requires cache { IsValidCache setting.now terms.old effects.old.cache }
+    requires entries { EntriesIn terms.old entries.now }
+    ensures cache { IsValidCache setting.now terms.new effects.new.cache }
     ensures kept { Keeps terms.old terms.new }
     ensures within { IfOk result (ListTermIn terms.new) }
     ensures stops { is_headline setting.now.typing_mode.now ≡ true → IfErr result (λ s. s ≡ Stop.OutOfMemory) }

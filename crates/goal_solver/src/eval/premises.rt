@@ -7,6 +7,7 @@ ghost use Rattle.goal_kinds.specs.Interned.{IsIn, AreIn, TraitIn, PredicateIn, P
 ghost use Rattle.goal_kinds.specs.Premises.{ClauseHolds, ClauseRefuted, PremiseHolds, PremiseRefuted, PremisesHold, PremisesRefuted, clauses_under, conditions_as};
 ghost use Rattle.goal_kinds.specs.Settings.{is_headline};
 ghost use Rattle.goal_solver.specs.Outcomes.{RunsFor, level_in, Says};
+ghost use Rattle.goal_solver.specs.EvaluationCache.{IsValidCache};
 
 use crate::effect_goals::evaluation::evaluate_host_effect_goal;
 use crate::eval::effects::Effects;
@@ -28,7 +29,9 @@ pub fn premise_outcome(
     premise: &InternedPremise,
     depth: u32,
 ) -> Result<Outcome, Stop>
-    requires { PremiseIn terms.old premise.now }
+    requires cache { IsValidCache setting.now terms.old effects.old.cache }
+    requires within { PremiseIn terms.old premise.now }
+    ensures cache { IsValidCache setting.now terms.new effects.new.cache }
     ensures kept { Keeps terms.old terms.new }
     ensures stops { is_headline setting.now.typing_mode.now ≡ true → IfErr result (λ s. s ≡ Stop.OutOfMemory) }
     ensures says { (m : TypingMode) → RunsFor setting.now m → IfOk result (Says (PremiseHolds (level_in setting.now m depth) (premise_at terms.old premise.now)) (PremiseRefuted (level_in setting.now m depth) (premise_at terms.old premise.now))) }
@@ -52,7 +55,9 @@ pub fn predicate_outcome(
     predicate: &InternedPredicate,
     depth: u32,
 ) -> Result<Outcome, Stop>
-    requires { PredicateIn terms.old predicate.now }
+    requires cache { IsValidCache setting.now terms.old effects.old.cache }
+    requires within { PredicateIn terms.old predicate.now }
+    ensures cache { IsValidCache setting.now terms.new effects.new.cache }
     ensures kept { Keeps terms.old terms.new }
     ensures stops { is_headline setting.now.typing_mode.now ≡ true → IfErr result (λ s. s ≡ Stop.OutOfMemory) }
     ensures says { (m : TypingMode) → RunsFor setting.now m → IfOk result (Says (ClauseHolds (level_in setting.now m depth) (predicate_at terms.old predicate.now)) (ClauseRefuted (level_in setting.now m depth) (predicate_at terms.old predicate.now))) }
@@ -96,8 +101,10 @@ fn equation_outcome(
     term: TermId,
     depth: u32,
 ) -> Result<Outcome, Stop>
+    requires cache { IsValidCache setting.now terms.old effects.old.cache }
     requires first { IsIn terms.old alias }
     requires second { IsIn terms.old term }
+    ensures cache { IsValidCache setting.now terms.new effects.new.cache }
     ensures kept { Keeps terms.old terms.new }
     ensures stops { is_headline setting.now.typing_mode.now ≡ true → IfErr result (λ s. s ≡ Stop.OutOfMemory) }
     ensures says { (m : TypingMode) → RunsFor setting.now m → IfOk result (Says ((level_in setting.now m depth).equation_holds (erased_at terms.old alias) (erased_at terms.old term)) ((level_in setting.now m depth).equation_refuted (erased_at terms.old alias) (erased_at terms.old term))) }
@@ -117,7 +124,9 @@ pub fn premises_outcome(
     premises: &[InternedPremise],
     depth: u32,
 ) -> Result<Outcome, Stop>
-    requires { All (PremiseIn terms.old) premises.now }
+    requires cache { IsValidCache setting.now terms.old effects.old.cache }
+    requires within { All (PremiseIn terms.old) premises.now }
+    ensures cache { IsValidCache setting.now terms.new effects.new.cache }
     ensures kept { Keeps terms.old terms.new }
     ensures stops { is_headline setting.now.typing_mode.now ≡ true → IfErr result (λ s. s ≡ Stop.OutOfMemory) }
     ensures says { (m : TypingMode) → RunsFor setting.now m → IfOk result (Says (PremisesHold (level_in setting.now m depth) (map (premise_at terms.old) premises.now)) (PremisesRefuted (level_in setting.now m depth) (map (premise_at terms.old) premises.now))) }
@@ -134,6 +143,7 @@ pub fn premises_outcome(
 }
 
 /// Whether a row's where clauses hold at a depth, under arguments.
+#[tactic(auto, using(crate::proofs::CacheLemmas::caching))]
 #[cycle(closed)]
 pub fn clauses_outcome(
     setting: &Setting<'_>,
@@ -143,7 +153,9 @@ pub fn clauses_outcome(
     args: &[TermId],
     depth: u32,
 ) -> Result<Outcome, Stop>
-    requires { AreIn terms.old args.now }
+    requires cache { IsValidCache setting.now terms.old effects.old.cache }
+    requires args { AreIn terms.old args.now }
+    ensures cache { IsValidCache setting.now terms.new effects.new.cache }
     ensures kept { Keeps terms.old terms.new }
     ensures stops { is_headline setting.now.typing_mode.now ≡ true → IfErr result (λ s. s ≡ Stop.OutOfMemory) }
     ensures says { (m : TypingMode) → RunsFor setting.now m → IfOk result (Says (PremisesHold (level_in setting.now m depth) (clauses_under (erased_all terms.old args.now) clauses.now)) (PremisesRefuted (level_in setting.now m depth) (clauses_under (erased_all terms.old args.now) clauses.now))) }
@@ -162,7 +174,9 @@ pub fn conditions_outcome(
     conditions: &[InternedTrait],
     depth: u32,
 ) -> Result<Outcome, Stop>
-    requires { All (TraitIn terms.old) conditions.now }
+    requires cache { IsValidCache setting.now terms.old effects.old.cache }
+    requires within { All (TraitIn terms.old) conditions.now }
+    ensures cache { IsValidCache setting.now terms.new effects.new.cache }
     ensures kept { Keeps terms.old terms.new }
     ensures stops { is_headline setting.now.typing_mode.now ≡ true → IfErr result (λ s. s ≡ Stop.OutOfMemory) }
     ensures says { (m : TypingMode) → RunsFor setting.now m → IfOk result (Says (PremisesHold (level_in setting.now m depth) (conditions_as constness (map (trait_at terms.old) conditions.now))) (PremisesRefuted (level_in setting.now m depth) (conditions_as constness (map (trait_at terms.old) conditions.now)))) }

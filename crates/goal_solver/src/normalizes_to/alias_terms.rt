@@ -1,5 +1,5 @@
 //! The terms that aliases stand for, by their lists.
-ghost use Rattle.std.specs.Prelude.{◌≡◌, true, Some, IfErr, IfOk};
+ghost use Rattle.std.specs.Prelude.{◌≡◌, ◌≢◌, true, Some, IfErr, IfOk};
 ghost use Rattle.goal_terms.specs.TableMeaning.{Keeps};
 ghost use Rattle.goal_terms.specs.declared.modes.TypingMode.{TypingMode as modes};
 ghost use Rattle.goal_kinds.specs.AliasLists.{alias_list};
@@ -8,6 +8,7 @@ ghost use Rattle.goal_kinds.specs.InternedEntries.{EntriesIn, entries_at};
 ghost use Rattle.goal_kinds.specs.Settings.{is_headline};
 ghost use Rattle.goal_solver.specs.Lists.{IsListFor};
 ghost use Rattle.goal_solver.specs.Outcomes.{RunsFor, setting_in, level_in, SaysWhich, FoundIn};
+ghost use Rattle.goal_solver.specs.EvaluationCache.{IsValidCache};
 
 use crate::eval::effects::Effects;
 use crate::eval::lists::run_list;
@@ -21,7 +22,8 @@ use goal_terms::term_nodes::{OutOfMemory, TermId};
 use goal_terms::term_table::TermTable;
 use goal_terms::terms::AliasTermKind;
 
-/// The term that an alias has at a depth. Each alias but a projection is normalized by its list.
+/// The term that an alias has at a depth. What an evaluation knows isn't evaluated again.
+#[tactic(auto, using(crate::proofs::CacheLemmas::caching))]
 #[cycle(closed)]
 pub fn alias_term(
     setting: &Setting<'_>,
@@ -31,7 +33,9 @@ pub fn alias_term(
     args: &[TermId],
     depth: u32,
 ) -> Result<Found, Stop>
-    requires { AreIn terms.old args.now }
+    requires cache { IsValidCache setting.now terms.old effects.old.cache }
+    requires args { AreIn terms.old args.now }
+    ensures cache { IsValidCache setting.now terms.new effects.new.cache }
     ensures kept { Keeps terms.old terms.new }
     ensures within { IfOk result (FoundIn terms.new) }
     ensures stops { is_headline setting.now.typing_mode.now ≡ true → IfErr result (λ s. s ≡ Stop.OutOfMemory) }
@@ -40,6 +44,36 @@ pub fn alias_term(
     if depth == 0 {
         return Ok(Found::Undecided);
     }
+    let alias = intern_alias(setting.allocator(), terms, kind, args)?;
+    if let Some(known) = effects.cache.aliases.get(alias, depth, Found::Undecided) {
+        return Ok(known);
+    }
+    let found = fresh_alias_term(setting, terms, effects, kind, args, depth)?;
+    effects.cache.keep_alias(alias, depth, found);
+    Ok(found)
+}
+
+/// The term that an alias has at a depth, which isn't known. Each alias but a projection is normalized by its
+/// list.
+#[tactic(auto, using(crate::proofs::CacheLemmas::caching))]
+#[cycle(closed)]
+fn fresh_alias_term(
+    setting: &Setting<'_>,
+    terms: &mut TermTable,
+    effects: &mut Effects,
+    kind: AliasTermKind,
+    args: &[TermId],
+    depth: u32,
+) -> Result<Found, Stop>
+    requires cache { IsValidCache setting.now terms.old effects.old.cache }
+    requires args { AreIn terms.old args.now }
+    requires above { depth ≢ 0 }
+    ensures cache { IsValidCache setting.now terms.new effects.new.cache }
+    ensures kept { Keeps terms.old terms.new }
+    ensures within { IfOk result (FoundIn terms.new) }
+    ensures stops { is_headline setting.now.typing_mode.now ≡ true → IfErr result (λ s. s ≡ Stop.OutOfMemory) }
+    ensures says { (m : modes) → RunsFor setting.now m → IfOk result (SaysWhich ((level_in setting.now m depth).gives kind (erased_all terms.old args.now)) ((level_in setting.now m depth).gives_refuted kind (erased_all terms.old args.now)) terms.new) }
+{
     match kind {
         AliasTermKind::ProjectionTy(item) | AliasTermKind::ProjectionConst(item) => {
             projection_term(setting, terms, effects, kind, item, args, depth - 1)

@@ -34,7 +34,7 @@ pub(crate) fn later_args(args: &[TermId], count: usize) -> &[TermId]
 }
 
 /// Some arguments, in a list of their own.
-fn copied_args(alloc: Global, args: &[TermId]) -> Result<Vec<TermId>, OutOfMemory>
+pub(crate) fn copied_args(alloc: Global, args: &[TermId]) -> Result<Vec<TermId>, OutOfMemory>
     ensures { IfOk result (λ made. made.items ≡ args.now) }
 {
     let mut made = Vec::new(alloc);

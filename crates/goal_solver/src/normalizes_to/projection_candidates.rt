@@ -9,6 +9,7 @@ ghost use Rattle.goal_kinds.specs.Projections.{CandidateGives, TermRefuted};
 ghost use Rattle.goal_kinds.specs.Settings.{is_headline};
 ghost use Rattle.goal_solver.specs.Lists.{IsListFor};
 ghost use Rattle.goal_solver.specs.Outcomes.{RunsFor, setting_in, level_in, SaysWhich, FoundIn, ProjectionIn, projection_at};
+ghost use Rattle.goal_solver.specs.EvaluationCache.{IsValidCache};
 
 use crate::eval::effects::Effects;
 use crate::eval::lists::run_list;
@@ -24,6 +25,7 @@ use goal_terms::term_table::TermTable;
 
 /// The term that a candidate gives a projection. In coherence an impl that leaves the alias as it is
 /// decides nothing.
+#[tactic(auto, using(crate::proofs::CacheLemmas::caching))]
 #[cycle(closed)]
 pub(crate) fn candidate_term(
     setting: &Setting<'_>,
@@ -33,8 +35,10 @@ pub(crate) fn candidate_term(
     candidate: &InternedCandidate<'_>,
     depth: u32,
 ) -> Result<Found, Stop>
+    requires cache { IsValidCache setting.now terms.old effects.old.cache }
     requires projection { ProjectionIn terms.old projection.now }
     requires candidate { CandidateIn terms.old candidate.now }
+    ensures cache { IsValidCache setting.now terms.new effects.new.cache }
     ensures kept { Keeps terms.old terms.new }
     ensures within { IfOk result (FoundIn terms.new) }
     ensures stops { is_headline setting.now.typing_mode.now ≡ true → IfErr result (λ s. s ≡ Stop.OutOfMemory) }

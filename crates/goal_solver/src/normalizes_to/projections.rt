@@ -9,6 +9,7 @@ ghost use Rattle.goal_kinds.specs.Projections.{GroupGives, GroupRefuted, GroupsG
 ghost use Rattle.goal_kinds.specs.Settings.{is_headline};
 ghost use Rattle.goal_solver.specs.Outcomes.{RunsFor, setting_in, level_in, Says, SaysWhich, FoundIn, ProjectionIn, projection_at};
 ghost use Rattle.goal_solver.specs.ProjectionParts.{HaveHeadForms, SomeUnformed, FormedGives, LaterGives, LaterRefuted, ReplacedGives, ReplacedRefuted, ThroughGives, ThroughRefuted};
+ghost use Rattle.goal_solver.specs.EvaluationCache.{IsValidCache};
 
 use crate::assembly::merging::merge_terms;
 use crate::eval::effects::Effects;
@@ -48,7 +49,9 @@ pub fn projection_term(
     args: &[TermId],
     depth: u32,
 ) -> Result<Found, Stop>
-    requires { AreIn terms.old args.now }
+    requires cache { IsValidCache setting.now terms.old effects.old.cache }
+    requires args { AreIn terms.old args.now }
+    ensures cache { IsValidCache setting.now terms.new effects.new.cache }
     ensures kept { Keeps terms.old terms.new }
     ensures within { IfOk result (FoundIn terms.new) }
     ensures stops { is_headline setting.now.typing_mode.now ≡ true → IfErr result (λ s. s ≡ Stop.OutOfMemory) }
@@ -75,7 +78,9 @@ fn item_term(
     args: &[TermId],
     depth: u32,
 ) -> Result<Found, Stop>
-    requires { AreIn terms.old args.now }
+    requires cache { IsValidCache setting.now terms.old effects.old.cache }
+    requires args { AreIn terms.old args.now }
+    ensures cache { IsValidCache setting.now terms.new effects.new.cache }
     ensures kept { Keeps terms.old terms.new }
     ensures within { IfOk result (FoundIn terms.new) }
     ensures stops { is_headline setting.now.typing_mode.now ≡ true → IfErr result (λ s. s ≡ Stop.OutOfMemory) }
@@ -111,7 +116,9 @@ pub(crate) fn term_proven_via(
     given: &Given<'_>,
     depth: u32,
 ) -> Result<Found, Stop>
-    requires { AreIn terms.old given.now.args.now }
+    requires cache { IsValidCache setting.now terms.old effects.old.cache }
+    requires args { AreIn terms.old given.now.args.now }
+    ensures cache { IsValidCache setting.now terms.new effects.new.cache }
     ensures kept { Keeps terms.old terms.new }
     ensures within { IfOk result (FoundIn terms.new) }
     ensures stops { is_headline setting.now.typing_mode.now ≡ true → IfErr result (λ s. s ≡ Stop.OutOfMemory) }
@@ -129,6 +136,7 @@ pub(crate) fn term_proven_via(
 }
 
 /// The term of a projection whose trait goal holds, for the head form of its self type.
+#[tactic(auto, using(crate::proofs::CacheLemmas::caching))]
 #[cycle(closed)]
 fn replaced_term(
     setting: &Setting<'_>,
@@ -138,8 +146,10 @@ fn replaced_term(
     self_ty: TermId,
     depth: u32,
 ) -> Result<Found, Stop>
+    requires cache { IsValidCache setting.now terms.old effects.old.cache }
     requires args { AreIn terms.old given.now.args.now }
     requires self_ty { IsIn terms.old self_ty }
+    ensures cache { IsValidCache setting.now terms.new effects.new.cache }
     ensures kept { Keeps terms.old terms.new }
     ensures within { IfOk result (FoundIn terms.new) }
     ensures stops { is_headline setting.now.typing_mode.now ≡ true → IfErr result (λ s. s ≡ Stop.OutOfMemory) }
@@ -178,9 +188,11 @@ fn groups_term(
     class: TraitGoalProvenVia,
     depth: u32,
 ) -> Result<Found, Stop>
+    requires cache { IsValidCache setting.now terms.old effects.old.cache }
     requires projection { ProjectionIn terms.old projection.now }
     requires self_ty { IsIn terms.old self_ty }
     requires given { IsIn terms.old given }
+    ensures cache { IsValidCache setting.now terms.new effects.new.cache }
     ensures kept { Keeps terms.old terms.new }
     ensures within { IfOk result (FoundIn terms.new) }
     ensures stops { is_headline setting.now.typing_mode.now ≡ true → IfErr result (λ s. s ≡ Stop.OutOfMemory) }
@@ -207,9 +219,11 @@ fn later_term(
     class: TraitGoalProvenVia,
     depth: u32,
 ) -> Result<Found, Stop>
+    requires cache { IsValidCache setting.now terms.old effects.old.cache }
     requires projection { ProjectionIn terms.old projection.now }
     requires self_ty { IsIn terms.old self_ty }
     requires given { IsIn terms.old given }
+    ensures cache { IsValidCache setting.now terms.new effects.new.cache }
     ensures kept { Keeps terms.old terms.new }
     ensures within { IfOk result (FoundIn terms.new) }
     ensures stops { is_headline setting.now.typing_mode.now ≡ true → IfErr result (λ s. s ≡ Stop.OutOfMemory) }
@@ -229,6 +243,7 @@ fn later_term(
 }
 
 /// The term that the environment gives a projection.
+#[tactic(auto, using(crate::proofs::CacheLemmas::caching))]
 #[cycle(closed)]
 fn environment_term(
     setting: &Setting<'_>,
@@ -238,8 +253,10 @@ fn environment_term(
     self_ty: TermId,
     depth: u32,
 ) -> Result<Found, Stop>
+    requires cache { IsValidCache setting.now terms.old effects.old.cache }
     requires projection { ProjectionIn terms.old projection.now }
     requires self_ty { IsIn terms.old self_ty }
+    ensures cache { IsValidCache setting.now terms.new effects.new.cache }
     ensures kept { Keeps terms.old terms.new }
     ensures within { IfOk result (FoundIn terms.new) }
     ensures stops { is_headline setting.now.typing_mode.now ≡ true → IfErr result (λ s. s ≡ Stop.OutOfMemory) }
@@ -264,6 +281,7 @@ fn environment_term(
 }
 
 /// The term that the candidates after the environment give a projection.
+#[tactic(auto, using(crate::proofs::CacheLemmas::caching))]
 #[cycle(closed)]
 fn second_term(
     setting: &Setting<'_>,
@@ -274,8 +292,10 @@ fn second_term(
     class: TraitGoalProvenVia,
     depth: u32,
 ) -> Result<Found, Stop>
+    requires cache { IsValidCache setting.now terms.old effects.old.cache }
     requires projection { ProjectionIn terms.old projection.now }
     requires self_ty { IsIn terms.old self_ty }
+    ensures cache { IsValidCache setting.now terms.new effects.new.cache }
     ensures kept { Keeps terms.old terms.new }
     ensures within { IfOk result (FoundIn terms.new) }
     ensures stops { is_headline setting.now.typing_mode.now ≡ true → IfErr result (λ s. s ≡ Stop.OutOfMemory) }
@@ -307,8 +327,10 @@ fn own_args_normalized(
     term: TermId,
     depth: u32,
 ) -> Result<Found, Stop>
+    requires cache { IsValidCache setting.now terms.old effects.old.cache }
     requires projection { ProjectionIn terms.old projection.now }
     requires term { IsIn terms.old term }
+    ensures cache { IsValidCache setting.now terms.new effects.new.cache }
     ensures kept { Keeps terms.old terms.new }
     ensures within { IfOk result (FoundIn terms.new) }
     ensures stops { is_headline setting.now.typing_mode.now ≡ true → IfErr result (λ s. s ≡ Stop.OutOfMemory) }
@@ -331,7 +353,9 @@ fn head_forms_outcome(
     ids: &[TermId],
     depth: u32,
 ) -> Result<Outcome, Stop>
-    requires { AreIn terms.old ids.now }
+    requires cache { IsValidCache setting.now terms.old effects.old.cache }
+    requires ids { AreIn terms.old ids.now }
+    ensures cache { IsValidCache setting.now terms.new effects.new.cache }
     ensures kept { Keeps terms.old terms.new }
     ensures stops { is_headline setting.now.typing_mode.now ≡ true → IfErr result (λ s. s ≡ Stop.OutOfMemory) }
     ensures says { (m : TypingMode) → RunsFor setting.now m → IfOk result (Says (HaveHeadForms (level_in setting.now m depth) (erased_all terms.old ids.now)) (SomeUnformed (level_in setting.now m depth) (erased_all terms.old ids.now))) }
@@ -348,6 +372,7 @@ fn head_forms_outcome(
 }
 
 /// The term that a group of candidates gives a projection: all that give one have to give the same.
+#[tactic(auto, using(crate::proofs::CacheLemmas::caching))]
 #[cycle(closed)]
 fn group_term(
     setting: &Setting<'_>,
@@ -357,8 +382,10 @@ fn group_term(
     candidates: &[InternedCandidate<'_>],
     depth: u32,
 ) -> Result<Found, Stop>
+    requires cache { IsValidCache setting.now terms.old effects.old.cache }
     requires projection { ProjectionIn terms.old projection.now }
     requires candidates { All (CandidateIn terms.old) candidates.now }
+    ensures cache { IsValidCache setting.now terms.new effects.new.cache }
     ensures kept { Keeps terms.old terms.new }
     ensures within { IfOk result (FoundIn terms.new) }
     ensures stops { is_headline setting.now.typing_mode.now ≡ true → IfErr result (λ s. s ≡ Stop.OutOfMemory) }

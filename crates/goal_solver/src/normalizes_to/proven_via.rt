@@ -15,6 +15,7 @@ ghost use Rattle.goal_solver.specs.Recording.{FitsKind};
 ghost use Rattle.goal_solver.specs.Outcomes.{RunsAs, RunsFor, StandsFor, setting_in, level_in, SaysWhich, FoundIn};
 ghost use Rattle.goal_solver.specs.Promises.{ListsTerm};
 ghost use Rattle.goal_solver.specs.State.{kinds_of};
+ghost use Rattle.goal_solver.specs.EvaluationCache.{IsValidCache};
 
 use crate::context::EvalCtxt;
 use crate::eval::closed_goals::is_closed_alias;
@@ -50,6 +51,8 @@ fn alias_proven_via(
     alias: &AliasTerm,
     depth: u32,
 ) -> Result<Found, Stop>
+    requires cache { IsValidCache setting.now terms.old effects.old.cache }
+    ensures cache { IsValidCache setting.now terms.new effects.new.cache }
     ensures kept { Keeps terms.old terms.new }
     ensures within { IfOk result (FoundIn terms.new) }
     ensures stops { is_headline setting.now.typing_mode.now ≡ true → IfErr result (λ s. s ≡ Stop.OutOfMemory) }

@@ -9,6 +9,7 @@ ghost use Rattle.goal_kinds.specs.Equality.{SameForm, OtherForm};
 ghost use Rattle.goal_kinds.specs.Settings.{is_headline};
 ghost use Rattle.goal_solver.specs.Outcomes.{RunsFor, level_in, Says};
 ghost use Rattle.goal_solver.specs.Pending.{IsOpen, Relates, AllEqual, SomeUnequal};
+ghost use Rattle.goal_solver.specs.EvaluationCache.{IsValidCache};
 
 use crate::eval::effects::Effects;
 use crate::eval::head_forms::head_form;
@@ -28,8 +29,10 @@ pub fn compare_terms(
     right: TermId,
     depth: u32,
 ) -> Result<Outcome, Stop>
+    requires cache { IsValidCache setting.now terms.old effects.old.cache }
     requires first { IsIn terms.old left }
     requires second { IsIn terms.old right }
+    ensures cache { IsValidCache setting.now terms.new effects.new.cache }
     ensures kept { Keeps terms.old terms.new }
     ensures stops { is_headline setting.now.typing_mode.now ≡ true → IfErr result (λ s. s ≡ Stop.OutOfMemory) }
     ensures says { (m : TypingMode) → RunsFor setting.now m → IfOk result (Says ((level_in setting.now m depth).equal (erased_at terms.old left) (erased_at terms.old right)) ((level_in setting.now m depth).unequal (erased_at terms.old left) (erased_at terms.old right))) }
@@ -49,8 +52,10 @@ pub fn compare_lists(
     right: &[TermId],
     depth: u32,
 ) -> Result<Outcome, Stop>
+    requires cache { IsValidCache setting.now terms.old effects.old.cache }
     requires first { AreIn terms.old left.now }
     requires second { AreIn terms.old right.now }
+    ensures cache { IsValidCache setting.now terms.new effects.new.cache }
     ensures kept { Keeps terms.old terms.new }
     ensures stops { is_headline setting.now.typing_mode.now ≡ true → IfErr result (λ s. s ≡ Stop.OutOfMemory) }
     ensures says { (m : TypingMode) → RunsFor setting.now m → IfOk result (Says (Pairs (level_in setting.now m depth).equal (erased_all terms.old left.now) (erased_all terms.old right.now)) (SomePair (level_in setting.now m depth).unequal (erased_all terms.old left.now) (erased_all terms.old right.now))) }
@@ -69,7 +74,9 @@ fn compare_pending(
     pending: &Pending,
     depth: u32,
 ) -> Result<Outcome, Stop>
-    requires { All (IsOpen terms.old) pending.now.pairs.items }
+    requires cache { IsValidCache setting.now terms.old effects.old.cache }
+    requires within { All (IsOpen terms.old) pending.now.pairs.items }
+    ensures cache { IsValidCache setting.now terms.new effects.new.cache }
     ensures kept { Keeps terms.old terms.new }
     ensures stops { is_headline setting.now.typing_mode.now ≡ true → IfErr result (λ s. s ≡ Stop.OutOfMemory) }
     ensures says { (m : TypingMode) → RunsFor setting.now m → IfOk result (Says (AllEqual (level_in setting.now m depth) terms.old pending.now.outcome pending.now.pairs.items) (SomeUnequal (level_in setting.now m depth) terms.old pending.now.outcome pending.now.pairs.items)) }
@@ -94,7 +101,9 @@ fn compare_pair(
     pair: TermPair,
     depth: u32,
 ) -> Result<Outcome, Stop>
-    requires { IsOpen terms.old pair }
+    requires cache { IsValidCache setting.now terms.old effects.old.cache }
+    requires within { IsOpen terms.old pair }
+    ensures cache { IsValidCache setting.now terms.new effects.new.cache }
     ensures kept { Keeps terms.old terms.new }
     ensures stops { is_headline setting.now.typing_mode.now ≡ true → IfErr result (λ s. s ≡ Stop.OutOfMemory) }
     ensures says { (m : TypingMode) → RunsFor setting.now m → IfOk result (Says (Relates (level_in setting.now m depth).equal terms.old pair) (Relates (level_in setting.now m depth).unequal terms.old pair)) }
@@ -121,8 +130,10 @@ fn compare_forms(
     other: TermId,
     depth: u32,
 ) -> Result<Outcome, Stop>
+    requires cache { IsValidCache setting.now terms.old effects.old.cache }
     requires first { IsIn terms.old form }
     requires second { IsIn terms.old other }
+    ensures cache { IsValidCache setting.now terms.new effects.new.cache }
     ensures kept { Keeps terms.old terms.new }
     ensures stops { is_headline setting.now.typing_mode.now ≡ true → IfErr result (λ s. s ≡ Stop.OutOfMemory) }
     ensures says { (m : TypingMode) → RunsFor setting.now m → IfOk result (Says (SameForm (level_in setting.now m depth) (erased_at terms.old form) (erased_at terms.old other)) (OtherForm (level_in setting.now m depth) (erased_at terms.old form) (erased_at terms.old other))) }

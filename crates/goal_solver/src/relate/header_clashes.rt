@@ -7,6 +7,7 @@ ghost use Rattle.goal_kinds.specs.Words.{Exists, SomePair};
 ghost use Rattle.goal_kinds.specs.Settings.{is_headline};
 ghost use Rattle.goal_solver.specs.Outcomes.{header_terms};
 ghost use Rattle.goal_solver.specs.HeaderWords.{is_any, erased_ref, IsBehind, KnownIn, IsKnown, known_trees, ClashAt, QuestionIn, Fills, TestOutcome};
+ghost use Rattle.goal_solver.specs.EvaluationCache.{IsValidCache};
 
 use crate::eval::effects::Effects;
 use crate::eval::head_forms::head_form;
@@ -22,6 +23,7 @@ use goal_terms::view::TermRef;
 
 /// Whether the instance of a header's parameter or alias, whose parameters are known, is unequal to a
 /// given term.
+#[tactic(auto, using(crate::proofs::CacheLemmas::caching))]
 #[cycle(closed)]
 fn instance_clashes(
     setting: &Setting<'_>,
@@ -33,10 +35,12 @@ fn instance_clashes(
     given: TermId,
     depth: u32,
 ) -> Result<bool, Stop>
+    requires cache { IsValidCache setting.now terms.old effects.old.cache }
     requires known { KnownIn terms.old known.now }
     requires args { AreIn terms.old args.now }
     requires fills { Fills known.now args.now }
     requires within { QuestionIn terms.old (Question.Instance header given) }
+    ensures cache { IsValidCache setting.now terms.new effects.new.cache }
     ensures kept { Keeps terms.old terms.new }
     ensures stops { is_headline setting.now.typing_mode.now ≡ true → IfErr result (λ s. s ≡ Stop.OutOfMemory) }
     ensures says { IfOk result (TestOutcome setting.now depth (λ L. L.clash (IsKnown (known_trees terms.old known.now)) (erased_ref header.entry) (erased_at terms.old given))) }
@@ -63,10 +67,12 @@ fn question_clashes(
     question: Question<'_>,
     depth: u32,
 ) -> Result<bool, Stop>
+    requires cache { IsValidCache setting.now terms.old effects.old.cache }
     requires known { KnownIn terms.old known.now }
     requires args { AreIn terms.old args.now }
     requires fills { Fills known.now args.now }
     requires within { QuestionIn terms.old question }
+    ensures cache { IsValidCache setting.now terms.new effects.new.cache }
     ensures kept { Keeps terms.old terms.new }
     ensures stops { is_headline setting.now.typing_mode.now ≡ true → IfErr result (λ s. s ≡ Stop.OutOfMemory) }
     ensures says { IfOk result (TestOutcome setting.now depth (λ L. ClashAt L (known_trees terms.old known.now) terms.old question.entry)) }
@@ -94,10 +100,12 @@ fn behind_clashes(
     given: TermId,
     depth: u32,
 ) -> Result<bool, Stop>
+    requires cache { IsValidCache setting.now terms.old effects.old.cache }
     requires known { KnownIn terms.old known.now }
     requires args { AreIn terms.old args.now }
     requires fills { Fills known.now args.now }
     requires within { IsBehind terms.old is_any header given }
+    ensures cache { IsValidCache setting.now terms.new effects.new.cache }
     ensures kept { Keeps terms.old terms.new }
     ensures stops { is_headline setting.now.typing_mode.now ≡ true → IfErr result (λ s. s ≡ Stop.OutOfMemory) }
     ensures says { IfOk result (TestOutcome setting.now depth (λ L. L.clash (IsKnown (known_trees terms.old known.now)) (erased_ref header.entry) (erased_at terms.old given))) }
@@ -138,10 +146,12 @@ fn form_clashes(
     given: TermId,
     depth: u32,
 ) -> Result<bool, Stop>
+    requires cache { IsValidCache setting.now terms.old effects.old.cache }
     requires known { KnownIn terms.old known.now }
     requires args { AreIn terms.old args.now }
     requires fills { Fills known.now args.now }
     requires within { IsIn terms.old given }
+    ensures cache { IsValidCache setting.now terms.new effects.new.cache }
     ensures kept { Keeps terms.old terms.new }
     ensures stops { is_headline setting.now.typing_mode.now ≡ true → IfErr result (λ s. s ≡ Stop.OutOfMemory) }
     ensures says { IfOk result (TestOutcome setting.now depth (λ L. L.clash (IsKnown (known_trees terms.old known.now)) (erased_ref header.entry) (erased_at terms.old given))) }
@@ -161,10 +171,12 @@ fn any_clash(
     questions: &[Question<'_>],
     depth: u32,
 ) -> Result<bool, Stop>
+    requires cache { IsValidCache setting.now terms.old effects.old.cache }
     requires known { KnownIn terms.old known.now }
     requires args { AreIn terms.old args.now }
     requires fills { Fills known.now args.now }
     requires within { All (QuestionIn terms.old) questions.now }
+    ensures cache { IsValidCache setting.now terms.new effects.new.cache }
     ensures kept { Keeps terms.old terms.new }
     ensures stops { is_headline setting.now.typing_mode.now ≡ true → IfErr result (λ s. s ≡ Stop.OutOfMemory) }
     ensures says { IfOk result (TestOutcome setting.now depth (λ L. Exists (ClashAt L (known_trees terms.old known.now) terms.old) questions.now)) }
@@ -189,10 +201,12 @@ pub fn header_clashes(
     args: &[TermId],
     depth: u32,
 ) -> Result<bool, Stop>
+    requires cache { IsValidCache setting.now terms.old effects.old.cache }
     requires given { AreIn terms.old given.now }
     requires known { KnownIn terms.old known.now }
     requires args { AreIn terms.old args.now }
     requires fills { Fills known.now args.now }
+    ensures cache { IsValidCache setting.now terms.new effects.new.cache }
     ensures kept { Keeps terms.old terms.new }
     ensures stops { is_headline setting.now.typing_mode.now ≡ true → IfErr result (λ s. s ≡ Stop.OutOfMemory) }
     ensures says { IfOk result (TestOutcome setting.now depth (λ L. SomePair (L.clash (IsKnown (known_trees terms.old known.now))) (header_terms header.now) (erased_all terms.old given.now))) }

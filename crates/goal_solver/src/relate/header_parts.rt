@@ -8,6 +8,7 @@ ghost use Rattle.goal_kinds.specs.Interned.{AreIn, erased_at, erased_all};
 ghost use Rattle.goal_kinds.specs.Settings.{is_headline};
 ghost use Rattle.goal_solver.specs.Outcomes.{RunsFor, level_in, header_terms};
 ghost use Rattle.goal_solver.specs.HeaderWords.{is_this, erased_ref, IsBehind, GivesPart, PlaceIn, OptionIn, KnownIn, known_trees, SaysKnown, PartOutcome, KnownOutcome};
+ghost use Rattle.goal_solver.specs.EvaluationCache.{IsValidCache};
 
 use crate::eval::effects::Effects;
 use crate::eval::head_forms::head_form;
@@ -31,7 +32,9 @@ fn part_at(
     place: Place<'_>,
     depth: u32,
 ) -> Result<Option<TermId>, Stop>
-    requires { PlaceIn terms.old number place }
+    requires cache { IsValidCache setting.now terms.old effects.old.cache }
+    requires within { PlaceIn terms.old number place }
+    ensures cache { IsValidCache setting.now terms.new effects.new.cache }
     ensures kept { Keeps terms.old terms.new }
     ensures within { IfOk result (OptionIn terms.new) }
     ensures stops { is_headline setting.now.typing_mode.now ≡ true → IfErr result (λ s. s ≡ Stop.OutOfMemory) }
@@ -57,7 +60,9 @@ fn part_behind(
     given: TermId,
     depth: u32,
 ) -> Result<Option<TermId>, Stop>
-    requires { IsBehind terms.old (is_this number) header given }
+    requires cache { IsValidCache setting.now terms.old effects.old.cache }
+    requires within { IsBehind terms.old (is_this number) header given }
+    ensures cache { IsValidCache setting.now terms.new effects.new.cache }
     ensures kept { Keeps terms.old terms.new }
     ensures within { IfOk result (OptionIn terms.new) }
     ensures stops { is_headline setting.now.typing_mode.now ≡ true → IfErr result (λ s. s ≡ Stop.OutOfMemory) }
@@ -90,7 +95,9 @@ fn known_part(
     given: &[TermId],
     depth: u32,
 ) -> Result<Option<TermId>, Stop>
-    requires { AreIn terms.old given.now }
+    requires cache { IsValidCache setting.now terms.old effects.old.cache }
+    requires given { AreIn terms.old given.now }
+    ensures cache { IsValidCache setting.now terms.new effects.new.cache }
     ensures kept { Keeps terms.old terms.new }
     ensures within { IfOk result (OptionIn terms.new) }
     ensures stops { is_headline setting.now.typing_mode.now ≡ true → IfErr result (λ s. s ≡ Stop.OutOfMemory) }
@@ -112,7 +119,9 @@ fn known_arg(
     given: &[TermId],
     depth: u32,
 ) -> Result<Option<TermId>, Stop>
-    requires { AreIn terms.old given.now }
+    requires cache { IsValidCache setting.now terms.old effects.old.cache }
+    requires given { AreIn terms.old given.now }
+    ensures cache { IsValidCache setting.now terms.new effects.new.cache }
     ensures kept { Keeps terms.old terms.new }
     ensures within { IfOk result (OptionIn terms.new) }
     ensures stops { is_headline setting.now.typing_mode.now ≡ true → IfErr result (λ s. s ≡ Stop.OutOfMemory) }
@@ -136,7 +145,9 @@ pub fn known_args(
     given: &[TermId],
     depth: u32,
 ) -> Result<Vec<Option<TermId>>, Stop>
-    requires { AreIn terms.old given.now }
+    requires cache { IsValidCache setting.now terms.old effects.old.cache }
+    requires given { AreIn terms.old given.now }
+    ensures cache { IsValidCache setting.now terms.new effects.new.cache }
     ensures kept { Keeps terms.old terms.new }
     ensures within { IfOk result (λ known. KnownIn terms.new known.items) }
     ensures count { IfOk result (λ known. length known.items ≡ length params.now) }

@@ -8,6 +8,7 @@ ghost use Rattle.goal_kinds.specs.Words.{Pairs};
 ghost use Rattle.goal_kinds.specs.Settings.{is_headline};
 ghost use Rattle.goal_solver.specs.Outcomes.{RunsFor, level_in, header_terms, SaysMatch, MatchIn};
 ghost use Rattle.goal_solver.specs.HeaderWords.{KnownIn, known_trees, AreFilled, is_complete, TestOutcome, KnownOutcome, MatchOutcome};
+ghost use Rattle.goal_solver.specs.EvaluationCache.{IsValidCache};
 
 use crate::eval::effects::Effects;
 use crate::eval::outcomes::{HeaderMatch, Outcome, Setting, Stop};
@@ -21,6 +22,7 @@ use goal_terms::term_table::TermTable;
 use goal_terms::terms::GenericArg;
 
 /// Whether the instances of a header's arguments are equal to given ones.
+#[tactic(auto, using(crate::proofs::CacheLemmas::caching))]
 #[cycle(closed)]
 fn instances_fit(
     setting: &Setting<'_>,
@@ -31,8 +33,10 @@ fn instances_fit(
     args: &[TermId],
     depth: u32,
 ) -> Result<bool, Stop>
+    requires cache { IsValidCache setting.now terms.old effects.old.cache }
     requires given { AreIn terms.old given.now }
     requires args { AreIn terms.old args.now }
+    ensures cache { IsValidCache setting.now terms.new effects.new.cache }
     ensures kept { Keeps terms.old terms.new }
     ensures stops { is_headline setting.now.typing_mode.now ≡ true → IfErr result (λ s. s ≡ Stop.OutOfMemory) }
     ensures says { IfOk result (TestOutcome setting.now depth (λ L. Pairs L.equal (map (under (erased_all terms.old args.now)) (header_terms header.now)) (erased_all terms.old given.now))) }
@@ -58,12 +62,14 @@ fn match_complete(
     args: Vec<TermId>,
     depth: u32,
 ) -> Result<HeaderMatch, Stop>
+    requires cache { IsValidCache setting.now terms.old effects.old.cache }
     requires given { AreIn terms.old given.now }
     requires known { KnownIn terms.old known.now }
     requires args { AreIn terms.old args.items }
     requires filled { AreFilled terms.old known.now args.items }
     requires complete { is_complete params.now known.now ≡ true }
     requires says { KnownOutcome setting.now depth (header_terms header.now) (erased_all terms.old given.now) params.now (known_trees terms.old known.now) }
+    ensures cache { IsValidCache setting.now terms.new effects.new.cache }
     ensures kept { Keeps terms.old terms.new }
     ensures within { IfOk result (MatchIn terms.new) }
     ensures stops { is_headline setting.now.typing_mode.now ≡ true → IfErr result (λ s. s ≡ Stop.OutOfMemory) }
@@ -91,12 +97,14 @@ fn match_incomplete(
     args: &[TermId],
     depth: u32,
 ) -> Result<HeaderMatch, Stop>
+    requires cache { IsValidCache setting.now terms.old effects.old.cache }
     requires given { AreIn terms.old given.now }
     requires known { KnownIn terms.old known.now }
     requires args { AreIn terms.old args.now }
     requires filled { AreFilled terms.old known.now args.now }
     requires complete { is_complete params.now known.now ≡ false }
     requires says { KnownOutcome setting.now depth (header_terms header.now) (erased_all terms.old given.now) params.now (known_trees terms.old known.now) }
+    ensures cache { IsValidCache setting.now terms.new effects.new.cache }
     ensures kept { Keeps terms.old terms.new }
     ensures within { IfOk result (MatchIn terms.new) }
     ensures stops { is_headline setting.now.typing_mode.now ≡ true → IfErr result (λ s. s ≡ Stop.OutOfMemory) }
@@ -110,6 +118,7 @@ fn match_incomplete(
 }
 
 /// What a header comes to, by what is known of its parameters.
+#[tactic(auto, using(crate::proofs::CacheLemmas::caching))]
 #[cycle(closed)]
 fn match_known(
     setting: &Setting<'_>,
@@ -121,10 +130,12 @@ fn match_known(
     known: &[Option<TermId>],
     depth: u32,
 ) -> Result<HeaderMatch, Stop>
+    requires cache { IsValidCache setting.now terms.old effects.old.cache }
     requires given { AreIn terms.old given.now }
     requires known { KnownIn terms.old known.now }
     requires count { length params.now ≡ length known.now }
     requires says { KnownOutcome setting.now depth (header_terms header.now) (erased_all terms.old given.now) params.now (known_trees terms.old known.now) }
+    ensures cache { IsValidCache setting.now terms.new effects.new.cache }
     ensures kept { Keeps terms.old terms.new }
     ensures within { IfOk result (MatchIn terms.new) }
     ensures stops { is_headline setting.now.typing_mode.now ≡ true → IfErr result (λ s. s ≡ Stop.OutOfMemory) }
@@ -155,7 +166,9 @@ pub fn match_header(
     given: &[TermId],
     depth: u32,
 ) -> Result<HeaderMatch, Stop>
-    requires { AreIn terms.old given.now }
+    requires cache { IsValidCache setting.now terms.old effects.old.cache }
+    requires given { AreIn terms.old given.now }
+    ensures cache { IsValidCache setting.now terms.new effects.new.cache }
     ensures kept { Keeps terms.old terms.new }
     ensures within { IfOk result (MatchIn terms.new) }
     ensures stops { is_headline setting.now.typing_mode.now ≡ true → IfErr result (λ s. s ≡ Stop.OutOfMemory) }

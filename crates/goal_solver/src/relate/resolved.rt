@@ -6,6 +6,7 @@ ghost use Rattle.goal_kinds.specs.Interned.{erased_at, erased_all};
 ghost use Rattle.goal_kinds.specs.Settings.{is_headline};
 ghost use Rattle.goal_solver.specs.Pending.{AreOfOneKind, AreListsOfOneKind, NeedForms};
 ghost use Rattle.goal_solver.specs.Settled.{IsSettled, AreSettled, HoldsWithMemory};
+ghost use Rattle.goal_solver.specs.EvaluationCache.{IsValidCache};
 
 use crate::eval::effects::Effects;
 use crate::eval::id_lists::own_list;
@@ -29,7 +30,9 @@ pub(crate) fn relate_resolved(
     opens: bool,
     depth: u32,
 ) -> Result<Outcome, Stop>
+    requires cache { IsValidCache setting.now terms.old effects.old.cache }
     requires alike { AreOfOneKind terms.old left right }
+    ensures cache { IsValidCache setting.now terms.new effects.new.cache }
     ensures kept { Keeps terms.old terms.new }
     ensures stops { is_headline setting.now.typing_mode.now ≡ true → IfErr result (λ s. s ≡ Stop.OutOfMemory) }
     ensures says { IfOk result (IsSettled setting.now opens depth (erased_at terms.old left) (erased_at terms.old right)) }
@@ -68,8 +71,10 @@ fn relate_resolved_forms(
     opens: bool,
     depth: u32,
 ) -> Result<Outcome, Stop>
+    requires cache { IsValidCache setting.now terms.old effects.old.cache }
     requires alike { AreOfOneKind terms.old left right }
     requires forms { NeedForms (erased_at terms.old left) (erased_at terms.old right) }
+    ensures cache { IsValidCache setting.now terms.new effects.new.cache }
     ensures kept { Keeps terms.old terms.new }
     ensures stops { is_headline setting.now.typing_mode.now ≡ true → IfErr result (λ s. s ≡ Stop.OutOfMemory) }
     ensures says { IfOk result (IsSettled setting.now opens depth (erased_at terms.old left) (erased_at terms.old right)) }
@@ -92,7 +97,9 @@ pub(crate) fn relate_resolved_lists(
     opens: bool,
     depth: u32,
 ) -> Result<Outcome, Stop>
+    requires cache { IsValidCache setting.now terms.old effects.old.cache }
     requires alike { AreListsOfOneKind terms.old left.now right.now }
+    ensures cache { IsValidCache setting.now terms.new effects.new.cache }
     ensures kept { Keeps terms.old terms.new }
     ensures stops { is_headline setting.now.typing_mode.now ≡ true → IfErr result (λ s. s ≡ Stop.OutOfMemory) }
     ensures says { IfOk result (AreSettled setting.now opens depth (erased_all terms.old left.now) (erased_all terms.old right.now)) }

@@ -1,5 +1,5 @@
 //! Trait goals: by which class of candidates they hold.
-ghost use Rattle.std.specs.Prelude.{IfErr, ◌≡◌, true, None, IfOk};
+ghost use Rattle.std.specs.Prelude.{IfErr, ◌≡◌, ◌≢◌, true, None, IfOk};
 ghost use Rattle.goal_terms.specs.TableMeaning.{Keeps};
 ghost use Rattle.goal_terms.specs.declared.modes.TypingMode.{TypingMode};
 ghost use Rattle.goal_kinds.specs.Interned.{AreIn, erased_at, erased_all};
@@ -7,10 +7,12 @@ ghost use Rattle.goal_kinds.specs.Settings.{is_headline};
 ghost use Rattle.goal_solver.specs.AskedTraits.{AskedIn};
 ghost use Rattle.goal_solver.specs.Outcomes.{RunsFor, setting_in, level_in, SaysThrough};
 ghost use Rattle.goal_solver.specs.TraitOutcomes.{SaysClasses};
+ghost use Rattle.goal_solver.specs.EvaluationCache.{IsValidCache};
 
 use crate::assembly::candidates::{AskedTrait, class_outcome};
 use crate::eval::effects::Effects;
 use crate::eval::head_forms::head_form;
+use crate::eval::interning::intern_trait_ref;
 use crate::eval::outcomes::{Found, Setting, Stop, TraitOutcome};
 use crate::eval::self_types::{split_self_type, with_self_type};
 use goal_terms::answers::TraitGoalProvenVia;
@@ -18,7 +20,8 @@ use goal_terms::ids::TraitId;
 use goal_terms::term_nodes::TermId;
 use goal_terms::term_table::TermTable;
 
-/// Whether a trait goal holds at a depth, and through which class.
+/// Whether a trait goal holds at a depth, and through which class. What an evaluation knows isn't evaluated again.
+#[tactic(auto, using(crate::proofs::CacheLemmas::caching))]
 #[cycle(closed)]
 pub fn evaluate_trait_goal(
     setting: &Setting<'_>,
@@ -28,7 +31,9 @@ pub fn evaluate_trait_goal(
     args: &[TermId],
     depth: u32,
 ) -> Result<TraitOutcome, Stop>
-    requires { AreIn terms.old args.now }
+    requires cache { IsValidCache setting.now terms.old effects.old.cache }
+    requires args { AreIn terms.old args.now }
+    ensures cache { IsValidCache setting.now terms.new effects.new.cache }
     ensures kept { Keeps terms.old terms.new }
     ensures stops { is_headline setting.now.typing_mode.now ≡ true → IfErr result (λ s. s ≡ Stop.OutOfMemory) }
     ensures says { (m : TypingMode) → RunsFor setting.now m → IfOk result (SaysThrough (λ c. (level_in setting.now m depth).through c trait_id (erased_all terms.old args.now)) ((level_in setting.now m depth).trait_refuted trait_id (erased_all terms.old args.now))) }
@@ -36,6 +41,35 @@ pub fn evaluate_trait_goal(
     if depth == 0 {
         return Ok(TraitOutcome::Undecided);
     }
+    let goal = intern_trait_ref(setting.allocator(), terms, trait_id, args)?;
+    let undecided = TraitOutcome::Undecided;
+    if let Some(known) = effects.cache.traits.get(goal, depth, undecided) {
+        return Ok(known);
+    }
+    let outcome = fresh_trait_outcome(setting, terms, effects, trait_id, args, depth)?;
+    effects.cache.keep_trait(goal, depth, outcome);
+    Ok(outcome)
+}
+
+/// Whether a trait goal that isn't known holds at a depth, and through which class: by the head form of its self
+/// type.
+#[cycle(closed)]
+fn fresh_trait_outcome(
+    setting: &Setting<'_>,
+    terms: &mut TermTable,
+    effects: &mut Effects,
+    trait_id: TraitId,
+    args: &[TermId],
+    depth: u32,
+) -> Result<TraitOutcome, Stop>
+    requires cache { IsValidCache setting.now terms.old effects.old.cache }
+    requires args { AreIn terms.old args.now }
+    requires above { depth ≢ 0 }
+    ensures cache { IsValidCache setting.now terms.new effects.new.cache }
+    ensures kept { Keeps terms.old terms.new }
+    ensures stops { is_headline setting.now.typing_mode.now ≡ true → IfErr result (λ s. s ≡ Stop.OutOfMemory) }
+    ensures says { (m : TypingMode) → RunsFor setting.now m → IfOk result (SaysThrough (λ c. (level_in setting.now m depth).through c trait_id (erased_all terms.old args.now)) ((level_in setting.now m depth).trait_refuted trait_id (erased_all terms.old args.now))) }
+{
     let Some((first, rest)) = split_self_type(args) else {
         return Ok(TraitOutcome::Undecided);
     };
@@ -65,8 +99,10 @@ fn decide_trait(
     asked: &AskedTrait<'_>,
     depth: u32,
 ) -> Result<TraitOutcome, Stop>
+    requires cache { IsValidCache setting.now terms.old effects.old.cache }
     requires asked { AskedIn terms.old asked.now }
     requires plain { asked.now.constness ≡ None }
+    ensures cache { IsValidCache setting.now terms.new effects.new.cache }
     ensures kept { Keeps terms.old terms.new }
     ensures stops { is_headline setting.now.typing_mode.now ≡ true → IfErr result (λ s. s ≡ Stop.OutOfMemory) }
     ensures says { (m : TypingMode) → RunsFor setting.now m → IfOk result (SaysClasses (setting_in setting.now m) (level_in setting.now m depth) asked.now.trait_id (erased_at terms.old asked.now.self_ty) (erased_all terms.old asked.now.args.now)) }

@@ -15,6 +15,7 @@ use vurloske_syntax::ast::{
     AssocItem, Ast, AttrValue, Free, FreeValue, Generics, Ident, Impl, Item, ItemKind, Run, Symbol,
     Trait,
 };
+use vurloske_syntax::phrase::Phrase;
 
 /// What an item declares that declares nothing.
 const NO_GENERICS: Generics = Generics {
@@ -47,7 +48,7 @@ fn lang_of(ast: &Ast, attrs: Run) -> Result<Option<LangItem>, ItemFault> {
     };
     match found {
         Some(item) => Ok(Some(item)),
-        None => Err(wrong_name(attr.ident, "the name of a lang item")),
+        None => Err(wrong_name(attr.ident, Phrase::NAME_OF_A_LANG_ITEM)),
     }
 }
 
@@ -119,7 +120,7 @@ impl Definitions {
             generics,
         };
         match self.named.insert(ident.name, named)? {
-            Some(_) => Err(wrong_name(ident, "a name that no other item has")),
+            Some(_) => Err(wrong_name(ident, Phrase::NEW_ITEM_NAME)),
             None => Ok(()),
         }
     }
@@ -173,7 +174,7 @@ impl Definitions {
             .insert(ItemKey { trait_id, name }, id)?
             .is_some()
         {
-            return Err(wrong_name(item.ident, "a name that no other item of the trait has"));
+            return Err(wrong_name(item.ident, Phrase::NEW_TRAIT_ITEM_NAME));
         }
         let owners = match self.owners.get(&name) {
             Some(_) => Owners::Several,
@@ -198,7 +199,7 @@ impl Definitions {
         if let Some(attr) = ast.attr_named(attrs, "name") {
             let ident = name_in_attr(ast, &attr)?;
             if self.impl_names.insert(ident.name, id)?.is_some() {
-                return Err(wrong_name(ident, "a name that no other impl has"));
+                return Err(wrong_name(ident, Phrase::NEW_IMPL_NAME));
             }
         }
         Ok(())

@@ -10,6 +10,7 @@ use goal_terms::scalars::UintTy;
 use goal_terms::terms::Ty;
 use vurloske_syntax::ast;
 use vurloske_syntax::ast::{Adt, Attr, AttrArg, Run, TermId};
+use vurloske_syntax::phrase::Phrase;
 
 impl Text<'_> {
     /// Adds the rows of the structs, enums and unions.
@@ -123,7 +124,7 @@ impl Text<'_> {
                 AttrArg::Bounds(subject, bounds) => {
                     self.push_trait_refs(lowering, *subject, *bounds, conditions)?;
                 }
-                _ => return Err(wrong_name(attr.ident, "an attribute with bounds of types")),
+                _ => return Err(wrong_name(attr.ident, Phrase::ATTRIBUTE_WITH_BOUNDS_OF_TYPES)),
             }
         }
         Ok(())
@@ -155,7 +156,7 @@ impl Text<'_> {
                 });
             }
         }
-        Err(wrong_name(attr.ident, "`field(base = .., ty = ..)`"))
+        Err(wrong_name(attr.ident, Phrase::FIELD))
     }
 }
 

@@ -8,6 +8,7 @@ use goal_tables::rows::{ClosureKind, ClosureRow};
 use goal_terms::ids::ClosureId;
 use goal_terms::terms::Ty;
 use vurloske_syntax::ast::{Args, AttrArg, Closure, FnPtr, Ident, Run};
+use vurloske_syntax::phrase::Phrase;
 
 impl Text<'_> {
     /// Adds the rows of the closures.
@@ -54,7 +55,7 @@ impl Text<'_> {
             "Fn" => Ok(ClosureKind::Fn),
             "FnMut" => Ok(ClosureKind::FnMut),
             "FnOnce" => Ok(ClosureKind::FnOnce),
-            _ => Err(wrong_name(ident, "`Fn`, `FnMut` or `FnOnce`")),
+            _ => Err(wrong_name(ident, Phrase::FN_TRAIT)),
         }
     }
 
@@ -71,7 +72,7 @@ impl Text<'_> {
         for arg in args_in_attr(self.ast, &attr) {
             match arg {
                 AttrArg::Term(id) => upvars.push(lowering.ty(*id)?)?,
-                _ => return Err(wrong_name(attr.ident, "an attribute with types")),
+                _ => return Err(wrong_name(attr.ident, Phrase::ATTRIBUTE_WITH_TYPES)),
             }
         }
         Ok(())
@@ -83,7 +84,7 @@ fn closure_signature(node: &Closure) -> Result<FnPtr, ItemFault> {
     match node.signature.args {
         Args::Paren(inputs, output) => Ok(signature(false, inputs, output)),
         Args::Absent | Args::Angle(_) => {
-            Err(wrong_name(node.signature.ident, "`(..)` behind the trait"))
+            Err(wrong_name(node.signature.ident, Phrase::PARENS_BEHIND_TRAIT))
         }
     }
 }

@@ -7,6 +7,7 @@ use goal_tables::rows::{Container, DefRow, DefValue};
 use goal_terms::ids::{DefId, ImplId, ItemId, TraitId};
 use indexmap::IndexSet;
 use vurloske_syntax::ast::{AssocItem, Impl};
+use vurloske_syntax::phrase::Phrase;
 
 /// Where a definition stands, and of which item it is.
 #[derive(Clone, Copy, PartialEq, Eq, Hash)]
@@ -79,12 +80,12 @@ impl DefSites {
         let is_positive = text.polarity(id, node).is_positive();
         for item in text.ast.assoc_items(node.items) {
             if !is_positive {
-                return Err(wrong_name(item.ident, "an item of a positive impl"));
+                return Err(wrong_name(item.ident, Phrase::ITEM_OF_A_POSITIVE_IMPL));
             }
             let item_id = text.item_for(trait_id, item)?;
             if let Written::Here = text.written(item)? {
                 if !self.sites.insert(DefSite::Impl(id, item_id))? {
-                    return Err(wrong_name(item.ident, "an item that is new in the impl"));
+                    return Err(wrong_name(item.ident, Phrase::NEW_IMPL_ITEM));
                 }
             }
         }

@@ -4,6 +4,7 @@ use crate::faults::{ItemFault, wrong_name};
 use crate::rows::Text;
 use goal_terms::ids::{ItemId, TraitId};
 use vurloske_syntax::ast::{AssocItem, Ident, Run};
+use vurloske_syntax::phrase::Phrase;
 
 /// Where an item that an impl writes gets its value.
 #[derive(Clone, Copy)]
@@ -37,14 +38,14 @@ impl Text<'_> {
     /// or one of another kind.
     pub(super) fn item_for(self, trait_id: TraitId, node: &AssocItem) -> Result<ItemId, ItemFault> {
         let Some(id) = self.definitions.item(trait_id, node.ident.name) else {
-            return Err(wrong_name(node.ident, "an item of the trait"));
+            return Err(wrong_name(node.ident, Phrase::ITEM_OF_THE_TRAIT));
         };
         match self.definitions.item_entry(id) {
             Some(entry) if entry.is_const && !node.is_const => {
-                Err(wrong_name(node.ident, "a constant of the trait"))
+                Err(wrong_name(node.ident, Phrase::CONSTANT_OF_THE_TRAIT))
             }
             Some(entry) if !entry.is_const && node.is_const => {
-                Err(wrong_name(node.ident, "a type of the trait"))
+                Err(wrong_name(node.ident, Phrase::TYPE_OF_THE_TRAIT))
             }
             _ => Ok(id),
         }
@@ -60,7 +61,7 @@ impl Text<'_> {
             (true, None, None) => Ok(Written::Here),
             (false, Some(attr), None) => Ok(Written::From(name_in_attr(self.ast, &attr)?)),
             (false, None, Some(attr)) => Ok(Written::Broken(number_in_attr(self.ast, &attr)?)),
-            _ => Err(wrong_name(node.ident, "an item with one value")),
+            _ => Err(wrong_name(node.ident, Phrase::ITEM_WITH_ONE_VALUE)),
         }
     }
 }

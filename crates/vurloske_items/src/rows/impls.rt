@@ -7,6 +7,7 @@ use goal_tables::rows::{ImplPolarity, ImplRow};
 use goal_terms::ids::ImplId;
 use goal_terms::predicates::TraitRef;
 use vurloske_syntax::ast::{Impl, Segment};
+use vurloske_syntax::phrase::Phrase;
 
 impl Text<'_> {
     /// Adds the rows of the impls of traits.
@@ -75,7 +76,7 @@ impl Text<'_> {
             &["name", "reservation", "guaranteed_unsized"],
         )?;
         if node.is_negative && self.ast.has_attr(attrs, "reservation") {
-            return Err(wrong_name(trait_.ident, "a reservation without `!`"));
+            return Err(wrong_name(trait_.ident, Phrase::RESERVATION_WITHOUT_NOT));
         }
         Ok(())
     }

@@ -8,6 +8,7 @@ use goal_tables::rows::OpaqueRow;
 use goal_terms::ids::OpaqueId;
 use goal_terms::terms::Ty;
 use vurloske_syntax::ast::{Free, FreeValue, Run, TermId};
+use vurloske_syntax::phrase::Phrase;
 
 /// The types that an opaque type hides.
 #[derive(Clone, Copy)]
@@ -56,7 +57,7 @@ impl Text<'_> {
     /// The types that attributes name. A mistake where there is no `#[hidden(..)]`.
     fn hidden_types(self, node: &Free, attrs: Run) -> Result<HiddenTypes, ItemFault> {
         let Some(hidden) = term_of_attr(self.ast, attrs, "hidden")? else {
-            return Err(wrong_name(node.ident, "an opaque type with `#[hidden(..)]`"));
+            return Err(wrong_name(node.ident, Phrase::OPAQUE_WITH_HIDDEN));
         };
         let typeck_hidden = term_of_attr(self.ast, attrs, "typeck_hidden")?;
         Ok(HiddenTypes {

@@ -6,6 +6,7 @@ use crate::rows::{Text, count};
 use goal_tables::rows::{Source, SourceRow};
 use goal_terms::ids::{ImplId, ItemId, TraitId};
 use vurloske_syntax::ast::{AssocItem, Ident, Impl};
+use vurloske_syntax::phrase::Phrase;
 
 impl Text<'_> {
     /// Adds a row for each item of the trait of each positive impl.
@@ -81,7 +82,7 @@ impl Text<'_> {
                 let site = DefSite::Impl(self.impl_named(name)?, item);
                 match definition(sites, site, node.is_default) {
                     Some(source) => Ok(Some(source)),
-                    None => Err(wrong_name(name, "an impl that gives this item")),
+                    None => Err(wrong_name(name, Phrase::IMPL_THAT_GIVES_THIS_ITEM)),
                 }
             }
             Written::Broken(number) => Ok(Some(Source::Broken(number))),
@@ -91,7 +92,7 @@ impl Text<'_> {
     fn impl_named(self, name: Ident) -> Result<ImplId, ItemFault> {
         match self.definitions.impl_named(name.name) {
             Some(id) => Ok(id),
-            None => Err(wrong_name(name, "the name of an impl")),
+            None => Err(wrong_name(name, Phrase::NAME_OF_AN_IMPL)),
         }
     }
 }

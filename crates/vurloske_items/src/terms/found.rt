@@ -8,6 +8,7 @@ use goal_terms::ids::{InherentId, ItemId, TraitId};
 use goal_terms::predicates::{Clause, ClauseKind, TraitPredicate, TraitRef};
 use goal_terms::terms::{AliasTerm, AliasTermKind, GenericArg, Ty};
 use vurloske_syntax::ast::{Ident, Run, Segment, TermId, TermKind};
+use vurloske_syntax::phrase::Phrase;
 
 /// What an alias names, with the arguments before the item's own, and the item's own parameters.
 pub(super) struct Found {
@@ -39,9 +40,9 @@ impl Lowering<'_> {
         match self.definitions.named(ident.name) {
             Some(named) => match named.definition {
                 Definition::Trait(id) => Ok((id, named.generics.params)),
-                _ => Err(wrong_name(ident, "a trait")),
+                _ => Err(wrong_name(ident, Phrase::TRAIT)),
             },
-            None => Err(wrong_name(ident, "a trait")),
+            None => Err(wrong_name(ident, Phrase::TRAIT)),
         }
     }
 
@@ -50,7 +51,7 @@ impl Lowering<'_> {
         let TraitRef { def_id, args } = trait_ref;
         match self.definitions.item(def_id, ident.name) {
             Some(id) => Ok(self.found(id, args)),
-            None => Err(wrong_name(ident, "an item of the trait")),
+            None => Err(wrong_name(ident, Phrase::ITEM_OF_THE_TRAIT)),
         }
     }
 
@@ -65,7 +66,7 @@ impl Lowering<'_> {
                 let args = self.args_through(trait_ref, id, ident)?;
                 Ok(self.found(id, args))
             }
-            None => Err(wrong_name(ident, "an item of the trait")),
+            None => Err(wrong_name(ident, Phrase::ITEM_OF_THE_TRAIT)),
         }
     }
 
@@ -121,7 +122,7 @@ impl Lowering<'_> {
                 kind: AliasTermKind::ProjectionTy(id),
                 args: trait_ref.args.clone()?,
             }),
-            None => Err(wrong(self.at(output), "the lang item `fn_once_output`", "none")),
+            None => Err(wrong(self.at(output), Phrase::FN_ONCE_OUTPUT, Phrase::NONE)),
         }
     }
 
@@ -193,7 +194,7 @@ impl Lowering<'_> {
                 return Ok(id);
             }
         }
-        Err(wrong_name(item, "an item that a bound in scope has"))
+        Err(wrong_name(item, Phrase::ITEM_OF_A_BOUND))
     }
 
     /// Whether the trait of an item has no parameters but its self type.
@@ -290,5 +291,5 @@ fn args_of_trait(
             }
         }
     }
-    Err(wrong_name(ident, "an item that a bound in scope has"))
+    Err(wrong_name(ident, Phrase::ITEM_OF_A_BOUND))
 }

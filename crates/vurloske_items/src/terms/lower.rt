@@ -9,6 +9,7 @@ use crate::terms::{Lowering, Wanted};
 use goal_terms::predicates::{ProjectionPredicate, TraitRef};
 use goal_terms::terms::{AliasTerm, AliasTermKind, Const, FnSig, GenericArg, InferTy, Term, Ty};
 use vurloske_syntax::ast::{Arg, Args, Bound, FnPtr, Lifetime, Run, Segment, TermId, TermKind};
+use vurloske_syntax::phrase::Phrase;
 
 /// The variable that stands for the self type in the bounds of a `dyn` type. No goal has it.
 pub(crate) const DYN_SELF: InferTy = InferTy::TyVar(u32::MAX);
@@ -24,7 +25,7 @@ impl Lowering<'_> {
     ) -> Result<Term, ItemFault> {
         let term = self.node(id)?;
         if depth == 0 {
-            return Err(wrong(term.at, "less nesting", "a term that is too deep"));
+            return Err(wrong(term.at, Phrase::LESS_NESTING, Phrase::TOO_DEEP_TERM));
         }
         let below = depth - 1;
         match term.kind {

@@ -9,6 +9,7 @@ use goal_terms::terms::{AliasTerm, AliasTermKind, Const, GenericArg, InferTy, Re
 use vurloske_syntax::ast::{
     self, Arg, Args, Ident, Mutability, Position, Run, Segment, Symbol, TermId,
 };
+use vurloske_syntax::phrase::Phrase;
 
 impl Wanted {
     /// What stands for a term with a fault.
@@ -65,7 +66,7 @@ fn param_term(param: Param, ident: Ident) -> Result<Term, ItemFault> {
     match param.kind {
         ParamKind::Ty => Ok(Term::Ty(Ty::Param(param.number))),
         ParamKind::Const => Ok(Term::Const(Const::Param(param.number))),
-        ParamKind::Lifetime => Err(wrong_name(ident, "a type or a constant")),
+        ParamKind::Lifetime => Err(wrong_name(ident, Phrase::TYPE_OR_A_CONSTANT)),
     }
 }
 
@@ -76,7 +77,7 @@ pub(super) fn defined(
     ident: Ident,
 ) -> Result<Term, ItemFault> {
     let ty = match definition {
-        Definition::Trait(_) => return Err(wrong_name(ident, "a type or a constant")),
+        Definition::Trait(_) => return Err(wrong_name(ident, Phrase::TYPE_OR_A_CONSTANT)),
         Definition::Builtin(builtin) => builtin.ty(),
         Definition::Foreign(id) => Ty::Foreign(id),
         Definition::Adt(id) => Ty::Adt(id, args),
@@ -111,21 +112,21 @@ impl Lowering<'_> {
     pub(super) fn node(&self, id: TermId) -> Result<ast::Term, ItemFault> {
         match self.ast.term(id) {
             Some(term) => Ok(term),
-            None => Err(wrong(self.at(id), "a term of this text", "another")),
+            None => Err(wrong(self.at(id), Phrase::TERM_OF_THIS_TEXT, Phrase::ANOTHER)),
         }
     }
 
     pub(super) fn as_ty(&self, term: Term, id: TermId) -> Result<Ty, ItemFault> {
         match term {
             Term::Ty(ty) => Ok(ty),
-            Term::Const(_) => Err(wrong(self.at(id), "a type", "a constant")),
+            Term::Const(_) => Err(wrong(self.at(id), Phrase::TYPE, Phrase::CONSTANT)),
         }
     }
 
     pub(super) fn as_const(&self, term: Term, id: TermId) -> Result<Const, ItemFault> {
         match term {
             Term::Const(value) => Ok(value),
-            Term::Ty(_) => Err(wrong(self.at(id), "a constant", "a type")),
+            Term::Ty(_) => Err(wrong(self.at(id), Phrase::CONSTANT, Phrase::TYPE)),
         }
     }
 
@@ -197,8 +198,8 @@ impl Lowering<'_> {
             }
         }
         match wanted {
-            Wanted::Ty => Err(wrong_name(ident, "a type")),
-            Wanted::Const => Err(wrong_name(ident, "a constant")),
+            Wanted::Ty => Err(wrong_name(ident, Phrase::TYPE)),
+            Wanted::Const => Err(wrong_name(ident, Phrase::CONSTANT)),
         }
     }
 
@@ -207,7 +208,7 @@ impl Lowering<'_> {
         if is_bare(segment.args) {
             Ok(())
         } else {
-            Err(wrong_name(segment.ident, "what takes arguments"))
+            Err(wrong_name(segment.ident, Phrase::WHAT_TAKES_ARGUMENTS))
         }
     }
 

@@ -6,6 +6,7 @@ use crate::parser::attributes::parse_attrs;
 use crate::parser::generics::{parse_own_bounds, parse_params, parse_where};
 use crate::parser::scraps::sees_word;
 use crate::parser::terms::parse_term;
+use crate::phrase::Phrase;
 use crate::token::{Keyword, Sign};
 
 /// `{ type A; .. }` or `;`
@@ -18,7 +19,7 @@ pub(crate) fn parse_body(
         return Ok(Run::EMPTY);
     }
     if !cursor.eat(Sign::OpenBrace) {
-        return Err(cursor.mistake("`{` or `;`"));
+        return Err(cursor.mistake(Phrase::BODY));
     }
     let first = ast.assoc_items.len();
     for _ in 0..cursor.left() {
@@ -44,7 +45,7 @@ fn parse_assoc_item(
         cursor.advance();
     }
     let is_const = eat_kind(cursor)?;
-    let ident = cursor.ident("a name")?;
+    let ident = cursor.ident(Phrase::NAME)?;
     let params = parse_params(cursor, ast, depth)?;
     let bounds = if is_const {
         parse_const_type(cursor, ast, depth)?
@@ -77,7 +78,7 @@ fn eat_kind(cursor: &mut Cursor<'_>) -> Result<bool, SyntaxFault> {
     } else if cursor.eat_keyword(Keyword::Type) {
         Ok(false)
     } else {
-        Err(cursor.mistake("`type`, `const` or `}`"))
+        Err(cursor.mistake(Phrase::ASSOC_ITEM))
     }
 }
 

@@ -4,6 +4,7 @@ use crate::cursor::Cursor;
 use crate::mistake::SyntaxFault;
 use crate::parser::bounds::parse_bounds;
 use crate::parser::terms::parse_term;
+use crate::phrase::Phrase;
 use crate::token::{Sign, TokenKind};
 
 /// `#[..]`, as many as there are.
@@ -52,7 +53,7 @@ fn begins_inner_attr(cursor: &Cursor<'_>) -> bool {
 /// `[NAME]`, `[NAME = "text"]`, `[NAME(..)]`
 fn parse_attr(cursor: &mut Cursor<'_>, ast: &mut Ast, depth: u32) -> Result<Attr, SyntaxFault> {
     cursor.expect(Sign::OpenBracket)?;
-    let ident = cursor.ident("the name of an attribute")?;
+    let ident = cursor.ident(Phrase::NAME_OF_AN_ATTRIBUTE)?;
     let value = if cursor.eat(Sign::Eq) {
         parse_text(cursor)?
     } else if cursor.eat(Sign::OpenParen) {
@@ -70,7 +71,7 @@ fn parse_text(cursor: &mut Cursor<'_>) -> Result<AttrValue, SyntaxFault> {
             cursor.advance();
             Ok(AttrValue::Text(text))
         }
-        _ => Err(cursor.mistake("a text in quotes")),
+        _ => Err(cursor.mistake(Phrase::TEXT_IN_QUOTES)),
     }
 }
 

@@ -4,6 +4,7 @@ use crate::cursor::Cursor;
 use crate::mistake::SyntaxFault;
 use crate::parser::scraps::{append, erased, parse_binder, some_lifetime};
 use crate::parser::terms::parse_segment;
+use crate::phrase::Phrase;
 use crate::token::{Keyword, Sign, TokenKind};
 
 /// `dyn Tr + Other + 'a`
@@ -26,7 +27,7 @@ pub(crate) fn parse_dyn(
         }
     }
     if bounds.is_empty() {
-        return Err(cursor.mistake("a trait"));
+        return Err(cursor.mistake(Phrase::TRAIT));
     }
     Ok(TermKind::Dyn(append(&mut ast.bounds, &bounds)?, lifetime))
 }
@@ -70,7 +71,7 @@ pub(crate) fn parse_bound(
     let binder = parse_binder(cursor, ast)?;
     let is_relaxed = cursor.eat(Sign::Question);
     let constness = parse_constness(cursor)?;
-    let trait_ = parse_segment(cursor, ast, depth, "a trait")?;
+    let trait_ = parse_segment(cursor, ast, depth, Phrase::TRAIT)?;
     Ok(Bound {
         binder,
         constness,

@@ -6,6 +6,7 @@ use crate::parser::generics::{parse_params, parse_where};
 use crate::parser::items::parse_clauses;
 use crate::parser::scraps::append;
 use crate::parser::terms::{parse_output, parse_segment, parse_term, parse_terms};
+use crate::phrase::Phrase;
 use crate::token::{Keyword, Sign, TokenKind};
 
 /// `struct S<T> where .. { a: T }`, `enum E { A, B(u8) }`, `union U(u8);`
@@ -15,7 +16,7 @@ pub(crate) fn parse_adt(
     depth: u32,
 ) -> Result<ItemKind, SyntaxFault> {
     let kind = eat_adt_kind(cursor);
-    let ident = cursor.ident("a name")?;
+    let ident = cursor.ident(Phrase::NAME)?;
     let params = parse_params(cursor, ast, depth)?;
     let first = ast.where_clauses.len();
     parse_where(cursor, ast, depth)?;
@@ -67,7 +68,7 @@ fn parse_fields(
                 _ => parse_named(cursor, ast, depth, Sign::CloseBrace),
             }
         }
-        _ => Err(cursor.mistake("`{`, `(` or `;`")),
+        _ => Err(cursor.mistake(Phrase::FIELDS)),
     }
 }
 
@@ -77,7 +78,7 @@ fn parse_variants(cursor: &mut Cursor<'_>, ast: &mut Ast, depth: u32) -> Result<
         if cursor.sees(Sign::CloseBrace) {
             break;
         }
-        cursor.ident("the name of a variant")?;
+        cursor.ident(Phrase::NAME_OF_A_VARIANT)?;
         if cursor.sees(Sign::OpenParen) {
             parse_terms(cursor, ast, depth)?;
         }
@@ -119,7 +120,7 @@ fn skip_name(cursor: &mut Cursor<'_>, close: Sign) -> Result<(), SyntaxFault> {
             cursor.expect(Sign::Colon)
         }
         _ if close == Sign::CloseParen => Ok(()),
-        _ => Err(cursor.mistake("a name and `:`")),
+        _ => Err(cursor.mistake(Phrase::NAME_AND_COLON)),
     }
 }
 
@@ -132,7 +133,7 @@ pub(crate) fn parse_fn(
 ) -> Result<ItemKind, SyntaxFault> {
     let is_unsafe = cursor.eat_keyword(Keyword::Unsafe);
     cursor.expect_keyword(Keyword::Fn)?;
-    let ident = cursor.ident("a name")?;
+    let ident = cursor.ident(Phrase::NAME)?;
     let params = parse_params(cursor, ast, depth)?;
     cursor.expect(Sign::OpenParen)?;
     let inputs = parse_named(cursor, ast, depth, Sign::CloseParen)?;
@@ -160,10 +161,10 @@ pub(crate) fn parse_closure(
     is_const: bool,
 ) -> Result<ItemKind, SyntaxFault> {
     cursor.advance();
-    let ident = cursor.ident("a name")?;
+    let ident = cursor.ident(Phrase::NAME)?;
     let params = parse_params(cursor, ast, depth)?;
     cursor.expect(Sign::Colon)?;
-    let signature = parse_segment(cursor, ast, depth, "`Fn`, `FnMut` or `FnOnce`")?;
+    let signature = parse_segment(cursor, ast, depth, Phrase::FN_TRAIT)?;
     let where_clauses = parse_clauses(cursor, ast, depth)?;
     cursor.expect(Sign::Semi)?;
     Ok(ItemKind::Closure(Closure {

@@ -5,6 +5,7 @@ use crate::mistake::SyntaxFault;
 use crate::parser::bounds::parse_bounds;
 use crate::parser::scraps::{lifetime_ident, parse_binder};
 use crate::parser::terms::parse_term;
+use crate::phrase::Phrase;
 use crate::token::{Keyword, Sign, TokenKind};
 
 /// `<'a, T: Tr, const N: usize>` or nothing.
@@ -36,12 +37,12 @@ fn parse_param(cursor: &mut Cursor<'_>, ast: &mut Ast, depth: u32) -> Result<Par
         return Ok(bare_param(ParamKind::Lifetime, lifetime_ident(cursor)?));
     }
     if cursor.eat_keyword(Keyword::Const) {
-        let ident = cursor.ident("a name")?;
+        let ident = cursor.ident(Phrase::NAME)?;
         cursor.expect(Sign::Colon)?;
         parse_term(cursor, ast, depth)?;
         return Ok(bare_param(ParamKind::Const, ident));
     }
-    let ident = cursor.ident("the name of a parameter")?;
+    let ident = cursor.ident(Phrase::NAME_OF_A_PARAMETER)?;
     let bounds = parse_own_bounds(cursor, ast, depth)?;
     Ok(Param {
         bounds,
@@ -161,7 +162,7 @@ fn parse_relation(
     if cursor.eat(Sign::EqEq) {
         return Ok(WhereKind::Equal(term, parse_term(cursor, ast, depth)?));
     }
-    Err(cursor.mistake("`:` or `==`"))
+    Err(cursor.mistake(Phrase::COLON_OR_EQ))
 }
 
 fn parse_env_clause(
@@ -193,7 +194,7 @@ fn parse_declared(cursor: &mut Cursor<'_>) -> Result<Option<WhereKind>, SyntaxFa
         return Ok(Some(WhereKind::DeclareLifetime(lifetime_ident(cursor)?)));
     }
     if cursor.eat_keyword(Keyword::Const) {
-        return Ok(Some(WhereKind::DeclareConst(cursor.ident("a name")?)));
+        return Ok(Some(WhereKind::DeclareConst(cursor.ident(Phrase::NAME)?)));
     }
     Ok(None)
 }

@@ -4,6 +4,7 @@ use crate::cursor::Cursor;
 use crate::mistake::SyntaxFault;
 use crate::parser::bounds::parse_constness;
 use crate::parser::terms::{parse_segment, parse_term};
+use crate::phrase::Phrase;
 use crate::token::Sign;
 
 /// `T: Tr;`, `<T as Tr>::A = ?;`, `<T as Tr>::A == u8;`, behind its attributes.
@@ -50,7 +51,7 @@ fn parse_goal_kind(
         cursor.expect(Sign::Question)?;
         return Ok(GoalKind::Normalizes(term));
     }
-    Err(cursor.mistake("`:`, `=` or `==`"))
+    Err(cursor.mistake(Phrase::COLON_OR_ANY_EQ))
 }
 
 /// `Tr`, `const Tr`, `[const] Tr`
@@ -61,7 +62,7 @@ fn parse_goal_bound(
 ) -> Result<Bound, SyntaxFault> {
     let at = cursor.at();
     let constness = parse_constness(cursor)?;
-    let trait_ = parse_segment(cursor, ast, depth, "a trait")?;
+    let trait_ = parse_segment(cursor, ast, depth, Phrase::TRAIT)?;
     Ok(Bound {
         binder: Run::EMPTY,
         constness,

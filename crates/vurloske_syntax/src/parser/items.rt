@@ -8,6 +8,7 @@ use crate::parser::definitions::{parse_adt, parse_closure, parse_fn};
 use crate::parser::generics::{parse_params, parse_where};
 use crate::parser::scraps::sees_word;
 use crate::parser::terms::{parse_segment, parse_term};
+use crate::phrase::Phrase;
 use crate::token::{Keyword, Sign, TokenKind};
 
 /// Whether an item is next.
@@ -105,7 +106,7 @@ fn parse_keyed_item(
 fn parse_foreign(cursor: &mut Cursor<'_>) -> Result<ItemKind, SyntaxFault> {
     cursor.expect_keyword(Keyword::Extern)?;
     cursor.expect_keyword(Keyword::Type)?;
-    let ident = cursor.ident("a name")?;
+    let ident = cursor.ident(Phrase::NAME)?;
     cursor.expect(Sign::Semi)?;
     Ok(ItemKind::Foreign(ident))
 }
@@ -113,7 +114,7 @@ fn parse_foreign(cursor: &mut Cursor<'_>) -> Result<ItemKind, SyntaxFault> {
 /// `trait Tr<T>: Super where .. { .. }`, `trait Both = A + B;`
 fn parse_trait(cursor: &mut Cursor<'_>, ast: &mut Ast, depth: u32) -> Result<Trait, SyntaxFault> {
     cursor.expect_keyword(Keyword::Trait)?;
-    let ident = cursor.ident("a name")?;
+    let ident = cursor.ident(Phrase::NAME)?;
     let params = parse_params(cursor, ast, depth)?;
     let is_alias = cursor.eat(Sign::Eq);
     let bounds = if is_alias || cursor.eat(Sign::Colon) {
@@ -192,7 +193,7 @@ fn parse_head_trait(
     ast: &mut Ast,
     depth: u32,
 ) -> Result<Segment, SyntaxFault> {
-    let segment = parse_segment(cursor, ast, depth, "a trait")?;
+    let segment = parse_segment(cursor, ast, depth, Phrase::TRAIT)?;
     cursor.expect_keyword(Keyword::For)?;
     Ok(segment)
 }
@@ -203,7 +204,7 @@ fn parse_free(cursor: &mut Cursor<'_>, ast: &mut Ast, depth: u32) -> Result<Free
     if !is_const {
         cursor.expect_keyword(Keyword::Type)?;
     }
-    let ident = cursor.ident("a name")?;
+    let ident = cursor.ident(Phrase::NAME)?;
     let params = parse_params(cursor, ast, depth)?;
     if is_const {
         cursor.expect(Sign::Colon)?;

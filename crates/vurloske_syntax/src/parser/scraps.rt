@@ -4,6 +4,7 @@ ghost use Rattle.std.specs.Prelude.{◌≡◌, ◌+◌, ◌++◌, vec_len, IfOk,
 use crate::ast::{Ast, Ident, Lifetime, LifetimeKind, Mutability, Run};
 use crate::cursor::Cursor;
 use crate::mistake::SyntaxFault;
+use crate::phrase::Phrase;
 use crate::token::{Keyword, Sign, TokenKind};
 use std::alloc::AllocError;
 
@@ -37,7 +38,7 @@ pub(crate) fn lifetime_ident(cursor: &mut Cursor<'_>) -> Result<Ident, SyntaxFau
             cursor.advance();
             Ok(Ident { name, at })
         }
-        _ => Err(cursor.mistake("the name of a lifetime")),
+        _ => Err(cursor.mistake(Phrase::NAME_OF_A_LIFETIME)),
     }
 }
 
@@ -83,7 +84,7 @@ pub(crate) fn raw_mutability(cursor: &mut Cursor<'_>) -> Result<Mutability, Synt
     }
     match mutability(cursor) {
         Mutability::Mut => Ok(Mutability::Mut),
-        Mutability::Not => Err(cursor.mistake("`const` or `mut`")),
+        Mutability::Not => Err(cursor.mistake(Phrase::CONST_OR_MUT)),
     }
 }
 

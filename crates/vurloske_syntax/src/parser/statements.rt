@@ -10,6 +10,7 @@ use crate::parser::goals::parse_goal;
 use crate::parser::items::{begins_item, parse_item_kind};
 use crate::parser::nesting::{MAX_NESTING, deeper};
 use crate::parser::scraps::append;
+use crate::phrase::Phrase;
 use crate::token::{Keyword, Sign, TokenKind};
 
 /// The first text.
@@ -92,7 +93,7 @@ fn parse_statement(
             kind
         }
         Saying::Limit if attrs.len == 0 => parse_limit(cursor)?,
-        _ => return Err(cursor.mistake("an item or a goal")),
+        _ => return Err(cursor.mistake(Phrase::ITEM_OR_A_GOAL)),
     };
     Ok(Statement { kind, at })
 }
@@ -155,7 +156,7 @@ fn parse_mode_block(
 ) -> Result<StatementKind, SyntaxFault> {
     let depth = deeper(cursor, depth)?;
     cursor.advance();
-    let mode = cursor.ident("a mode")?;
+    let mode = cursor.ident(Phrase::MODE)?;
     let names = parse_names(cursor, ast)?;
     let body = parse_block(cursor, ast, depth)?;
     Ok(StatementKind::Mode(mode, names, body))
@@ -171,7 +172,7 @@ fn parse_names(cursor: &mut Cursor<'_>, ast: &mut Ast) -> Result<Run, SyntaxFaul
         if cursor.sees(Sign::CloseParen) {
             break;
         }
-        ast.idents.push(cursor.ident("a name")?)?;
+        ast.idents.push(cursor.ident(Phrase::NAME)?)?;
         if !cursor.eat(Sign::Comma) {
             break;
         }

@@ -7,6 +7,7 @@ use crate::parser::nesting::deeper;
 use crate::parser::scraps::{
     append, lifetime_or_erased, mutability, parse_binder, raw_mutability, some_lifetime,
 };
+use crate::phrase::Phrase;
 use crate::token::{Keyword, Sign, TokenKind};
 
 /// Terms between parentheses.
@@ -32,11 +33,11 @@ pub(crate) fn parse_term(
         if !cursor.eat(Sign::PathSep) {
             break;
         }
-        let item = parse_segment(cursor, ast, depth, "the name of an item")?;
+        let item = parse_segment(cursor, ast, depth, Phrase::NAME_OF_AN_ITEM)?;
         term = ast.add_term(TermKind::Assoc(term, item), at)?;
     }
     if cursor.sees(Sign::PathSep) {
-        Err(cursor.mistake("less nesting"))
+        Err(cursor.mistake(Phrase::LESS_NESTING))
     } else {
         Ok(term)
     }
@@ -51,12 +52,12 @@ fn parse_head(cursor: &mut Cursor<'_>, ast: &mut Ast, depth: u32) -> Result<Term
         TokenKind::Sign(Sign::OpenBrace) => return parse_braces(cursor, ast, depth),
         TokenKind::Sign(sign) => parse_signed(cursor, ast, depth, sign)?,
         TokenKind::Keyword(keyword) => parse_worded(cursor, ast, depth, keyword)?,
-        TokenKind::Name(_) => TermKind::Path(parse_segment(cursor, ast, depth, "a type")?),
+        TokenKind::Name(_) => TermKind::Path(parse_segment(cursor, ast, depth, Phrase::TYPE)?),
         TokenKind::Number(value) => {
             cursor.advance();
             TermKind::Literal(value)
         }
-        _ => return Err(cursor.mistake("a type")),
+        _ => return Err(cursor.mistake(Phrase::TYPE)),
     };
     Ok(ast.add_term(kind, at)?)
 }
@@ -80,7 +81,7 @@ fn parse_worded(
             cursor.advance();
             Ok(TermKind::Literal(1))
         }
-        _ => Err(cursor.mistake("a type")),
+        _ => Err(cursor.mistake(Phrase::TYPE)),
     }
 }
 
@@ -106,9 +107,9 @@ fn parse_signed(
         }
         Sign::Question => {
             cursor.advance();
-            Ok(TermKind::InferNamed(cursor.ident("a name")?))
+            Ok(TermKind::InferNamed(cursor.ident(Phrase::NAME)?))
         }
-        _ => Err(cursor.mistake("a type")),
+        _ => Err(cursor.mistake(Phrase::TYPE)),
     }
 }
 
@@ -157,13 +158,13 @@ fn parse_qualified(
     cursor.expect(Sign::Lt)?;
     let self_ty = parse_term(cursor, ast, depth)?;
     let trait_ = if cursor.eat_keyword(Keyword::As) {
-        Some(parse_segment(cursor, ast, depth, "a trait")?)
+        Some(parse_segment(cursor, ast, depth, Phrase::TRAIT)?)
     } else {
         None
     };
     cursor.expect(Sign::Gt)?;
     cursor.expect(Sign::PathSep)?;
-    let item = parse_segment(cursor, ast, depth, "the name of an item")?;
+    let item = parse_segment(cursor, ast, depth, Phrase::NAME_OF_AN_ITEM)?;
     match trait_ {
         Some(trait_) => Ok(TermKind::Projection(self_ty, trait_, item)),
         None => Ok(TermKind::Assoc(self_ty, item)),
@@ -292,7 +293,7 @@ pub(crate) fn parse_segment(
     cursor: &mut Cursor<'_>,
     ast: &mut Ast,
     depth: u32,
-    expected: &'static str,
+    expected: Phrase,
 ) -> Result<Segment, SyntaxFault> {
     let ident = cursor.ident(expected)?;
     let args = parse_args(cursor, ast, depth)?;

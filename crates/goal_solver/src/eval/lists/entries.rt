@@ -10,6 +10,7 @@ ghost use Rattle.goal_kinds.specs.ListModes.{IsAccess};
 ghost use Rattle.goal_kinds.specs.Settings.{is_headline as is_of_headline};
 ghost use Rattle.goal_solver.specs.Lists.{AtEachLevel, NamedIn, named_at, RunIn, RunsOn, SaysNamed, SaysHeader, SaysTerm, SaysRow, numbered_at, chosen_term};
 ghost use Rattle.goal_solver.specs.Outcomes.{FoundIn, MatchIn};
+ghost use Rattle.goal_solver.specs.EvaluationCache.{IsValidCache};
 
 use crate::eval::effects::Effects;
 use crate::eval::head_forms::{head_form, head_form_under};
@@ -48,8 +49,10 @@ pub(crate) fn run_entry(
     entry: &InternedEntry<'_>,
     depth: u32,
 ) -> Result<Reached, Stop>
+    requires cache { IsValidCache setting.now terms.old effects.old.cache }
     requires run { RunIn terms.old run.old }
     requires entry { EntryIn terms.old entry.now }
+    ensures cache { IsValidCache setting.now terms.new effects.new.cache }
     ensures kept { Keeps terms.old terms.new }
     ensures within { IfOk result (λ _. RunIn terms.new run.new) }
     ensures stops { is_of_headline setting.now.typing_mode.now ≡ true → IfErr result (λ s. s ≡ Stop.OutOfMemory) }
@@ -74,13 +77,13 @@ pub(crate) fn run_entry(
             let outcome = predicate_outcome(setting, terms, effects, predicate, depth)?;
             Ok(run.ask(outcome))
         }
-        InternedEntry::RowClauses(clauses, number) => {
+        InternedEntry::RowClauses(_, clauses, number) => {
             let args = named_args(&run.named, *number);
             let row = RowPremises::Clauses(clauses);
             let outcome = row_outcome(setting, terms, effects, row, args, depth)?;
             Ok(run.ask(outcome))
         }
-        InternedEntry::RowConditions(constness, refs, number) => {
+        InternedEntry::RowConditions(constness, _, refs, number) => {
             let args = named_args(&run.named, *number);
             let row = RowPremises::Conditions(*constness, refs);
             let outcome = row_outcome(setting, terms, effects, row, args, depth)?;
@@ -104,6 +107,7 @@ fn reads_mode(
     effects: &mut Effects,
     access: OpaqueAccess,
 ) -> Result<Reached, Stop>
+    ensures cache { effects.new.cache ≡ effects.old.cache }
     ensures next { IfOk result (λ r. r ≡ Reached.Next) }
     ensures headline { setting.now.on_access ≡ OnAccess.Stop → IfOk result (λ _. is_of_headline setting.now.typing_mode.now ≡ true) }
     ensures stops { is_of_headline setting.now.typing_mode.now ≡ true → IfErr result (λ s. s ≡ Stop.OutOfMemory) }
@@ -129,6 +133,7 @@ fn named_args(named: &[Vec<TermId>], number: usize) -> Option<&[TermId]>
 }
 
 /// The arguments that an entry names: a match may fail, or not be known.
+#[tactic(auto, using(crate::proofs::CacheLemmas::caching))]
 #[cycle(closed)]
 fn arguments_match(
     setting: &Setting<'_>,
@@ -138,8 +143,10 @@ fn arguments_match(
     arguments: &InternedArguments<'_>,
     depth: u32,
 ) -> Result<HeaderMatch, Stop>
+    requires cache { IsValidCache setting.now terms.old effects.old.cache }
     requires named { NamedIn terms.old named.now }
     requires arguments { ArgumentsIn terms.old arguments.now }
+    ensures cache { IsValidCache setting.now terms.new effects.new.cache }
     ensures kept { Keeps terms.old terms.new }
     ensures within { IfOk result (MatchIn terms.new) }
     ensures stops { is_of_headline setting.now.typing_mode.now ≡ true → IfErr result (λ s. s ≡ Stop.OutOfMemory) }
@@ -150,10 +157,10 @@ fn arguments_match(
             let args = own_list(setting, ids)?;
             Ok(HeaderMatch::Fits(args))
         }
-        InternedArguments::OfHeader(header, given) => {
+        InternedArguments::OfHeader(_, header, given) => {
             header_match(setting, terms, effects, header, given, depth)
         }
-        InternedArguments::OfOtherHeader(header, of, number) => {
+        InternedArguments::OfOtherHeader(_, _, header, of, number) => {
             let Some(args) = named_args(named, *number) else {
                 return Ok(HeaderMatch::Unknown);
             };
@@ -180,7 +187,9 @@ fn header_match(
     given: &[TermId],
     depth: u32,
 ) -> Result<HeaderMatch, Stop>
-    requires { AreIn terms.old given.now }
+    requires cache { IsValidCache setting.now terms.old effects.old.cache }
+    requires given { AreIn terms.old given.now }
+    ensures cache { IsValidCache setting.now terms.new effects.new.cache }
     ensures kept { Keeps terms.old terms.new }
     ensures within { IfOk result (MatchIn terms.new) }
     ensures stops { is_of_headline setting.now.typing_mode.now ≡ true → IfErr result (λ s. s ≡ Stop.OutOfMemory) }
@@ -199,6 +208,7 @@ fn header_match(
 
 /// Whether what a row asks for holds under the arguments of a number. It is undecided where these weren't
 /// named.
+#[tactic(auto, using(crate::proofs::CacheLemmas::caching))]
 #[cycle(closed)]
 fn row_outcome(
     setting: &Setting<'_>,
@@ -208,7 +218,9 @@ fn row_outcome(
     args: Option<&[TermId]>,
     depth: u32,
 ) -> Result<Outcome, Stop>
-    requires { ForSome (option_copied args) (AreIn terms.old) }
+    requires cache { IsValidCache setting.now terms.old effects.old.cache }
+    requires within { ForSome (option_copied args) (AreIn terms.old) }
+    ensures cache { IsValidCache setting.now terms.new effects.new.cache }
     ensures kept { Keeps terms.old terms.new }
     ensures stops { is_of_headline setting.now.typing_mode.now ≡ true → IfErr result (λ s. s ≡ Stop.OutOfMemory) }
     ensures says { AtEachLevel setting.now depth (λ L. IfOk result (SaysRow L row.entry (numbered_at terms.old (option_copied args.entry)))) }
@@ -237,8 +249,10 @@ fn term_found(
     term: &InternedTerm<'_>,
     depth: u32,
 ) -> Result<Found, Stop>
+    requires cache { IsValidCache setting.now terms.old effects.old.cache }
     requires named { NamedIn terms.old named.now }
     requires term { TermIn terms.old term.now }
+    ensures cache { IsValidCache setting.now terms.new effects.new.cache }
     ensures kept { Keeps terms.old terms.new }
     ensures within { IfOk result (FoundIn terms.new) }
     ensures stops { is_of_headline setting.now.typing_mode.now ≡ true → IfErr result (λ s. s ≡ Stop.OutOfMemory) }
@@ -247,7 +261,7 @@ fn term_found(
     match term {
         InternedTerm::AsItStands(id) => Ok(Found::Is(*id)),
         InternedTerm::HeadFormOf(id) => head_form(setting, terms, effects, *id, depth),
-        InternedTerm::ValueUnder(value, number) => {
+        InternedTerm::ValueUnder(_, value, number) => {
             let Some(args) = named_args(named, *number) else {
                 return Ok(Found::Undecided);
             };

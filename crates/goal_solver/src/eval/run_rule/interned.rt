@@ -1,6 +1,7 @@
 //! Entries of rules, with numbers for their terms and parts of rows for their ids.
 ghost use Rattle.std.specs.Prelude.{◌≡◌, List, true, IfOk, IfErr, IfSome};
 ghost use Rattle.std.specs.Option.{option_copied, option_map};
+ghost use Rattle.goal_terms.specs.Erased.{erased};
 ghost use Rattle.goal_terms.specs.PredicateTrees.{tree_of_kind};
 ghost use Rattle.goal_terms.specs.TableMeaning.{Keeps};
 ghost use Rattle.goal_terms.specs.Tree.{Tree};
@@ -8,14 +9,15 @@ ghost use Rattle.goal_terms.specs.TreeOf.{trees_of, tree_of_term};
 ghost use Rattle.goal_tables.specs.Rows.{impl_of};
 ghost use Rattle.goal_kinds.specs.Answers.{erased_predicate};
 ghost use Rattle.goal_kinds.specs.Interned.{PredicateIn, predicate_at};
-ghost use Rattle.goal_kinds.specs.Entries.{equal_terms, row_clauses};
+ghost use Rattle.goal_kinds.specs.Entries.{chosen_by, equal_terms, row_clauses, row_conditions};
 ghost use Rattle.goal_kinds.specs.InternedEntries.{ArgumentsIn, TermIn, EntryIn, arguments_at, term_at, entry_at, header_trees, value_tree};
 ghost use Rattle.goal_kinds.specs.RuleLists.{header_arguments, other_arguments, arguments_of, expected_of, entry_of, names_arguments};
-ghost use Rattle.goal_kinds.specs.Rules.{clauses_in, value_in, value_term};
+ghost use Rattle.goal_kinds.specs.Rules.{clauses_in, conditions_in, value_in, value_term};
 ghost use Rattle.goal_kinds.specs.Settings.{is_headline};
 ghost use Rattle.goal_solver.specs.Lists.{AtEachLevel, RunIn};
 ghost use Rattle.goal_solver.specs.Outcomes.{header_terms};
 ghost use Rattle.goal_solver.specs.RunRules.{RuleRunsOn, header_at};
+ghost use Rattle.goal_solver.specs.EvaluationCache.{IsValidCache};
 
 use crate::eval::effects::Effects;
 use crate::eval::interning::{intern_args, intern_equation};
@@ -32,13 +34,14 @@ use goal_tables::lookup::IndexedTables;
 use goal_tables::rows::{DefValue, ImplRow};
 use goal_terms::answers::DelayedFault;
 use goal_terms::ids::ImplId;
-use goal_terms::predicates::{Clause, ClauseKind};
+use goal_terms::predicates::{BoundConstness, Clause, ClauseKind};
 use goal_terms::term_nodes::OutOfMemory;
 use goal_terms::term_table::TermTable;
 use goal_terms::terms::{GenericArg, Term};
 
 /// Runs an entry of a rule at a depth. One that says to record something asks for nothing; one whose row is
 /// missing is undecided, and ends the list where it names arguments.
+#[tactic(auto, using(crate::proofs::CacheLemmas::caching))]
 pub(crate) fn run_rule_entry(
     setting: &Setting<'_>,
     terms: &mut TermTable,
@@ -47,7 +50,9 @@ pub(crate) fn run_rule_entry(
     entry: &RuleEntry,
     depth: u32,
 ) -> Result<Reached, Stop>
-    requires { RunIn terms.old run.old }
+    requires cache { IsValidCache setting.now terms.old effects.old.cache }
+    requires run { RunIn terms.old run.old }
+    ensures cache { IsValidCache setting.now terms.new effects.new.cache }
     ensures kept { Keeps terms.old terms.new }
     ensures within { IfOk result (λ _. RunIn terms.new run.new) }
     ensures stops { is_headline setting.now.typing_mode.now ≡ true → IfErr result (λ s. s ≡ Stop.OutOfMemory) }
@@ -98,6 +103,9 @@ fn interned_entry<'t>(
             Ok(Some(InternedEntry::Clause(*source, made)))
         }
         RuleEntry::RowClauses(row, number) => Ok(row_clauses(setting.rows, *row, *number)),
+        RuleEntry::RowConditions(constness, id, number) => {
+            Ok(row_conditions(setting.rows, *constness, *id, *number))
+        }
         RuleEntry::Term(_, term) => {
             let Some(made) = interned_term(setting, terms, term)? else {
                 return Ok(None);
@@ -107,6 +115,7 @@ fn interned_entry<'t>(
         RuleEntry::Access(access) => Ok(Some(InternedEntry::Access(*access))),
         RuleEntry::DelayedFault(fault) => Ok(Some(InternedEntry::DelayedFault(*fault))),
         RuleEntry::Evaluation => Ok(Some(InternedEntry::Evaluation)),
+        RuleEntry::Ambiguous => Ok(Some(InternedEntry::Ambiguous)),
         RuleEntry::Undecided => Ok(Some(InternedEntry::Undecided)),
         RuleEntry::Refused => Ok(Some(InternedEntry::Refused)),
     }
@@ -132,7 +141,7 @@ fn interned_arguments<'t>(
                 return Ok(None);
             };
             let ids = intern_args(setting.allocator(), terms, args)?;
-            Ok(Some(InternedArguments::OfHeader(row, ids)))
+            Ok(Some(InternedArguments::OfHeader(*header, row, ids)))
         }
         RuleArguments::OtherImpl(other, of, number) => {
             Ok(other_header(setting.rows, *other, *of, *number))
@@ -183,7 +192,8 @@ fn other_header(
 {
     let header = impl_header(rows.impl_row(other)?);
     let row = rows.impl_row(of)?;
-    Some(InternedArguments::OfOtherHeader(header, row.trait_args.as_slice(), number as usize))
+    let args = row.trait_args.as_slice();
+    Some(InternedArguments::OfOtherHeader(other, of, header, args, number as usize))
 }
 
 /// That two lists of arguments are equal, with numbers for them.
@@ -237,7 +247,21 @@ fn row_clauses(rows: &IndexedTables, row: RowClauses, number: u32) -> Option<Int
     ensures entry { (T : List Tree) → option_map (entry_at T) result ≡ option_map (λ cs. row_clauses cs number) (clauses_in rows.now row) }
 {
     let clauses = clauses_of(rows, row)?;
-    Some(InternedEntry::RowClauses(clauses, number as usize))
+    Some(InternedEntry::RowClauses(row, clauses, number as usize))
+}
+
+/// The const conditions of an impl with a constness, under the arguments of a number.
+fn row_conditions(
+    rows: &IndexedTables,
+    constness: BoundConstness,
+    id: ImplId,
+    number: u32,
+) -> Option<InternedEntry<'_>>
+    ensures within { (T : List Tree) → IfSome result (EntryIn T) }
+    ensures entry { (T : List Tree) → option_map (entry_at T) result ≡ option_map (λ rs. row_conditions constness rs number) (conditions_in rows.now id) }
+{
+    let conditions = rows.impl_row(id)?.const_conditions.as_slice();
+    Some(InternedEntry::RowConditions(constness, id, conditions, number as usize))
 }
 
 /// The clauses of a row.
@@ -272,12 +296,34 @@ fn interned_term<'t>(
             Ok(Some(InternedTerm::HeadFormOf(id)))
         }
         RuleTerm::Value(value, number) => {
-            let Some(value) = value_of(setting.rows, *value) else {
+            let Some(found) = value_of(setting.rows, *value) else {
                 return Ok(None);
             };
-            Ok(Some(InternedTerm::ValueUnder(value, *number as usize)))
+            Ok(Some(InternedTerm::ValueUnder(*value, found, *number as usize)))
+        }
+        RuleTerm::ChosenBy(clause, first, second) => {
+            let made = chosen_by(setting, terms, clause, first, second)?;
+            Ok(Some(made))
         }
     }
+}
+
+/// The first of two terms where a clause holds, the second where it is refuted, with numbers for them.
+fn chosen_by<'t>(
+    setting: &Setting<'t>,
+    terms: &mut TermTable,
+    clause: &ClauseKind,
+    first: &Term,
+    second: &Term,
+) -> Result<InternedTerm<'t>, OutOfMemory>
+    ensures kept { Keeps terms.old terms.new }
+    ensures within { IfOk result (TermIn terms.new) }
+    ensures term { IfOk result (λ e. term_at terms.new e ≡ chosen_by (erased_predicate (tree_of_kind clause.now)) (erased (tree_of_term first.now)) (erased (tree_of_term second.now))) }
+{
+    let asked = interned_clause(setting, terms, clause)?;
+    let held = terms.intern(first)?;
+    let refuted = terms.intern(second)?;
+    Ok(InternedTerm::ChosenBy(asked, held, refuted))
 }
 
 /// The value of a row, if it has one.

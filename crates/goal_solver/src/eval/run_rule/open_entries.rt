@@ -33,6 +33,7 @@ use std::alloc::{AllocError, Global};
 
 impl EvalCtxt<'_> {
     /// Takes the step of an entry of a list with inference variables. Where it is refused, some of it may stay.
+    /// Const conditions are undecided.
     pub(crate) fn step_through(
         &mut self,
         environment: &[Clause],
@@ -72,7 +73,9 @@ impl EvalCtxt<'_> {
             }
             RuleEntry::DelayedFault(fault) => self.record_fault(*fault),
             RuleEntry::Evaluation => self.evaluate_pending(),
-            RuleEntry::Undecided => Ok(run.join(Certainty::Maybe)),
+            RuleEntry::Ambiguous | RuleEntry::Undecided | RuleEntry::RowConditions(_, _, _) => {
+                Ok(run.join(Certainty::Maybe))
+            }
             RuleEntry::Refused => {
                 let certainty = self.open_refusal()?;
                 Ok(run.join(certainty))
@@ -208,7 +211,7 @@ impl EvalCtxt<'_> {
         Ok(())
     }
 
-    /// Gives an expected term what an entry says.
+    /// Gives an expected term what an entry says. One that a clause chooses is undecided.
     fn give_open(
         &mut self,
         environment: &[Clause],
@@ -228,6 +231,7 @@ impl EvalCtxt<'_> {
             RuleTerm::Value(value, number) => {
                 self.give_value(environment, named, expected, *value, *number)
             }
+            RuleTerm::ChosenBy(_, _, _) => Ok(Certainty::Maybe),
         }
     }
 

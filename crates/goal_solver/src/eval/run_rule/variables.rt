@@ -1,7 +1,8 @@
 //! Which rules hold an inference variable.
 ghost use Rattle.std.specs.Prelude.{◌≡◌, ◌||◌};
 ghost use Rattle.std.specs.List.{list_any};
-ghost use Rattle.goal_terms.specs.NodeTests.{is_any_infer};
+ghost use Rattle.goal_terms.specs.NodeTests.{is_any_infer, some_node};
+ghost use Rattle.goal_terms.specs.TreeOf.{tree_of_term};
 ghost use Rattle.goal_tables.specs.Predicates.{some_in_args, some_in_clause_kind, some_in_env as some_env};
 ghost use Rattle.goal_solver.specs.RunRules.{some_in_arguments, some_in_term, some_in_entry};
 
@@ -9,7 +10,7 @@ use goal_kinds::rules::{RuleArguments, RuleEntry, RuleTerm};
 use goal_tables::predicate_terms::{PredicateTerms, some_in_env};
 use goal_terms::node_tests::NodeTest;
 use goal_terms::predicates::{Clause, ClauseKind};
-use goal_terms::terms::GenericArg;
+use goal_terms::terms::{GenericArg, Term};
 
 /// Whether an inference variable stands in a rule's entries, expected terms aside, or in the environment.
 /// Region variables do not count.
@@ -35,9 +36,11 @@ fn entry_has_variable(entry: &RuleEntry) -> bool
         RuleEntry::Clause(_, clause) => clause_has_variable(clause),
         RuleEntry::Term(_, term) => term_has_variable(term),
         RuleEntry::RowClauses(_, _)
+        | RuleEntry::RowConditions(_, _, _)
         | RuleEntry::Access(_)
         | RuleEntry::DelayedFault(_)
         | RuleEntry::Evaluation
+        | RuleEntry::Ambiguous
         | RuleEntry::Undecided
         | RuleEntry::Refused => false,
     }
@@ -75,9 +78,16 @@ fn term_has_variable(term: &RuleTerm) -> bool
     ensures { result ≡ some_in_term is_any_infer term.now }
 {
     match term {
-        RuleTerm::AsItStands(term) | RuleTerm::Normalized(term) => {
-            NodeTest::IsAnyInfer.passes_in(term.view())
-        }
+        RuleTerm::AsItStands(term) | RuleTerm::Normalized(term) => has_variable_in(term),
         RuleTerm::Value(_, _) => false,
+        RuleTerm::ChosenBy(clause, first, second) => {
+            clause_has_variable(clause) || has_variable_in(first) || has_variable_in(second)
+        }
     }
+}
+
+fn has_variable_in(term: &Term) -> bool
+    ensures { result ≡ some_node is_any_infer (tree_of_term term.now) }
+{
+    NodeTest::IsAnyInfer.passes_in(term.view())
 }

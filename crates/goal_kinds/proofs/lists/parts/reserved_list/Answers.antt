@@ -7,3 +7,6 @@ returns-in_ok-entries-in-Coherence-clause-within c = c.in_ok-entries-in-Coherenc
 
 pub returns-in_ok-entries-in-Coherence-clause-list : goal.returns-in_ok-entries-in-Coherence-clause-list
 returns-in_ok-entries-in-Coherence-clause-list c T = ap Some (c.in_ok-entries-in-Coherence.ensures.entries T) ∙ ap reserved_list (sym c.in-Coherence.is)
+
+pub returns-in_ok-entries-in-Coherence-clause-named : goal.returns-in_ok-entries-in-Coherence-clause-named
+returns-in_ok-entries-in-Coherence-clause-named c = c.in_ok-entries-in-Coherence.ensures.named

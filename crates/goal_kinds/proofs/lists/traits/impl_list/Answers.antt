@@ -10,3 +10,6 @@ pub returns-clause-list : goal.returns-clause-list
 returns-clause-list c T =
     IfOk-weaker c.list_by_polarity.result _ _ (λ o by. by ∙ ap (list_by_polarity c.args.mode.now c.args.row.now.polarity) (c.in_ok-entries.ensures.entries T))
     (c.list_by_polarity.ensures.list T)
+
+pub returns-clause-named : goal.returns-clause-named
+returns-clause-named c t found = c.list_by_polarity.ensures.named t (c.in_ok-entries.ensures.named t found)

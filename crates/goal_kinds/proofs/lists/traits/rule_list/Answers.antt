@@ -6,6 +6,7 @@ use Rattle.goal_kinds.specs.Entries.{premise_entries}
 use Rattle.goal_kinds.specs.Interned.{PremiseIn, premise_at}
 use Rattle.goal_kinds.specs.TraitLists.{source_of_rule}
 use Rattle.goal_kinds.proofs.ListPartLemmas.{rule-list}
+use Rattle.goal_kinds.proofs.NamedRowLemmas.{premises-name}
 use Rattle.goal_kinds.proofs.lists.traits.rule_list.Goals as goal
 
 pub returns-clause-within : goal.returns-clause-within
@@ -18,3 +19,6 @@ returns-clause-list c =
     rule-list (λ ps. map (premise_at c.trait_rule.new.terms) ps.items) (premise_entries c.source_of_rule-source.result)
     (premise_entries (source_of_rule (trait_of c.args.rows.now c.args.trait_id))) c.in_ok-rule.rule c.in-Some.premises _ _ c.in-Some.is c.in_ok-rule.ensures.premises
     (ap premise_entries c.source_of_rule-source.ensures) (c.in_ok-entries.ensures.entries c.trait_rule.new.terms)
+
+pub returns-clause-named : goal.returns-clause-named
+returns-clause-named c t = premises-name t c.trait_rule.new.terms _ _ _ (c.in_ok-entries.ensures.entries c.trait_rule.new.terms)

@@ -1,41 +1,22 @@
-use Rattle.std.proofs.Common.{◌∙◌, ◌∷◌, [], ◌≡◌, ◌↔◌, ap, sym, true, true≢false, Some}
-use Rattle.goal_tables.specs.Rows.{impl_of}
-use Rattle.goal_tables.specs.SourceFaults.{is_positive}
-use Rattle.goal_kinds.specs.Levels.{level}
-use Rattle.goal_kinds.specs.Rules.{given, RuleHolds, RuleRefuted}
-use Rattle.goal_kinds.proofs.TraitEntryLemmas.{seen_row, impl-holds, impl-refuted, undecided-never_holds, undecided-never_refuted, impl-positive}
-use Rattle.goal_kinds.proofs.ExpectedLemmas.{impl_match-for, undecided-for}
+use Rattle.std.proofs.Common.{[], ◌≡◌, ◌∙◌, ap, refl, sym, subst, Some}
+use Rattle.std.specs.Prelude.{IfOk, IfErr}
+use Rattle.goal_kinds.specs.Candidates.{by_impl}
+use Rattle.goal_kinds.specs.InternedEntries.{setting_at}
+use Rattle.goal_kinds.specs.RuleLists.{IsListed, list_then}
+use Rattle.goal_kinds.specs.Rules.{given}
+use Rattle.goal_kinds.specs.TraitLists.{trait_list}
+use Rattle.goal_kinds.proofs.TraitFaceLemmas.{seen_row, impl-by_id, impl-accepted}
 use Rattle.goal_kinds.proofs.rules.traits.impl_rule.Goals as goal
 
-pub returns-then-is_positive-clause-holds : goal.returns-then-is_positive-clause-holds
-unfolding RuleHolds
-returns-then-is_positive-clause-holds c S n row same found =
-    impl-holds S (level S n) c.args.id row (ap (λ t. impl_of t c.args.id) same ∙ found) c.args.asked.now c.args.then c.in_ok-entries.entries.items
-    (ap (λ r. is_positive r.polarity) (seen_row _ _ _ found c.in-Some.ensures) ∙ sym c.is_positive.ensures ∙ c.if-is_positive.true)
-    c.in_ok-entries.ensures
+pub candidate_rule-requires-clause-row : goal.candidate_rule-requires-clause-row
+candidate_rule-requires-clause-row c = impl-by_id c.args.setting.rows.now c.args.id c.in-Some.row.now (sym c.in-Some.ensures)
 
-pub returns-then-is_positive-clause-refuted : goal.returns-then-is_positive-clause-refuted
-unfolding RuleRefuted
-returns-then-is_positive-clause-refuted c S n row same found open_row =
-    impl-refuted S (level S n) c.args.id row (ap (λ t. impl_of t c.args.id) same ∙ found) c.args.asked.now c.args.then c.in_ok-entries.entries.items
-    (ap (λ r. is_positive r.polarity) (seen_row _ _ _ found c.in-Some.ensures) ∙ sym c.is_positive.ensures ∙ c.if-is_positive.true)
-    c.in_ok-entries.ensures
+pub returns-clause-listed : goal.returns-clause-listed
+returns-clause-listed c env row found =
+    subst (λ q. IfOk c.candidate_rule.result (λ r. IsListed c.args.setting.rows.now r (list_then c.args.then (trait_list (setting_at c.args.setting env) c.args.asked.now.def_id (given c.args.asked.now.args) (by_impl q)))))
+    (sym (seen_row _ row c.in-Some.row.now found c.in-Some.ensures)) (c.candidate_rule.ensures.listed env)
 
-pub returns-then-is_coherence-clause-holds : goal.returns-then-is_coherence-clause-holds
-returns-then-is_coherence-clause-holds c S n row same found = (
-  λ h. absurd (undecided-never_holds S (level S n) c.in_ok-undecided_rule.field-0 c.in_ok-undecided_rule.ensures.entries h),
-  λ h. absurd (true≢false (sym (impl-positive (level S n) (given c.args.asked.now.args) row h.1)
-      ∙ ap (λ r. is_positive r.polarity) (seen_row _ _ _ found c.in-Some.ensures) ∙ sym c.is_positive.ensures ∙ c.if-is_positive.false)),
-)
-
-pub returns-then-is_coherence-clause-undecided : goal.returns-then-is_coherence-clause-undecided
-returns-then-is_coherence-clause-undecided c S n row same found barring h =
-    undecided-never_refuted S (level S n) c.in_ok-undecided_rule.field-0 c.in_ok-undecided_rule.ensures.entries h
-
-pub returns-then-is_positive-clause-expected : goal.returns-then-is_positive-clause-expected
-returns-then-is_positive-clause-expected c =
-    impl_match-for (λ t. ⊥) c.args.asked.now c.args.id c.args.then c.in_ok-entries.entries.items c.in_ok-entries.ensures
-
-pub returns-then-is_coherence-clause-expected : goal.returns-then-is_coherence-clause-expected
-returns-then-is_coherence-clause-expected c =
-    undecided-for (λ t. ⊥) c.in_ok-undecided_rule.field-0.entries.items c.in_ok-undecided_rule.ensures.entries
+pub returns-clause-accepted : goal.returns-clause-accepted
+returns-clause-accepted c e =
+    impl-accepted (setting_at c.args.setting []) c.args.setting.mode.now c.args.asked.now _ c.in-Some.row.now c.candidate_rule.result c.in-Some.ensures refl e
+    (c.candidate_rule.ensures.refused [])

@@ -1,5 +1,6 @@
 use Rattle.goal_solver.proofs.GoalOutcomeLemmas.{clause-says}
 use Rattle.goal_solver.proofs.GoingBackLemmas.{solved-grown}
+use Rattle.goal_solver.proofs.CacheLemmas.{cache-new}
 use Rattle.goal_solver.proofs.context.EvalCtxt.closed_outcome.Goals as goal
 
 pub invariant_of-self : goal.invariant_of-self
@@ -16,3 +17,6 @@ invariant_of-self c = (
 pub returns-clause-says : goal.returns-clause-says
 returns-clause-says c =
     clause-says _ c.args.self.now c.rows.result.now c.args.environment.now c.args.predicate c.premise_outcome.result c.self.view_is c.rows.ensures.rows c.premise_outcome.ensures.says
+
+pub premise_outcome-requires-clause-cache : goal.premise_outcome-requires-clause-cache
+premise_outcome-requires-clause-cache c = cache-new _ _ _ c.new-effects.ensures.cache

@@ -1,4 +1,5 @@
 use Rattle.goal_solver.proofs.GoingBackLemmas.{solved-grown}
+use Rattle.goal_solver.proofs.CacheLemmas.{cache-new}
 use Rattle.goal_solver.proofs.context.EvalCtxt.found_term.Goals as goal
 
 pub invariant_of-self : goal.invariant_of-self
@@ -11,3 +12,6 @@ invariant_of-self c = (
   solved-grown c.self.inside.terms c.alias_term.new.terms c.self.inside.inference c.alias_term.ensures.kept c.self.invariant.5,
   c.self.invariant.6,
 )
+
+pub alias_term-requires-clause-cache : goal.alias_term-requires-clause-cache
+alias_term-requires-clause-cache c = cache-new _ _ _ c.new-effects.ensures.cache

@@ -1,6 +1,8 @@
+use Rattle.goal_terms.proofs.InternLemmas.{keeps-chain}
 use Rattle.std.proofs.Common.{refl}
 use Rattle.goal_solver.proofs.BindingLemmas.{goes_back-interned}
-use Rattle.goal_solver.proofs.GoingBackLemmas.{solved-grown, solved-grown_twice}
+use Rattle.goal_solver.proofs.GoingBackLemmas.{goes_back-through, solved-grown, solved-grown_twice}
+use Rattle.goal_solver.proofs.CacheLemmas.{cache-new}
 use Rattle.goal_solver.proofs.context.EvalCtxt.host_effect_run.Goals as goal
 
 pub invariant_of-self : goal.invariant_of-self
@@ -27,3 +29,13 @@ invariant_of-self-2 c = (
 
 pub returns-in_err-ids-clause-goes_back : goal.returns-in_err-ids-clause-goes_back
 returns-in_err-ids-clause-goes_back c = goes_back-interned _ c.args.self.now _ c.intern_args.new.terms c.self.view_is refl c.intern_args.ensures.kept
+
+pub evaluate_host_effect_goal-outcome-requires-clause-cache : goal.evaluate_host_effect_goal-outcome-requires-clause-cache
+evaluate_host_effect_goal-outcome-requires-clause-cache c = cache-new _ _ _ c.new-effects.ensures.cache
+
+pub returns-clause-goes_back : goal.returns-clause-goes_back
+returns-clause-goes_back c =
+    goes_back-through c.args.self.now _ c.record_effects.new.self
+    (goes_back-interned _ c.args.self.now _ c.evaluate_host_effect_goal-outcome.new.terms c.self.view_is refl
+    (keeps-chain c.self.inside.terms c.intern_args.new.terms c.evaluate_host_effect_goal-outcome.new.terms c.intern_args.ensures.kept c.evaluate_host_effect_goal-outcome.ensures.kept))
+    c.record_effects.ensures.goes_back

@@ -1,4 +1,5 @@
 use Rattle.goal_solver.proofs.GoingBackLemmas.{solved-grown}
+use Rattle.goal_solver.proofs.CacheLemmas.{cache-new}
 use Rattle.goal_solver.proofs.context.EvalCtxt.reach.Goals as goal
 
 pub invariant_of-self : goal.invariant_of-self
@@ -11,3 +12,6 @@ invariant_of-self c = (
   solved-grown c.self.inside.terms c.run_rule_entry.new.terms c.self.inside.inference c.run_rule_entry.ensures.kept c.self.invariant.5,
   c.self.invariant.6,
 )
+
+pub run_rule_entry-requires-clause-cache : goal.run_rule_entry-requires-clause-cache
+run_rule_entry-requires-clause-cache c = cache-new _ _ _ c.new-effects.ensures.cache

@@ -71,12 +71,12 @@ returns-in-Evaluation-clause-steps c =
     (λ h. evaluation-step c.args.environment.now c.args.entry.now c.args.self.now (open_progress c.args.run.now) c.evaluate_pending.new.self c.in-Evaluation.is h)
     c.evaluate_pending.ensures.evaluates
 
-pub returns-in-Undecided-clause-steps : goal.returns-in-Undecided-clause-steps
-returns-in-Undecided-clause-steps c =
-    undecided-step c.args.environment.now c.args.entry.now c.args.self.now (open_progress c.args.run.now) (open_progress c.join-in-Undecided.new.self) c.in-Undecided.is c.join-in-Undecided.ensures
+pub returns-in-Ambiguous-clause-steps : goal.returns-in-Ambiguous-clause-steps
+returns-in-Ambiguous-clause-steps c =
+    undecided-step c.args.environment.now c.args.entry.now c.args.self.now (open_progress c.args.run.now) (open_progress c.join-in-Ambiguous.new.self) c.in-Ambiguous.is c.join-in-Ambiguous.ensures
 
-pub returns-in-Undecided-clause-goes_back : goal.returns-in-Undecided-clause-goes_back
-returns-in-Undecided-clause-goes_back c = goes_back-same c.args.self.now
+pub returns-in-Ambiguous-clause-goes_back : goal.returns-in-Ambiguous-clause-goes_back
+returns-in-Ambiguous-clause-goes_back c = goes_back-same c.args.self.now
 
 pub returns-in_ok-certainty-in-Refused-clause-steps : goal.returns-in_ok-certainty-in-Refused-clause-steps
 returns-in_ok-certainty-in-Refused-clause-steps c =

@@ -1,6 +1,7 @@
 use Rattle.std.proofs.Common.{refl}
 use Rattle.goal_solver.proofs.BindingLemmas.{goes_back-interned}
 use Rattle.goal_solver.proofs.GoingBackLemmas.{solved-grown, solved-grown_twice}
+use Rattle.goal_solver.proofs.CacheLemmas.{cache-new}
 use Rattle.goal_solver.proofs.context.EvalCtxt.trait_run.Goals as goal
 
 pub invariant_of-self : goal.invariant_of-self
@@ -27,3 +28,6 @@ invariant_of-self-2 c = (
 
 pub returns-in_err-ids-clause-goes_back : goal.returns-in_err-ids-clause-goes_back
 returns-in_err-ids-clause-goes_back c = goes_back-interned _ c.args.self.now _ c.intern_args.new.terms c.self.view_is refl c.intern_args.ensures.kept
+
+pub evaluate_trait_goal-outcome-requires-clause-cache : goal.evaluate_trait_goal-outcome-requires-clause-cache
+evaluate_trait_goal-outcome-requires-clause-cache c = cache-new _ _ _ c.new-effects.ensures.cache

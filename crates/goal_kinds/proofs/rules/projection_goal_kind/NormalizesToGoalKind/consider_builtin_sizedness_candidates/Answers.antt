@@ -3,6 +3,6 @@ use Rattle.goal_kinds.specs.ProjectionKind.{is_for_alias}
 use Rattle.goal_kinds.proofs.RuleListLemmas.{other-named}
 use Rattle.goal_kinds.proofs.rules.projection_goal_kind.NormalizesToGoalKind.consider_builtin_sizedness_candidates.Goals as goal
 
-pub returns : goal.returns
+pub returns-clause-answer : goal.returns-clause-answer
 unfolding is_for_alias
-returns c = other-named true _ _ _
+returns-clause-answer c = other-named true _ _ _

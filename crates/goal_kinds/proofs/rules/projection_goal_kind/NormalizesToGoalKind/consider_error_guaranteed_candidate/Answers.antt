@@ -5,4 +5,4 @@ use Rattle.goal_kinds.proofs.rules.projection_goal_kind.NormalizesToGoalKind.con
 
 pub returns : goal.returns
 unfolding TermRefuted
-returns c = record { source = tt; gives = tt; refuted = tt; fault = if_some-found (projection_in c.args._tables.now c.args._goal.now.predicate.alias) (λ p found. tt) }
+returns c = record { source = tt; list = tt; gives = tt; refuted = tt; fault = if_some-found (projection_in c.args._tables.now c.args._goal.now.predicate.alias) (λ p found. tt) }

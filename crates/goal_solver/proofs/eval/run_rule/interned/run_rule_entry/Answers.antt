@@ -8,28 +8,29 @@ use Rattle.goal_solver.proofs.eval.run_rule.interned.run_rule_entry.Goals as goa
 
 pub returns-in-Access : goal.returns-in-Access
 returns-in-Access c = record {
+  cache = c.requires.cache;
   kept = keeps-refl c.args.terms.now;
-  within = c.requires;
+  within = c.requires.run;
   stops = λ h. tt;
   says = λ m s.
-      recording-runs c.args.setting.now.rows.now (level_in c.args.setting.now m c.args.depth) c.args.terms.now c.args.run.now c.requires c.args.entry.now
+      recording-runs c.args.setting.now.rows.now (level_in c.args.setting.now m c.args.depth) c.args.terms.now c.args.run.now c.requires.run c.args.entry.now
       (⊎_elim (λ w. not-access c.to_record.result c.args.entry.now w.0 c.to_record.ensures w.1) (λ w. not-fault c.to_record.result c.args.entry.now w.0 c.to_record.ensures w.1) c.in-Access.is);
 }
 
 pub returns-in-Some-clause-says : goal.returns-in-Some-clause-says
 returns-in-Some-clause-says c = λ m s.
     found-runs c.args.setting.now.rows.now (level_in c.args.setting.now m c.args.depth) c.args.terms.now c.interned_entry.new.terms c.run_entry.new.terms c.interned_entry.ensures.kept
-    c.args.run.now c.run_entry.new.run c.requires c.args.entry.now c.in-Some.interned c.run_entry.result
+    c.args.run.now c.run_entry.new.run c.requires.run c.args.entry.now c.in-Some.interned c.run_entry.result
     (sym (ap (option_map (entry_at c.interned_entry.new.terms)) c.in-Some.is) ∙ c.in_ok-interned.ensures.entry) (c.run_entry.ensures.says m s)
 
 pub returns-in-None-clause-says : goal.returns-in-None-clause-says
 returns-in-None-clause-says c = λ m s.
     missing-names c.args.setting.now.rows.now (level_in c.args.setting.now m c.args.depth) c.args.terms.now c.interned_entry.new.terms c.interned_entry.ensures.kept c.args.run.now c.args.run.now
-    c.requires c.args.entry.now (sym (ap (option_map (entry_at c.interned_entry.new.terms)) c.in-None.is) ∙ c.in_ok-interned.ensures.entry)
+    c.requires.run c.args.entry.now (sym (ap (option_map (entry_at c.interned_entry.new.terms)) c.in-None.is) ∙ c.in_ok-interned.ensures.entry)
     (sym c.if-names_arguments.true ∙ c.names_arguments.ensures)
 
 pub returns-in-None-2-clause-says : goal.returns-in-None-2-clause-says
 returns-in-None-2-clause-says c = λ m s.
     missing-asks c.args.setting.now.rows.now (level_in c.args.setting.now m c.args.depth) c.args.terms.now c.interned_entry.new.terms c.interned_entry.ensures.kept c.args.run.now c.ask.new.self
-    c.requires c.args.entry.now (sym (ap (option_map (entry_at c.interned_entry.new.terms)) c.in-None-2.is) ∙ c.in_ok-interned.ensures.entry)
+    c.requires.run c.args.entry.now (sym (ap (option_map (entry_at c.interned_entry.new.terms)) c.in-None-2.is) ∙ c.in_ok-interned.ensures.entry)
     (sym c.if-names_arguments.false ∙ c.names_arguments.ensures) c.ask.ensures.run c.ask.result c.ask.ensures.reached

@@ -1,0 +1,11 @@
+use Rattle.goal_kinds.specs.Candidates.{built_in}
+use Rattle.goal_kinds.specs.InternedEntries.{setting_at}
+use Rattle.goal_kinds.specs.Rules.{given}
+use Rattle.goal_kinds.specs.TraitLists.{trait_list}
+use Rattle.goal_kinds.proofs.TraitFaceLemmas.{listed-yes}
+use Rattle.goal_kinds.proofs.rules.traits.built_in_rule.Goals as goal
+
+pub returns-clause-listed : goal.returns-clause-listed
+returns-clause-listed c = λ env.
+    listed-yes c.args.setting.rows.now (trait_list (setting_at c.args.setting env) c.args.asked.now.def_id (given c.args.asked.now.args) built_in) c.candidate_rule.result
+    (c.candidate_rule.ensures.listed env)
