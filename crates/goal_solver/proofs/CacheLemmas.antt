@@ -313,12 +313,6 @@ known-alias c T k id a xs d o v shape known m s =
     (subst (λ t. SaysAliasAt T (level_in c m d) t o) shape
     (known-says (λ q. SaysAliasAt T (level_in c m q) (erased_at T id)) found.Undecided known.0 d o steady (v.aliases.right id.0 known.0 known.1 m s) known.2))
 
--- its term is in the table
-pub known-in : (c : over.Setting) (T : List Tree) (k : Cache) (id : TermId) (d : ℕ) (o : Found) → IsValidCache c T k →
-    (e : CacheEntry Found) × (get ◌==◌ k.aliases.entries id.0 ≡ Some e) × IsKnownAt e d found.Undecided o → FoundIn T o
-known-in c T k id d o v known =
-    ⊎_elim (λ h. v.aliases.answers id.0 known.0 known.1 h.0 o h.1) (λ h. subst (FoundIn T) (sym h.1) tt) known.2
-
 -- and an answer to it is kept
 pub keep-alias : (c : over.Setting) (T : List Tree) (k new : Cache) (id : TermId) (a : AliasTermKind) (xs : List Tree) (d : ℕ) (o : Found) →
     IsValidCache c T k → erased_at T id ≡ alias a (forest xs) → id.0 < length T → FoundIn T o →

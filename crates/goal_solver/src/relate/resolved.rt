@@ -85,7 +85,7 @@ fn relate_resolved_forms(
     compare_terms(setting, terms, effects, left, right, depth)
 }
 
-/// What two lists of terms come to in pairs, as `settle` says it of two terms. Lists of unlike lengths are
+/// What two lists of terms come to in pairs, as `relate_resolved` says it of two terms. Lists of unlike lengths are
 /// refuted.
 #[cycle(relating)]
 pub(crate) fn relate_resolved_lists(
