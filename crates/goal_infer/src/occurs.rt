@@ -11,7 +11,7 @@ use goal_terms::term_nodes::TermId;
 use goal_terms::term_table::TermTable;
 
 /// Where a variable stands in a term.
-#[derive(Clone, Copy, Debug, PartialEq, Eq, Hash)]
+#[derive(Clone, Copy, PartialEq, Eq)]
 pub enum Occurrence {
     Nowhere,
     /// In aliases, and nowhere else.

@@ -19,7 +19,7 @@ use std::marker::Model;
 
 /// A lifetime of a binder that was entered, and the number of the variable that stands for it. Binders
 /// are counted from the outermost, which is 0.
-#[derive(Clone, Copy, Debug, PartialEq, Eq, Hash)]
+#[derive(Clone, Copy, PartialEq, Eq)]
 struct EnteredRegion {
     binder: usize,
     number: u32,

@@ -10,7 +10,7 @@ use std::alloc::Global;
 use std::marker::Model;
 
 /// How much a state holds: its variables, its trail and its equations.
-#[derive(Clone, Copy, Debug, PartialEq, Eq, Hash)]
+#[derive(Clone, Copy, PartialEq, Eq)]
 pub struct Snapshot {
     /// How many variables there are.
     pub variables: usize,

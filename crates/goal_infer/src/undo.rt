@@ -6,7 +6,7 @@ use goal_terms::answers::VarKind;
 use goal_terms::term_nodes::TermId;
 
 /// An inference variable: its kind, and the number of the term that it is bound to, if it is.
-#[derive(Clone, Copy, Debug, PartialEq, Eq, Hash)]
+#[derive(Clone, Copy, PartialEq, Eq)]
 pub struct InferVariable {
     pub kind: VarKind,
     pub binding: Option<TermId>,

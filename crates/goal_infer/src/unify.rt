@@ -22,7 +22,7 @@ use goal_terms::term_table::TermTable;
 use goal_terms::terms::InferTy;
 
 /// Whether two terms were made the same.
-#[derive(Clone, Copy, Debug, PartialEq, Eq, Hash)]
+#[derive(Clone, Copy, PartialEq, Eq)]
 pub enum Unified {
     Yes,
     Undecided,

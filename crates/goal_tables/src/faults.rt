@@ -6,7 +6,7 @@ use crate::lookup::IndexedTables;
 use crate::sites::TermFault;
 
 /// Why tables are refused. Of several faults that apply, the one of the smallest number is answered.
-#[derive(Clone, Copy, Debug, PartialEq, Eq, Hash)]
+#[derive(Clone, Copy, Debug, PartialEq, Eq)]
 pub enum TableFault {
     /// An id stands that no row has.
     UnknownItem = 1,

@@ -2,7 +2,7 @@
 use goal_terms::ids::{AdtId, ItemId, TraitId};
 
 /// A trait, an item or a type that built-in rules know.
-#[derive(Clone, Copy, Debug, PartialEq, Eq, Hash)]
+#[derive(Clone, Copy, PartialEq, Eq, Hash)]
 pub enum LangItem {
     Sized,
     Copy,
@@ -25,7 +25,7 @@ pub enum LangItem {
 }
 
 /// The row that a lang item names.
-#[derive(Clone, Copy, Debug, PartialEq, Eq, Hash)]
+#[derive(Clone, Copy, PartialEq, Eq, Hash)]
 pub enum LangTarget {
     Trait(TraitId),
     Item(ItemId),
@@ -33,7 +33,7 @@ pub enum LangTarget {
 }
 
 /// Which row a lang item names.
-#[derive(Clone, Copy, Debug, PartialEq, Eq, Hash)]
+#[derive(Clone, Copy, PartialEq, Eq)]
 pub struct LangRow {
     pub item: LangItem,
     pub target: LangTarget,

@@ -9,7 +9,6 @@ use goal_terms::terms::{FnSig, GenericArg, Term, Ty};
 
 /// A trait. Parameter 0 is the self type. `predicates` and `const_conditions` are those of a trait
 /// alias, and are under the trait's parameters.
-#[derive(Debug)]
 pub struct TraitRow {
     pub id: TraitId,
     pub params: Vec<ParamKind>,
@@ -38,7 +37,6 @@ impl Drop for TraitRow {
 
 /// The const bounds of an alias that has const conditions. One more type parameter after the last
 /// stands for the alias itself.
-#[derive(Debug)]
 pub struct ConstBounds {
     pub implied: Vec<TraitRef>,
     pub conditions: Vec<TraitRef>,
@@ -55,7 +53,6 @@ impl Drop for ConstBounds {
 
 /// An item of a trait. A projection's arguments are the trait's parameters, then the item's own. In
 /// `bounds` and `const_bounds` one more type parameter after the last stands for the alias itself.
-#[derive(Debug)]
 pub struct ItemRow {
     pub id: ItemId,
     pub trait_id: TraitId,
@@ -81,7 +78,7 @@ impl Drop for ItemRow {
 }
 
 /// Whether an impl says that its trait holds. A reservation impl only bars a refutation, in coherence.
-#[derive(Clone, Copy, Debug, PartialEq, Eq, Hash)]
+#[derive(Clone, Copy, PartialEq, Eq)]
 pub enum ImplPolarity {
     Positive,
     Negative,
@@ -89,7 +86,6 @@ pub enum ImplPolarity {
 }
 
 /// An impl of a trait, for the arguments of its header, the self type included.
-#[derive(Debug)]
 pub struct ImplRow {
     pub id: ImplId,
     pub trait_id: TraitId,
@@ -119,7 +115,7 @@ impl Drop for ImplRow {
 }
 
 /// Where a definition stands.
-#[derive(Clone, Copy, Debug, PartialEq, Eq, Hash)]
+#[derive(Clone, Copy, PartialEq, Eq)]
 pub enum Container {
     Impl(ImplId),
     Trait(TraitId),
@@ -127,7 +123,7 @@ pub enum Container {
 
 /// What a definition gives its item. `Evaluated` is the value of a constant that would have to be
 /// evaluated.
-#[derive(Debug, Drop)]
+#[derive(Drop)]
 pub enum DefValue {
     Missing,
     Term(Term),
@@ -135,7 +131,6 @@ pub enum DefValue {
 }
 
 /// A definition of an item. Its parameters are its container's, then its own.
-#[derive(Debug)]
 pub struct DefRow {
     pub id: DefId,
     pub container: Container,
@@ -157,14 +152,13 @@ impl Drop for DefRow {
 }
 
 /// What an impl uses for an item. `Broken` has the number of the error that stands for the value.
-#[derive(Clone, Copy, Debug, PartialEq, Eq, Hash)]
+#[derive(Clone, Copy, PartialEq, Eq)]
 pub enum Source {
     Def { def_id: DefId, is_default: bool },
     Broken(u32),
 }
 
 /// Which definition an impl uses for an item of its trait.
-#[derive(Debug)]
 pub struct SourceRow {
     pub impl_id: ImplId,
     pub item_id: ItemId,
@@ -182,7 +176,6 @@ impl Drop for SourceRow {
 }
 
 /// A free type alias or constant. Only a constant may lack its value.
-#[derive(Debug)]
 pub struct FreeRow {
     pub id: FreeId,
     pub params: Vec<ParamKind>,
@@ -204,7 +197,6 @@ impl Drop for FreeRow {
 }
 
 /// An impl of no trait.
-#[derive(Debug)]
 pub struct InherentImplRow {
     pub id: InherentImplId,
     pub params: Vec<ParamKind>,
@@ -223,7 +215,6 @@ impl Drop for InherentImplRow {
 
 /// An item of an inherent impl. Its parameters are the impl's, then its own; an alias of it has the
 /// self type and then the item's own arguments. `predicates` are the impl's and its own.
-#[derive(Debug)]
 pub struct InherentRow {
     pub id: InherentId,
     pub impl_id: InherentImplId,
@@ -248,7 +239,6 @@ impl Drop for InherentRow {
 
 /// An opaque type. In `bounds` and `const_bounds` one more type parameter after the last stands for
 /// the type itself.
-#[derive(Debug)]
 pub struct OpaqueRow {
     pub id: OpaqueId,
     pub params: Vec<ParamKind>,
@@ -274,7 +264,7 @@ impl Drop for OpaqueRow {
 }
 
 /// What sort of type a declaration makes.
-#[derive(Clone, Copy, Debug, PartialEq, Eq, Hash)]
+#[derive(Clone, Copy, PartialEq, Eq)]
 pub enum AdtKind {
     Struct,
     Enum,
@@ -282,7 +272,6 @@ pub enum AdtKind {
 }
 
 /// What a field representing type says of its field.
-#[derive(Debug)]
 pub struct FieldInfo {
     pub base: Ty,
     pub ty: Ty,
@@ -295,7 +284,6 @@ impl Drop for FieldInfo {
 }
 
 /// A struct, an enum or a union. The tail is read for structs alone.
-#[derive(Debug)]
 pub struct AdtRow {
     pub id: AdtId,
     pub params: Vec<ParamKind>,
@@ -323,7 +311,6 @@ impl Drop for AdtRow {
 }
 
 /// A function item.
-#[derive(Debug)]
 pub struct FnRow {
     pub id: FnId,
     pub params: Vec<ParamKind>,
@@ -345,7 +332,7 @@ impl Drop for FnRow {
 }
 
 /// How a closure may be called.
-#[derive(Clone, Copy, Debug, PartialEq, Eq, Hash)]
+#[derive(Clone, Copy, PartialEq, Eq)]
 pub enum ClosureKind {
     Fn,
     FnMut,
@@ -353,7 +340,6 @@ pub enum ClosureKind {
 }
 
 /// A closure.
-#[derive(Debug)]
 pub struct ClosureRow {
     pub id: ClosureId,
     pub params: Vec<ParamKind>,
@@ -379,7 +365,6 @@ impl Drop for ClosureRow {
 }
 
 /// All rows, in lists. The first row of an id is the row of that id.
-#[derive(Debug)]
 pub struct Tables {
     pub traits: Vec<TraitRow>,
     pub items: Vec<ItemRow>,

@@ -18,7 +18,7 @@ use goal_terms::terms::{AliasTermKind, Region};
 use goal_terms::view::TermRef;
 
 /// A fault that may lie in a term.
-#[derive(Clone, Copy, Debug, PartialEq, Eq, Hash)]
+#[derive(Clone, Copy, PartialEq, Eq)]
 pub enum TermFault {
     UnknownItem,
     WrongArgumentCount,

@@ -2,14 +2,14 @@ use crate::ids::{DefId, ImplId, OpaqueId, TraitId};
 use crate::terms::{GenericArg, Region, Term, Ty};
 
 /// Whether something is decided to hold, or undecided.
-#[derive(Clone, Copy, Debug, PartialEq, Eq, Hash)]
+#[derive(Clone, Copy, Debug, PartialEq, Eq)]
 pub enum Certainty {
     Yes,
     Maybe,
 }
 
 /// What a nested goal is asked for. No answer depends on it.
-#[derive(Clone, Copy, Debug, PartialEq, Eq, Hash)]
+#[derive(Clone, Copy, PartialEq, Eq)]
 pub enum GoalSource {
     Misc,
     TypeRelating,
@@ -19,14 +19,14 @@ pub enum GoalSource {
 }
 
 /// Which built-in rule a candidate comes from. `Object(k)` is clause `k` of a `dyn` type.
-#[derive(Clone, Copy, Debug, PartialEq, Eq, Hash)]
+#[derive(Clone, Copy, PartialEq, Eq)]
 pub enum BuiltinImplSource {
     Misc,
     Object(u32),
 }
 
 /// Where a candidate comes from. `ParamEnv(k)` is clause `k` of the environment, from 0.
-#[derive(Clone, Copy, Debug, PartialEq, Eq, Hash)]
+#[derive(Clone, Copy, PartialEq, Eq)]
 pub enum CandidateSource {
     ParamEnv(u32),
     AliasBound,
@@ -35,7 +35,7 @@ pub enum CandidateSource {
 }
 
 /// The class of candidates through which a trait goal holds.
-#[derive(Clone, Copy, Debug, PartialEq, Eq, Hash)]
+#[derive(Clone, Copy, Debug, PartialEq, Eq)]
 pub enum TraitGoalProvenVia {
     ParamEnv,
     AliasBound,
@@ -53,7 +53,7 @@ pub enum VarKind {
 }
 
 /// What a parameter stands for.
-#[derive(Clone, Copy, Debug, PartialEq, Eq, Hash)]
+#[derive(Clone, Copy, PartialEq, Eq)]
 pub enum ParamKind {
     Ty,
     Const,
@@ -69,7 +69,7 @@ pub struct OpaqueTypeKey {
 
 /// An answer, with what it would change. Of all variables, one below `base` stood before the call,
 /// and `base + k` is the k-th of `vars`.
-#[derive(Clone, Debug, PartialEq, Eq, Hash, Drop)]
+#[derive(Clone, Debug, PartialEq, Eq, Drop)]
 pub struct Response {
     pub certainty: Certainty,
     /// The class of a trait goal that is answered `Yes`.
@@ -82,7 +82,7 @@ pub struct Response {
 }
 
 /// What an answer in the erased mode would have read of the typing mode.
-#[derive(Clone, Copy, Debug, PartialEq, Eq, Hash)]
+#[derive(Clone, Copy, Debug, PartialEq, Eq)]
 pub enum OpaqueAccess {
     IfDefining(OpaqueId),
     IfPostAnalysis,
@@ -90,7 +90,7 @@ pub enum OpaqueAccess {
 }
 
 /// A fault of the program that was checked, which is reported later.
-#[derive(Clone, Copy, Debug, PartialEq, Eq, Hash)]
+#[derive(Clone, Copy, PartialEq, Eq)]
 pub enum DelayedFault {
     MissingItem(DefId),
     AutoTrait(TraitId),
