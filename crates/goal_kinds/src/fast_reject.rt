@@ -14,7 +14,7 @@ use goal_terms::view::{Parts, TermRef};
 
 /// What the type and const parameters of the right list stand for: themselves alone, or any terms of
 /// their kinds.
-#[derive(Clone, Copy, Debug, PartialEq, Eq, Hash)]
+#[derive(Clone, Copy, PartialEq, Eq)]
 pub enum Parameters {
     Rigid,
     Inferred,

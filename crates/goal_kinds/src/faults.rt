@@ -3,7 +3,7 @@ use goal_terms::term_nodes::OutOfMemory;
 use thiserror::Error;
 
 /// Why a goal gets no answer.
-#[derive(Clone, Copy, Debug, PartialEq, Eq, Hash, Error)]
+#[derive(Clone, Copy, Debug, PartialEq, Eq, Error)]
 pub enum Fault {
     /// The goal is refuted.
     #[error("no solution")]

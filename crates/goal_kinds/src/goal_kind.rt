@@ -38,7 +38,7 @@ use goal_terms::predicates::{Clause, ClauseKind, Goal};
 use goal_terms::terms::{AliasTerm, GenericArg, Ty};
 
 /// How the candidates of a kind of goals are merged.
-#[derive(Clone, Copy, Debug, PartialEq, Eq, Hash)]
+#[derive(Clone, Copy, PartialEq, Eq)]
 pub enum MergeRule {
     /// The first class that isn't wholly refuted decides, and one candidate that holds is enough.
     TraitGoals,
@@ -50,7 +50,7 @@ pub enum MergeRule {
 }
 
 /// A trait with its arguments, as they stand in a predicate. The first argument is the self type.
-#[derive(Clone, Copy, Debug)]
+#[derive(Clone, Copy)]
 pub struct TraitView<'a> {
     pub def_id: TraitId,
     pub args: &'a [GenericArg],

@@ -35,28 +35,27 @@ pub struct AskedProjection<'t, 'a> {
 }
 
 /// The terms of a row's header: the arguments of a trait, or a self type alone.
-#[derive(Clone, Copy, Debug)]
+#[derive(Clone, Copy)]
 pub enum HeaderTerms<'t> {
     Arguments(&'t [GenericArg]),
     SelfType(&'t Ty),
 }
 
 /// A row's header, with the kinds of its parameters.
-#[derive(Clone, Copy, Debug)]
+#[derive(Clone, Copy)]
 pub struct RowHeader<'t> {
     pub params: &'t [ParamKind],
     pub terms: HeaderTerms<'t>,
 }
 
 /// A row's value.
-#[derive(Clone, Copy, Debug)]
+#[derive(Clone, Copy)]
 pub enum RowValueTerm<'t> {
     Term(&'t Term),
     Ty(&'t Ty),
 }
 
 /// Arguments that later entries take. Those that are named are counted from 0.
-#[derive(Debug)]
 pub enum InternedArguments<'t> {
     /// These, as they stand.
     Given(Vec<TermId>),
@@ -81,7 +80,6 @@ impl Drop for InternedArguments<'_> {
 }
 
 /// What the expected term is.
-#[derive(Debug)]
 pub enum InternedTerm<'t> {
     /// This term, as it stands.
     AsItStands(TermId),
@@ -105,7 +103,6 @@ impl Drop for InternedTerm<'_> {
 }
 
 /// One thing that a rule asks for, or leaves behind.
-#[derive(Debug)]
 pub enum InternedEntry<'t> {
     /// Arguments are named.
     Arguments(InternedArguments<'t>),

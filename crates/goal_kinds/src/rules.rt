@@ -18,7 +18,7 @@ use goal_terms::predicates::{BoundConstness, ClauseKind};
 use goal_terms::terms::{GenericArg, Term};
 
 /// A candidate that was considered: where it comes from, and what its rule is answered.
-#[derive(Debug, Drop)]
+#[derive(Drop)]
 pub struct Candidate {
     pub source: CandidateSource,
     pub result: Response,
@@ -26,7 +26,6 @@ pub struct Candidate {
 
 /// The rule of a candidate: where it comes from, and what it asks for, in order. It holds where all of
 /// its entries do, and is refuted where one is, all arguments that were named before it being known.
-#[derive(Debug)]
 pub struct Rule {
     pub source: CandidateSource,
     pub entries: Vec<RuleEntry>,
@@ -43,7 +42,6 @@ impl Drop for Rule {
 
 /// One thing that a rule asks for. Entries that name arguments are counted from 0: a later entry says by
 /// this number whose arguments it takes.
-#[derive(Debug)]
 pub enum RuleEntry {
     /// Arguments are named.
     Arguments(RuleArguments),
@@ -91,7 +89,6 @@ impl Drop for RuleEntry {
 }
 
 /// Arguments that later entries take.
-#[derive(Debug)]
 pub enum RuleArguments {
     /// These, as they stand.
     Given(Vec<GenericArg>),
@@ -115,14 +112,14 @@ impl Drop for RuleArguments {
 }
 
 /// A row whose header is matched.
-#[derive(Clone, Copy, Debug, PartialEq, Eq, Hash)]
+#[derive(Clone, Copy, PartialEq, Eq)]
 pub enum RuleHeader {
     Impl(ImplId),
     InherentImpl(InherentImplId),
 }
 
 /// A row whose clauses are asked for.
-#[derive(Clone, Copy, Debug, PartialEq, Eq, Hash)]
+#[derive(Clone, Copy, PartialEq, Eq)]
 pub enum RowClauses {
     Impl(ImplId),
     /// The item's own where clauses.
@@ -132,7 +129,6 @@ pub enum RowClauses {
 }
 
 /// What the expected variable stands for.
-#[derive(Debug)]
 pub enum RuleTerm {
     /// This term, as it stands.
     AsItStands(Term),
@@ -156,7 +152,7 @@ impl Drop for RuleTerm {
 }
 
 /// A row whose value is taken.
-#[derive(Clone, Copy, Debug, PartialEq, Eq, Hash)]
+#[derive(Clone, Copy, PartialEq, Eq)]
 pub enum RowValue {
     Definition(DefId),
     Free(FreeId),

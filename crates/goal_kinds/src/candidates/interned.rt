@@ -5,14 +5,14 @@ use goal_terms::predicates::BoundConstness;
 use goal_terms::term_nodes::TermId;
 
 /// A trait with its arguments.
-#[derive(Debug, Drop)]
+#[derive(Drop)]
 pub struct InternedTrait {
     pub def_id: TraitId,
     pub args: Vec<TermId>,
 }
 
 /// That a trait holds, that an alias and a term are equal, or that a trait holds as a const trait.
-#[derive(Debug, Drop)]
+#[derive(Drop)]
 pub enum InternedPredicate {
     Trait(InternedTrait),
     Projection(TermId, TermId),
@@ -20,14 +20,14 @@ pub enum InternedPredicate {
 }
 
 /// What a rule asks for: that a predicate holds, or that two terms are equal.
-#[derive(Debug, Drop)]
+#[derive(Drop)]
 pub enum InternedPremise {
     Predicate(InternedPredicate),
     Equation(TermId, TermId),
 }
 
 /// What a rule for const traits asks for. The conditions must hold as the goal's constness says.
-#[derive(Debug, Drop)]
+#[derive(Drop)]
 pub struct InternedConstRule {
     pub premises: Vec<InternedPremise>,
     pub conditions: Vec<InternedTrait>,
@@ -36,7 +36,7 @@ pub struct InternedConstRule {
 /// Something that may show that a goal holds, or give its term: a clause, a const bound that holds where
 /// its conditions do, an impl, the trait's meaning as a trait alias or a built-in rule, or an error in
 /// the goal.
-#[derive(Debug, Drop)]
+#[derive(Drop)]
 pub enum InternedCandidate<'t> {
     Assumption(InternedPredicate),
     ImpliedBound(InternedTrait, Vec<InternedTrait>),
@@ -48,7 +48,7 @@ pub enum InternedCandidate<'t> {
 /// What a built-in rule says of an item's term: nothing, a term that is to be normalized, behind
 /// premises, the alias itself, or `()` where the self type is of this trait (`Sized`) and else the alias
 /// itself.
-#[derive(Debug, Drop)]
+#[derive(Drop)]
 pub enum ListedTerm {
     Nothing,
     Behind(Vec<InternedPremise>, TermId),

@@ -54,7 +54,7 @@ fn assert_list(
     expected: Expected,
 ) -> Result<(), Fail> {
     let rule = rule_of(alloc, entries)?;
-    assert_eq!(rt; run_certainty(context, &rule), expected, "{rule:?}");
+    assert_eq!(rt; run_certainty(context, &rule), expected);
     Ok(())
 }
 
