@@ -16,28 +16,31 @@ pub struct ItemNames<'a> {
 }
 
 impl ItemNames<'_> {
-    fn name(&self, ident: Option<Ident>, word: &'static str, number: u32) -> Name<'_> {
-        match ident {
-            Some(ident) => Name::Given(self.ast.name(ident.name)),
-            None => Name::Numbered(word, number),
-        }
+    fn given(&self, ident: Ident) -> Name<'_> {
+        Name::Given(self.ast.name(ident.name))
     }
 }
 
 impl TermNames for ItemNames<'_> {
     fn adt_name(&self, id: AdtId) -> Name<'_> {
-        let node = self.definitions.adt_node(self.ast, id);
-        self.name(node.map(|node| node.ident), "Adt", id.0)
+        match self.definitions.adt_node(self.ast, id) {
+            Some(node) => self.given(node.ident),
+            None => Name::Numbered("Adt", id.0),
+        }
     }
 
     fn trait_name(&self, id: TraitId) -> Name<'_> {
-        let node = self.definitions.trait_node(self.ast, id);
-        self.name(node.map(|node| node.ident), "Trait", id.0)
+        match self.definitions.trait_node(self.ast, id) {
+            Some(node) => self.given(node.ident),
+            None => Name::Numbered("Trait", id.0),
+        }
     }
 
     fn item_name(&self, id: ItemId) -> Name<'_> {
-        let node = self.definitions.item_node(self.ast, id);
-        self.name(node.map(|node| node.ident), "Item", id.0)
+        match self.definitions.item_node(self.ast, id) {
+            Some(node) => self.given(node.ident),
+            None => Name::Numbered("Item", id.0),
+        }
     }
 
     fn trait_name_of(&self, id: ItemId) -> Name<'_> {
@@ -58,32 +61,45 @@ impl TermNames for ItemNames<'_> {
     }
 
     fn free_name(&self, id: FreeId) -> Name<'_> {
-        let node = self.definitions.free_node(self.ast, id);
-        self.name(node.map(|node| node.ident), "Free", id.0)
+        match self.definitions.free_node(self.ast, id) {
+            Some(node) => self.given(node.ident),
+            None => Name::Numbered("Free", id.0),
+        }
     }
 
     fn opaque_name(&self, id: OpaqueId) -> Name<'_> {
-        let node = self.definitions.opaque_node(self.ast, id);
-        self.name(node.map(|node| node.ident), "Opaque", id.0)
+        match self.definitions.opaque_node(self.ast, id) {
+            Some(node) => self.given(node.ident),
+            None => Name::Numbered("Opaque", id.0),
+        }
     }
 
     fn inherent_name(&self, id: InherentId) -> Name<'_> {
-        let node = self.definitions.inherent_node(self.ast, id);
-        self.name(node.map(|node| node.ident), "Inherent", id.0)
+        match self.definitions.inherent_node(self.ast, id) {
+            Some(node) => self.given(node.ident),
+            None => Name::Numbered("Inherent", id.0),
+        }
     }
 
     fn fn_name(&self, id: FnId) -> Name<'_> {
-        let node = self.definitions.fn_node(self.ast, id);
-        self.name(node.map(|node| node.ident), "function", id.0)
+        match self.definitions.fn_node(self.ast, id) {
+            Some(node) => self.given(node.ident),
+            None => Name::Numbered("function", id.0),
+        }
     }
 
     fn closure_name(&self, id: ClosureId) -> Name<'_> {
-        let node = self.definitions.closure_node(self.ast, id);
-        self.name(node.map(|node| node.ident), "closure", id.0)
+        match self.definitions.closure_node(self.ast, id) {
+            Some(node) => self.given(node.ident),
+            None => Name::Numbered("closure", id.0),
+        }
     }
 
     fn foreign_name(&self, id: ForeignId) -> Name<'_> {
-        self.name(self.definitions.foreign_node(self.ast, id), "Foreign", id.0)
+        match self.definitions.foreign_node(self.ast, id) {
+            Some(ident) => self.given(ident),
+            None => Name::Numbered("Foreign", id.0),
+        }
     }
 
     fn parameter_name(&self, index: u32) -> Name<'_> {
