@@ -24,7 +24,7 @@ use Rattle.goal_kinds.specs.TraitLists.{is_trait, impl_match, list_by_polarity}
 use Rattle.goal_kinds.specs.Words.{OfRow, Pairs, SomePair}
 use Rattle.goal_kinds.proofs.EntryLemmas.{iff-chain, iff-both, iff-either, iff-same}
 use Rattle.goal_kinds.proofs.ListWords.{nothing-more, test-fails, trait-tested, tested-holds, tested-refuted, by_polarity, premises-hold, premises-refuted, premises_alone-hold, premises_alone-refuted}
-use Rattle.goal_kinds.proofs.TraitLists.{equation-holds, equation-refuted, error_list-holds, error_list-refuted}
+use Rattle.goal_kinds.proofs.TraitLists.{ReadsHeadline, reads-headline, equation-holds, equation-refuted, error_list-holds, error_list-refuted}
 
 -- both of two tests are passed, or one of them fails
 both-passed : (a b : Bool) → (a && b ≡ true) ↔ ((a ≡ true) × (b ≡ true))
@@ -137,19 +137,26 @@ module _ (S : Setting) (headline : is_headline S.mode ≡ true) (L : Level) (c :
       (iff-chain (iff-either iff-same (tested-refuted L (is_positive r.polarity) (Some const_match))) match-refuted))
 
 -- each candidate
-module _ (S : Setting) (headline : is_headline S.mode ≡ true) (L : Level) (c : BoundConstness) (i : TraitId) (args : List Tree) where
-  pub effect_list-holds : (x : Candidate) → ListHolds L (effect_list S c i args x) ↔ ConstCandidateHolds S L c i args x
+module _ (S : Setting) (L : Level) (c : BoundConstness) (i : TraitId) (args : List Tree) where
+  pub effect_candidate_list-holds : (x : Candidate) → ReadsHeadline S.mode x → ListHolds L (effect_list S c i args x) ↔ ConstCandidateHolds S L c i args x
   unfolding effect_list ConstCandidateHolds
-  effect_list-holds (assumption p) = assumption-holds L c i args p
-  effect_list-holds (implied_bound b conditions) = implied-holds L c i args b conditions
-  effect_list-holds (by_impl r) = impl-holds S headline L c args r
-  effect_list-holds built_in = rule-holds L c i args (source_of_const_rule S.tables i (trait_of S.tables i)) (const_rule S.tables i args)
-  effect_list-holds error = error_list-holds L args
+  effect_candidate_list-holds (assumption p) e = assumption-holds L c i args p
+  effect_candidate_list-holds (implied_bound b conditions) e = implied-holds L c i args b conditions
+  effect_candidate_list-holds (by_impl r) e = impl-holds S e L c args r
+  effect_candidate_list-holds built_in e = rule-holds L c i args (source_of_const_rule S.tables i (trait_of S.tables i)) (const_rule S.tables i args)
+  effect_candidate_list-holds error e = error_list-holds L args
 
-  pub effect_list-refuted : (x : Candidate) → ListRefuted L (effect_list S c i args x) ↔ ConstCandidateRefuted S L c i args x
+  pub effect_candidate_list-refuted : (x : Candidate) → ReadsHeadline S.mode x → ListRefuted L (effect_list S c i args x) ↔ ConstCandidateRefuted S L c i args x
   unfolding effect_list ConstCandidateRefuted
-  effect_list-refuted (assumption p) = assumption-refuted L c i args p
-  effect_list-refuted (implied_bound b conditions) = implied-refuted L c i args b conditions
-  effect_list-refuted (by_impl r) = impl-refuted S headline L c args r
-  effect_list-refuted built_in = rule-refuted L c i args (source_of_const_rule S.tables i (trait_of S.tables i)) (const_rule S.tables i args)
-  effect_list-refuted error = error_list-refuted L args
+  effect_candidate_list-refuted (assumption p) e = assumption-refuted L c i args p
+  effect_candidate_list-refuted (implied_bound b conditions) e = implied-refuted L c i args b conditions
+  effect_candidate_list-refuted (by_impl r) e = impl-refuted S e L c args r
+  effect_candidate_list-refuted built_in e = rule-refuted L c i args (source_of_const_rule S.tables i (trait_of S.tables i)) (const_rule S.tables i args)
+  effect_candidate_list-refuted error e = error_list-refuted L args
+
+module _ (S : Setting) (headline : is_headline S.mode ≡ true) (L : Level) (c : BoundConstness) (i : TraitId) (args : List Tree) (x : Candidate) where
+  pub effect_list-holds : ListHolds L (effect_list S c i args x) ↔ ConstCandidateHolds S L c i args x
+  effect_list-holds = effect_candidate_list-holds S L c i args x (reads-headline S.mode x headline)
+
+  pub effect_list-refuted : ListRefuted L (effect_list S c i args x) ↔ ConstCandidateRefuted S L c i args x
+  effect_list-refuted = effect_candidate_list-refuted S L c i args x (reads-headline S.mode x headline)

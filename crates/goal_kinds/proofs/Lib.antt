@@ -133,4 +133,8 @@ pub mod RebuiltLemmas
 pub mod SortedLists
 pub mod ListedRules
 pub mod NamedRowLemmas
+pub mod FaceLemmas
 pub mod TraitFaceLemmas
+pub mod SortedEffects
+pub mod EffectFaceLemmas
+pub mod EffectKindLaws

@@ -1,8 +1,8 @@
 -- Entries name the rows that they borrow from.
-use Rattle.std.proofs.Common.{◌≡◌, ℕ, List, [], ◌∷◌, map, Option, Some, None, refl, sym, ◌∙◌, ap, ap₂, subst}
+use Rattle.std.proofs.Common.{◌≡◌, List, [], ◌∷◌, ◌++◌, Some, sym, ◌∙◌, ap, ap₂, subst}
 use Rattle.std.specs.List.{All}
 use Rattle.std.specs.Option.{option_map}
-use Rattle.std.proofs.lemmas.List.Elements.{All-cons, All-nil}
+use Rattle.std.proofs.lemmas.List.Elements.{All-cons, All-nil, All-push, All-append}
 use Rattle.goal_terms.specs.Tree.{Tree}
 use Rattle.goal_terms.specs.TreeOf.{trees_of}
 use Rattle.goal_terms.specs.declared.answers.GoalSource.{GoalSource}
@@ -16,7 +16,6 @@ use Rattle.goal_kinds.specs.InternedEntries.{entry_at, entries_at}
 use Rattle.goal_kinds.specs.NamedRows.{NamesItsRows}
 use Rattle.goal_kinds.specs.Premises.{Premise, predicate, equation}
 use Rattle.goal_kinds.specs.RuleLists.{header_arguments}
-use Rattle.goal_kinds.specs.declared.lists.InternedArguments.{InternedArguments}
 use Rattle.goal_kinds.specs.declared.lists.InternedEntry.{InternedEntry}
 use Rattle.goal_kinds.specs.declared.lists.InternedEntry.TheVariants as entries
 use Rattle.goal_kinds.specs.declared.rules.RuleHeader.TheVariants as header
@@ -35,6 +34,13 @@ one-named t es a made h = subst (All (NamesItsRows t)) (sym made) (All-cons (Nam
 pub two-named : (t : Tables) (es : List InternedEntry) (a b : InternedEntry) → es ≡ a ∷ b ∷ [] → NamesItsRows t a → NamesItsRows t b → All (NamesItsRows t) es
 two-named t es a b made h k =
     subst (All (NamesItsRows t)) (sym made) (All-cons (NamesItsRows t) a (b ∷ []) h (All-cons (NamesItsRows t) b [] k (All-nil (NamesItsRows t))))
+
+-- one more entry, and further ones behind a list
+pub pushed-named : (t : Tables) (es fs : List InternedEntry) (a : InternedEntry) → es ≡ fs ++ a ∷ [] → All (NamesItsRows t) fs → NamesItsRows t a → All (NamesItsRows t) es
+pushed-named t es fs a made h here = subst (All (NamesItsRows t)) (sym made) (All-push (NamesItsRows t) fs a h here)
+
+pub joined-named : (t : Tables) (es fs gs : List InternedEntry) → es ≡ fs ++ gs → All (NamesItsRows t) fs → All (NamesItsRows t) gs → All (NamesItsRows t) es
+joined-named t es fs gs made h k = subst (All (NamesItsRows t)) (sym made) (All-append (NamesItsRows t) fs gs h k)
 
 -- an entry that stands for a premise names no row
 premise-names : (t : Tables) (T : List Tree) (g : GoalSource) (e : InternedEntry) (p : Premise) → entry_at T e ≡ premise_entry g p → NamesItsRows t e

@@ -1,5 +1,5 @@
 -- The lists of trait goals equate only aliases with types and constants.
-use Rattle.std.proofs.Common.{◌≡◌, Bool, true, false, List, [], ◌∷◌, map, Option, Some, None, refl, sym, ap, ◌∙◌, subst}
+use Rattle.std.proofs.Common.{Bool, true, false, List, [], ◌∷◌, map, Option, Some, None, sym, ap, ◌∙◌, subst}
 use Rattle.std.specs.Prelude.{IfSome, if◌then◌else◌}
 use Rattle.std.specs.Option.{option_map, option_and_then}
 use Rattle.goal_terms.specs.Erased.{erased}
@@ -34,13 +34,13 @@ use Rattle.goal_tables.specs.declared.rows.Tables.{Tables}
 use Rattle.goal_tables.specs.declared.rows.TraitRow.{TraitRow}
 use Rattle.goal_kinds.specs.Builtins.{each_is, last_is, constraint_is, sized_of_head, sized_rule, copied_parts, call_premises, output_of, signature_of, call_rule, where_true, is_fn_ptr, is_tuple, field_of, lang_of_trait, lang_rule, alias_or_lang_rule, trait_rule}
 use Rattle.goal_kinds.specs.Candidates.{Candidate, assumption, implied_bound, by_impl, built_in, error, last_of}
-use Rattle.goal_kinds.specs.Entries.{Entry, premise_entry, premise_entries, equal_terms}
+use Rattle.goal_kinds.specs.Entries.{Entry, premise_entries, equal_terms}
 use Rattle.goal_kinds.specs.Headers.{under}
 use Rattle.goal_kinds.specs.Interned.{erased_all, AreIn}
 use Rattle.goal_kinds.specs.NamedRows.{IsAlias, IsSortedPredicate, IsSorted, ListIsSorted}
 use Rattle.goal_kinds.specs.Premises.{Premise, predicate, equation, predicate_under, clauses_under}
 use Rattle.goal_kinds.specs.Settings.{Setting}
-use Rattle.goal_kinds.specs.TraitLists.{is_trait, impl_match, reserved_list, list_by_polarity, trait_assumption_list, trait_impl_list, source_of_rule, trait_rule_list, error_list, trait_list}
+use Rattle.goal_kinds.specs.TraitLists.{is_trait, impl_match, reserved_list, list_by_polarity, trait_assumption_list, source_of_rule, trait_list}
 use Rattle.goal_kinds.specs.TraitGoals.{any_error}
 use Rattle.goal_kinds.specs.Words.{Each}
 use Rattle.goal_kinds.proofs.RebuiltLemmas.{sort-of_erased}
@@ -193,19 +193,19 @@ unfolding Each
 reserved-sorted modes.Coherence = (tt, tt)
 reserved-sorted m = tt
 
-polarity-sorted : (m : TypingMode) (p : ImplPolarity) (es : List Entry) → Each IsSorted es → ListIsSorted (list_by_polarity m p es)
+pub polarity-sorted : (m : TypingMode) (p : ImplPolarity) (es : List Entry) → Each IsSorted es → ListIsSorted (list_by_polarity m p es)
 unfolding list_by_polarity
 polarity-sorted m polarity.Positive es h = h
 polarity-sorted m polarity.Negative es h = tt
 polarity-sorted m polarity.Reservation es h = reserved-sorted m
 
 -- a test of what is one entry
-one-sorted : (b : Bool) (ts us : List Tree) → ListIsSorted (if b then Some (equal_terms ts us ∷ []) else None)
+pub one-sorted : (b : Bool) (ts us : List Tree) → ListIsSorted (if b then Some (equal_terms ts us ∷ []) else None)
 unfolding Each
 one-sorted true ts us = (tt, tt)
 one-sorted false ts us = tt
 
-none-sorted : (b : Bool) → ListIsSorted (if b then Some [] else None)
+pub none-sorted : (b : Bool) → ListIsSorted (if b then Some [] else None)
 unfolding Each
 none-sorted true = tt
 none-sorted false = tt

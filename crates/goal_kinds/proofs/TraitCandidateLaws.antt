@@ -1,8 +1,7 @@
 -- The laws of candidates for trait goals: more height keeps them, and what is rejected is refuted with no height.
-use Rattle.std.proofs.Common.{◌≡◌, ◌≤◌, ◌==◌, ◌&&◌, ◌||◌, ℕ, Bool, true, false, not, cond, List, [], ◌∷◌, Option, Some, None, find, map, inl, inr, refl, sym, ◌∙◌, ap, subst, ⊎_elim, ◌⊎◌, eq-eqb}
+use Rattle.std.proofs.Common.{◌≡◌, ◌≤◌, ◌==◌, ◌&&◌, ◌||◌, ℕ, Bool, true, false, not, cond, List, [], ◌∷◌, Option, Some, None, find, inl, inr, refl, sym, ◌∙◌, ap, subst, ◌⊎◌, eq-eqb}
 use Rattle.std.proofs.lemmas.Bool.{false≢true, eqb-true}
-use Rattle.goal_terms.specs.Erased.{erased}
-use Rattle.goal_terms.specs.PredicateTrees.{PredicateTree, holds, equals, holds_const, tree_of_kind}
+use Rattle.goal_terms.specs.PredicateTrees.{PredicateTree, holds, equals, holds_const}
 use Rattle.goal_terms.specs.Tree.{Tree}
 use Rattle.goal_terms.specs.TreeOf.{trees_of}
 use Rattle.goal_terms.specs.declared.ids.ImplId.{ImplId}
@@ -13,12 +12,9 @@ use Rattle.goal_terms.specs.declared.predicates.ClauseKind.TheVariants as clause
 use Rattle.goal_terms.specs.declared.predicates.TraitRef.{TraitRef}
 use Rattle.goal_tables.specs.Clauses.{lies_in_trait_ref, lies_in_clause_kind}
 use Rattle.goal_tables.specs.Faults.{IsChecked}
-use Rattle.goal_tables.specs.ImplFaults.{is_reservation}
 use Rattle.goal_tables.specs.Rows.{impl_of}
 use Rattle.goal_tables.specs.SourceFaults.{is_positive}
 use Rattle.goal_tables.specs.declared.rows.ImplRow.{ImplRow}
-use Rattle.goal_tables.specs.declared.rows.Tables.{Tables}
-use Rattle.goal_kinds.specs.Answers.{erased_predicate}
 use Rattle.goal_kinds.specs.Builtins.{trait_rule}
 use Rattle.goal_kinds.specs.CandidateRules.{HasNoKindFault, IsAcceptedClause, may_match, only_bars, refuses_row, said_by, TraitCandidateHolds, TraitCandidateRefuted}
 use Rattle.goal_kinds.specs.Candidates.{Candidate, assumption, implied_bound, by_impl, built_in, error}
@@ -30,7 +26,7 @@ use Rattle.goal_kinds.specs.Levels.{level}
 use Rattle.goal_kinds.specs.Premises.{Premise}
 use Rattle.goal_kinds.specs.Rules.{given}
 use Rattle.goal_kinds.specs.Settings.{Setting}
-use Rattle.goal_kinds.specs.TraitGoals.{AssumptionHolds, AssumptionRefuted, header_of, ImplHolds, ImplRefuted, TraitRuleHolds, TraitRuleRefuted, CandidateHolds, CandidateRefuted}
+use Rattle.goal_kinds.specs.TraitGoals.{AssumptionHolds, AssumptionRefuted, ImplHolds, ImplRefuted, TraitRuleHolds, TraitRuleRefuted, CandidateHolds, CandidateRefuted}
 use Rattle.goal_kinds.specs.Words.{Exists}
 use Rattle.goal_kinds.specs.declared.fast_reject.Parameters.TheVariants.{Rigid, Inferred}
 use Rattle.goal_kinds.proofs.AcceptedLemmas.{accepted-heads, rejected-clashes}
@@ -84,7 +80,7 @@ candidate-higher_refuted a S n m built_in le h = rule-higher_refuted (within-lev
 candidate-higher_refuted a S n m error le h = h
 
 -- a rejected clause of a trait is of another trait, or has another argument
-rejected-trait : (S : Setting) (a q : TraitRef) → IsChecked S.tables → HasNoKindFault (λ f. lies_in_trait_ref S.tables [] f a) →
+pub rejected-trait : (S : Setting) (a q : TraitRef) → IsChecked S.tables → HasNoKindFault (λ f. lies_in_trait_ref S.tables [] f a) →
     HasNoKindFault (λ f. lies_in_trait_ref S.tables [] f q) → (b : Bool) → (q.def_id.0 == a.def_id.0) ≡ b →
     b && lists_may_unify Rigid (trees_of q.args.items) (trees_of a.args.items) ≡ false → AssumptionRefuted (level S 0) a.def_id (given a.args) (holds q.def_id (given q.args))
 unfolding AssumptionRefuted level

@@ -1,10 +1,8 @@
 -- The rules of trait goals say what the lists of their candidates do.
-use Rattle.std.proofs.Common.{◌≡◌, ◌↔◌, ◌==◌, ℕ, Bool, true, false, List, [], ◌∷◌, ◌++◌, map, Option, Some, None, Result, Ok, Err, IfOk, IfErr, IsOkUnless, refl, sym, ◌∙◌, ap, ap₂, subst, append-nil}
+use Rattle.std.proofs.Common.{◌≡◌, ◌↔◌, ◌==◌, ℕ, Bool, true, false, List, [], ◌∷◌, Option, Some, None, Result, Err, IfOk, IfErr, refl, sym, ◌∙◌, ap, subst}
 use Rattle.std.specs.Prelude.{◌&&◌, ◌||◌, not, if◌then◌else◌}
 use Rattle.std.specs.List.{find}
 use Rattle.std.proofs.lemmas.Bool.{eqb-true}
-use Rattle.goal_terms.specs.PredicateTrees.{tree_of_kind}
-use Rattle.goal_terms.specs.TableMeaning.{Keeps}
 use Rattle.goal_terms.specs.Tree.{Tree}
 use Rattle.goal_terms.specs.declared.answers.Certainty.{Certainty}
 use Rattle.goal_terms.specs.declared.answers.Certainty.TheVariants as certainty
@@ -28,110 +26,82 @@ use Rattle.goal_kinds.specs.Answers.{setting_of}
 use Rattle.goal_kinds.specs.CandidateRules.{GivesAs, RefutedAs, IsRefusal, IsNamedAnswer, TraitCandidateHolds, TraitCandidateRefuted, is_coherence, is_of_trait, refuses_row, refuses_impl, said_by, only_given}
 use Rattle.goal_kinds.specs.Candidates.{Candidate, by_impl, built_in}
 use Rattle.goal_kinds.specs.Entries.{Entry, equal_terms, undecided, ListHolds, ListRefuted, ListAsksNoTerm}
-use Rattle.goal_kinds.specs.Interned.{AreIn, CandidateIn, erased_all, candidate_at}
+use Rattle.goal_kinds.specs.Interned.{AreIn, erased_all}
 use Rattle.goal_kinds.specs.InternedEntries.{setting_at}
 use Rattle.goal_kinds.specs.Levels.{level}
 use Rattle.goal_kinds.specs.NamedRows.{ListIsSorted}
-use Rattle.goal_kinds.specs.RuleLists.{entries_then, list_then, IsListed, IsToldBy}
+use Rattle.goal_kinds.specs.RuleLists.{list_then, IsListed, IsToldBy}
 use Rattle.goal_kinds.specs.Rules.{given}
 use Rattle.goal_kinds.specs.Settings.{Setting}
 use Rattle.goal_kinds.specs.TraitLists.{impl_match, list_by_polarity, trait_assumption_list, trait_impl_list, trait_list}
-use Rattle.goal_kinds.specs.declared.candidates.interned.InternedCandidate.{InternedCandidate}
 use Rattle.goal_kinds.specs.declared.faults.Fault.{Fault}
 use Rattle.goal_kinds.specs.declared.faults.Fault.TheVariants as fault
 use Rattle.goal_kinds.specs.declared.lists.ListSetting.{ListSetting}
 use Rattle.goal_kinds.specs.declared.rules.Rule.{Rule}
-use Rattle.goal_kinds.proofs.ListedRules.{AreGiven, listed-list, listed-gives, listed-refuted, listed-given, none-refuted, refusal-says, some-accepted, named-answer}
+use Rattle.goal_kinds.proofs.ListedRules.{some-accepted}
 use Rattle.goal_kinds.proofs.AlikeSettings.{found}
-use Rattle.goal_kinds.proofs.InternedLemmas.{candidate_same-grown}
+use Rattle.goal_kinds.proofs.FaceLemmas.{IsSomeGiven, one-given, some-given, listed-yes_back, face-gives, face-refuted, face-told, face-refusal, face-named}
 use Rattle.goal_kinds.proofs.ListTerms.{trait_list-asks_none}
 use Rattle.goal_kinds.proofs.SortedLists.{trait_list-sorted}
 use Rattle.goal_kinds.proofs.TraitLists.{ReadsHeadline, candidate_list-holds, candidate_list-refuted}
 
--- a list with nothing more behind it
-pub then-yes : (o : Option (List Entry)) → list_then certainty.Yes o ≡ o
-then-yes None = refl
-then-yes (Some es) = ap Some (append-nil es)
-
-pub listed-yes : (t : Tables) (o : Option (List Entry)) (r : Result Rule Fault) → IfOk r (λ x. IsListed t x (list_then certainty.Yes o)) → IfOk r (λ x. IsListed t x o)
-listed-yes t o r h = subst (λ l. IfOk r (λ x. IsListed t x l)) (then-yes o) h
-
-pub listed-yes_back : (t : Tables) (o : Option (List Entry)) (r : Result Rule Fault) → IfOk r (λ x. IsListed t x o) → IfOk r (λ x. IsListed t x (list_then certainty.Yes o))
-listed-yes_back t o r h = subst (λ l. IfOk r (λ x. IsListed t x l)) (sym (then-yes o)) h
-
--- a rule whose entries are those of a list stands for the list
-listed-told : (t : Tables) (c : Certainty) (o : Option (List Entry)) (r : Result Rule Fault) → IfOk r (λ x. IsListed t x (list_then c o)) → IfOk r (IsToldBy t c (Some o))
-listed-told t c o (Ok x) h = listed-list t x (list_then c o) h
-listed-told t c o (Err e) h = tt
-
 -- rules that are listed for a goal's trait
 module _ (S : ListSetting) (t : Tables) (m : TypingMode) (env : List Clause) (a : TraitRef) (c : Candidate) (rows : S.rows.now ≡ t) (mode : S.mode.now ≡ m) where
-  abbrev list : Option (List Entry)
-  list = trait_list (setting_at S env) a.def_id (given a.args) c
+  abbrev asked : Setting → Option (List Entry)
+  asked V = trait_list V a.def_id (given a.args) c
 
-  made-holds : ReadsHeadline m c → (n : ℕ) → ListHolds (level (setting_at S env) n) list ↔ TraitCandidateHolds a (setting_at S env) n c
+  abbrev Holds : Setting → ℕ → Type 0
+  Holds V n = TraitCandidateHolds a V n c
+
+  abbrev Refuted : Setting → ℕ → Type 0
+  Refuted V n = TraitCandidateRefuted a V n c
+
+  made-holds : ReadsHeadline m c → (n : ℕ) → ListHolds (level (setting_at S env) n) (asked (setting_at S env)) ↔ Holds (setting_at S env) n
   made-holds reads n = candidate_list-holds (setting_at S env) (level (setting_at S env) n) a.def_id (given a.args) c (subst (λ k. ReadsHeadline k c) (sym mode) reads)
 
-  made-refuted : ReadsHeadline m c → (n : ℕ) → ListRefuted (level (setting_at S env) n) list ↔ TraitCandidateRefuted a (setting_at S env) n c
+  made-refuted : ReadsHeadline m c → (n : ℕ) → ListRefuted (level (setting_at S env) n) (asked (setting_at S env)) ↔ Refuted (setting_at S env) n
   made-refuted reads n = candidate_list-refuted (setting_at S env) (level (setting_at S env) n) a.def_id (given a.args) c (subst (λ k. ReadsHeadline k c) (sym mode) reads)
 
-  -- what is so of the setting that lists are made for is so of the goal's
-  as-asked : (P : Setting → Type 0) → P (setting_at S env) → P (setting_of t m env)
-  as-asked P h = subst (λ u. P (setting_of u m env)) rows (subst (λ k. P (setting_of S.rows.now k env)) mode h)
+  -- a rule whose entries are those of the list
+  abbrev ListedThen : Certainty → Result Rule Fault → Type 0
+  ListedThen sure r = IfOk r (λ x. IsListed S.rows.now x (list_then sure (asked (setting_at S env))))
 
-  pub trait-gives : (sure : Certainty) (r : Result Rule Fault) → ReadsHeadline m c → IfOk r (λ x. IsListed S.rows.now x (list_then sure list)) →
+  abbrev Listed : Result Rule Fault → Type 0
+  Listed r = IfOk r (λ x. IsListed S.rows.now x (asked (setting_at S env)))
+
+  pub trait-gives : (sure : Certainty) (r : Result Rule Fault) → ReadsHeadline m c → ListedThen sure r →
       IfOk r (GivesAs false (setting_of t m env) sure (λ n u. TraitCandidateHolds a (setting_of t m env) n c))
-  trait-gives sure r reads h =
-      as-asked (λ V. IfOk r (GivesAs false V sure (λ n u. TraitCandidateHolds a V n c)))
-      (listed-gives (setting_at S env) sure list (λ n. TraitCandidateHolds a (setting_at S env) n c) r h (made-holds reads))
+  trait-gives sure r reads h = face-gives asked Holds Refuted S t m env rows mode sure r (made-holds reads) h
 
-  pub trait-refuted : (sure : Certainty) (r : Result Rule Fault) → ReadsHeadline m c → IfOk r (λ x. IsListed S.rows.now x (list_then sure list)) →
+  pub trait-refuted : (sure : Certainty) (r : Result Rule Fault) → ReadsHeadline m c → ListedThen sure r →
       IfOk r (RefutedAs (setting_of t m env) (λ n. TraitCandidateRefuted a (setting_of t m env) n c))
-  trait-refuted sure r reads h =
-      as-asked (λ V. IfOk r (RefutedAs V (λ n. TraitCandidateRefuted a V n c)))
-      (listed-refuted (setting_at S env) sure list (λ n. TraitCandidateRefuted a (setting_at S env) n c) r h (made-refuted reads))
+  trait-refuted sure r reads h = face-refuted asked Holds Refuted S t m env rows mode sure r (made-refuted reads) h
 
-  pub trait-told : (sure : Certainty) (r : Result Rule Fault) → IfOk r (λ x. IsListed S.rows.now x (list_then sure list)) →
-      IfOk r (IsToldBy t sure (Some (trait_list (setting_of t m env) a.def_id (given a.args) c)))
-  trait-told sure r h =
-      as-asked (λ V. IfOk r (IsToldBy V.tables sure (Some (trait_list V a.def_id (given a.args) c)))) (listed-told S.rows.now sure list r h)
+  pub trait-told : (sure : Certainty) (r : Result Rule Fault) → ListedThen sure r → IfOk r (IsToldBy t sure (Some (trait_list (setting_of t m env) a.def_id (given a.args) c)))
+  trait-told sure r h = face-told asked Holds Refuted S t m env rows mode sure r h
 
   -- the same where nothing is left undecided behind the list
-  abbrev Listed : Result Rule Fault → Type 0
-  Listed r = IfOk r (λ x. IsListed S.rows.now x list)
-
   pub sure-gives : (r : Result Rule Fault) → ReadsHeadline m c → Listed r →
       IfOk r (GivesAs false (setting_of t m env) certainty.Yes (λ n u. TraitCandidateHolds a (setting_of t m env) n c))
-  sure-gives r reads h = trait-gives certainty.Yes r reads (listed-yes_back S.rows.now list r h)
+  sure-gives r reads h = trait-gives certainty.Yes r reads (listed-yes_back S.rows.now (asked (setting_at S env)) r h)
 
   pub sure-refuted : (r : Result Rule Fault) → ReadsHeadline m c → Listed r → IfOk r (RefutedAs (setting_of t m env) (λ n. TraitCandidateRefuted a (setting_of t m env) n c))
-  sure-refuted r reads h = trait-refuted certainty.Yes r reads (listed-yes_back S.rows.now list r h)
+  sure-refuted r reads h = trait-refuted certainty.Yes r reads (listed-yes_back S.rows.now (asked (setting_at S env)) r h)
 
   pub sure-told : (r : Result Rule Fault) → Listed r → IfOk r (IsToldBy t certainty.Yes (Some (trait_list (setting_of t m env) a.def_id (given a.args) c)))
-  sure-told r h = trait-told certainty.Yes r (listed-yes_back S.rows.now list r h)
+  sure-told r h = trait-told certainty.Yes r (listed-yes_back S.rows.now (asked (setting_at S env)) r h)
 
-  pub trait-refusal : (r : Result Rule Fault) → ReadsHeadline m c → IfErr r (IsRefusal (list ≡ None)) →
+  pub trait-refusal : (r : Result Rule Fault) → ReadsHeadline m c → IfErr r (IsRefusal (asked (setting_at S env) ≡ None)) →
       IfErr r (IsRefusal (TraitCandidateRefuted a (setting_of t m env) 0 c))
-  trait-refusal r reads h =
-      as-asked (λ V. IfErr r (IsRefusal (TraitCandidateRefuted a V 0 c)))
-      (refusal-says (list ≡ None) (TraitCandidateRefuted a (setting_at S env) 0 c) r
-      (none-refuted (level (setting_at S env) 0) list (TraitCandidateRefuted a (setting_at S env) 0 c) (made-refuted reads 0)) h)
+  trait-refusal r reads h = face-refusal asked Holds Refuted S t m env rows mode r (made-refuted reads) h
 
-  pub trait-named : (b : Bool) (r : Result Rule Fault) → ReadsHeadline m c → (b ≡ false → r ≡ Err fault.NotForThisKind) → IfOk r (λ x. IsListed S.rows.now x list) →
-      (b ≡ true → IfErr r (IsRefusal (list ≡ None))) →
+  pub trait-named : (b : Bool) (r : Result Rule Fault) → ReadsHeadline m c → (b ≡ false → r ≡ Err fault.NotForThisKind) → Listed r →
+      (b ≡ true → IfErr r (IsRefusal (asked (setting_at S env) ≡ None))) →
       IsNamedAnswer b false (setting_of t m env) (λ n u. TraitCandidateHolds a (setting_of t m env) n c) (λ n. TraitCandidateRefuted a (setting_of t m env) n c) r
-  trait-named b r reads other listed refused =
-      as-asked (λ V. IsNamedAnswer b false V (λ n u. TraitCandidateHolds a V n c) (λ n. TraitCandidateRefuted a V n c) r)
-      (named-answer b (setting_at S env) list (λ n. TraitCandidateHolds a (setting_at S env) n c) (λ n. TraitCandidateRefuted a (setting_at S env) n c) r other listed refused
-      (made-holds reads) (made-refuted reads))
-
-one-given : (ts us : List Tree) (c : Certainty) → AreGiven (equal_terms ts us ∷ entries_then c)
-unfolding AreGiven
-one-given ts us certainty.Yes = (tt, tt)
-one-given ts us certainty.Maybe = (tt, (tt, tt))
+  trait-named b r reads other listed refused = face-named asked Holds Refuted S t m env rows mode b r (made-holds reads) (made-refuted reads) other listed refused
 
 -- the list of a clause of the goal's trait
-said-list : (S : Setting) (a : TraitRef) (k : ClauseKind) → is_of_trait a k ≡ true → (es : List Entry) × (trait_list S a.def_id (given a.args) (said_by k) ≡ Some es) × ((c : Certainty) → AreGiven (es ++ entries_then c))
+said-list : (S : Setting) (a : TraitRef) (k : ClauseKind) → is_of_trait a k ≡ true → IsSomeGiven (trait_list S a.def_id (given a.args) (said_by k))
 unfolding trait_list trait_assumption_list
 said-list S a (clauses.Trait q) e = (
   equal_terms (given q.trait_ref.args) (given a.args) ∷ [],
@@ -141,24 +111,13 @@ said-list S a (clauses.Trait q) e = (
 said-list S a (clauses.Projection q) e = absurd (cc)
 said-list S a (clauses.HostEffect q) e = absurd (cc)
 
-listed-some : (t : Tables) (r : Rule) (c : Certainty) (o : Option (List Entry)) (es : List Entry) → o ≡ Some es → ((d : Certainty) → AreGiven (es ++ entries_then d)) →
-    IsListed t r (list_then c o) → only_given r.entries.items ≡ true
-listed-some t r c o es e given_all h =
-    listed-given t r.entries.items (es ++ entries_then c) (subst (λ l. IsListed t r (list_then c l)) e h) (given_all c)
-
 pub said-given : (t : Tables) (S : Setting) (a : TraitRef) (k : ClauseKind) (c : Certainty) (r : Result Rule Fault) → is_of_trait a k ≡ true →
     IfOk r (λ x. IsListed t x (list_then c (trait_list S a.def_id (given a.args) (said_by k)))) → IfOk r (λ x. only_given x.entries.items ≡ true)
-said-given t S a k c (Ok x) e h = let some = said-list S a k e in listed-some t x c (trait_list S a.def_id (given a.args) (said_by k)) some.0 some.1 some.2 h
-said-given t S a k c (Err f) e h = tt
+said-given t S a k c r e h = some-given t c (trait_list S a.def_id (given a.args) (said_by k)) r (said-list S a k e) h
 
 pub said-accepted : (S : Setting) (a : TraitRef) (k : ClauseKind) (r : Result Rule Fault) → is_of_trait a k ≡ true →
     IfErr r (IsRefusal (trait_list S a.def_id (given a.args) (said_by k) ≡ None)) → IfErr r (λ f. f ≡ fault.OutOfMemory)
 said-accepted S a k r e h = let some = said-list S a k e in some-accepted some.0 (trait_list S a.def_id (given a.args) (said_by k)) r some.1 h
-
--- the list that is made over a table for a candidate of an older one
-module _ (S : Setting) (i : TraitId) (T U : List Tree) (k : Keeps T U) (cand : InternedCandidate) (within : CandidateIn T cand) (ids : List TermId) (args : List Tree) (same : erased_all U ids ≡ args) where
-  pub list-made : (l : Option (List Entry)) → l ≡ trait_list S i (erased_all U ids) (candidate_at U cand) → l ≡ trait_list S i args (candidate_at T cand)
-  list-made l e = e ∙ ap₂ (trait_list S i) same (candidate_same-grown T U k cand within)
 
 -- it equates aliases with types and constants alone, and asks for no term
 pub list-made_sorted : (S : Setting) (i : TraitId) (U : List Tree) (ids : List TermId) (c : Candidate) (l : Option (List Entry)) → AreIn U ids →
@@ -187,7 +146,7 @@ impl-by_id t i r e =
     ap (λ n. find (λ q. q.id.0 == n) t.impls.items) (eqb-true r.id.0 i.0 (found (λ q. q.id.0 == i.0) t.impls.items r e).1) ∙ e
 
 -- an impl that is positive, or bars a refutation in coherence, has a list
-polarity-some : (m : TypingMode) (p : ImplPolarity) (es : List Entry) → not (is_positive p || (is_coherence m && is_reservation p)) ≡ false →
+pub polarity-some : (m : TypingMode) (p : ImplPolarity) (es : List Entry) → not (is_positive p || (is_coherence m && is_reservation p)) ≡ false →
     (xs : List Entry) × (list_by_polarity m p es ≡ Some xs)
 unfolding list_by_polarity
 polarity-some m polarity.Positive es e = (es, refl)
@@ -196,7 +155,7 @@ polarity-some m polarity.Negative es e = absurd (cc)
 polarity-some modes.Coherence polarity.Reservation es e = (undecided ∷ [], refl)
 polarity-some m polarity.Reservation es e = absurd (cc)
 
-or-false : (a b : Bool) → a || b ≡ false → b ≡ false
+pub or-false : (a b : Bool) → a || b ≡ false → b ≡ false
 or-false true b e = absurd (cc)
 or-false false b e = e
 

@@ -77,7 +77,7 @@ within-const_rule_refuted w c None h = h
 within-const_rule_refuted w c (Some r) h = sum-map (within-premises_refuted w r.premises) (within-premises_refuted w (conditions_as c r.conditions)) h
 
 -- a candidate shows that the trait is const, or cannot show it
-within-const_candidate_holds : {L M : Level} → IsWithin L M → (S : Setting) (v : Vec ImplRow Global) (m : TypingMode) →
+pub within-const_candidate_holds : {L M : Level} → IsWithin L M → (S : Setting) (v : Vec ImplRow Global) (m : TypingMode) →
     (c : BoundConstness) (i : TraitId) (args : List Tree) (d : Candidate) →
     ConstCandidateHolds S L c i args d → ConstCandidateHolds (with_impls_and_mode S v m) M c i args d
 unfolding ConstCandidateHolds
@@ -88,7 +88,7 @@ within-const_candidate_holds {M = M} w S v m c i args built_in h =
     subst (ConstRuleHolds M c) (sym (other_impls-const_rule S.tables v i args)) (within-const_rule_holds w c (const_rule S.tables i args) h)
 within-const_candidate_holds w S v m c i args error h = h
 
-within-const_candidate_refuted : {L M : Level} → IsWithin L M → (S : Setting) (v : Vec ImplRow Global) (m : TypingMode) →
+pub within-const_candidate_refuted : {L M : Level} → IsWithin L M → (S : Setting) (v : Vec ImplRow Global) (m : TypingMode) →
     (c : BoundConstness) (i : TraitId) (args : List Tree) (d : Candidate) →
     ConstCandidateRefuted S L c i args d → ConstCandidateRefuted (with_impls_and_mode S v m) M c i args d
 unfolding ConstCandidateRefuted

@@ -4,6 +4,7 @@ ghost use Rattle.std.specs.List.{AllZip};
 ghost use Rattle.std.specs.Option.{option_map};
 ghost use Rattle.goal_terms.specs.Tree.{Tree as tree};
 ghost use Rattle.goal_terms.specs.TreeOf.{tree_of_ty};
+ghost use Rattle.goal_terms.specs.declared.predicates.BoundConstness.{BoundConstness as bound_constness};
 ghost use Rattle.goal_terms.specs.declared.predicates.ClauseKind.{ClauseKind as clause_kind};
 ghost use Rattle.goal_terms.specs.declared.terms.AliasTerm.{AliasTerm as alias_term};
 ghost use Rattle.goal_terms.specs.declared.terms.Ty.{Ty as ty};
@@ -34,7 +35,7 @@ use goal_tables::predicate_terms::PredicateTerms;
 use goal_terms::answers::{BuiltinImplSource, CandidateSource, Certainty, GoalSource};
 use goal_terms::ids::{ImplId, TraitId};
 use goal_terms::modes::TypingMode;
-use goal_terms::predicates::{Clause, ClauseKind, Goal};
+use goal_terms::predicates::{BoundConstness, Clause, ClauseKind, Goal};
 use goal_terms::terms::{AliasTerm, GenericArg, Ty};
 
 /// How the candidates of a kind of goals are merged.
@@ -72,6 +73,9 @@ pub trait GoalKind: PredicateTerms {
 
     /// The self type.
     ghost self_type: { Self → Option ty };
+
+    /// With which constness a goal asks for its trait; one that asks for no const trait has none.
+    ghost constness: { Self → Option bound_constness };
 
     /// That a predicate is another one with a type in place of the self type.
     ghost is_with_self: { Self → tree → Self → Type 0 };
@@ -115,6 +119,10 @@ pub trait GoalKind: PredicateTerms {
     /// The self type. It takes no memory.
     fn self_ty(&self) -> Option<&Ty>
         ensures { option_copied result ≡ self_type self.now };
+
+    /// The constness with which the trait is asked for, if it is as a const trait. It takes no memory.
+    fn constness(&self) -> Option<BoundConstness>
+        ensures { result ≡ constness self.now };
 
     /// The predicate with another self type. Want of memory is the only refusal.
     fn with_replaced_self_ty(&self, self_ty: Ty) -> Result<Self, Fault>
@@ -183,6 +191,7 @@ pub trait GoalKind: PredicateTerms {
         alias: &AliasTerm,
     ) -> Result<Vec<Rule>, Fault>
         ensures gives { IfOk result (λ rs. AllZip (λ r c. GivesAs has_term (setting_of tables.now mode.now goal.now.param_env.items) Certainty.Yes (λ n t. candidate_gives goal.now.predicate (setting_of tables.now mode.now goal.now.param_env.items) n c t) r) rs.items (additional goal.now.predicate (setting_of tables.now mode.now goal.now.param_env.items) alias.now)) }
+        ensures list { IfOk result (λ rs. AllZip (λ r c. IsToldBy tables.now Certainty.Yes (candidate_list goal.now.predicate (setting_of tables.now mode.now goal.now.param_env.items) c) r) rs.items (additional goal.now.predicate (setting_of tables.now mode.now goal.now.param_env.items) alias.now)) }
         ensures refuted { IfOk result (λ rs. AllZip (λ r c. RefutedAs (setting_of tables.now mode.now goal.now.param_env.items) (λ n. candidate_refuted goal.now.predicate (setting_of tables.now mode.now goal.now.param_env.items) n c) r) rs.items (additional goal.now.predicate (setting_of tables.now mode.now goal.now.param_env.items) alias.now)) }
         ensures memory { IsOkUnless result Fault.OutOfMemory };
 

@@ -2,6 +2,8 @@
 pub mod aliases;
 pub(crate) mod assoc_items;
 pub(crate) mod definitions;
+pub(crate) mod effect_goal_kind;
+pub mod effects;
 pub mod impl_terms;
 pub(crate) mod lists;
 pub(crate) mod named;

@@ -1,15 +1,17 @@
 //! The lists of the candidates for host effect goals, over numbers of a term table.
-ghost use Rattle.std.specs.Prelude.{◌≡◌, List, map, IfOk};
+ghost use Rattle.std.specs.Prelude.{◌≡◌, List, Some, map, IfOk};
 ghost use Rattle.std.specs.List.{All};
 ghost use Rattle.goal_terms.specs.TableMeaning.{Keeps};
 ghost use Rattle.goal_terms.specs.Tree.{Tree};
 ghost use Rattle.goal_terms.specs.declared.predicates.Clause.{Clause};
-ghost use Rattle.goal_tables.specs.Rows.{trait_of};
+ghost use Rattle.goal_tables.specs.Rows.{impl_of, trait_of};
+ghost use Rattle.goal_tables.specs.declared.rows.Tables.{Tables};
 ghost use Rattle.goal_kinds.specs.Builtins.{lang_of_trait};
 ghost use Rattle.goal_kinds.specs.ConstGoals.{satisfies};
 ghost use Rattle.goal_kinds.specs.EffectLists.{effect_assumption_list, implied_list, effect_impl_list, source_of_lang, source_of_const_rule, const_rule_entries, effect_rule_list, effect_list};
 ghost use Rattle.goal_kinds.specs.Interned.{AreIn, PredicateIn, TraitIn, ConstRuleIn, CandidateIn, erased_all, predicate_at, trait_at, const_rule_at, candidate_at};
 ghost use Rattle.goal_kinds.specs.InternedEntries.{EntriesIn, ListIn, entries_at, list_at, setting_at};
+ghost use Rattle.goal_kinds.specs.NamedRows.{CandidateIsOf, ListNamesItsRows, NamesItsRows};
 
 use crate::builtin::consts::const_rule;
 use crate::candidates::interned::{
@@ -31,7 +33,7 @@ use goal_terms::term_table::TermTable;
 use std::alloc::Global;
 
 /// Whether a clause of one constness satisfies a goal of another.
-fn satisfies(said: BoundConstness, asked: BoundConstness) -> bool
+pub(crate) fn satisfies(said: BoundConstness, asked: BoundConstness) -> bool
     ensures { result ≡ satisfies said asked }
 {
     match said {
@@ -52,6 +54,7 @@ fn assumption_list<'t>(
 ) -> Result<Option<Vec<InternedEntry<'t>>>, OutOfMemory>
     ensures within { (T : List Tree) → AreIn T args.now → PredicateIn T clause.now → IfOk result (ListIn T) }
     ensures list { (T : List Tree) → IfOk result (λ o. list_at T o ≡ effect_assumption_list constness trait_id (erased_all T args.now) (predicate_at T clause.now)) }
+    ensures named { (t : Tables) → IfOk result (ListNamesItsRows t) }
 {
     match clause {
         InternedPredicate::HostEffect(said, of) => {
@@ -81,6 +84,7 @@ fn implied_list<'t>(
 ) -> Result<Option<Vec<InternedEntry<'t>>>, OutOfMemory>
     ensures within { (T : List Tree) → AreIn T args.now → TraitIn T bound.now → All (TraitIn T) conditions.now → IfOk result (ListIn T) }
     ensures list { (T : List Tree) → IfOk result (λ o. list_at T o ≡ implied_list constness trait_id (erased_all T args.now) (trait_at T bound.now) (map (trait_at T) conditions.now)) }
+    ensures named { (t : Tables) → IfOk result (ListNamesItsRows t) }
 {
     if bound.def_id.0 != trait_id.0 {
         return Ok(None);
@@ -104,6 +108,7 @@ fn impl_list<'t>(
 ) -> Result<Option<Vec<InternedEntry<'t>>>, OutOfMemory>
     ensures within { (T : List Tree) → AreIn T args.now → IfOk result (ListIn T) }
     ensures list { (T : List Tree) → IfOk result (λ o. list_at T o ≡ effect_impl_list mode.now constness (erased_all T args.now) row.now) }
+    ensures named { (t : Tables) → impl_of t row.now.id ≡ Some row.now → IfOk result (ListNamesItsRows t) }
 {
     if row.is_const {
         let mut entries = impl_match(alloc, row, args)?;
@@ -153,6 +158,7 @@ fn const_rule_entries<'t>(
 ) -> Result<Vec<InternedEntry<'t>>, OutOfMemory>
     ensures within { (T : List Tree) → ConstRuleIn T rule → IfOk result (λ es. EntriesIn T es.items) }
     ensures entries { (T : List Tree) → IfOk result (λ es. entries_at T es.items ≡ const_rule_entries source constness (const_rule_at T rule)) }
+    ensures named { (t : Tables) → IfOk result (λ es. All (NamesItsRows t) es.items) }
 {
     let conditions = rule.conditions.as_slice();
     let mut asked = condition_entries(alloc, source, constness, conditions)?;
@@ -173,6 +179,7 @@ fn rule_list<'t>(
     ensures kept { Keeps terms.old terms.new }
     ensures within { IfOk result (ListIn terms.new) }
     ensures list { IfOk result (λ o. list_at terms.new o ≡ effect_rule_list rows.now constness trait_id (erased_all terms.old args.now)) }
+    ensures named { (t : Tables) → IfOk result (ListNamesItsRows t) }
 {
     let rule = const_rule(rows, terms, trait_id, args)?;
     let Some(asked) = rule else {
@@ -199,6 +206,7 @@ pub fn effect_list<'t>(
     ensures kept { Keeps terms.old terms.new }
     ensures within { IfOk result (ListIn terms.new) }
     ensures list { (env : List Clause) → IfOk result (λ o. list_at terms.new o ≡ effect_list (setting_at setting.entry env) constness trait_id (erased_all terms.old args.now) (candidate_at terms.old candidate.now)) }
+    ensures named { (t : Tables) → CandidateIsOf t candidate.now → IfOk result (ListNamesItsRows t) }
 {
     let alloc = terms.allocator();
     match candidate {

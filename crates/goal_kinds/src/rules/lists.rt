@@ -68,3 +68,11 @@ fn undecided_entries(alloc: Global) -> Result<Vec<RuleEntry>, OutOfMemory>
 {
     Ok(vec![in alloc; RuleEntry::Undecided]?)
 }
+
+/// Adds a rule. Want of memory is the only refusal.
+pub(crate) fn push_rule(found: &mut Vec<Rule>, rule: Rule) -> Result<(), OutOfMemory>
+    ensures { IfOk result (λ _. found.new.items ≡ found.old.items ++ rule ∷ []) }
+{
+    found.push(rule)?;
+    Ok(())
+}

@@ -19,7 +19,7 @@ use goal_terms::answers::{CandidateSource, Certainty};
 use goal_terms::ids::{ImplId, TraitId};
 use goal_terms::instantiate::rebase_onto;
 use goal_terms::modes::TypingMode;
-use goal_terms::predicates::{Clause, Goal, NormalizesTo};
+use goal_terms::predicates::{BoundConstness, Clause, Goal, NormalizesTo};
 use goal_terms::term_nodes::OutOfMemory;
 use goal_terms::terms::{AliasTerm, GenericArg, Ty};
 
@@ -81,6 +81,8 @@ impl GoalKind for NormalizesTo {
 
     ghost self_type = { λ p. first_type p.alias.args.items };
 
+    ghost constness = { λ p. None };
+
     ghost is_with_self = { IsAliasWithSelf };
 
     ghost passes = { λ p k. may_match_term p.alias k };
@@ -118,6 +120,10 @@ impl GoalKind for NormalizesTo {
 
     fn self_ty(&self) -> Option<&Ty> {
         first_type(&self.alias.args)
+    }
+
+    fn constness(&self) -> Option<BoundConstness> {
+        None
     }
 
     fn with_replaced_self_ty(&self, self_ty: Ty) -> Result<Self, Fault> {

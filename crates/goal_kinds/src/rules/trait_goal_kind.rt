@@ -24,7 +24,7 @@ use goal_terms::answers::{CandidateSource, Certainty};
 use goal_terms::ids::{ImplId, TraitId};
 use goal_terms::instantiate::rebase_onto;
 use goal_terms::modes::TypingMode;
-use goal_terms::predicates::{Clause, Goal, TraitPredicate, TraitRef};
+use goal_terms::predicates::{BoundConstness, Clause, Goal, TraitPredicate, TraitRef};
 use goal_terms::term_nodes::OutOfMemory;
 use goal_terms::terms::{AliasTerm, GenericArg, Ty};
 
@@ -39,7 +39,7 @@ pub(crate) fn first_type(args: &[GenericArg]) -> Option<&Ty>
 }
 
 /// A trait reference with another self type.
-fn with_self(asked: &TraitRef, self_ty: Ty) -> Result<TraitRef, OutOfMemory>
+pub(crate) fn with_self(asked: &TraitRef, self_ty: Ty) -> Result<TraitRef, OutOfMemory>
     ensures { IfOk result (is_trait_with_self asked.now (tree_of_ty self_ty)) }
 {
     let alloc = *asked.args.allocator();
@@ -52,7 +52,10 @@ fn with_self(asked: &TraitRef, self_ty: Ty) -> Result<TraitRef, OutOfMemory>
 }
 
 /// What lists are made for: the tables, and a typing mode.
-fn setting_of<'t, 'm>(tables: &'t CheckedTables, mode: &'m TypingMode) -> ListSetting<'t, 'm>
+pub(crate) fn setting_of<'t, 'm>(
+    tables: &'t CheckedTables,
+    mode: &'m TypingMode,
+) -> ListSetting<'t, 'm>
     ensures rows { result.rows.now ≡ tables.now }
     ensures mode { result.mode.now ≡ mode.now }
     ensures checked { IsChecked tables.now }
@@ -78,7 +81,7 @@ fn named_rule(setting: ListSetting<'_, '_>, asked: &TraitRef, is_for: bool) -> R
 }
 
 impl GoalKind for TraitPredicate {
-    ghost use Rattle.std.specs.Prelude.{◌≡◌, true, false, [], Some};
+    ghost use Rattle.std.specs.Prelude.{◌≡◌, true, false, [], None, Some};
     ghost use Rattle.goal_kinds.specs.CandidateRules.{asked_trait, first_type, is_rule_for, IsWithSelf, may_match, TraitCandidateHolds, TraitCandidateRefuted};
     ghost use Rattle.goal_kinds.specs.Rules.{given};
     ghost use Rattle.goal_kinds.specs.TraitLists.{trait_list};
@@ -91,6 +94,8 @@ impl GoalKind for TraitPredicate {
     ghost trait_asked = { λ p t. Some (asked_trait p.trait_ref) };
 
     ghost self_type = { λ p. first_type p.trait_ref.args.items };
+
+    ghost constness = { λ p. None };
 
     ghost is_with_self = { λ p t q. IsWithSelf p.trait_ref t q.trait_ref };
 
@@ -127,6 +132,10 @@ impl GoalKind for TraitPredicate {
 
     fn self_ty(&self) -> Option<&Ty> {
         first_type(&self.trait_ref.args)
+    }
+
+    fn constness(&self) -> Option<BoundConstness> {
+        None
     }
 
     fn with_replaced_self_ty(&self, self_ty: Ty) -> Result<Self, Fault> {

@@ -108,7 +108,7 @@ pub(crate) fn is_coherence(mode: &TypingMode) -> bool
 }
 
 /// Whether an impl only bars a refutation: a reservation impl in coherence.
-fn only_bars(mode: &TypingMode, row: &ImplRow) -> bool
+pub(crate) fn only_bars(mode: &TypingMode, row: &ImplRow) -> bool
     ensures { result ≡ only_bars mode.now row.now }
 {
     is_coherence(mode) && row.polarity.is_reservation()

@@ -1,9 +1,10 @@
-use Rattle.std.proofs.Common.{map, ap, sym, subst, ◌∙◌}
+use Rattle.std.proofs.Common.{[], map, ap, sym, subst, ◌∙◌}
 use Rattle.std.specs.List.{All}
 use Rattle.goal_kinds.specs.Entries.{premise_entries}
 use Rattle.goal_kinds.specs.Interned.{TraitIn, premise_at, trait_at}
 use Rattle.goal_kinds.specs.Premises.{conditions_as}
 use Rattle.goal_kinds.proofs.ListPartLemmas.{joined-at, joined-in}
+use Rattle.goal_kinds.proofs.NamedRowLemmas.{joined-named, premises-name}
 use Rattle.goal_kinds.proofs.lists.effects.const_rule_entries.Goals as goal
 
 pub returns-clause-within : goal.returns-clause-within
@@ -19,3 +20,8 @@ returns-clause-entries c T =
     (c.in_ok-entries.ensures.entries T)
     (c.in_ok-asked.ensures.entries T
     ∙ ap (λ rs. premise_entries c.args.source (conditions_as c.args.constness (map (trait_at T) rs))) c.as_slice-conditions.ensures.value)
+
+pub returns-clause-named : goal.returns-clause-named
+returns-clause-named c t =
+    joined-named t c.append.new.self.items c.in_ok-entries.entries.items c.in_ok-asked.asked.items c.in_ok-append.ensures.items
+    (premises-name t [] _ _ _ (c.in_ok-entries.ensures.entries [])) (premises-name t [] _ _ _ (c.in_ok-asked.ensures.entries []))

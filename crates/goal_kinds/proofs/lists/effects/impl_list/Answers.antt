@@ -1,10 +1,12 @@
-use Rattle.std.proofs.Common.{[], ap}
+use Rattle.std.proofs.Common.{[], Some, sym, ap, ◌∙◌}
+use Rattle.std.specs.Option.{option_map}
 use Rattle.std.proofs.lemmas.Result.{IfOk-weaker}
 use Rattle.goal_kinds.specs.Entries.{row_conditions}
 use Rattle.goal_kinds.specs.Interned.{erased_all}
 use Rattle.goal_kinds.specs.InternedEntries.{entries_at}
 use Rattle.goal_kinds.specs.TraitLists.{impl_match}
 use Rattle.goal_kinds.proofs.ListPartLemmas.{pushed-at, pushed-in, const_impl-list}
+use Rattle.goal_kinds.proofs.NamedRowLemmas.{pushed-named}
 use Rattle.goal_kinds.proofs.lists.effects.impl_list.Goals as goal
 
 pub returns-then-row-clause-within : goal.returns-then-row-clause-within
@@ -20,3 +22,9 @@ returns-then-row-clause-list c T =
     (row_conditions c.args.constness c.args.row.now.const_conditions.items 0) c.in_ok-push.ensures.items (c.in_ok-entries.ensures.entries T)
     (ap (λ rs. row_conditions c.args.constness rs 0) c.as_slice-conditions.ensures.value)) by)
     (c.list_by_polarity.ensures.list T)
+
+pub returns-then-row-clause-named : goal.returns-then-row-clause-named
+returns-then-row-clause-named c t found =
+    c.list_by_polarity.ensures.named t
+    (pushed-named t c.push.new.self.items c.in_ok-entries.entries.items _ c.in_ok-push.ensures.items (c.in_ok-entries.ensures.named t found)
+    (ap (option_map (λ r. r.const_conditions.items)) found ∙ ap Some (sym c.as_slice-conditions.ensures.value)))

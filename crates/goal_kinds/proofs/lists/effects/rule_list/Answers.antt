@@ -16,3 +16,6 @@ returns-clause-list c =
     (const_rule_entries (source_of_const_rule c.args.rows.now c.args.trait_id (trait_of c.args.rows.now c.args.trait_id)) c.args.constness) c.in_ok-rule.rule
     c.in-Some.asked _ _ c.in-Some.is c.in_ok-rule.ensures.rule (ap (λ s. const_rule_entries s c.args.constness) c.source_of_const_rule-source.ensures)
     (c.in_ok-entries.ensures.entries c.const_rule.new.terms)
+
+pub returns-clause-named : goal.returns-clause-named
+returns-clause-named c t = c.in_ok-entries.ensures.named t

@@ -2,7 +2,7 @@ use Rattle.goal_kinds.specs.Candidates.{built_in}
 use Rattle.goal_kinds.specs.InternedEntries.{setting_at}
 use Rattle.goal_kinds.specs.Rules.{given}
 use Rattle.goal_kinds.specs.TraitLists.{trait_list}
-use Rattle.goal_kinds.proofs.TraitFaceLemmas.{listed-yes}
+use Rattle.goal_kinds.proofs.FaceLemmas.{listed-yes}
 use Rattle.goal_kinds.proofs.rules.traits.built_in_rule.Goals as goal
 
 pub returns-clause-listed : goal.returns-clause-listed
