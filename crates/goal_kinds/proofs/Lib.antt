@@ -117,6 +117,7 @@ pub mod SaidLists
 pub mod ProjectionLists
 pub mod ListHeights
 pub mod ListModes
+pub mod CauseLemmas
 pub mod ListStandIns
 pub mod ListTerms
 pub mod ExamplesOfLists

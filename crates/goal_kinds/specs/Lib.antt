@@ -39,6 +39,7 @@ pub mod EffectLists
 pub mod ProjectionLists
 pub mod AliasLists
 pub mod ListModes
+pub mod Causes
 pub mod ListLaws
 pub mod ExampleLists
 pub mod InternedEntries

@@ -2,12 +2,15 @@
 //! candidate, or of an alias, says at each height just what that does by the derivation rules, in each
 //! headline mode; and more height keeps what any list says.
 ghost use Rattle.std.specs.Prelude.{◌≡◌, ◌≤◌, ℕ, List, Option};
+ghost use Rattle.std.specs.List.{All};
 ghost use Rattle.goal_terms.specs.Tree.{Tree};
 ghost use Rattle.goal_terms.specs.declared.ids.TraitId.{TraitId};
 ghost use Rattle.goal_terms.specs.declared.modes.TypingMode.{TypingMode};
 ghost use Rattle.goal_terms.specs.declared.predicates.BoundConstness.{BoundConstness};
 ghost use Rattle.goal_terms.specs.declared.terms.AliasTermKind.{AliasTermKind};
+ghost use Rattle.goal_kinds.specs.AliasLists.{alias_list};
 ghost use Rattle.goal_kinds.specs.Candidates.{Candidate};
+ghost use Rattle.goal_kinds.specs.Causes.{IsCaused};
 ghost use Rattle.goal_kinds.specs.EffectLists.{effect_list};
 ghost use Rattle.goal_kinds.specs.Entries.{Entry, ListHolds, ListGives, ListRefuted, ListAsksNoTerm};
 ghost use Rattle.goal_kinds.specs.ImplTerms.{Projection};
@@ -15,6 +18,8 @@ ghost use Rattle.goal_kinds.specs.Levels.{level};
 ghost use Rattle.goal_kinds.specs.ListLaws.{TraitListHolds, TraitListRefuted, EffectListHolds, EffectListRefuted, ProjectionListGives, ProjectionListRefuted};
 ghost use Rattle.goal_kinds.specs.ListLaws.{AliasListGives, AliasListRefuted, EquationListHolds, EquationListRefuted};
 ghost use Rattle.goal_kinds.specs.ListLaws.{TraitListStands, EffectListStands, ProjectionListStands, AliasListStands, ProjectionListStandsIn, AliasListStandsIn};
+ghost use Rattle.goal_kinds.specs.ListModes.{accesses_in, list_accesses};
+ghost use Rattle.goal_kinds.specs.ProjectionLists.{projection_list};
 ghost use Rattle.goal_kinds.specs.Settings.{Setting};
 ghost use Rattle.goal_kinds.specs.TraitLists.{trait_list};
 
@@ -59,6 +64,15 @@ pub fn erased_lists_stand_for_headline_modes()
     ensures aliases { (S : Setting) (m : TypingMode) (k : AliasTermKind) (ts : List Tree) → AliasListStands S m k ts }
     ensures projections_before { (S : Setting) (m : TypingMode) (p : Projection) (itself : Tree) (c : Candidate) → ProjectionListStandsIn S m p itself c }
     ensures aliases_before { (S : Setting) (m : TypingMode) (k : AliasTermKind) (ts : List Tree) → AliasListStandsIn S m k ts }
+{}
+
+/// Each access that a list records has its cause in the tables: a local opaque type, a remote one, or a
+/// source that is a default.
+pub fn accesses_have_causes()
+    ensures traits { (S : Setting) (i : TraitId) (ts : List Tree) (c : Candidate) → All (IsCaused S.tables) (list_accesses (trait_list S i ts c)) }
+    ensures effects { (S : Setting) (b : BoundConstness) (i : TraitId) (ts : List Tree) (c : Candidate) → All (IsCaused S.tables) (list_accesses (effect_list S b i ts c)) }
+    ensures projections { (S : Setting) (p : Projection) (itself : Tree) (c : Candidate) → All (IsCaused S.tables) (list_accesses (projection_list S p itself c)) }
+    ensures aliases { (S : Setting) (k : AliasTermKind) (ts : List Tree) → All (IsCaused S.tables) (accesses_in (alias_list S k ts)) }
 {}
 
 /// The lists of trait goals and of host effect goals ask for no term.
