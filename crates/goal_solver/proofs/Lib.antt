@@ -80,3 +80,4 @@ pub mod RerunLemmas
 pub mod HostEffectLemmas
 pub mod ListedTermLemmas
 pub mod ComparisonLemmas
+pub mod HiddenTypeLemmas

@@ -23,6 +23,7 @@ pub mod FreeVariables
 pub mod AddedGoals
 pub mod Responses
 pub mod HeadForms
+pub mod HiddenTypes
 pub mod Lists
 pub mod RunRules
 pub mod OpenRuns

@@ -12,6 +12,7 @@ use Rattle.goal_terms.specs.declared.answers.GoalSource.{GoalSource}
 use Rattle.goal_terms.specs.declared.answers.GoalSource.TheVariants as source
 use Rattle.goal_terms.specs.declared.answers.OpaqueAccess.{OpaqueAccess}
 use Rattle.goal_terms.specs.declared.answers.Response.{Response}
+use Rattle.goal_terms.specs.declared.ids.OpaqueId.{OpaqueId}
 use Rattle.goal_terms.specs.declared.modes.TypingMode.{TypingMode}
 use Rattle.goal_terms.specs.declared.modes.TypingMode.TheVariants as mode
 use Rattle.goal_terms.specs.declared.predicates.Clause.{Clause}
@@ -44,6 +45,7 @@ use Rattle.goal_solver.specs.Answers.{IsOwed}
 use Rattle.goal_solver.specs.Binding.{AddsNormalization}
 use Rattle.goal_solver.specs.Equating.{IsEquated}
 use Rattle.goal_solver.specs.GoingBack.{GoesBack, restored, begun}
+use Rattle.goal_solver.specs.HiddenTypes.{bounds_in}
 use Rattle.goal_solver.specs.Pending.{is_alias}
 use Rattle.goal_solver.specs.Relating.{ChangesRecords, LeavesOpen, SaysYes}
 use Rattle.goal_solver.specs.Responses.{ListsSinceMark, both_certain}
@@ -159,6 +161,10 @@ source_of (clauses.Inherent i) = source.Misc
 -- the clauses of a row under arguments
 abbrev pub clauses_with : List Tree → List Clause → List PredicateTree
 clauses_with ts cs = map (λ (k : Clause). folded_predicate (instantiating ts) 0 (tree_of_kind k.kind)) cs
+
+-- the bounds of an opaque type are added as goals, under its arguments and with a type in its place
+abbrev pub AddsBounds : OpaqueId → List Tree → List Clause → Tree → State → State → Type 0
+AddsBounds i ts env v old new = AddsGoals source.AliasWellFormed env (clauses_with (ts ++ v ∷ []) (bounds_in old.tables i)) old new
 
 -- goals for the clauses of a row under earlier arguments are added
 abbrev pub AddsRow : GoalSource → List Clause → Option (List Clause) → Option (List Tree) → State → Certainty → State → Type 0

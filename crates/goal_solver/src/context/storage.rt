@@ -1,17 +1,23 @@
-//! The hidden types of opaque types that were entered in a context.
-ghost use Rattle.std.specs.Prelude.{◌≡◌, ◌↔◌, ℕ, map, Some, slice_get, IsTrue, IfOk, IfSome, IfNone, OnErr, IsOkUnless};
-ghost use Rattle.goal_terms.specs.TreeOf.{tree_of_arg};
+//! The hidden types of opaque types that were entered in a context, and the bounds of these.
+ghost use Rattle.std.specs.Prelude.{◌≡◌, ◌↔◌, ◌++◌, ◌∷◌, [], ℕ, map, Some, slice_get, IsTrue, IfOk, IfSome, IfNone, OnOk, OnErr, IsOkUnless};
+ghost use Rattle.goal_terms.specs.TreeOf.{tree_of_arg, tree_of_ty, trees_of};
 ghost use Rattle.goal_terms.specs.declared.answers.OpaqueTypeKey.{OpaqueTypeKey as Key};
 ghost use Rattle.goal_terms.specs.declared.terms.Ty.{Ty as Hidden};
 ghost use Rattle.goal_solver.specs.Added.{EntersType, IsEarlierType};
-ghost use Rattle.goal_solver.specs.GoingBack.{GoesBack};
+ghost use Rattle.goal_solver.specs.GoingBack.{GoesBack, restored};
+ghost use Rattle.goal_solver.specs.HiddenTypes.{bounds_in};
+ghost use Rattle.goal_solver.specs.OpenRuns.{AddsBounds};
 ghost use Rattle.goal_solver.specs.Stored.{HasOneTypeAKey, IsSameKey};
 
 use crate::context::EvalCtxt;
+use crate::context::respond::copied_args;
 use crate::faults::Fault;
-use goal_terms::answers::OpaqueTypeKey;
+use goal_tables::lookup::IndexedTables;
+use goal_terms::answers::{GoalSource, OpaqueTypeKey};
+use goal_terms::ids::OpaqueId;
+use goal_terms::predicates::Clause;
 use goal_terms::terms::{GenericArg, Ty};
-use std::alloc::AllocError;
+use std::alloc::{AllocError, Global};
 
 impl EvalCtxt<'_> {
     /// Enters the hidden type of an opaque type. If one was entered for the identical key, lifetimes
@@ -39,6 +45,74 @@ impl EvalCtxt<'_> {
             }
         }
     }
+
+    /// Adds the bounds of an opaque type as goals, in an environment: under its arguments, and with a hidden type
+    /// in its place. Only memory is refused; then nothing is added.
+    pub fn add_item_bounds_for_hidden_type(
+        &mut self,
+        id: OpaqueId,
+        args: &[GenericArg],
+        environment: &[Clause],
+        hidden: &Ty,
+    ) -> Result<(), Fault>
+        ensures added { OnOk result (AddsBounds id (trees_of args.now) environment.now (tree_of_ty hidden.now) self.old self.new) }
+        ensures unchanged { OnErr result (self.new ≡ restored self.old self.new) }
+        ensures faults { self.new.delayed_faults ≡ self.old.delayed_faults }
+        ensures goes_back { GoesBack self.old self.new }
+        ensures only_memory { IsOkUnless result Fault.OutOfMemory }
+    {
+        self.holds_together();
+        let before = self.snapshot();
+        let added = self.ask_bounds(id, args, environment, hidden);
+        if added.is_err() {
+            self.rollback(before);
+        }
+        added
+    }
+
+    /// Adds these goals. Only memory is refused; then some of them may stay.
+    fn ask_bounds(
+        &mut self,
+        id: OpaqueId,
+        args: &[GenericArg],
+        environment: &[Clause],
+        hidden: &Ty,
+    ) -> Result<(), Fault>
+        ensures added { OnOk result (AddsBounds id (trees_of args.now) environment.now (tree_of_ty hidden.now) self.old self.new) }
+        ensures faults { self.new.delayed_faults ≡ self.old.delayed_faults }
+        ensures goes_back { GoesBack self.old self.new }
+        ensures only_memory { IsOkUnless result Fault.OutOfMemory }
+    {
+        let Ok(all) = with_hidden(self.allocator(), args, hidden) else {
+            return Err(Fault::OutOfMemory);
+        };
+        let tables = self.tables();
+        let bounds = bounds_of(tables.rows(), id);
+        self.ask_clauses(environment, GoalSource::AliasWellFormed, bounds, &all)
+    }
+}
+
+/// The bounds of an opaque type; none where it has no row.
+fn bounds_of(rows: &IndexedTables, id: OpaqueId) -> &[Clause]
+    ensures { result.now ≡ bounds_in rows.now id }
+{
+    match rows.opaque_row(id) {
+        None => &[],
+        Some(row) => row.bounds.as_slice(),
+    }
+}
+
+/// Arguments with a type behind them.
+fn with_hidden(
+    alloc: Global,
+    args: &[GenericArg],
+    hidden: &Ty,
+) -> Result<Vec<GenericArg>, AllocError>
+    ensures { IfOk result (λ all. trees_of all.items ≡ trees_of args.now ++ tree_of_ty hidden.now ∷ []) }
+{
+    let mut all = copied_args(alloc, args)?;
+    all.push(GenericArg::Ty(hidden.clone()?))?;
+    Ok(all)
 }
 
 /// A copy of the type that was entered for a key, if one was.

@@ -190,7 +190,7 @@ impl EvalCtxt<'_> {
 
     /// Adds a goal for each of some clauses under arguments, in order. Only memory is refused; then some of them
     /// may stay.
-    fn ask_clauses(
+    pub(crate) fn ask_clauses(
         &mut self,
         environment: &[Clause],
         source: GoalSource,
