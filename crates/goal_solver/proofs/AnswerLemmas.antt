@@ -144,7 +144,7 @@ yes-holds : (L : Level) (p : PredicateTree) (o : Result Outcome Stop) (x : Certa
 yes-holds L p o certainty.Yes h sure = subst (λ q. IfOk q (Says (ClauseHolds L p) (ClauseRefuted L p))) (sure refl) h
 yes-holds L p o certainty.Maybe h sure = tt
 
-answered-soundly : (L : Level) (p : PredicateTree) (o : Result Outcome Stop) (r : Result Response Fault) → IfOk o (Says (ClauseHolds L p) (ClauseRefuted L p)) →
+pub answered-soundly : (L : Level) (p : PredicateTree) (o : Result Outcome Stop) (r : Result Response Fault) → IfOk o (Says (ClauseHolds L p) (ClauseRefuted L p)) →
     IfOk r (λ x. x.certainty ≡ certainty.Yes → o ≡ Ok outcome.Holds) → (r ≡ Err fault.NoSolution → o ≡ Ok outcome.Refuted) → IsPredicateAnswer L p r
 answered-soundly L p o (Ok x) h sure never = yes-holds L p o x.certainty h sure
 answered-soundly L p o (Err fault.NoSolution) h sure never = subst (λ q. IfOk q (Says (ClauseHolds L p) (ClauseRefuted L p))) (never refl) h
@@ -176,7 +176,7 @@ alias-unsure L k ts e (Err fault.OutOfMemory) h never = tt
 alias-unsure L k ts e (Err fault.NotForThisKind) h never = tt
 
 -- a conclusion is undecided only where the outcome is
-concluded-open : (L : Level) (p : PredicateTree) (o : Result Outcome Stop) (r : Result Response Fault) → IfOk o (Says (ClauseHolds L p) (ClauseRefuted L p)) →
+pub concluded-open : (L : Level) (p : PredicateTree) (o : Result Outcome Stop) (r : Result Response Fault) → IfOk o (Says (ClauseHolds L p) (ClauseRefuted L p)) →
     IsConclusion o r → IsMaybe r → IsUndecided L p
 concluded-open L p (Ok outcome.Holds) (Ok x) h c e = absurd (yes_is_not_maybe (sym c.0 ∙ e))
 concluded-open L p (Ok outcome.Holds) (Err f) h c e = absurd e
@@ -193,7 +193,7 @@ abbrev pub IsConcluded : State → State → Result Outcome Stop → Result Resp
 IsConcluded b z o r = (m : TypingMode) → IsOwed z m → (is_headline b.typing_mode ≡ true → IfErr o (λ s. s ≡ stop.OutOfMemory)) → IsConclusion o r
 
 -- the run is only stopped for want of memory, where its mode is one of the headline
-stops-later : (a b : State) (o : Result Outcome Stop) → b ≡ restored a b → (is_headline a.typing_mode ≡ true → IfErr o (λ s. s ≡ stop.OutOfMemory)) →
+pub stops-later : (a b : State) (o : Result Outcome Stop) → b ≡ restored a b → (is_headline a.typing_mode ≡ true → IfErr o (λ s. s ≡ stop.OutOfMemory)) →
     is_headline b.typing_mode ≡ true → IfErr o (λ s. s ≡ stop.OutOfMemory)
 stops-later a b o e h k = h (ap (λ (s : State). is_headline s.typing_mode) (sym e) ∙ k)
 

@@ -4,6 +4,7 @@ use Rattle.std.specs.Prelude.{IfSome}
 use Rattle.std.proofs.lemmas.Bool.{false≢true}
 use Rattle.std.specs.HashMap.{get, HashMap}
 use Rattle.std.specs.Map.{lookup}
+use Rattle.std.proofs.lemmas.List.Elements.{All-nil, All-same}
 use Rattle.goal_terms.specs.Erased.{erased}
 use Rattle.goal_terms.specs.TableMeaning.{Keeps, tree_at}
 use Rattle.goal_terms.specs.Tree.{Tree, Trees, node, alias, variable, forest, list_of}
@@ -16,6 +17,7 @@ use Rattle.goal_terms.specs.declared.predicates.BoundConstness.TheVariants as co
 use Rattle.goal_terms.specs.declared.term_nodes.TermId.{TermId}
 use Rattle.goal_terms.specs.declared.terms.AliasTermKind.{AliasTermKind}
 use Rattle.goal_terms.proofs.TreeLemmas.{list_of-forest}
+use Rattle.goal_kinds.specs.Causes.{IsCaused}
 use Rattle.goal_kinds.specs.Interned.{erased_at}
 use Rattle.goal_kinds.specs.Laws.{IsWithin}
 use Rattle.goal_kinds.specs.Level.{Level}
@@ -24,8 +26,10 @@ use Rattle.goal_kinds.specs.Settings.{Setting}
 use Rattle.goal_kinds.proofs.InternedLemmas.{same-grown, in-grown}
 use Rattle.goal_kinds.proofs.WithinLevels.{within-level}
 use Rattle.goal_solver.specs.CacheEntries.{IsKnownAt, entry_of, kept, Enters, trait_decided, outcome_decided, found_decided}
+use Rattle.goal_solver.specs.Effects.{AreSound, AreNone, Soundness}
 use Rattle.goal_solver.specs.EvaluationCache.{SaysTraitAt, SaysConstAt, SaysAliasAt, IsRight, AreRight, IsValidCache, IsEmptyCache, consts_of, KeepsButConsts}
 use Rattle.goal_solver.specs.Outcomes.{RunsFor, setting_in, level_in, Says, SaysThrough, SaysWhich, FoundIn}
+use Rattle.goal_solver.specs.declared.eval.effects.Effects.{Effects}
 use Rattle.goal_solver.specs.declared.eval.evaluation_cache.CacheEntry.{CacheEntry}
 use Rattle.goal_solver.specs.declared.eval.evaluation_cache.EvaluationCache.{EvaluationCache as Cache}
 use Rattle.goal_solver.specs.declared.eval.outcomes.Setting as over
@@ -226,7 +230,28 @@ cache-grown c T U k keeps v = record {
   aliases = grown-right c T U (FoundIn T) (FoundIn U) (SaysAliasAt T) (SaysAliasAt U) found.Undecided k.aliases.entries keeps (found_in-later T U keeps) (alias-grown T U keeps) tt v.aliases;
 }
 
-pub ruleset caching = (cache-grown)
+-- what is so of an evaluation's effects, taken apart and put together
+pub sound-parts : (c : over.Setting) (T : List Tree) (e : Effects) → AreSound c T e → Soundness c T e
+unfolding AreSound
+sound-parts c T e s = s
+
+pub sound-of : (c : over.Setting) (T : List Tree) (e : Effects) → Soundness c T e → AreSound c T e
+unfolding AreSound
+sound-of c T e s = s
+
+-- an evaluation's effects stay sound, and it begins with none
+pub sound-grown : (c : over.Setting) (T U : List Tree) (e : Effects) → Keeps T U → AreSound c T e → AreSound c U e
+unfolding AreSound
+sound-grown c T U e keeps s = record { answers = cache-grown c T U e.cache keeps s.answers; causes = s.causes }
+
+pub sound-new : (c : over.Setting) (T : List Tree) (e : Effects) → AreNone e → AreSound c T e
+unfolding AreSound
+sound-new c T e none = record {
+  answers = cache-new c T e.cache none.answers;
+  causes = All-same (IsCaused c.rows.now) e.accesses.items [] none.accesses (All-nil (IsCaused c.rows.now));
+}
+
+pub ruleset caching = (sound-grown)
 
 -- what is known of a trait goal is so
 pub known-trait : (c : over.Setting) (T : List Tree) (k : Cache) (id : TermId) (i : TraitId) (n : ℕ) (xs : List Tree) (d : ℕ) (o : TraitOutcome) →
@@ -299,6 +324,11 @@ keep-const c T k new id b i n xs d o v shape l says enters same =
     (λ m s. subst (λ t. SaysConstAt b (level_in c m d) t o) (sym shape)
     (subst (λ ys. Says ((level_in c m d).const_holds b i ys) ((level_in c m d).const_refuted b i ys) o) (sym (list_of-forest xs)) (says m s)))
     (const-yes o) (const-no o)) same
+
+-- an answer that is known of an alias is in the table
+pub known-within : (c : over.Setting) (T : List Tree) (k : Cache) (id : TermId) (d : ℕ) (o : Found) → IsValidCache c T k →
+    (e : CacheEntry Found) × (get ◌==◌ k.aliases.entries id.0 ≡ Some e) × IsKnownAt e d found.Undecided o → FoundIn T o
+known-within c T k id d o v known = ⊎_elim (λ h. v.aliases.answers id.0 known.0 known.1 h.0 o h.1) (λ h. subst (FoundIn T) (sym h.1) tt) known.2
 
 -- what is known of an alias is so
 pub known-alias : (c : over.Setting) (T : List Tree) (k : Cache) (id : TermId) (a : AliasTermKind) (xs : List Tree) (d : ℕ) (o : Found) →

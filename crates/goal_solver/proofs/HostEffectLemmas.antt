@@ -10,7 +10,7 @@ use Rattle.goal_terms.specs.declared.answers.TraitGoalProvenVia.{TraitGoalProven
 use Rattle.goal_terms.specs.declared.ids.TraitId.{TraitId}
 use Rattle.goal_terms.specs.declared.predicates.BoundConstness.{BoundConstness}
 use Rattle.goal_terms.specs.declared.term_nodes.TermId.{TermId}
-use Rattle.goal_terms.proofs.InternLemmas.{keeps-chain}
+use Rattle.goal_terms.proofs.InternLemmas.{keeps-chain, keeps-refl}
 use Rattle.goal_kinds.specs.ConstGoals.{ConstHolds, ConstRefuted}
 use Rattle.goal_kinds.specs.Interned.{IsIn, AreIn, erased_at, erased_all}
 use Rattle.goal_kinds.specs.Laws.{IsConsistent}
@@ -128,3 +128,27 @@ module _ (S : Setting) (d : ℕ) (c : BoundConstness) (i : TraitId) (v : TraitGo
       (host-above S d c i (erased_all T (self ∷ rest)) o e
       (formed L (each_level_is_consistent S (d - 1)) S c i v (erased_at T self) s (erased_all T rest) through has o
       (subst (λ ts. Says (GroupsHold S L (Some c) i ts s v) (GroupsRefuted S L (Some c) i ts s v) o) terms x)))) groups
+
+-- a goal whose plain goal holds through a class at a height, one above
+module _ (S : Setting) (n : ℕ) (c : BoundConstness) (i : TraitId) (v : TraitGoalProvenVia) (T : List Tree) (self : TermId) (rest ids : List TermId) (within : AreIn T ids)
+    (same : ids ≡ self ∷ rest) (through : (level S n).through v i (erased_all T ids)) where
+  below : suc n - 1 ≡ n
+  below = omega arith
+
+  -- no head form is found of its self type
+  pub through-unformed : (V : List Tree) (f : Found) → ((id : TermId) → f ≡ found.Is id → ⊥) →
+      SaysWhich (HasHeadForm (level S n) (erased_at T self)) (HeadFormRefuted (level S n) (erased_at T self)) V f → SaysHost S (suc n) c i (erased_all T ids) outcome.Undecided
+  through-unformed V f none h =
+      host-unformed S (suc n) c i v T T self rest ids (trait_outcome.Holds v) (keeps-refl T) within (λ e. absurd (cc)) same refl
+      (subst (λ k. (level S k).through v i (erased_all T ids)) (sym below) through) V f none
+      (subst (λ k. SaysWhich (HasHeadForm (level S k) (erased_at T self)) (HeadFormRefuted (level S k) (erased_at T self)) V f) (sym below) h)
+
+  -- one is, and the groups for it decide
+  pub through-formed : (V : List Tree) (form : TermId) (args : Bor (List TermId)) (f : Found) (res : Result Outcome Stop) → Keeps T V → f ≡ found.Is form → args.now ≡ form ∷ rest →
+      SaysWhich (HasHeadForm (level S n) (erased_at T self)) (HeadFormRefuted (level S n) (erased_at T self)) V f →
+      IfOk res (SaysGroups S (level S n) V (record { constness = Some c; trait_id = i; self_ty = form; args = args }) v) → IfOk res (SaysHost S (suc n) c i (erased_all T ids))
+  through-formed V form args f res k j g h groups =
+      host-formed S (suc n) c i v T T self rest ids (trait_outcome.Holds v) (keeps-refl T) within (λ e. absurd (cc)) same refl
+      (subst (λ m. (level S m).through v i (erased_all T ids)) (sym below) through) V form args f res k j g
+      (subst (λ m. SaysWhich (HasHeadForm (level S m) (erased_at T self)) (HeadFormRefuted (level S m) (erased_at T self)) V f) (sym below) h)
+      (subst (λ m. IfOk res (SaysGroups S (level S m) V (record { constness = Some c; trait_id = i; self_ty = form; args = args }) v)) (sym below) groups)

@@ -13,6 +13,8 @@ pub mod PremiseOutcomes
 pub mod TermErrorLemmas
 pub mod RunModes
 pub mod CacheLemmas
+pub mod EffectLemmas
+pub mod AccessLemmas
 pub mod TraitOutcomeLemmas
 pub mod BeforeLemmas
 pub mod ProjectionArgLemmas
@@ -80,4 +82,5 @@ pub mod RerunLemmas
 pub mod HostEffectLemmas
 pub mod ListedTermLemmas
 pub mod ComparisonLemmas
+pub mod HostGoalLemmas
 pub mod HiddenTypeLemmas

@@ -2,10 +2,13 @@
 use Rattle.std.proofs.Common.{◌≡◌, ◌<◌, ◌≤◌, ◌+◌, ℕ, true, false, List, [], ◌∷◌, length, get_or, drop, Some, None, Option, Ok, Err, inl, inr, refl, sym, ap, ◌∙◌, subst, ⊎_elim, true≢false}
 use Rattle.std.specs.Prelude.{Vec, IfOk, Result}
 use Rattle.std.specs.Global.{Global}
+use Rattle.std.specs.List.{All}
 use Rattle.std.proofs.lemmas.List.{at_drop_more, drop_all}
 use Rattle.goal_terms.specs.TableMeaning.{Keeps}
 use Rattle.goal_terms.specs.Tree.{Tree}
 use Rattle.goal_terms.specs.declared.modes.TypingMode.{TypingMode}
+use Rattle.goal_tables.specs.declared.rows.Tables.{Tables}
+use Rattle.goal_kinds.specs.Causes.{IsCausedEntry}
 use Rattle.goal_kinds.specs.Entries.{Entry, ListRefuted}
 use Rattle.goal_kinds.specs.InternedEntries.{entry_at, EntryIn, entries_at, EntriesIn, list_at}
 use Rattle.goal_kinds.specs.Level.{Level}
@@ -57,6 +60,9 @@ none-left run fs (inr h) = h.1
 -- the entry at a place is in the table that has grown since
 pub entry-in : (T U : List Tree) → Keeps T U → (es : List InternedEntry) (i : ℕ) (e : InternedEntry) → EntriesIn T es → i < length es → e ≡ get_or es i e → EntryIn U e
 entry-in T U k es i e h l at = entry_in-grown T U k e (All-at (EntryIn T) es i e h l at)
+
+pub caused-at : (t : Tables) (es : List InternedEntry) (i : ℕ) (e : InternedEntry) → All (IsCausedEntry t) es → i < length es → e ≡ get_or es i e → IsCausedEntry t e
+caused-at t es i e h l at = All-at (IsCausedEntry t) es i e h l at
 
 module _ (c : over.Setting) (n : ℕ) (T U V : List Tree) (kept : Keeps T U) (es : List InternedEntry) (within : EntriesIn T es) (r z : ListRun) (i : ℕ) (e : InternedEntry) (o : Reached)
     (below : i < length es) (at : e ≡ get_or es i e) (so_far : RunsSoFar c n T es U r i) (reads : c.on_access ≡ on_access.Stop → is_headline c.typing_mode.now ≡ false → IsAccess (entry_at U e) → ⊥)

@@ -69,7 +69,7 @@ unfolding IsAnswer
 certain-right L p certainty.Yes h u = h
 certain-right L p certainty.Maybe h u = u refl
 
-whether-right : (L : Level) (p : PredicateTree) (r : Result Response Fault) → IsPredicateAnswer L p r → (IsMaybe r → IsUndecided L p) → IfSome (whether_answered r) (IsAnswer L (whether p))
+pub whether-right : (L : Level) (p : PredicateTree) (r : Result Response Fault) → IsPredicateAnswer L p r → (IsMaybe r → IsUndecided L p) → IfSome (whether_answered r) (IsAnswer L (whether p))
 unfolding IsAnswer
 whether-right L p (Ok x) h u = certain-right L p x.certainty h u
 whether-right L p (Err fault.NoSolution) h u = h
@@ -83,7 +83,7 @@ unfolding IsAnswer
 certain-lasts w p certainty.Yes h = answer-within w (whether p) yes refl h
 certain-lasts w p certainty.Maybe h = tt
 
-whether-lasts : {L M : Level} → IsWithin L M → (p : PredicateTree) (r : Result Response Fault) → IsPredicateAnswer L p r → IfSome (decided_in (whether_answered r)) (IsAnswer M (whether p))
+pub whether-lasts : {L M : Level} → IsWithin L M → (p : PredicateTree) (r : Result Response Fault) → IsPredicateAnswer L p r → IfSome (decided_in (whether_answered r)) (IsAnswer M (whether p))
 unfolding IsAnswer
 whether-lasts w p (Ok x) h = certain-lasts w p x.certainty h
 whether-lasts w p (Err fault.NoSolution) h = answer-within w (whether p) no refl h
@@ -92,7 +92,7 @@ whether-lasts w p (Err fault.OutOfMemory) h = tt
 whether-lasts w p (Err fault.NotForThisKind) h = tt
 
 -- nothing is changed where no value is listed
-changes-nothing : (s : State) (r : Result Response Fault) → AnswersQuietly (length (kinds_of s)) r → IfOk r (λ x. x.var_values.items ≡ []) → IfOk r (ChangesNothing s)
+pub changes-nothing : (s : State) (r : Result Response Fault) → AnswersQuietly (length (kinds_of s)) r → IfOk r (λ x. x.var_values.items ≡ []) → IfOk r (ChangesNothing s)
 changes-nothing s (Ok x) quiet values = record { quiet = quiet; values = values }
 changes-nothing s (Err f) quiet values = tt
 
@@ -371,6 +371,16 @@ trait_not_projection m c o a e h = none-some a (sym (ap (λ (x : MergeRule). ask
 
 pub host_not_projection : (m : MergeRule) (c : Option TraitGoalProvenVia) (o : Option NormalizesTo) (a : Through) → m ≡ merge.HostEffectGoals → asked_through m c o ≡ Some a → ⊥
 host_not_projection m c o a e h = none-some a (sym (ap (λ (x : MergeRule). asked_through x c o) e) ∙ h)
+
+-- no kind is merged in two ways
+pub trait_not_projections : (m : MergeRule) → m ≡ merge.TraitGoals → m ≡ merge.Projections → ⊥
+trait_not_projections m e f = absurd (cc)
+
+pub trait_not_host : (m : MergeRule) → m ≡ merge.TraitGoals → m ≡ merge.HostEffectGoals → ⊥
+trait_not_host m e f = absurd (cc)
+
+pub host_not_projections : (m : MergeRule) → m ≡ merge.HostEffectGoals → m ≡ merge.Projections → ⊥
+host_not_projections m e f = absurd (cc)
 
 -- what is asked through a class has it
 pub given-parts : (c : TraitGoalProvenVia) (o : Option NormalizesTo) (a : Through) → given_through (Some c) o ≡ Some a → (c ≡ a.class) × (o ≡ Some a.asked)

@@ -13,10 +13,11 @@ use Rattle.goal_kinds.specs.InternedEntries.{entry_at}
 use Rattle.goal_kinds.specs.Level.{Level}
 use Rattle.goal_kinds.specs.RuleLists.{arguments_of, expected_of, entry_of, names_arguments, before, entries_of}
 use Rattle.goal_kinds.specs.Rules.{clauses_in, conditions_in, has_term}
+use Rattle.goal_kinds.specs.Causes.{IsCausedEntry}
 use Rattle.goal_kinds.specs.declared.lists.InternedEntry.{InternedEntry}
+use Rattle.goal_kinds.specs.declared.lists.InternedEntry.TheVariants as interned
 use Rattle.goal_kinds.specs.declared.rules.RuleEntry.{RuleEntry}
 use Rattle.goal_kinds.specs.declared.rules.RuleEntry.TheVariants as entry
-use Rattle.goal_terms.specs.declared.answers.DelayedFault.{DelayedFault}
 use Rattle.goal_terms.specs.declared.answers.OpaqueAccess.{OpaqueAccess}
 use Rattle.goal_terms.specs.declared.predicates.BoundConstness.{BoundConstness}
 use Rattle.goal_terms.specs.declared.predicates.Clause.{Clause}
@@ -60,12 +61,6 @@ module _ (t : Tables) (L : Level) (T U : List Tree) (kept : Keeps T U) (r s : Li
       (asking-leads L T U kept r s within undecided undecided refl ⊥ ⊥ (undecided-asks L (named_at T r.named.items)) outcome.Undecided ((λ x. x), (λ x. x)) on q reaches rest all))
 
 -- one that says to record something
-pub not-access : (x : ToRecord) (e : RuleEntry) (a : OpaqueAccess) → x ≡ to_record e → x ≡ recorded.Access a → recorded.Nothing ≡ to_record e → ⊥
-not-access x e a f g h = absurd (cc)
-
-pub not-fault : (x : ToRecord) (e : RuleEntry) (d : DelayedFault) → x ≡ to_record e → x ≡ recorded.DelayedFault d → recorded.Nothing ≡ to_record e → ⊥
-not-fault x e d f g h = absurd (cc)
-
 pub recording-runs : (t : Tables) (L : Level) (T : List Tree) (r : ListRun) → RunIn T r → (e : RuleEntry) → (recorded.Nothing ≡ to_record e → ⊥) → RuleRunsOn t L T r e T r reached.Next
 recording-runs t L T r i (entry.Access a) some =
     asking-leads L T T (keeps-refl T) r r i (access a) (access a) refl (Unit {0}) ⊥ (access-asks L (named_at T r.named.items) a) outcome.Holds tt refl reached.Next refl
@@ -81,6 +76,39 @@ recording-runs t L T r i entry.Evaluation some = absurd (some refl)
 recording-runs t L T r i entry.Ambiguous some = absurd (some refl)
 recording-runs t L T r i entry.Undecided some = absurd (some refl)
 recording-runs t L T r i entry.Refused some = absurd (some refl)
+
+-- the engine runs none that records an access
+not_mapped : {X : Type 0} (f : X → Entry) (a : OpaqueAccess) → ((x : X) → access a ≡ f x → ⊥) → (o : Option X) → Some (access a) ≡ option_map f o → ⊥
+not_mapped f a h None e = absurd (cc)
+not_mapped f a h (Some x) e = let same : access a ≡ f x = cc in h x same
+
+no_access : (t : Tables) (e : RuleEntry) (a : OpaqueAccess) → recorded.Nothing ≡ to_record e → Some (access a) ≡ entry_of t e → ⊥
+no_access t (entry.Access b) a n e = absurd (cc)
+no_access t (entry.DelayedFault f) a n e = absurd (cc)
+no_access t (entry.Arguments x) a n e = not_mapped arguments a (λ y h. absurd (cc)) (arguments_of t x) e
+no_access t (entry.Equation ts us) a n e = absurd (cc)
+no_access t (entry.Clause g k) a n e = absurd (cc)
+no_access t (entry.RowClauses c k) a n e = not_mapped (λ cs. row_clauses cs k) a (λ y h. absurd (cc)) (clauses_in t c) e
+no_access t (entry.RowConditions b j k) a n e = not_mapped (λ rs. row_conditions b rs k) a (λ y h. absurd (cc)) (conditions_in t j) e
+no_access t (entry.Term v x) a n e = not_mapped expected a (λ y h. absurd (cc)) (expected_of t x) e
+no_access t entry.Evaluation a n e = absurd (cc)
+no_access t entry.Ambiguous a n e = absurd (cc)
+no_access t entry.Undecided a n e = absurd (cc)
+no_access t entry.Refused a n e = absurd (cc)
+
+pub run-caused : (t : Tables) (T : List Tree) (e : RuleEntry) (x : InternedEntry) → recorded.Nothing ≡ to_record e → Some (entry_at T x) ≡ entry_of t e → IsCausedEntry t x
+run-caused t T e (interned.Access a) n is = absurd (no_access t e a n is)
+run-caused t T e (interned.Arguments a) n is = tt
+run-caused t T e (interned.EqualTerms a b) n is = tt
+run-caused t T e (interned.Clause g p) n is = tt
+run-caused t T e (interned.RowClauses r cs k) n is = tt
+run-caused t T e (interned.RowConditions c i rs k) n is = tt
+run-caused t T e (interned.Expected a) n is = tt
+run-caused t T e (interned.DelayedFault f) n is = tt
+run-caused t T e interned.Evaluation n is = tt
+run-caused t T e interned.Ambiguous n is = tt
+run-caused t T e interned.Undecided n is = tt
+run-caused t T e interned.Refused n is = tt
 
 -- what is left of a rule's list from a place on
 pub left-at : (t : Tables) (es : List RuleEntry) (i : ℕ) (e : RuleEntry) → i < length es → e ≡ get_or es i e →

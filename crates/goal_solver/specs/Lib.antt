@@ -8,6 +8,8 @@ pub mod MergedRules
 pub mod Outcomes
 pub mod CacheEntries
 pub mod EvaluationCache
+pub mod Effects
+pub mod Accesses
 pub mod Answers
 pub mod Pending
 pub mod Joined
@@ -37,3 +39,4 @@ pub mod Recording
 pub mod Promises
 pub mod AskedTraits
 pub mod Comparisons
+pub mod HostGoals

@@ -11,6 +11,7 @@ ghost use Rattle.goal_solver.specs.Binding.{IsApplicable};
 ghost use Rattle.goal_solver.specs.Goals.{IsAcceptedNormalization};
 ghost use Rattle.goal_solver.specs.Collecting.{kind_words};
 ghost use Rattle.goal_solver.specs.GoingBack.{GoesBack, restored};
+ghost use Rattle.goal_solver.specs.HostGoals.{AnswersHostGiven, host_through, host_with};
 ghost use Rattle.goal_solver.specs.OpenGoals.{MergesGoal, WhenAnswered};
 ghost use Rattle.goal_solver.specs.OpenProjections.{MergesThrough};
 ghost use Rattle.goal_solver.specs.Outcomes.{StandsFor};
@@ -23,6 +24,7 @@ pub(crate) mod merged_rules;
 pub(crate) mod merging;
 
 use crate::context::EvalCtxt;
+use crate::effect_goals::proven_via::HostEffectThrough;
 use crate::eval::closed_goals::has_variable;
 use crate::faults::Fault;
 use crate::normalizes_to::open::asks_open;
@@ -39,11 +41,13 @@ impl EvalCtxt<'_> {
     /// expected term is a general variable, that neither is so, at least of no type and no constant. Where the trait
     /// goal does hold through that class at the remaining depth, this is the alias's answer one above, as
     /// [`EvalCtxt::compute_normalizes_to_goal`] would give it. A projection with inference variables besides the
-    /// expected one is answered by its candidates as that call does it once the trait goal holds. Without a class a
-    /// projection is `Maybe`, and so is a host effect goal so far. In the erased mode what is answered to a closed
-    /// goal is so of each headline mode, as long as no access is recorded. The response to a closed goal lists the
-    /// expected variable's value alone, and names no class but a trait goal's. Inference state, added goals and
-    /// storage are as before.
+    /// expected one is answered by its candidates as that call does it once the trait goal holds. For a host effect
+    /// goal `proven_via` is taken for the class through which its plain goal holds. Where that does hold through the
+    /// class at the remaining depth, a closed goal is answered as [`EvalCtxt::compute_host_effect_goal`] would answer
+    /// it one above; one with inference variables is `Maybe` so far. Without a class a projection and a host effect
+    /// goal are `Maybe`. In the erased mode what is answered to a closed goal is so of each headline mode, as long as
+    /// no access is recorded. The response to a closed goal lists the expected variable's value alone, and names no
+    /// class but a trait goal's. Inference state, added goals and storage are as before.
     pub fn assemble_and_merge_candidates<G: GoalKind + Drop>(
         &mut self,
         proven_via: Option<TraitGoalProvenVia>,
@@ -54,7 +58,9 @@ impl EvalCtxt<'_> {
         ensures merged { G.merging ≡ merging_by.TraitGoals → (IsClosedGoal G.has_passing goal.now → ⊥) →
             WhenAnswered result (MergesGoal (kind_words G.merging G.has_term G.self_type G.is_with_self G.has_fault G.trait_asked G.passes
             G.is_impl_for G.candidate_gives G.candidate_refuted G.is_for G.additional) goal.now self.old result self.new) }
-        ensures given { G.merging ≢ merging_by.TraitGoals →
+        ensures host_effects { G.merging ≡ merging_by.HostEffectGoals → IsClosedGoal G.has_passing goal.now →
+            AnswersHostGiven self.old self.new goal.now.param_env.items (host_through proven_via (G.constness goal.now.predicate) (G.trait_asked goal.now.predicate self.old.tables)) result }
+        ensures given { G.merging ≡ merging_by.Projections →
             AnswersGiven self.old self.new goal.now.param_env.items (asked_through G.merging proven_via (G.normalization goal.now.predicate)) result }
         ensures merged_through { (a : through) (k : ℕ) → asked_through G.merging proven_via (G.normalization goal.now.predicate) ≡ Some a →
             is_closed_alias a.asked.alias goal.now.param_env.items ≡ false → expected_variable a.asked.term ≡ Some k →
@@ -67,7 +73,10 @@ impl EvalCtxt<'_> {
     {
         match G::merge_rule() {
             MergeRule::TraitGoals => self.merge_trait_goal(goal),
-            MergeRule::HostEffectGoals => Ok(self.undecided()),
+            MergeRule::HostEffectGoals => match proven_via {
+                None => Ok(self.undecided()),
+                Some(class) => self.merge_host_effect(class, goal),
+            },
             MergeRule::Projections => match proven_via {
                 None => Ok(self.undecided()),
                 Some(class) => self.merge_projection(class, goal),
@@ -97,6 +106,37 @@ impl EvalCtxt<'_> {
         };
         let above = self.depth_above()?;
         self.answer_trait(asked.def_id, asked.args, &goal.param_env, above)
+    }
+
+    /// What the candidates of a host effect goal make it, if its plain goal holds through a class.
+    fn merge_host_effect<G: GoalKind + Drop>(
+        &mut self,
+        class: TraitGoalProvenVia,
+        goal: &Goal<G>,
+    ) -> Result<Response, Fault>
+        ensures host_effects { IsClosedGoal G.has_passing goal.now →
+            AnswersHostGiven self.old self.new goal.now.param_env.items (host_with class (G.constness goal.now.predicate) (G.trait_asked goal.now.predicate self.old.tables)) result }
+        ensures unchanged { self.new ≡ restored self.old self.new }
+        ensures goes_back { GoesBack self.old self.new }
+        ensures fault { IsFaultOf self.old self.new result }
+        ensures applies { IfOk result (IsApplicable self.new) }
+    {
+        self.is_well_formed();
+        if has_variable(goal) {
+            return Ok(self.undecided());
+        }
+        let Some(constness) = goal.predicate.constness() else {
+            return Ok(self.undecided());
+        };
+        let Some(asked) = goal.predicate.trait_ref(self.tables) else {
+            return Ok(self.undecided());
+        };
+        let through = HostEffectThrough {
+            class,
+            constness,
+            asked,
+        };
+        self.answer_host_effect_through(&through, &goal.param_env)
     }
 
     /// What the candidates of a projection make it, if its trait goal holds through a class.

@@ -2,6 +2,7 @@
 ghost use Rattle.std.specs.Prelude.{◌≡◌, [], None, length, IfOk};
 ghost use Rattle.goal_terms.specs.declared.modes.TypingMode.{TypingMode};
 ghost use Rattle.goal_kinds.specs.Answers.{whether};
+ghost use Rattle.goal_solver.specs.Accesses.{RecordsCaused};
 ghost use Rattle.goal_solver.specs.Answers.{IsOwed, level_over, IsPredicateAnswer, IsUndecided, IsMaybe, AnswersQuietly, IsFaultOf};
 ghost use Rattle.goal_solver.specs.Binding.{IsApplicable};
 ghost use Rattle.goal_solver.specs.GoingBack.{GoesBack, restored};
@@ -9,6 +10,7 @@ ghost use Rattle.goal_solver.specs.Promises.{AnswersHostEffect, IsClosedHostEffe
 ghost use Rattle.goal_solver.specs.State.{kinds_of};
 
 pub mod evaluation;
+pub(crate) mod proven_via;
 
 use crate::context::EvalCtxt;
 use crate::eval::closed_goals::has_variable;
@@ -39,6 +41,7 @@ impl EvalCtxt<'_> {
         ensures unchanged { self.new ≡ restored self.old self.new }
         ensures goes_back { GoesBack self.old self.new }
         ensures fault { IsFaultOf self.old self.new result }
+        ensures caused { RecordsCaused self.old self.new }
         ensures applies { IfOk result (IsApplicable self.new) }
     {
         self.host_effect_goal_response(goal)
@@ -54,6 +57,7 @@ impl EvalCtxt<'_> {
         ensures unchanged { self.new ≡ restored self.old self.new }
         ensures goes_back { GoesBack self.old self.new }
         ensures fault { IsFaultOf self.old self.new result }
+        ensures caused { RecordsCaused self.old self.new }
         ensures quiet { AnswersQuietly (length (kinds_of self.old)) result }
         ensures lists { IfOk result (λ r. r.var_values.items ≡ []) }
         ensures no_class { IfOk result (λ r. r.proven_via ≡ None) }

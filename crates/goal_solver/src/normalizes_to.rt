@@ -6,6 +6,7 @@ ghost use Rattle.goal_terms.specs.declared.modes.TypingMode.{TypingMode};
 ghost use Rattle.goal_terms.specs.declared.terms.Term.{Term as term};
 ghost use Rattle.goal_kinds.specs.Answers.{IsAnswer, maybe};
 ghost use Rattle.goal_kinds.specs.Interned.{erased_at};
+ghost use Rattle.goal_solver.specs.Accesses.{RecordsCaused};
 ghost use Rattle.goal_solver.specs.Answers.{IsOwed, level_over, erased_args, is_closed_alias, IsAliasAnswer, IsAliasOpen, GivesTo, expected_variable, IsMaybe, AnswersQuietly, IsFaultOf};
 ghost use Rattle.goal_solver.specs.Binding.{IsApplicable};
 ghost use Rattle.goal_solver.specs.Goals.{IsAcceptedNormalization};
@@ -71,6 +72,7 @@ impl EvalCtxt<'_> {
         ensures unchanged { self.new ≡ restored self.old self.new }
         ensures goes_back { GoesBack self.old self.new }
         ensures fault { IsFaultOf self.old self.new result }
+        ensures caused { IsClosedNormalization goal.now → RecordsCaused self.old self.new }
         ensures applies { IsAcceptedNormalization self.old goal.now.predicate goal.now.param_env.items → IfOk result (IsApplicable self.new) }
     {
         self.normalizes_to_response(goal)
@@ -83,6 +85,7 @@ impl EvalCtxt<'_> {
         ensures unchanged { self.new ≡ restored self.old self.new }
         ensures goes_back { GoesBack self.old self.new }
         ensures fault { IsFaultOf self.old self.new result }
+        ensures caused { is_closed_alias goal.now.predicate.alias goal.now.param_env.items ≡ true → RecordsCaused self.old self.new }
         ensures quiet { is_closed_alias goal.now.predicate.alias goal.now.param_env.items ≡ true → AnswersQuietly (length (kinds_of self.old)) result }
         ensures lists { is_closed_alias goal.now.predicate.alias goal.now.param_env.items ≡ true → IfOk result (λ r. r.certainty ≡ certainty.Maybe → r.var_values.items ≡ []) }
         ensures gives { is_closed_alias goal.now.predicate.alias goal.now.param_env.items ≡ true → IfOk result (λ r. r.certainty ≡ certainty.Yes → ListsTerm goal.now.predicate.term certainty.Yes r.var_values.items) }

@@ -10,6 +10,7 @@ mod equations;
 mod expected;
 mod given;
 mod goal_steps;
+mod host_effects;
 mod list_runs;
 mod rejections;
 mod rewriting;

@@ -5,13 +5,15 @@ use Rattle.goal_kinds.specs.Fitting.{trees_at}
 use Rattle.goal_kinds.specs.Interned.{AreIn, erased_at, erased_all, predicate_at, premise_at, candidate_at, IsIn, trait_at, CandidateIn}
 use Rattle.goal_solver.proofs.PremiseOutcomes.{PremisesSay, SaysClause, const-predicate, equation-predicate, equation-premise, predicate-premise, premise-at, premises-end, premises-refuted, premises-start, premises-step, trait-predicate, conditions-step, conditions-refuted, conditions-end, condition-at, condition_at, equation-ground, equation-result}
 use Rattle.goal_solver.specs.Joined.{both}
-use Rattle.goal_solver.proofs.CacheLemmas.{caching, cache-grown, known-trait, keep-trait, known-const, keep-const, known-alias, keep-alias}
-use Rattle.goal_solver.specs.EvaluationCache.{IsValidCache}
+use Rattle.goal_solver.proofs.EffectLemmas.{sound-met, ends-ambiguous}
+use Rattle.goal_solver.proofs.CacheLemmas.{caching, cache-grown, sound-grown, known-trait, keep-trait, known-const, keep-const, known-alias, known-within, keep-alias, sound-of, sound-parts}
+use Rattle.goal_solver.specs.Effects.{AreSound}
 use Rattle.goal_terms.specs.Erased.{erased}
 use Rattle.goal_solver.specs.Outcomes.{setting_in, level_in, SaysWhich, SaysThrough, FoundIn, Says, projection_at, header_terms}
 use Rattle.goal_terms.proofs.InternLemmas.{keeps-chain, keeps-refl}
 use Rattle.std.proofs.Common.{◌-◌, arith, ap, map, subst, sym, ◌+◌, ◌∙◌, true, false, refl, ◌∷◌, ◌++◌, length, rules, get_or, ◌<◌, ◌≡◌, ⊎_elim, Some}
 use Rattle.std.proofs.lemmas.List.Elements.{All-push, All-nil, All-get_or, All-same, All-take}
+use Rattle.goal_terms.specs.declared.answers.OpaqueAccess.TheVariants as access
 use Rattle.goal_terms.specs.Sorts.{IsArgument}
 use Rattle.goal_terms.specs.TreeOf.{trees_of}
 use Rattle.goal_terms.specs.TableMeaning.{tree_at, Keeps}
@@ -45,7 +47,7 @@ use Rattle.goal_solver.proofs.ConstOutcomeLemmas.{const-ground, const-no_self}
 use Rattle.std.specs.Option.{option_copied}
 use Rattle.goal_kinds.specs.InternedEntries.{list_at, arguments_at, term_at, entry_at, ArgumentsIn, header_trees, TermIn, value_tree}
 use Rattle.goal_solver.specs.Lists.{IsListFor, LeadsOn, progress_at, SaysRow, numbered_at, premises_of, NamedIn, named_at}
-use Rattle.goal_solver.proofs.ListAnswerLemmas.{none-says, list-says, runs-next, runs-refuted, runs-undecided, runs-end, entry-in}
+use Rattle.goal_solver.proofs.ListAnswerLemmas.{none-says, list-says, caused-at, runs-next, runs-refuted, runs-undecided, runs-end, entry-in}
 use Rattle.goal_solver.proofs.ListRunLemmas.{end-in, asking-leads, giving-leads, giving-in, naming-leads, naming-in, terms-ask, clause-asks, row-asks, conditions-ask, access-asks, fault-asks, evaluation-asks, ambiguous-asks, undecided-asks, refused-asks}
 use Rattle.std.specs.Prelude.{IfSome, slice_get}
 use Rattle.std.proofs.lemmas.Result.{IfOk-weaker}
@@ -92,14 +94,14 @@ eval::premises::premise_outcome-returns-in-Equation-clause-says t c =
 pub eval::premises::premises_outcome-loop-premise-init : goal.eval::premises::premises_outcome-loop-premise-init
 eval::premises::premises_outcome-loop-premise-init t c = record {
   kept = keeps-refl c.args.terms.now;
-  cache = search (rules, caching);
+  effects = search (rules, caching);
   so_far = premises-start c.args.setting.now c.args.depth (premise_at c.args.terms.now) c.args.premises.now;
 }
 
 pub eval::premises::premises_outcome-loop-premise-preserved : goal.eval::premises::premises_outcome-loop-premise-preserved
 eval::premises::premises_outcome-loop-premise-preserved t c = record {
   kept = keeps-chain c.args.terms.now c.loop-premise.terms c.premise_outcome.new.terms c.loop-premise.invariant.kept c.premise_outcome.ensures.kept;
-  cache = search (rules, caching);
+  effects = search (rules, caching);
   so_far =
       subst (PremisesSay c.args.setting.now c.args.depth (premise_at c.args.terms.now) c.args.premises.now (c.loop-premise.premise-index + 1)) (sym c.and-found.ensures)
       (premises-step c.args.setting.now c.args.depth c.args.terms.now c.loop-premise.terms c.args.premises.now c.loop-premise.premise-index c.premise-item.result c.loop-premise.found c.in_ok-next.next
@@ -130,9 +132,9 @@ eval::premises::premises_outcome-premise_outcome-requires t c = (
 pub eval::head_forms::head_form-returns-in_default : goal.eval::head_forms::head_form-returns-in_default
 eval::head_forms::head_form-returns-in_default t c = record {
   kept = keeps-refl c.args.terms.now;
-  cache = search (rules, caching);
+  effects = search (rules, caching);
   within = c.requires.within;
-  stops = λ h. tt;
+  stops = tt;
   says = λ m s. own_form (level_in c.args.setting.now m c.args.depth) (tree_at c.args.terms.now c.args.id) (λ k e. c.in_default.not-Alias k (c.node.ensures.top ∙ e));
 }
 
@@ -194,7 +196,7 @@ relate::header_parts::known_part-returns-clause-says t c =
 pub relate::header_parts::known_args-loop-i-init : goal.relate::header_parts::known_args-loop-i-init
 relate::header_parts::known_args-loop-i-init t c = record {
   kept = keeps-refl c.args.terms.now;
-  cache = search (rules, caching);
+  effects = search (rules, caching);
   within = subst (KnownIn c.args.terms.now) (sym c.new-known.ensures.items) (All-nil (OptionIn c.args.terms.now));
   count = ap length c.new-known.ensures.items;
   says = known-start c.args.setting.now c.args.depth (header_terms c.args.header.now) (erased_all c.args.terms.now c.args.given.now) c.args.terms.now c.new-known.result.items c.new-known.ensures.items;
@@ -203,7 +205,7 @@ relate::header_parts::known_args-loop-i-init t c = record {
 pub relate::header_parts::known_args-loop-i-preserved : goal.relate::header_parts::known_args-loop-i-preserved
 relate::header_parts::known_args-loop-i-preserved t c = record {
   kept = keeps-chain _ _ _ c.loop-i.invariant.kept c.in_ok-next.ensures.kept;
-  cache = search (rules, caching);
+  effects = search (rules, caching);
   within =
       subst (KnownIn c.known_arg.new.terms) (sym c.in_ok-add_known.ensures)
       (All-push (OptionIn c.known_arg.new.terms) c.loop-i.known.items c.in_ok-next.next
@@ -225,7 +227,7 @@ relate::header_parts::known_args-returns-clause-says t c =
 pub relate::header_clashes::any_clash-loop-i-init : goal.relate::header_clashes::any_clash-loop-i-init
 relate::header_clashes::any_clash-loop-i-init t c = record {
   kept = keeps-refl c.args.terms.now;
-  cache = search (rules, caching);
+  effects = search (rules, caching);
   none = λ m s x. any-none (ClashAt (level_in c.args.setting.now m c.args.depth) (known_trees c.args.terms.now c.args.known.now) c.args.terms.now) x;
 }
 
@@ -238,7 +240,7 @@ relate::header_clashes::any_clash-returns-then-branch-clause-says t c =
 pub relate::header_clashes::any_clash-loop-i-preserved : goal.relate::header_clashes::any_clash-loop-i-preserved
 relate::header_clashes::any_clash-loop-i-preserved t c = record {
   kept = keeps-chain _ _ _ c.loop-i.invariant.kept c.in_ok-question_clashes.ensures.kept;
-  cache = search (rules, caching);
+  effects = search (rules, caching);
   none =
       any-more c.args.setting.now c.args.depth c.args.terms.now c.loop-i.terms c.args.known.now c.args.questions.now c.loop-i.i c.index-questions-i.result c.in_ok-question_clashes.field-0
       (omega arith) c.index-questions-i.is c.loop-i.invariant.kept c.requires.known c.requires.within
@@ -534,7 +536,7 @@ pub normalizes_to::projections::group_term-loop-candidate-preserved :
     goal.normalizes_to::projections::group_term-loop-candidate-preserved
 normalizes_to::projections::group_term-loop-candidate-preserved t c = record {
   kept = keeps-chain c.args.terms.now c.loop-candidate.terms c.candidate_term.new.terms c.loop-candidate.invariant.kept c.in_ok-next.ensures.kept;
-  cache = search (rules, caching);
+  effects = search (rules, caching);
   within = merged-in c.candidate_term.new.terms c.loop-candidate.found c.in_ok-next.next c.merge_terms-found.result c.merge_terms-found.ensures
       (found_in-grown c.loop-candidate.terms c.candidate_term.new.terms c.in_ok-next.ensures.kept c.loop-candidate.found c.loop-candidate.invariant.within) c.in_ok-next.ensures.within;
   says = λ m s.
@@ -586,7 +588,7 @@ normalizes_to::projections::head_forms_outcome-loop-id-preserved t c =
     elim c.match-branch-2.branch [
       | normalizes_to::projections::head_forms_outcome-in-Undecided w ↦ record {
         kept = keeps-chain c.args.terms.now c.loop-id.terms c.head_form.new.terms c.loop-id.invariant.kept c.in_ok-head_form.ensures.kept;
-        cache = search (rules, caching);
+        effects = search (rules, caching);
         says = λ m s.
             forms-unknown (level_in c.args.setting.now m c.args.depth) (consistent c.args.setting.now m c.args.depth) c.args.terms.now c.loop-id.terms c.head_form.new.terms c.loop-id.invariant.kept
             c.args.ids.now c.requires.ids c.loop-id.id-index (get_or c.args.ids.now c.loop-id.id-index (record { 0 = 0 })) c.loop-id-test.true
@@ -595,7 +597,7 @@ normalizes_to::projections::head_forms_outcome-loop-id-preserved t c =
       }
       | normalizes_to::projections::head_forms_outcome-in-Is w ↦ record {
         kept = keeps-chain c.args.terms.now c.loop-id.terms c.head_form.new.terms c.loop-id.invariant.kept c.in_ok-head_form.ensures.kept;
-        cache = search (rules, caching);
+        effects = search (rules, caching);
         says = λ m s.
             forms-more (level_in c.args.setting.now m c.args.depth) (consistent c.args.setting.now m c.args.depth) c.args.terms.now c.loop-id.terms c.head_form.new.terms c.loop-id.invariant.kept
             c.args.ids.now c.requires.ids c.loop-id.id-index (get_or c.args.ids.now c.loop-id.id-index (record { 0 = 0 })) c.loop-id-test.true
@@ -675,7 +677,7 @@ normalizes_to::projections::replaced_term-groups_term-requires t c =
     keeps-chain c.args.terms.now c.intern_alias.new.terms c.intern_alias-2.new.terms c.in_ok-alias.ensures.kept c.in_ok-rigid_alias.ensures.kept in (
       search rules,
       (
-        cache-grown c.args.setting.now c.args.terms.now c.intern_alias-2.new.terms c.args.effects.now.cache chain c.requires.cache,
+        sound-grown c.args.setting.now c.args.terms.now c.intern_alias-2.new.terms c.args.effects.now chain c.requires.effects,
         (
           (self_args-grown c.args.terms.now c.intern_alias-2.new.terms chain c.args.self_ty c.args.given.now.args.now c.as_slice-2.result.now c.requires.self_ty c.requires.args (c.as_slice-2.ensures.value ∙ c.in_ok-args.ensures), c.in_ok-rigid_alias.ensures.within),
           (
@@ -843,14 +845,14 @@ relate::equality::compare_terms-returns-clause-says t c = λ m stands.
 pub eval::premises::conditions_outcome-loop-condition-init : goal.eval::premises::conditions_outcome-loop-condition-init
 eval::premises::conditions_outcome-loop-condition-init t c = record {
   kept = keeps-refl c.args.terms.now;
-  cache = search (rules, caching);
+  effects = search (rules, caching);
   so_far = premises-start c.args.setting.now c.args.depth (condition_at c.args.constness c.args.terms.now) c.args.conditions.now;
 }
 
 pub eval::premises::conditions_outcome-loop-condition-preserved : goal.eval::premises::conditions_outcome-loop-condition-preserved
 eval::premises::conditions_outcome-loop-condition-preserved t c = record {
   kept = keeps-chain c.args.terms.now c.loop-condition.terms c.evaluate_host_effect_goal.new.terms c.loop-condition.invariant.kept c.evaluate_host_effect_goal.ensures.kept;
-  cache = search (rules, caching);
+  effects = search (rules, caching);
   so_far =
       subst (PremisesSay c.args.setting.now c.args.depth (condition_at c.args.constness c.args.terms.now) c.args.conditions.now (c.loop-condition.condition-index + 1)) (sym c.and-found.ensures)
       (conditions-step c.args.setting.now c.args.depth c.args.constness c.args.terms.now c.loop-condition.terms c.args.conditions.now c.loop-condition.condition-index c.condition-item.result c.deref.result.now c.loop-condition.found c.in_ok-next.next
@@ -901,7 +903,7 @@ eval::lists::run_list-returns-in-Some-clause-says t c = λ m s.
 pub eval::lists::run_entries-loop-entry-preserved : goal.eval::lists::run_entries-loop-entry-preserved
 eval::lists::run_entries-loop-entry-preserved t c = record {
   kept = keeps-chain c.args.terms.now c.loop-entry.terms c.run_entry.new.terms c.loop-entry.invariant.kept c.run_entry.ensures.kept;
-  cache = search (rules, caching);
+  effects = search (rules, caching);
   within = c.in_ok-run_entry.ensures.within;
   so_far = runs-next c.args.setting.now c.args.depth c.args.terms.now c.loop-entry.terms c.run_entry.new.terms c.loop-entry.invariant.kept c.args.entries.now c.requires.entries
       c.loop-entry.run c.run_entry.new.run c.loop-entry.entry-index c.entry-item.result c.in_ok-run_entry.field-0 (omega arith) c.entry-item.is c.loop-entry.invariant.so_far
@@ -987,7 +989,7 @@ pub eval::lists::entries::run_entry-row_outcome-requires-in-RowConditions : goal
 eval::lists::entries::run_entry-row_outcome-requires-in-RowConditions t c = (
   omega arith,
   (
-    c.requires.cache,
+    c.requires.effects,
     (λ x e.
         subst (λ o. IfSome o (AreIn c.args.terms.now)) e (c.named_args-args-in-RowConditions.ensures.within c.args.terms.now (subst (NamedIn c.args.terms.now) (sym c.deref-in-RowConditions.ensures.value) c.requires.run.0))),
   ),
@@ -1134,7 +1136,7 @@ assembly::candidates::consider_candidate-returns-clause-says t c m s =
 pub assembly::candidates::candidates_outcome-loop-candidate-init : goal.assembly::candidates::candidates_outcome-loop-candidate-init
 assembly::candidates::candidates_outcome-loop-candidate-init t c = record {
   kept = keeps-refl c.args.terms.now;
-  cache = search (rules, caching);
+  effects = search (rules, caching);
   so_far = asked-start c.args.setting.now c.args.depth c.args.terms.now c.args.asked.now c.args.candidates.now;
 }
 
@@ -1154,7 +1156,7 @@ assembly::candidates::candidates_outcome-consider_candidate-requires t c = (
 pub assembly::candidates::candidates_outcome-loop-candidate-preserved : goal.assembly::candidates::candidates_outcome-loop-candidate-preserved
 assembly::candidates::candidates_outcome-loop-candidate-preserved t c = record {
   kept = keeps-chain c.args.terms.now c.loop-candidate.terms c.consider_candidate.new.terms c.loop-candidate.invariant.kept c.in_ok-next.ensures.kept;
-  cache = search (rules, caching);
+  effects = search (rules, caching);
   so_far = asked-more c.args.setting.now c.args.depth c.args.terms.now c.loop-candidate.terms c.args.asked.now c.args.candidates.now c.loop-candidate.candidate-index c.candidate-item.result
       c.loop-candidate.found c.in_ok-next.next c.or-found.result c.loop-candidate.invariant.kept c.requires.asked c.requires.candidates (omega arith) c.candidate-item.is c.or-found.ensures
       c.loop-candidate.invariant.so_far c.in_ok-next.ensures.says;
@@ -1340,7 +1342,7 @@ normalizes_to::projection_candidates::candidate_term-returns-clause-says t c = �
 pub eval::lists::run_entries-run_entry-requires : goal.eval::lists::run_entries-run_entry-requires
 eval::lists::run_entries-run_entry-requires t c = (
   omega arith,
-  (search (rules, caching), (c.loop-entry.invariant.within, (entry-in c.args.terms.now c.loop-entry.terms c.loop-entry.invariant.kept c.args.entries.now c.loop-entry.entry-index c.entry-item.result c.requires.entries (omega arith) c.entry-item.is))),
+  (search (rules, caching), (c.loop-entry.invariant.within, (entry-in c.args.terms.now c.loop-entry.terms c.loop-entry.invariant.kept c.args.entries.now c.loop-entry.entry-index c.entry-item.result c.requires.entries (omega arith) c.entry-item.is, caused-at c.args.setting.now.rows.now c.args.entries.now c.loop-entry.entry-index c.entry-item.result c.requires.caused (omega arith) c.entry-item.is))),
 )
 
 pub eval::lists::entries::term_found-head_form_under-requires : goal.eval::lists::entries::term_found-head_form_under-requires
@@ -1372,26 +1374,41 @@ trait_goals::evaluation::fresh_trait_outcome-decide_trait-requires t c = (
   ),
 )
 
-pub eval::lists::entries::run_entry-returns-in-Access-clause-cache : goal.eval::lists::entries::run_entry-returns-in-Access-clause-cache
-eval::lists::entries::run_entry-returns-in-Access-clause-cache t c = subst (IsValidCache c.args.setting.now c.args.terms.now) (sym c.reads_mode.ensures.cache) c.requires.cache
+pub eval::lists::entries::run_entry-returns-in-Access-clause-effects : goal.eval::lists::entries::run_entry-returns-in-Access-clause-effects
+eval::lists::entries::run_entry-returns-in-Access-clause-effects t c = c.reads_mode.ensures.effects c.args.terms.now c.requires.effects
+
+pub eval::lists::entries::run_entry-returns-in_ok-meet_fault-in-DelayedFault-clause-effects : goal.eval::lists::entries::run_entry-returns-in_ok-meet_fault-in-DelayedFault-clause-effects
+eval::lists::entries::run_entry-returns-in_ok-meet_fault-in-DelayedFault-clause-effects t c =
+    sound-met c.args.setting.now c.args.terms.now c.args.effects.now c.meet_fault.new.self c.meet_fault.ensures.accesses c.meet_fault.ensures.cache c.requires.effects
+
+pub eval::lists::entries::run_entry-returns-in_err-meet_fault-in-DelayedFault-clause-effects : goal.eval::lists::entries::run_entry-returns-in_err-meet_fault-in-DelayedFault-clause-effects
+eval::lists::entries::run_entry-returns-in_err-meet_fault-in-DelayedFault-clause-effects t c =
+    sound-met c.args.setting.now c.args.terms.now c.args.effects.now c.meet_fault.new.self c.meet_fault.ensures.accesses c.meet_fault.ensures.cache c.requires.effects
+
+pub normalizes_to::projection_candidates::candidate_term-returns-then-stays_ambiguous-clause-stops : goal.normalizes_to::projection_candidates::candidate_term-returns-then-stays_ambiguous-clause-stops
+normalizes_to::projection_candidates::candidate_term-returns-then-stays_ambiguous-clause-stops t c =
+    ends-ambiguous c.args.setting.now.rows.now c.args.setting.now.typing_mode.now access.Always (c.stays_ambiguous.ensures c.if-stays_ambiguous.true)
 
 pub trait_goals::evaluation::evaluate_trait_goal-returns-in-Some-clause-says : goal.trait_goals::evaluation::evaluate_trait_goal-returns-in-Some-clause-says
 trait_goals::evaluation::evaluate_trait_goal-returns-in-Some-clause-says t c m s =
     known-trait c.args.setting.now c.intern_trait_ref.new.terms c.args.effects.now.cache c.in_ok-goal.goal c.args.trait_id (length c.args.args.now) (erased_all c.args.terms.now c.args.args.now) c.args.depth c.in-Some.known
-    (cache-grown c.args.setting.now c.args.terms.now c.intern_trait_ref.new.terms c.args.effects.now.cache c.intern_trait_ref.ensures.kept c.requires.cache) c.in_ok-goal.ensures.tree
+    (cache-grown c.args.setting.now c.args.terms.now c.intern_trait_ref.new.terms c.args.effects.now.cache c.intern_trait_ref.ensures.kept (sound-parts _ _ _ c.requires.effects).answers) c.in_ok-goal.ensures.tree
     c.in-Some.ensures m s
 
-pub trait_goals::evaluation::evaluate_trait_goal-returns-clause-cache : goal.trait_goals::evaluation::evaluate_trait_goal-returns-clause-cache
-trait_goals::evaluation::evaluate_trait_goal-returns-clause-cache t c =
+pub trait_goals::evaluation::evaluate_trait_goal-returns-clause-effects : goal.trait_goals::evaluation::evaluate_trait_goal-returns-clause-effects
+trait_goals::evaluation::evaluate_trait_goal-returns-clause-effects t c =
     let T = c.intern_trait_ref.new.terms in
     let U = c.fresh_trait_outcome.new.terms in
     let xs = erased_all c.args.terms.now c.args.args.now in
-    let keeps : Keeps T U = c.fresh_trait_outcome.ensures.kept in
-    keep-trait c.args.setting.now U c.fresh_trait_outcome.new.effects.cache c.keep_trait.new.self c.in_ok-goal.goal c.args.trait_id (length c.args.args.now) xs c.args.depth c.in_ok-outcome.outcome
-    c.fresh_trait_outcome.ensures.cache (ap erased (keeps.same c.in_ok-goal.goal c.in_ok-goal.ensures.within) ∙ c.in_ok-goal.ensures.tree) (omega (arith, keeps.longer, c.in_ok-goal.ensures.within))
-    (λ m s. subst (λ ys. SaysThrough (λ x. (level_in c.args.setting.now m c.args.depth).through x c.args.trait_id ys) ((level_in c.args.setting.now m c.args.depth).trait_refuted c.args.trait_id ys) c.in_ok-outcome.outcome)
-    (all_same-grown c.args.terms.now T c.intern_trait_ref.ensures.kept c.args.args.now c.requires.args) (c.in_ok-outcome.ensures.says m s))
-    c.keep_trait.ensures.entered c.keep_trait.ensures.unchanged
+    let keeps : Keeps T U = c.fresh_trait_outcome.ensures.kept in sound-of _ _ _ (record {
+      answers =
+          keep-trait c.args.setting.now U c.fresh_trait_outcome.new.effects.cache c.keep_trait.new.self c.in_ok-goal.goal c.args.trait_id (length c.args.args.now) xs c.args.depth c.in_ok-outcome.outcome
+          (sound-parts _ _ _ c.fresh_trait_outcome.ensures.effects).answers (ap erased (keeps.same c.in_ok-goal.goal c.in_ok-goal.ensures.within) ∙ c.in_ok-goal.ensures.tree) (omega (arith, keeps.longer, c.in_ok-goal.ensures.within))
+          (λ m s. subst (λ ys. SaysThrough (λ x. (level_in c.args.setting.now m c.args.depth).through x c.args.trait_id ys) ((level_in c.args.setting.now m c.args.depth).trait_refuted c.args.trait_id ys) c.in_ok-outcome.outcome)
+          (all_same-grown c.args.terms.now T c.intern_trait_ref.ensures.kept c.args.args.now c.requires.args) (c.in_ok-outcome.ensures.says m s))
+          c.keep_trait.ensures.entered c.keep_trait.ensures.unchanged;
+      causes = (sound-parts _ _ _ c.fresh_trait_outcome.ensures.effects).causes;
+    })
 
 pub trait_goals::evaluation::evaluate_trait_goal-returns-clause-says : goal.trait_goals::evaluation::evaluate_trait_goal-returns-clause-says
 trait_goals::evaluation::evaluate_trait_goal-returns-clause-says t c m s =
@@ -1401,43 +1418,54 @@ trait_goals::evaluation::evaluate_trait_goal-returns-clause-says t c m s =
 pub effect_goals::evaluation::evaluate_host_effect_goal-returns-in-Some-clause-says : goal.effect_goals::evaluation::evaluate_host_effect_goal-returns-in-Some-clause-says
 effect_goals::evaluation::evaluate_host_effect_goal-returns-in-Some-clause-says t c m s =
     known-const c.args.setting.now c.intern_trait_ref.new.terms c.args.effects.now.cache c.in_ok-goal.goal c.args.constness c.args.trait_id (length c.args.args.now) (erased_all c.args.terms.now c.args.args.now) c.args.depth c.in-Some.known
-    (cache-grown c.args.setting.now c.args.terms.now c.intern_trait_ref.new.terms c.args.effects.now.cache c.intern_trait_ref.ensures.kept c.requires.cache) c.in_ok-goal.ensures.tree
+    (cache-grown c.args.setting.now c.args.terms.now c.intern_trait_ref.new.terms c.args.effects.now.cache c.intern_trait_ref.ensures.kept (sound-parts _ _ _ c.requires.effects).answers) c.in_ok-goal.ensures.tree
     c.in-Some.ensures m s
 
-pub effect_goals::evaluation::evaluate_host_effect_goal-returns-clause-cache : goal.effect_goals::evaluation::evaluate_host_effect_goal-returns-clause-cache
-effect_goals::evaluation::evaluate_host_effect_goal-returns-clause-cache t c =
+pub effect_goals::evaluation::evaluate_host_effect_goal-returns-clause-effects : goal.effect_goals::evaluation::evaluate_host_effect_goal-returns-clause-effects
+effect_goals::evaluation::evaluate_host_effect_goal-returns-clause-effects t c =
     let T = c.intern_trait_ref.new.terms in
     let U = c.fresh_host_effect_outcome.new.terms in
     let xs = erased_all c.args.terms.now c.args.args.now in
-    let keeps : Keeps T U = c.fresh_host_effect_outcome.ensures.kept in
-    keep-const c.args.setting.now U c.fresh_host_effect_outcome.new.effects.cache c.keep_const.new.self c.in_ok-goal.goal c.args.constness c.args.trait_id (length c.args.args.now) xs c.args.depth c.in_ok-outcome.outcome
-    c.fresh_host_effect_outcome.ensures.cache (ap erased (keeps.same c.in_ok-goal.goal c.in_ok-goal.ensures.within) ∙ c.in_ok-goal.ensures.tree) (omega (arith, keeps.longer, c.in_ok-goal.ensures.within))
-    (λ m s. subst (λ ys. Says ((level_in c.args.setting.now m c.args.depth).const_holds c.args.constness c.args.trait_id ys) ((level_in c.args.setting.now m c.args.depth).const_refuted c.args.constness c.args.trait_id ys) c.in_ok-outcome.outcome)
-    (all_same-grown c.args.terms.now T c.intern_trait_ref.ensures.kept c.args.args.now c.requires.args) (c.in_ok-outcome.ensures.says m s))
-    c.keep_const.ensures.entered c.keep_const.ensures.unchanged
+    let keeps : Keeps T U = c.fresh_host_effect_outcome.ensures.kept in sound-of _ _ _ (record {
+      answers =
+          keep-const c.args.setting.now U c.fresh_host_effect_outcome.new.effects.cache c.keep_const.new.self c.in_ok-goal.goal c.args.constness c.args.trait_id (length c.args.args.now) xs c.args.depth c.in_ok-outcome.outcome
+          (sound-parts _ _ _ c.fresh_host_effect_outcome.ensures.effects).answers (ap erased (keeps.same c.in_ok-goal.goal c.in_ok-goal.ensures.within) ∙ c.in_ok-goal.ensures.tree) (omega (arith, keeps.longer, c.in_ok-goal.ensures.within))
+          (λ m s. subst (λ ys. Says ((level_in c.args.setting.now m c.args.depth).const_holds c.args.constness c.args.trait_id ys) ((level_in c.args.setting.now m c.args.depth).const_refuted c.args.constness c.args.trait_id ys) c.in_ok-outcome.outcome)
+          (all_same-grown c.args.terms.now T c.intern_trait_ref.ensures.kept c.args.args.now c.requires.args) (c.in_ok-outcome.ensures.says m s))
+          c.keep_const.ensures.entered c.keep_const.ensures.unchanged;
+      causes = (sound-parts _ _ _ c.fresh_host_effect_outcome.ensures.effects).causes;
+    })
 
 pub effect_goals::evaluation::evaluate_host_effect_goal-returns-clause-says : goal.effect_goals::evaluation::evaluate_host_effect_goal-returns-clause-says
 effect_goals::evaluation::evaluate_host_effect_goal-returns-clause-says t c m s =
     subst (λ ys. Says ((level_in c.args.setting.now m c.args.depth).const_holds c.args.constness c.args.trait_id ys) ((level_in c.args.setting.now m c.args.depth).const_refuted c.args.constness c.args.trait_id ys) c.in_ok-outcome.outcome)
     (all_same-grown c.args.terms.now c.intern_trait_ref.new.terms c.intern_trait_ref.ensures.kept c.args.args.now c.requires.args) (c.in_ok-outcome.ensures.says m s)
 
+pub normalizes_to::alias_terms::alias_term-returns-in-Some-clause-within : goal.normalizes_to::alias_terms::alias_term-returns-in-Some-clause-within
+normalizes_to::alias_terms::alias_term-returns-in-Some-clause-within t c =
+    known-within c.args.setting.now c.intern_alias.new.terms c.args.effects.now.cache c.in_ok-alias.alias c.args.depth c.in-Some.known
+    (cache-grown c.args.setting.now c.args.terms.now c.intern_alias.new.terms c.args.effects.now.cache c.intern_alias.ensures.kept (sound-parts _ _ _ c.requires.effects).answers) c.in-Some.ensures
+
 pub normalizes_to::alias_terms::alias_term-returns-in-Some-clause-says : goal.normalizes_to::alias_terms::alias_term-returns-in-Some-clause-says
 normalizes_to::alias_terms::alias_term-returns-in-Some-clause-says t c m s =
     known-alias c.args.setting.now c.intern_alias.new.terms c.args.effects.now.cache c.in_ok-alias.alias c.args.kind (erased_all c.args.terms.now c.args.args.now) c.args.depth c.in-Some.known
-    (cache-grown c.args.setting.now c.args.terms.now c.intern_alias.new.terms c.args.effects.now.cache c.intern_alias.ensures.kept c.requires.cache) c.in_ok-alias.ensures.tree
+    (cache-grown c.args.setting.now c.args.terms.now c.intern_alias.new.terms c.args.effects.now.cache c.intern_alias.ensures.kept (sound-parts _ _ _ c.requires.effects).answers) c.in_ok-alias.ensures.tree
     c.in-Some.ensures m s
 
-pub normalizes_to::alias_terms::alias_term-returns-clause-cache : goal.normalizes_to::alias_terms::alias_term-returns-clause-cache
-normalizes_to::alias_terms::alias_term-returns-clause-cache t c =
+pub normalizes_to::alias_terms::alias_term-returns-clause-effects : goal.normalizes_to::alias_terms::alias_term-returns-clause-effects
+normalizes_to::alias_terms::alias_term-returns-clause-effects t c =
     let T = c.intern_alias.new.terms in
     let U = c.fresh_alias_term.new.terms in
     let xs = erased_all c.args.terms.now c.args.args.now in
-    let keeps : Keeps T U = c.fresh_alias_term.ensures.kept in
-    keep-alias c.args.setting.now U c.fresh_alias_term.new.effects.cache c.keep_alias.new.self c.in_ok-alias.alias c.args.kind xs c.args.depth c.in_ok-found.found
-    c.fresh_alias_term.ensures.cache (ap erased (keeps.same c.in_ok-alias.alias (c.in_ok-alias.ensures.within).0) ∙ c.in_ok-alias.ensures.tree) (omega (arith, keeps.longer, (c.in_ok-alias.ensures.within).0)) c.in_ok-found.ensures.within
-    (λ m s. subst (λ ys. SaysWhich ((level_in c.args.setting.now m c.args.depth).gives c.args.kind ys) ((level_in c.args.setting.now m c.args.depth).gives_refuted c.args.kind ys) U c.in_ok-found.found)
-    (all_same-grown c.args.terms.now T c.intern_alias.ensures.kept c.args.args.now c.requires.args) (c.in_ok-found.ensures.says m s))
-    c.keep_alias.ensures.entered c.keep_alias.ensures.unchanged
+    let keeps : Keeps T U = c.fresh_alias_term.ensures.kept in sound-of _ _ _ (record {
+      answers =
+          keep-alias c.args.setting.now U c.fresh_alias_term.new.effects.cache c.keep_alias.new.self c.in_ok-alias.alias c.args.kind xs c.args.depth c.in_ok-found.found
+          (sound-parts _ _ _ c.fresh_alias_term.ensures.effects).answers (ap erased (keeps.same c.in_ok-alias.alias (c.in_ok-alias.ensures.within).0) ∙ c.in_ok-alias.ensures.tree) (omega (arith, keeps.longer, (c.in_ok-alias.ensures.within).0)) c.in_ok-found.ensures.within
+          (λ m s. subst (λ ys. SaysWhich ((level_in c.args.setting.now m c.args.depth).gives c.args.kind ys) ((level_in c.args.setting.now m c.args.depth).gives_refuted c.args.kind ys) U c.in_ok-found.found)
+          (all_same-grown c.args.terms.now T c.intern_alias.ensures.kept c.args.args.now c.requires.args) (c.in_ok-found.ensures.says m s))
+          c.keep_alias.ensures.entered c.keep_alias.ensures.unchanged;
+      causes = (sound-parts _ _ _ c.fresh_alias_term.ensures.effects).causes;
+    })
 
 pub normalizes_to::alias_terms::alias_term-returns-clause-says : goal.normalizes_to::alias_terms::alias_term-returns-clause-says
 normalizes_to::alias_terms::alias_term-returns-clause-says t c m s =

@@ -2,7 +2,7 @@ use Rattle.std.proofs.Common.{◌+◌, ◌-◌, ◌*◌, length, ◌≡◌, take
 use Rattle.goal_terms.specs.TableMeaning.{Keeps}
 use Rattle.goal_kinds.specs.Interned.{premise_at, erased_all, erased_at}
 use Rattle.goal_solver.proofs.PremiseOutcomes.{PremisesSay, condition_at}
-use Rattle.goal_solver.specs.EvaluationCache.{IsValidCache}
+use Rattle.goal_solver.specs.Effects.{AreSound}
 use Rattle.goal_solver.specs.Outcomes.{RunsFor, header_terms, setting_in, level_in, FoundIn}
 use Rattle.goal_solver.specs.HeaderWords.{KnownIn, known_trees, KnownOutcome, ClashAt}
 use Rattle.goal_terms.specs.declared.modes.TypingMode.{TypingMode}
@@ -140,14 +140,14 @@ decreases-normalizes_to::projections::projection_term l = 40 * l.depth + 25
 abbrev pub invariant-eval::premises::premises_outcome-loop-premise : goal.invariant-eval::premises::premises_outcome-loop-premise
 invariant-eval::premises::premises_outcome-loop-premise l = record {
   kept : Keeps l.fn.terms l.terms;
-  cache : IsValidCache l.setting l.terms l.effects.cache;
+  effects : AreSound l.setting l.terms l.effects;
   so_far : PremisesSay l.setting l.depth (premise_at l.fn.terms) l.premises l.premise-index l.found;
 }
 
 abbrev pub invariant-relate::header_parts::known_args-loop-i : goal.invariant-relate::header_parts::known_args-loop-i
 invariant-relate::header_parts::known_args-loop-i l = record {
   kept : Keeps l.initial.terms l.terms;
-  cache : IsValidCache l.setting l.terms l.effects.cache;
+  effects : AreSound l.setting l.terms l.effects;
   within : KnownIn l.terms l.known.items;
   count : length l.known.items ≡ l.i;
   says : KnownOutcome l.setting l.depth (header_terms l.header) (erased_all l.initial.terms l.given) (take l.i l.params) (known_trees l.terms l.known.items);
@@ -156,7 +156,7 @@ invariant-relate::header_parts::known_args-loop-i l = record {
 abbrev pub invariant-relate::header_clashes::any_clash-loop-i : goal.invariant-relate::header_clashes::any_clash-loop-i
 invariant-relate::header_clashes::any_clash-loop-i l = record {
   kept : Keeps l.initial.terms l.terms;
-  cache : IsValidCache l.setting l.terms l.effects.cache;
+  effects : AreSound l.setting l.terms l.effects;
   none : (m : TypingMode) → RunsFor l.setting m →
       Exists (ClashAt (level_in l.setting m l.depth) (known_trees l.initial.terms l.known) l.initial.terms) (take l.i l.questions) → ⊥;
 }
@@ -165,7 +165,7 @@ abbrev pub invariant-normalizes_to::projections::group_term-loop-candidate :
     goal.invariant-normalizes_to::projections::group_term-loop-candidate
 invariant-normalizes_to::projections::group_term-loop-candidate l = record {
   kept : Keeps l.fn.terms l.terms;
-  cache : IsValidCache l.setting l.terms l.effects.cache;
+  effects : AreSound l.setting l.terms l.effects;
   within : FoundIn l.terms l.found;
   says : (m : TypingMode) → RunsFor l.setting m →
       AgreeBefore (GivesOf (setting_in l.setting m) (level_in l.setting m l.depth) l.fn.terms l.projection) (NoneOf (setting_in l.setting m) (level_in l.setting m l.depth) l.fn.terms l.projection)
@@ -176,7 +176,7 @@ abbrev pub invariant-normalizes_to::projections::head_forms_outcome-loop-id :
     goal.invariant-normalizes_to::projections::head_forms_outcome-loop-id
 invariant-normalizes_to::projections::head_forms_outcome-loop-id l = record {
   kept : Keeps l.fn.terms l.terms;
-  cache : IsValidCache l.setting l.terms l.effects.cache;
+  effects : AreSound l.setting l.terms l.effects;
   says : (m : TypingMode) → RunsFor l.setting m →
       HeldBefore (λ id. IsFormed (level_in l.setting m l.depth) (erased_at l.fn.terms id)) (λ id. HeadFormRefuted (level_in l.setting m l.depth) (erased_at l.fn.terms id)) l.outcome l.ids l.id-index;
 }
@@ -186,12 +186,12 @@ invariant-relate::equality::compare_pending-loop-pair l =
     Keeps l.fn.terms l.terms
     × ((m : TypingMode) → RunsFor l.setting m
     → Narrows (level_in l.setting m l.depth) l.fn.terms l.pending.outcome l.pending.pairs.items l.outcome (drop l.pair-index l.pair-items))
-    × IsValidCache l.setting l.terms l.effects.cache
+    × AreSound l.setting l.terms l.effects
 
 abbrev pub invariant-eval::premises::conditions_outcome-loop-condition : goal.invariant-eval::premises::conditions_outcome-loop-condition
 invariant-eval::premises::conditions_outcome-loop-condition l = record {
   kept : Keeps l.fn.terms l.terms;
-  cache : IsValidCache l.setting l.terms l.effects.cache;
+  effects : AreSound l.setting l.terms l.effects;
   so_far : PremisesSay l.setting l.depth (condition_at l.constness l.fn.terms) l.conditions l.condition-index l.found;
 }
 
@@ -246,7 +246,7 @@ decreases-normalizes_to::projection_candidates::candidate_term l = 40 * l.depth 
 abbrev pub invariant-eval::lists::run_entries-loop-entry : goal.invariant-eval::lists::run_entries-loop-entry
 invariant-eval::lists::run_entries-loop-entry l = record {
   kept : Keeps l.fn.terms l.terms;
-  cache : IsValidCache l.setting l.terms l.effects.cache;
+  effects : AreSound l.setting l.terms l.effects;
   within : RunIn l.terms l.run;
   so_far : RunsSoFar l.setting l.depth l.fn.terms l.entries l.terms l.run l.entry-index;
 }
@@ -254,7 +254,7 @@ invariant-eval::lists::run_entries-loop-entry l = record {
 abbrev pub invariant-assembly::candidates::candidates_outcome-loop-candidate : goal.invariant-assembly::candidates::candidates_outcome-loop-candidate
 invariant-assembly::candidates::candidates_outcome-loop-candidate l = record {
   kept : Keeps l.fn.terms l.terms;
-  cache : IsValidCache l.setting l.terms l.effects.cache;
+  effects : AreSound l.setting l.terms l.effects;
   so_far : AskedSoFar l.setting l.depth l.fn.terms l.asked l.candidates l.candidate-index l.found;
 }
 

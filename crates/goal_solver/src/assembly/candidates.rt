@@ -1,16 +1,16 @@
 //! The candidates for a trait that is asked, as it is or as a const trait: each is evaluated by its list.
-ghost use Rattle.std.specs.Prelude.{IfErr, ◌≡◌, true, IfOk, map};
+ghost use Rattle.std.specs.Prelude.{IfErr, IfOk, map};
 ghost use Rattle.std.specs.List.{All};
 ghost use Rattle.goal_terms.specs.TableMeaning.{Keeps};
 ghost use Rattle.goal_terms.specs.declared.modes.TypingMode.{TypingMode};
 ghost use Rattle.goal_kinds.specs.Candidates.{class_of};
+ghost use Rattle.goal_kinds.specs.Causes.{IsCausedList};
 ghost use Rattle.goal_kinds.specs.Interned.{CandidateIn, erased_at, candidate_at};
 ghost use Rattle.goal_kinds.specs.InternedEntries.{ListIn, list_at};
-ghost use Rattle.goal_kinds.specs.Settings.{is_headline};
 ghost use Rattle.goal_solver.specs.AskedTraits.{AskedIn, candidate_list, SaysCandidate, SaysCandidates};
 ghost use Rattle.goal_solver.specs.Lists.{IsListFor};
 ghost use Rattle.goal_solver.specs.Outcomes.{RunsFor, setting_in, level_in};
-ghost use Rattle.goal_solver.specs.EvaluationCache.{IsValidCache};
+ghost use Rattle.goal_solver.specs.Effects.{AreSound, IsStop};
 
 use crate::eval::effects::Effects;
 use crate::eval::lists::run_list;
@@ -49,6 +49,7 @@ fn candidate_list<'e>(
     requires candidate { CandidateIn terms.old candidate.now }
     ensures kept { Keeps terms.old terms.new }
     ensures within { IfOk result (ListIn terms.new) }
+    ensures caused { IfOk result (IsCausedList setting.now.rows.now) }
     ensures list { (m : TypingMode) → RunsFor setting.now m → IfOk result (λ o. IsListFor setting.now.typing_mode.now (list_at terms.new o) (candidate_list (setting_in setting.now m) terms.old asked.now (candidate_at terms.old candidate.now))) }
 {
     let erased = TypingMode::ErasedNotCoherence;
@@ -77,12 +78,12 @@ pub(crate) fn consider_candidate(
     candidate: &InternedCandidate<'_>,
     depth: u32,
 ) -> Result<Outcome, Stop>
-    requires cache { IsValidCache setting.now terms.old effects.old.cache }
+    requires effects { AreSound setting.now terms.old effects.old }
     requires asked { AskedIn terms.old asked.now }
     requires candidate { CandidateIn terms.old candidate.now }
-    ensures cache { IsValidCache setting.now terms.new effects.new.cache }
+    ensures effects { AreSound setting.now terms.new effects.new }
     ensures kept { Keeps terms.old terms.new }
-    ensures stops { is_headline setting.now.typing_mode.now ≡ true → IfErr result (λ s. s ≡ Stop.OutOfMemory) }
+    ensures stops { IfErr result (IsStop setting.now) }
     ensures says { (m : TypingMode) → RunsFor setting.now m → IfOk result (SaysCandidate (setting_in setting.now m) (level_in setting.now m depth) terms.old asked.now (candidate_at terms.old candidate.now)) }
 {
     let list = candidate_list(&*setting, terms, asked, &*candidate)?;
@@ -100,12 +101,12 @@ pub(crate) fn candidates_outcome(
     candidates: &[InternedCandidate<'_>],
     depth: u32,
 ) -> Result<Outcome, Stop>
-    requires cache { IsValidCache setting.now terms.old effects.old.cache }
+    requires effects { AreSound setting.now terms.old effects.old }
     requires asked { AskedIn terms.old asked.now }
     requires candidates { All (CandidateIn terms.old) candidates.now }
-    ensures cache { IsValidCache setting.now terms.new effects.new.cache }
+    ensures effects { AreSound setting.now terms.new effects.new }
     ensures kept { Keeps terms.old terms.new }
-    ensures stops { is_headline setting.now.typing_mode.now ≡ true → IfErr result (λ s. s ≡ Stop.OutOfMemory) }
+    ensures stops { IfErr result (IsStop setting.now) }
     ensures says { (m : TypingMode) → RunsFor setting.now m → IfOk result (SaysCandidates (setting_in setting.now m) (level_in setting.now m depth) terms.old asked.now (map (candidate_at terms.old) candidates.now)) }
 {
     let mut found = Outcome::Refuted;
@@ -130,11 +131,11 @@ pub(crate) fn class_outcome(
     class: TraitGoalProvenVia,
     depth: u32,
 ) -> Result<Outcome, Stop>
-    requires cache { IsValidCache setting.now terms.old effects.old.cache }
+    requires effects { AreSound setting.now terms.old effects.old }
     requires asked { AskedIn terms.old asked.now }
-    ensures cache { IsValidCache setting.now terms.new effects.new.cache }
+    ensures effects { AreSound setting.now terms.new effects.new }
     ensures kept { Keeps terms.old terms.new }
-    ensures stops { is_headline setting.now.typing_mode.now ≡ true → IfErr result (λ s. s ≡ Stop.OutOfMemory) }
+    ensures stops { IfErr result (IsStop setting.now) }
     ensures says { (m : TypingMode) → RunsFor setting.now m → IfOk result (SaysCandidates (setting_in setting.now m) (level_in setting.now m depth) terms.old asked.now (class_of (setting_in setting.now m) asked.now.trait_id (erased_at terms.old asked.now.self_ty) class)) }
 {
     let sought = Sought {

@@ -2,6 +2,7 @@
 ghost use Rattle.std.specs.Prelude.{◌≡◌, ◌⊎◌, ◌↔◌, IsTrue, OnOk, OnErr, IsOkUnless};
 ghost use Rattle.std.specs.List.{All, Contains};
 ghost use Rattle.goal_terms.specs.declared.answers.DelayedFault.{DelayedFault as Delayed};
+ghost use Rattle.goal_terms.specs.declared.answers.OpaqueAccess.{OpaqueAccess as Access};
 ghost use Rattle.goal_solver.specs.Added.{Enters, RecordsAccess, RecordsFault};
 ghost use Rattle.goal_solver.specs.GoingBack.{GoesBack};
 ghost use Rattle.goal_solver.specs.Stored.{IsSet};
@@ -47,6 +48,7 @@ impl EvalCtxt<'_> {
 
     /// Records what an evaluation met, in its order. Only memory is refused; then some of it may be recorded.
     pub(crate) fn record_effects(&mut self, effects: &Effects) -> Result<(), Stop>
+        ensures listed { (a : Access) → Contains self.new.accesses a → Contains self.old.accesses a ⊎ Contains effects.now.accesses.items a }
         ensures unchanged { self.new ≡ record self.old { accesses = self.new.accesses; delayed_faults = self.new.delayed_faults } }
         ensures goes_back { GoesBack self.old self.new }
         ensures only_memory { IsOkUnless result Stop.OutOfMemory }
@@ -58,6 +60,7 @@ impl EvalCtxt<'_> {
     /// Records the accesses that an evaluation met, in their order. Only memory is refused; then some of them
     /// may be recorded.
     fn record_accesses(&mut self, accesses: &[OpaqueAccess]) -> Result<(), Stop>
+        ensures listed { (a : Access) → Contains self.new.accesses a → Contains self.old.accesses a ⊎ Contains accesses.now a }
         ensures unchanged { self.new ≡ record self.old { accesses = self.new.accesses } }
         ensures goes_back { GoesBack self.old self.new }
         ensures only_memory { IsOkUnless result Stop.OutOfMemory }
@@ -71,6 +74,7 @@ impl EvalCtxt<'_> {
     /// Records an access that an evaluation met, as `record_access` does.
     pub(crate) fn meet_access(&mut self, access: OpaqueAccess) -> Result<(), Stop>
         ensures recorded { OnOk result (RecordsAccess access self.old self.new) }
+        ensures listed { (a : Access) → Contains self.new.accesses a → Contains self.old.accesses a ⊎ (access ≡ a) }
         ensures unchanged { self.new ≡ record self.old { accesses = self.new.accesses } }
         ensures goes_back { GoesBack self.old self.new }
         ensures only_memory { IsOkUnless result Stop.OutOfMemory }

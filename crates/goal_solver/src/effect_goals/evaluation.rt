@@ -1,12 +1,11 @@
 //! Host effect goals: whether a trait holds as a const trait.
-ghost use Rattle.std.specs.Prelude.{IfErr, ◌≡◌, ◌≢◌, true, IfOk};
+ghost use Rattle.std.specs.Prelude.{IfErr, ◌≢◌, IfOk};
 ghost use Rattle.goal_terms.specs.TableMeaning.{Keeps};
 ghost use Rattle.goal_terms.specs.declared.modes.TypingMode.{TypingMode};
 ghost use Rattle.goal_kinds.specs.Interned.{AreIn, erased_all};
-ghost use Rattle.goal_kinds.specs.Settings.{is_headline};
 ghost use Rattle.goal_solver.specs.AskedTraits.{AskedIn, SaysGroups};
 ghost use Rattle.goal_solver.specs.Outcomes.{RunsFor, setting_in, level_in, Says};
-ghost use Rattle.goal_solver.specs.EvaluationCache.{IsValidCache};
+ghost use Rattle.goal_solver.specs.Effects.{AreSound, IsStop};
 
 use crate::assembly::candidates::{AskedTrait, candidates_outcome, class_outcome};
 use crate::eval::effects::Effects;
@@ -35,11 +34,11 @@ pub fn evaluate_host_effect_goal(
     args: &[TermId],
     depth: u32,
 ) -> Result<Outcome, Stop>
-    requires cache { IsValidCache setting.now terms.old effects.old.cache }
+    requires effects { AreSound setting.now terms.old effects.old }
     requires args { AreIn terms.old args.now }
-    ensures cache { IsValidCache setting.now terms.new effects.new.cache }
+    ensures effects { AreSound setting.now terms.new effects.new }
     ensures kept { Keeps terms.old terms.new }
-    ensures stops { is_headline setting.now.typing_mode.now ≡ true → IfErr result (λ s. s ≡ Stop.OutOfMemory) }
+    ensures stops { IfErr result (IsStop setting.now) }
     ensures says { (m : TypingMode) → RunsFor setting.now m → IfOk result (Says ((level_in setting.now m depth).const_holds constness trait_id (erased_all terms.old args.now)) ((level_in setting.now m depth).const_refuted constness trait_id (erased_all terms.old args.now))) }
 {
     if depth == 0 {
@@ -68,12 +67,12 @@ fn fresh_host_effect_outcome(
     args: &[TermId],
     depth: u32,
 ) -> Result<Outcome, Stop>
-    requires cache { IsValidCache setting.now terms.old effects.old.cache }
+    requires effects { AreSound setting.now terms.old effects.old }
     requires args { AreIn terms.old args.now }
     requires above { depth ≢ 0 }
-    ensures cache { IsValidCache setting.now terms.new effects.new.cache }
+    ensures effects { AreSound setting.now terms.new effects.new }
     ensures kept { Keeps terms.old terms.new }
-    ensures stops { is_headline setting.now.typing_mode.now ≡ true → IfErr result (λ s. s ≡ Stop.OutOfMemory) }
+    ensures stops { IfErr result (IsStop setting.now) }
     ensures says { (m : TypingMode) → RunsFor setting.now m → IfOk result (Says ((level_in setting.now m depth).const_holds constness trait_id (erased_all terms.old args.now)) ((level_in setting.now m depth).const_refuted constness trait_id (erased_all terms.old args.now))) }
 {
     let Some((first, rest)) = split_self_type(args) else {
@@ -101,7 +100,7 @@ fn fresh_host_effect_outcome(
 /// asked: those of the environment, and if these are refuted, those that go by the class.
 #[tactic(auto, using(crate::proofs::CacheLemmas::caching))]
 #[cycle(closed)]
-fn groups_outcome(
+pub(crate) fn groups_outcome(
     setting: &Setting<'_>,
     terms: &mut TermTable,
     effects: &mut Effects,
@@ -109,11 +108,11 @@ fn groups_outcome(
     class: TraitGoalProvenVia,
     depth: u32,
 ) -> Result<Outcome, Stop>
-    requires cache { IsValidCache setting.now terms.old effects.old.cache }
+    requires effects { AreSound setting.now terms.old effects.old }
     requires asked { AskedIn terms.old asked.now }
-    ensures cache { IsValidCache setting.now terms.new effects.new.cache }
+    ensures effects { AreSound setting.now terms.new effects.new }
     ensures kept { Keeps terms.old terms.new }
-    ensures stops { is_headline setting.now.typing_mode.now ≡ true → IfErr result (λ s. s ≡ Stop.OutOfMemory) }
+    ensures stops { IfErr result (IsStop setting.now) }
     ensures says { (m : TypingMode) → RunsFor setting.now m → IfOk result (SaysGroups (setting_in setting.now m) (level_in setting.now m depth) terms.old asked.now class) }
 {
     let environment = TraitGoalProvenVia::ParamEnv;

@@ -3,6 +3,7 @@ ghost use Rattle.std.specs.Prelude.{◌≡◌, ◌≢◌, ◌⊎◌, true, false
 ghost use Rattle.goal_terms.specs.declared.answers.Certainty.TheVariants as certainty;
 ghost use Rattle.goal_terms.specs.declared.modes.TypingMode.{TypingMode as modes};
 ghost use Rattle.goal_kinds.specs.Settings.{is_headline};
+ghost use Rattle.goal_solver.specs.Accesses.{RecordsCaused, EndsFor};
 ghost use Rattle.goal_solver.specs.Answers.{IsOwed, IsFaultOf, AnswersQuietly, ListsNothing, IsConclusion};
 ghost use Rattle.goal_solver.specs.GoingBack.{GoesBack, restored};
 ghost use Rattle.goal_solver.specs.Relating.{SaysYes, Refuses, IsFaultFor};
@@ -12,7 +13,7 @@ ghost use Rattle.std.specs.Prelude.{length};
 use crate::context::EvalCtxt;
 use crate::eval::outcomes::{Outcome, Stop};
 use crate::faults::Fault;
-use goal_terms::answers::{Certainty, OpaqueAccess, Response};
+use goal_terms::answers::{Certainty, Response};
 use goal_terms::modes::TypingMode;
 
 impl EvalCtxt<'_> {
@@ -29,6 +30,7 @@ impl EvalCtxt<'_> {
         ensures quiet { AnswersQuietly (length (kinds_of self.old)) result }
         ensures nothing { ListsNothing result }
         ensures unsure { IfOk result (λ r. r.certainty ≢ certainty.Yes) }
+        ensures caused { EndsFor self.old stop → RecordsCaused self.old self.new }
         ensures never { result ≡ Err Fault.NoSolution → ⊥ }
     {
         let certainty = self.undecided_by(stop)?;
@@ -41,6 +43,7 @@ impl EvalCtxt<'_> {
         ensures owed { (m : modes) → IsOwed self.new m → (is_headline self.old.typing_mode ≡ true → stop ≡ Stop.OutOfMemory) → result ≡ Err Fault.OutOfMemory }
         ensures memory { stop ≡ Stop.OutOfMemory → result ≡ Err Fault.OutOfMemory }
         ensures undecided { SaysYes result ⊎ Refuses result → ⊥ }
+        ensures caused { EndsFor self.old stop → RecordsCaused self.old self.new }
         ensures alone { self.new ≡ record self.old { accesses = self.new.accesses } }
         ensures goes_back { GoesBack self.old self.new }
         ensures fault { IsFaultFor self.old self.new result }
@@ -52,7 +55,7 @@ impl EvalCtxt<'_> {
             return Ok(Certainty::Maybe);
         }
         self.record_access(access)?;
-        if self.stop_on_rerun || matches!(access, OpaqueAccess::Always) {
+        if self.is_stopped_by(access) {
             return Err(Fault::RerunNonErased);
         }
         Ok(Certainty::Maybe)
@@ -63,6 +66,7 @@ impl EvalCtxt<'_> {
         ensures owed { (m : modes) → IsOwed self.new m → (is_headline self.old.typing_mode ≡ true → IfErr outcome (λ s. s ≡ Stop.OutOfMemory)) → IsConclusion outcome result }
         ensures yes { IfOk result (λ r. r.certainty ≡ certainty.Yes → outcome ≡ Ok Outcome.Holds) }
         ensures no { result ≡ Err Fault.NoSolution → outcome ≡ Ok Outcome.Refuted }
+        ensures caused { IfErr outcome (EndsFor self.old) → RecordsCaused self.old self.new }
         ensures unchanged { self.new ≡ restored self.old self.new }
         ensures goes_back { GoesBack self.old self.new }
         ensures fault { IsFaultOf self.old self.new result }

@@ -1,6 +1,8 @@
 //! What an evaluation leaves beside its verdict, and keeps while it lasts.
-ghost use Rattle.std.specs.Prelude.{◌≡◌};
-ghost use Rattle.goal_solver.specs.EvaluationCache.{IsEmptyCache};
+ghost use Rattle.std.specs.Prelude.{◌≡◌, ◌⊎◌};
+ghost use Rattle.std.specs.List.{Contains};
+ghost use Rattle.goal_terms.specs.declared.answers.OpaqueAccess.{OpaqueAccess as Access};
+ghost use Rattle.goal_solver.specs.Effects.{AreNone};
 
 use crate::context::records::{enter_access, enter_fault};
 use crate::eval::evaluation_cache::EvaluationCache;
@@ -20,7 +22,7 @@ pub struct Effects {
 impl Effects {
     /// No effects, and nothing kept. It takes no memory.
     pub(crate) fn new(alloc: Global) -> Self
-        ensures cache { IsEmptyCache result.cache }
+        ensures { AreNone result }
     {
         Effects {
             accesses: Vec::new(alloc),
@@ -31,6 +33,7 @@ impl Effects {
 
     /// Enters an access. Only memory is refused.
     pub(crate) fn read_mode(&mut self, access: OpaqueAccess) -> Result<(), OutOfMemory>
+        ensures listed { (a : Access) → Contains self.new.accesses.items a → Contains self.old.accesses.items a ⊎ (access ≡ a) }
         ensures cache { self.new.cache ≡ self.old.cache }
     {
         enter_access(&mut self.accesses, access)
@@ -38,6 +41,7 @@ impl Effects {
 
     /// Enters a delayed fault. Only memory is refused.
     pub(crate) fn meet_fault(&mut self, fault: DelayedFault) -> Result<(), OutOfMemory>
+        ensures accesses { self.new.accesses ≡ self.old.accesses }
         ensures cache { self.new.cache ≡ self.old.cache }
     {
         enter_fault(&mut self.delayed_faults, fault)

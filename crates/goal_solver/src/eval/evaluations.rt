@@ -7,12 +7,13 @@ ghost use Rattle.goal_terms.specs.declared.modes.TypingMode.{TypingMode};
 ghost use Rattle.goal_kinds.specs.Answers.{setting_of};
 ghost use Rattle.goal_kinds.specs.Levels.{level};
 ghost use Rattle.goal_kinds.specs.Settings.{is_headline};
+ghost use Rattle.goal_solver.specs.Accesses.{RecordsCaused, EndsFor};
 ghost use Rattle.goal_solver.specs.Answers.{IsOwed, level_over, erased_args};
 ghost use Rattle.goal_kinds.specs.Interned.{IsIn, erased_at};
 ghost use Rattle.goal_solver.specs.GoingBack.{GoesBack, restored};
 ghost use Rattle.goal_solver.specs.Recording.{FitsKind};
 ghost use Rattle.goal_solver.specs.Outcomes.{RunsAs, RunsFor, StandsFor, level_in, Says, SaysThrough, SaysWhich, FoundIn};
-ghost use Rattle.goal_solver.specs.EvaluationCache.{IsValidCache};
+ghost use Rattle.goal_solver.specs.Effects.{AreSound, IsStop};
 
 use crate::context::EvalCtxt;
 use crate::effect_goals::evaluation::evaluate_host_effect_goal;
@@ -43,16 +44,16 @@ impl EvalCtxt<'_> {
         ensures unchanged { self.new ≡ restored self.old self.new }
         ensures goes_back { GoesBack self.old self.new }
         ensures says { (m : TypingMode) → IsOwed self.new m → IfOk result (SaysThrough (λ c. (level (setting_of self.old.tables m environment.now) depth).through c trait_id (erased_args args.now)) ((level (setting_of self.old.tables m environment.now) depth).trait_refuted trait_id (erased_args args.now))) }
+        ensures caused { RecordsCaused self.old self.new }
+        ensures ends { IfErr result (EndsFor self.old) }
         ensures stops { is_headline self.old.typing_mode ≡ true → IfErr result (λ s. s ≡ Stop.OutOfMemory) }
     {
         let on_access = self.first_access();
-        match self.trait_run(on_access, trait_id, args, environment, depth) {
-            Err(stop) => {
-                self.go_on(stop)?;
-                self.trait_run(OnAccess::Record, trait_id, args, environment, depth)
-            }
-            outcome => outcome,
+        let first = self.trait_run(on_access, trait_id, args, environment, depth);
+        if let Some(outcome) = self.first_answer(first)? {
+            return Ok(outcome);
         }
+        self.trait_run(OnAccess::Record, trait_id, args, environment, depth)
     }
 
     /// One run of a trait goal at a depth.
@@ -68,6 +69,8 @@ impl EvalCtxt<'_> {
         ensures unchanged { self.new ≡ restored self.old self.new }
         ensures goes_back { GoesBack self.old self.new }
         ensures says { (m : TypingMode) → RunsAs on_access self.old.typing_mode m → IfOk result (SaysThrough (λ c. (level (setting_of self.old.tables m environment.now) depth).through c trait_id (erased_args args.now)) ((level (setting_of self.old.tables m environment.now) depth).trait_refuted trait_id (erased_args args.now))) }
+        ensures caused { RecordsCaused self.old self.new }
+        ensures ends { IfErr result (EndsFor self.old) }
         ensures stops { is_headline self.old.typing_mode ≡ true → IfErr result (λ s. s ≡ Stop.OutOfMemory) }
     {
         let mut effects = Effects::new(self.allocator());
@@ -101,16 +104,16 @@ impl EvalCtxt<'_> {
         ensures unchanged { self.new ≡ restored self.old self.new }
         ensures goes_back { GoesBack self.old self.new }
         ensures says { (m : TypingMode) → IsOwed self.new m → IfOk result (Says ((level_over self.old m goal.now.param_env.items).const_holds goal.now.predicate.constness goal.now.predicate.trait_ref.def_id (erased_args goal.now.predicate.trait_ref.args.items)) ((level_over self.old m goal.now.param_env.items).const_refuted goal.now.predicate.constness goal.now.predicate.trait_ref.def_id (erased_args goal.now.predicate.trait_ref.args.items))) }
+        ensures caused { RecordsCaused self.old self.new }
+        ensures ends { IfErr result (EndsFor self.old) }
         ensures stops { is_headline self.old.typing_mode ≡ true → IfErr result (λ s. s ≡ Stop.OutOfMemory) }
     {
         let on_access = self.first_access();
-        match self.host_effect_run(on_access, goal) {
-            Err(stop) => {
-                self.go_on(stop)?;
-                self.host_effect_run(OnAccess::Record, goal)
-            }
-            outcome => outcome,
+        let first = self.host_effect_run(on_access, goal);
+        if let Some(outcome) = self.first_answer(first)? {
+            return Ok(outcome);
         }
+        self.host_effect_run(OnAccess::Record, goal)
     }
 
     /// One run of a const trait goal at the remaining depth.
@@ -123,6 +126,8 @@ impl EvalCtxt<'_> {
         ensures unchanged { self.new ≡ restored self.old self.new }
         ensures goes_back { GoesBack self.old self.new }
         ensures says { (m : TypingMode) → RunsAs on_access self.old.typing_mode m → IfOk result (Says ((level_over self.old m goal.now.param_env.items).const_holds goal.now.predicate.constness goal.now.predicate.trait_ref.def_id (erased_args goal.now.predicate.trait_ref.args.items)) ((level_over self.old m goal.now.param_env.items).const_refuted goal.now.predicate.constness goal.now.predicate.trait_ref.def_id (erased_args goal.now.predicate.trait_ref.args.items))) }
+        ensures caused { RecordsCaused self.old self.new }
+        ensures ends { IfErr result (EndsFor self.old) }
         ensures stops { is_headline self.old.typing_mode ≡ true → IfErr result (λ s. s ≡ Stop.OutOfMemory) }
     {
         let trait_ref = &goal.predicate.trait_ref;
@@ -160,16 +165,16 @@ impl EvalCtxt<'_> {
         ensures unchanged { self.new ≡ restored self.old self.new }
         ensures goes_back { GoesBack self.old self.new }
         ensures says { (m : TypingMode) → IsOwed self.new m → IfOk result (Says ((level_over self.old m goal.now.param_env.items).equation_holds (erased (tree_of_alias goal.now.predicate.projection_term)) (erased (tree_of_term goal.now.predicate.term))) ((level_over self.old m goal.now.param_env.items).equation_refuted (erased (tree_of_alias goal.now.predicate.projection_term)) (erased (tree_of_term goal.now.predicate.term)))) }
+        ensures caused { RecordsCaused self.old self.new }
+        ensures ends { IfErr result (EndsFor self.old) }
         ensures stops { is_headline self.old.typing_mode ≡ true → IfErr result (λ s. s ≡ Stop.OutOfMemory) }
     {
         let on_access = self.first_access();
-        match self.projection_run(on_access, goal) {
-            Err(stop) => {
-                self.go_on(stop)?;
-                self.projection_run(OnAccess::Record, goal)
-            }
-            outcome => outcome,
+        let first = self.projection_run(on_access, goal);
+        if let Some(outcome) = self.first_answer(first)? {
+            return Ok(outcome);
         }
+        self.projection_run(OnAccess::Record, goal)
     }
 
     /// One run of the goal that an alias and a term are equal.
@@ -182,6 +187,8 @@ impl EvalCtxt<'_> {
         ensures unchanged { self.new ≡ restored self.old self.new }
         ensures goes_back { GoesBack self.old self.new }
         ensures says { (m : TypingMode) → RunsAs on_access self.old.typing_mode m → IfOk result (Says ((level_over self.old m goal.now.param_env.items).equation_holds (erased (tree_of_alias goal.now.predicate.projection_term)) (erased (tree_of_term goal.now.predicate.term))) ((level_over self.old m goal.now.param_env.items).equation_refuted (erased (tree_of_alias goal.now.predicate.projection_term)) (erased (tree_of_term goal.now.predicate.term)))) }
+        ensures caused { RecordsCaused self.old self.new }
+        ensures ends { IfErr result (EndsFor self.old) }
         ensures stops { is_headline self.old.typing_mode ≡ true → IfErr result (λ s. s ≡ Stop.OutOfMemory) }
     {
         let predicate = &goal.predicate;
@@ -216,18 +223,18 @@ impl EvalCtxt<'_> {
         ensures within { IfOk result (FoundIn self.new.terms) }
         ensures says { (m : TypingMode) → IsOwed self.new m → IfOk result (SaysWhich ((level_over self.old m environment.now.items).gives alias.now.kind (erased_args alias.now.args.items)) ((level_over self.old m environment.now.items).gives_refuted alias.now.kind (erased_args alias.now.args.items)) self.new.terms) }
         ensures fits { IfOk result (FitsKind alias.now.kind self.new.terms) ⊎ ((m : TypingMode) → StandsFor self.old.typing_mode m → IfOk result (SaysWhich ((level_over self.old m environment.now.items).gives alias.now.kind (erased_args alias.now.args.items)) ((level_over self.old m environment.now.items).gives_refuted alias.now.kind (erased_args alias.now.args.items)) self.new.terms)) }
+        ensures caused { RecordsCaused self.old self.new }
+        ensures ends { IfErr result (EndsFor self.old) }
         ensures stops { is_headline self.old.typing_mode ≡ true → IfErr result (λ s. s ≡ Stop.OutOfMemory) }
     {
         if let OnAccess::Record = self.first_access() {
             return self.alias_recorded(alias, environment);
         }
-        match self.alias_run(OnAccess::Stop, alias, environment) {
-            Err(stop) => {
-                self.go_on(stop)?;
-                self.alias_recorded(alias, environment)
-            }
-            found => found,
+        let first = self.alias_run(OnAccess::Stop, alias, environment);
+        if let Some(found) = self.first_answer(first)? {
+            return Ok(found);
         }
+        self.alias_recorded(alias, environment)
     }
 
     /// Which term a run that records finds for an alias, if an answer can give it.
@@ -241,6 +248,8 @@ impl EvalCtxt<'_> {
         ensures goes_back { GoesBack self.old self.new }
         ensures within { IfOk result (FoundIn self.new.terms) }
         ensures fits { IfOk result (FitsKind alias.now.kind self.new.terms) }
+        ensures caused { RecordsCaused self.old self.new }
+        ensures ends { IfErr result (EndsFor self.old) }
         ensures stops { is_headline self.old.typing_mode ≡ true → IfErr result (λ s. s ≡ Stop.OutOfMemory) }
     {
         let found = self.alias_run(OnAccess::Record, alias, environment)?;
@@ -259,6 +268,8 @@ impl EvalCtxt<'_> {
         ensures goes_back { GoesBack self.old self.new }
         ensures within { IfOk result (FoundIn self.new.terms) }
         ensures says { (m : TypingMode) → RunsAs on_access self.old.typing_mode m → IfOk result (SaysWhich ((level_over self.old m environment.now.items).gives alias.now.kind (erased_args alias.now.args.items)) ((level_over self.old m environment.now.items).gives_refuted alias.now.kind (erased_args alias.now.args.items)) self.new.terms) }
+        ensures caused { RecordsCaused self.old self.new }
+        ensures ends { IfErr result (EndsFor self.old) }
         ensures stops { is_headline self.old.typing_mode ≡ true → IfErr result (λ s. s ≡ Stop.OutOfMemory) }
     {
         let mut effects = Effects::new(self.allocator());
@@ -293,12 +304,12 @@ fn equation_outcome(
     term: TermId,
     depth: u32,
 ) -> Result<Outcome, Stop>
-    requires cache { IsValidCache setting.now terms.old effects.old.cache }
+    requires effects { AreSound setting.now terms.old effects.old }
     requires alias { IsIn terms.old alias }
     requires term { IsIn terms.old term }
-    ensures cache { IsValidCache setting.now terms.new effects.new.cache }
+    ensures effects { AreSound setting.now terms.new effects.new }
     ensures kept { Keeps terms.old terms.new }
-    ensures stops { is_headline setting.now.typing_mode.now ≡ true → IfErr result (λ s. s ≡ Stop.OutOfMemory) }
+    ensures stops { IfErr result (IsStop setting.now) }
     ensures says { (m : TypingMode) → RunsFor setting.now m → IfOk result (Says ((level_in setting.now m depth).equation_holds (erased_at terms.old alias) (erased_at terms.old term)) ((level_in setting.now m depth).equation_refuted (erased_at terms.old alias) (erased_at terms.old term))) }
 {
     let premise = InternedPremise::Predicate(InternedPredicate::Projection(alias, term));

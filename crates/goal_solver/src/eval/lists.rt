@@ -1,13 +1,14 @@
 //! Running a list of entries.
-ghost use Rattle.std.specs.Prelude.{◌≡◌, true, List, Option, IfErr, IfOk};
+ghost use Rattle.std.specs.Prelude.{◌≡◌, List, Option, IfErr, IfOk};
+ghost use Rattle.std.specs.List.{All};
 ghost use Rattle.goal_terms.specs.TableMeaning.{Keeps};
 ghost use Rattle.goal_terms.specs.declared.modes.TypingMode.{TypingMode};
+ghost use Rattle.goal_kinds.specs.Causes.{IsCausedEntry, IsCausedList};
 ghost use Rattle.goal_kinds.specs.Entries.{Entry};
 ghost use Rattle.goal_kinds.specs.InternedEntries.{EntriesIn, entries_at, ListIn, list_at};
-ghost use Rattle.goal_kinds.specs.Settings.{is_headline};
 ghost use Rattle.goal_solver.specs.Lists.{list_mode, IsListFor, SaysList, SaysEntries, AtEachLevel, ListTermIn, list_held, list_term};
 ghost use Rattle.goal_solver.specs.Outcomes.{RunsFor, level_in};
-ghost use Rattle.goal_solver.specs.EvaluationCache.{IsValidCache};
+ghost use Rattle.goal_solver.specs.Effects.{AreSound, IsStop};
 
 pub(crate) mod entries;
 pub(crate) mod progress;
@@ -82,12 +83,13 @@ pub(crate) fn run_list(
     list: &Option<Vec<InternedEntry<'_>>>,
     depth: u32,
 ) -> Result<ListOutcome, Stop>
-    requires cache { IsValidCache setting.now terms.old effects.old.cache }
+    requires effects { AreSound setting.now terms.old effects.old }
     requires list { ListIn terms.old list.now }
-    ensures cache { IsValidCache setting.now terms.new effects.new.cache }
+    requires caused { IsCausedList setting.now.rows.now list.now }
+    ensures effects { AreSound setting.now terms.new effects.new }
     ensures kept { Keeps terms.old terms.new }
     ensures within { IfOk result (ListTermIn terms.new) }
-    ensures stops { is_headline setting.now.typing_mode.now ≡ true → IfErr result (λ s. s ≡ Stop.OutOfMemory) }
+    ensures stops { IfErr result (IsStop setting.now) }
     ensures says { (m : TypingMode) → RunsFor setting.now m → (q : Option (List Entry)) → IsListFor setting.now.typing_mode.now (list_at terms.old list.now) q → IfOk result (SaysList (level_in setting.now m depth) q terms.new) }
 {
     match list {
@@ -105,12 +107,13 @@ fn run_entries(
     entries: &[InternedEntry<'_>],
     depth: u32,
 ) -> Result<ListOutcome, Stop>
-    requires cache { IsValidCache setting.now terms.old effects.old.cache }
+    requires effects { AreSound setting.now terms.old effects.old }
     requires entries { EntriesIn terms.old entries.now }
-    ensures cache { IsValidCache setting.now terms.new effects.new.cache }
+    requires caused { All (IsCausedEntry setting.now.rows.now) entries.now }
+    ensures effects { AreSound setting.now terms.new effects.new }
     ensures kept { Keeps terms.old terms.new }
     ensures within { IfOk result (ListTermIn terms.new) }
-    ensures stops { is_headline setting.now.typing_mode.now ≡ true → IfErr result (λ s. s ≡ Stop.OutOfMemory) }
+    ensures stops { IfErr result (IsStop setting.now) }
     ensures says { AtEachLevel setting.now depth (λ L. IfOk result (SaysEntries setting.now.typing_mode.now (entries_at terms.old entries.now) L terms.new)) }
 {
     let mut run = ListRun::new(setting.allocator());

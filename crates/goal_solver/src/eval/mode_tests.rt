@@ -1,5 +1,5 @@
 //! What a typing mode says.
-ghost use Rattle.std.specs.Prelude.{◌≡◌, true, false};
+ghost use Rattle.std.specs.Prelude.{◌≡◌, true};
 ghost use Rattle.goal_kinds.specs.Settings.{is_headline as is_of_headline};
 
 use goal_terms::modes::TypingMode;
@@ -20,9 +20,9 @@ pub(crate) fn is_headline(mode: &TypingMode) -> bool
     }
 }
 
-/// Whether a mode is coherence, which is none of the headline.
+/// Whether a mode is coherence.
 pub(crate) fn is_coherence(mode: &TypingMode) -> bool
-    ensures { result ≡ true → is_of_headline mode.now ≡ false }
+    ensures { result ≡ true → mode.now ≡ TypingMode.Coherence }
 {
     matches!(mode, TypingMode::Coherence)
 }

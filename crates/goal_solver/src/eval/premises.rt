@@ -1,13 +1,12 @@
 //! Whether what a rule asks for holds.
-ghost use Rattle.std.specs.Prelude.{◌≡◌, true, IfErr, IfOk, map};
+ghost use Rattle.std.specs.Prelude.{IfErr, IfOk, map};
 ghost use Rattle.std.specs.List.{All};
 ghost use Rattle.goal_terms.specs.TableMeaning.{Keeps};
 ghost use Rattle.goal_terms.specs.declared.modes.TypingMode.{TypingMode};
 ghost use Rattle.goal_kinds.specs.Interned.{IsIn, AreIn, TraitIn, PredicateIn, PremiseIn, erased_at, erased_all, trait_at, predicate_at, premise_at};
 ghost use Rattle.goal_kinds.specs.Premises.{ClauseHolds, ClauseRefuted, PremiseHolds, PremiseRefuted, PremisesHold, PremisesRefuted, clauses_under, conditions_as};
-ghost use Rattle.goal_kinds.specs.Settings.{is_headline};
 ghost use Rattle.goal_solver.specs.Outcomes.{RunsFor, level_in, Says};
-ghost use Rattle.goal_solver.specs.EvaluationCache.{IsValidCache};
+ghost use Rattle.goal_solver.specs.Effects.{AreSound, IsStop};
 
 use crate::effect_goals::evaluation::evaluate_host_effect_goal;
 use crate::eval::effects::Effects;
@@ -29,11 +28,11 @@ pub fn premise_outcome(
     premise: &InternedPremise,
     depth: u32,
 ) -> Result<Outcome, Stop>
-    requires cache { IsValidCache setting.now terms.old effects.old.cache }
+    requires effects { AreSound setting.now terms.old effects.old }
     requires within { PremiseIn terms.old premise.now }
-    ensures cache { IsValidCache setting.now terms.new effects.new.cache }
+    ensures effects { AreSound setting.now terms.new effects.new }
     ensures kept { Keeps terms.old terms.new }
-    ensures stops { is_headline setting.now.typing_mode.now ≡ true → IfErr result (λ s. s ≡ Stop.OutOfMemory) }
+    ensures stops { IfErr result (IsStop setting.now) }
     ensures says { (m : TypingMode) → RunsFor setting.now m → IfOk result (Says (PremiseHolds (level_in setting.now m depth) (premise_at terms.old premise.now)) (PremiseRefuted (level_in setting.now m depth) (premise_at terms.old premise.now))) }
 {
     match premise {
@@ -55,11 +54,11 @@ pub fn predicate_outcome(
     predicate: &InternedPredicate,
     depth: u32,
 ) -> Result<Outcome, Stop>
-    requires cache { IsValidCache setting.now terms.old effects.old.cache }
+    requires effects { AreSound setting.now terms.old effects.old }
     requires within { PredicateIn terms.old predicate.now }
-    ensures cache { IsValidCache setting.now terms.new effects.new.cache }
+    ensures effects { AreSound setting.now terms.new effects.new }
     ensures kept { Keeps terms.old terms.new }
-    ensures stops { is_headline setting.now.typing_mode.now ≡ true → IfErr result (λ s. s ≡ Stop.OutOfMemory) }
+    ensures stops { IfErr result (IsStop setting.now) }
     ensures says { (m : TypingMode) → RunsFor setting.now m → IfOk result (Says (ClauseHolds (level_in setting.now m depth) (predicate_at terms.old predicate.now)) (ClauseRefuted (level_in setting.now m depth) (predicate_at terms.old predicate.now))) }
 {
     match predicate {
@@ -101,12 +100,12 @@ fn equation_outcome(
     term: TermId,
     depth: u32,
 ) -> Result<Outcome, Stop>
-    requires cache { IsValidCache setting.now terms.old effects.old.cache }
+    requires effects { AreSound setting.now terms.old effects.old }
     requires first { IsIn terms.old alias }
     requires second { IsIn terms.old term }
-    ensures cache { IsValidCache setting.now terms.new effects.new.cache }
+    ensures effects { AreSound setting.now terms.new effects.new }
     ensures kept { Keeps terms.old terms.new }
-    ensures stops { is_headline setting.now.typing_mode.now ≡ true → IfErr result (λ s. s ≡ Stop.OutOfMemory) }
+    ensures stops { IfErr result (IsStop setting.now) }
     ensures says { (m : TypingMode) → RunsFor setting.now m → IfOk result (Says ((level_in setting.now m depth).equation_holds (erased_at terms.old alias) (erased_at terms.old term)) ((level_in setting.now m depth).equation_refuted (erased_at terms.old alias) (erased_at terms.old term))) }
 {
     if depth == 0 {
@@ -124,11 +123,11 @@ pub fn premises_outcome(
     premises: &[InternedPremise],
     depth: u32,
 ) -> Result<Outcome, Stop>
-    requires cache { IsValidCache setting.now terms.old effects.old.cache }
+    requires effects { AreSound setting.now terms.old effects.old }
     requires within { All (PremiseIn terms.old) premises.now }
-    ensures cache { IsValidCache setting.now terms.new effects.new.cache }
+    ensures effects { AreSound setting.now terms.new effects.new }
     ensures kept { Keeps terms.old terms.new }
-    ensures stops { is_headline setting.now.typing_mode.now ≡ true → IfErr result (λ s. s ≡ Stop.OutOfMemory) }
+    ensures stops { IfErr result (IsStop setting.now) }
     ensures says { (m : TypingMode) → RunsFor setting.now m → IfOk result (Says (PremisesHold (level_in setting.now m depth) (map (premise_at terms.old) premises.now)) (PremisesRefuted (level_in setting.now m depth) (map (premise_at terms.old) premises.now))) }
 {
     let mut found = Outcome::Holds;
@@ -153,11 +152,11 @@ pub fn clauses_outcome(
     args: &[TermId],
     depth: u32,
 ) -> Result<Outcome, Stop>
-    requires cache { IsValidCache setting.now terms.old effects.old.cache }
+    requires effects { AreSound setting.now terms.old effects.old }
     requires args { AreIn terms.old args.now }
-    ensures cache { IsValidCache setting.now terms.new effects.new.cache }
+    ensures effects { AreSound setting.now terms.new effects.new }
     ensures kept { Keeps terms.old terms.new }
-    ensures stops { is_headline setting.now.typing_mode.now ≡ true → IfErr result (λ s. s ≡ Stop.OutOfMemory) }
+    ensures stops { IfErr result (IsStop setting.now) }
     ensures says { (m : TypingMode) → RunsFor setting.now m → IfOk result (Says (PremisesHold (level_in setting.now m depth) (clauses_under (erased_all terms.old args.now) clauses.now)) (PremisesRefuted (level_in setting.now m depth) (clauses_under (erased_all terms.old args.now) clauses.now))) }
 {
     let premises = clauses_under(terms, clauses, args)?;
@@ -174,11 +173,11 @@ pub fn conditions_outcome(
     conditions: &[InternedTrait],
     depth: u32,
 ) -> Result<Outcome, Stop>
-    requires cache { IsValidCache setting.now terms.old effects.old.cache }
+    requires effects { AreSound setting.now terms.old effects.old }
     requires within { All (TraitIn terms.old) conditions.now }
-    ensures cache { IsValidCache setting.now terms.new effects.new.cache }
+    ensures effects { AreSound setting.now terms.new effects.new }
     ensures kept { Keeps terms.old terms.new }
-    ensures stops { is_headline setting.now.typing_mode.now ≡ true → IfErr result (λ s. s ≡ Stop.OutOfMemory) }
+    ensures stops { IfErr result (IsStop setting.now) }
     ensures says { (m : TypingMode) → RunsFor setting.now m → IfOk result (Says (PremisesHold (level_in setting.now m depth) (conditions_as constness (map (trait_at terms.old) conditions.now))) (PremisesRefuted (level_in setting.now m depth) (conditions_as constness (map (trait_at terms.old) conditions.now)))) }
 {
     let mut found = Outcome::Holds;

@@ -1,6 +1,7 @@
 //! Which runs an evaluation takes in a typing mode.
-ghost use Rattle.std.specs.Prelude.{◌≡◌, true, false, OnOk, IfErr};
+ghost use Rattle.std.specs.Prelude.{◌≡◌, true, false, None, Ok, OnOk, IfOk, IfErr, IfSome};
 ghost use Rattle.goal_terms.specs.declared.modes.TypingMode.{TypingMode as modes};
+ghost use Rattle.goal_solver.specs.Accesses.{RecordsCaused, EndsFor};
 ghost use Rattle.goal_solver.specs.Answers.{IsOwed};
 ghost use Rattle.goal_kinds.specs.Interned.{IsIn};
 ghost use Rattle.goal_solver.specs.GoingBack.{GoesBack};
@@ -32,13 +33,35 @@ impl EvalCtxt<'_> {
         }
     }
 
+    /// What the first run of an evaluation found, or none where it was stopped at an access and another one is to
+    /// go on past it; then the access is recorded. Else the stop is handed on.
+    pub(crate) fn first_answer<T>(&mut self, first: Result<T, Stop>) -> Result<Option<T>, Stop>
+        ensures found { IfOk result (λ o. IfSome o (λ x. (first ≡ Ok x) × (self.new ≡ self.old))) }
+        ensures on { IfOk result (λ o. o ≡ None → (m : modes) → IsOwed self.new m → ⊥) }
+        ensures unchanged { self.new ≡ record self.old { accesses = self.new.accesses } }
+        ensures goes_back { GoesBack self.old self.new }
+        ensures caused { IfErr first (EndsFor self.old) → RecordsCaused self.old self.new }
+        ensures ends { IfErr first (EndsFor self.old) → IfErr result (EndsFor self.old) }
+        ensures stops { IfErr first (λ s. s ≡ Stop.OutOfMemory) → IfErr result (λ s. s ≡ Stop.OutOfMemory) }
+    {
+        match first {
+            Ok(found) => Ok(Some(found)),
+            Err(stop) => {
+                self.go_on(stop)?;
+                Ok(None)
+            }
+        }
+    }
+
     /// Records the access at which a run in the erased mode was stopped, if another one may go on past it. Else
     /// the stop is handed on: where the context ends at accesses, where the rule has no answer without a mode,
     /// and where memory was refused.
-    pub(crate) fn go_on(&mut self, stop: Stop) -> Result<(), Stop>
+    fn go_on(&mut self, stop: Stop) -> Result<(), Stop>
         ensures recorded { OnOk result ((m : modes) → IsOwed self.new m → ⊥) }
         ensures unchanged { self.new ≡ record self.old { accesses = self.new.accesses } }
         ensures goes_back { GoesBack self.old self.new }
+        ensures caused { EndsFor self.old stop → RecordsCaused self.old self.new }
+        ensures ends { EndsFor self.old stop → IfErr result (EndsFor self.old) }
         ensures stops { stop ≡ Stop.OutOfMemory → IfErr result (λ s. s ≡ Stop.OutOfMemory) }
     {
         let Stop::ReadsMode(access) = stop else {
@@ -52,11 +75,12 @@ impl EvalCtxt<'_> {
 
     /// Whether an access ends the evaluation: in each mode but the erased one; there if the context stops at
     /// accesses, or the rule has no answer without a mode.
-    fn is_stopped_by(&self, access: OpaqueAccess) -> bool
+    pub(crate) fn is_stopped_by(&self, access: OpaqueAccess) -> bool
         ensures { result ≡ false → self.now.typing_mode ≡ TypingMode.ErasedNotCoherence }
     {
         self.stop_on_rerun || matches!(access, OpaqueAccess::Always) || !self.is_erased()
     }
+
     /// What a run that records found, if it can be an alias's term: no inference variable stands in it, and it
     /// is a type or a constant as the alias is. Over checked tables each term of an accepted goal is so.
     pub(crate) fn fitting(&self, kind: AliasTermKind, found: Found) -> Found

@@ -1,5 +1,5 @@
 //! The head forms of terms in a context.
-ghost use Rattle.std.specs.Prelude.{◌≡◌, ◌||◌, true, false, Ok, Err, None, IfOk, IfErr};
+ghost use Rattle.std.specs.Prelude.{◌≡◌, ◌||◌, true, false, Ok, None, IfOk, IfErr};
 ghost use Rattle.goal_terms.specs.NodeTests.{is_any_infer, some_node};
 ghost use Rattle.goal_terms.specs.TableMeaning.{Keeps, HasTerm};
 ghost use Rattle.goal_terms.specs.Tree.{node_of};
@@ -129,13 +129,11 @@ impl EvalCtxt<'_> {
         ensures stops { is_headline self.old.typing_mode ≡ true → IfErr result (λ s. s ≡ Stop.OutOfMemory) }
     {
         let on_access = self.first_access();
-        match self.form_run(on_access, environment, id) {
-            Err(stop) => {
-                self.go_on(stop)?;
-                self.form_run(OnAccess::Record, environment, id)
-            }
-            found => found,
+        let first = self.form_run(on_access, environment, id);
+        if let Some(found) = self.first_answer(first)? {
+            return Ok(found);
         }
+        self.form_run(OnAccess::Record, environment, id)
     }
 
     /// One run of the head form of a term.

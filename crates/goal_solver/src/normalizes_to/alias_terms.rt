@@ -1,14 +1,15 @@
 //! The terms that aliases stand for, by their lists.
-ghost use Rattle.std.specs.Prelude.{◌≡◌, ◌≢◌, true, Some, IfErr, IfOk};
+ghost use Rattle.std.specs.Prelude.{◌≢◌, Some, IfErr, IfOk};
+ghost use Rattle.std.specs.List.{All};
 ghost use Rattle.goal_terms.specs.TableMeaning.{Keeps};
 ghost use Rattle.goal_terms.specs.declared.modes.TypingMode.{TypingMode as modes};
 ghost use Rattle.goal_kinds.specs.AliasLists.{alias_list};
+ghost use Rattle.goal_kinds.specs.Causes.{IsCausedEntry};
 ghost use Rattle.goal_kinds.specs.Interned.{AreIn, erased_all};
 ghost use Rattle.goal_kinds.specs.InternedEntries.{EntriesIn, entries_at};
-ghost use Rattle.goal_kinds.specs.Settings.{is_headline};
 ghost use Rattle.goal_solver.specs.Lists.{IsListFor};
 ghost use Rattle.goal_solver.specs.Outcomes.{RunsFor, setting_in, level_in, SaysWhich, FoundIn};
-ghost use Rattle.goal_solver.specs.EvaluationCache.{IsValidCache};
+ghost use Rattle.goal_solver.specs.Effects.{AreSound, IsStop};
 
 use crate::eval::effects::Effects;
 use crate::eval::lists::run_list;
@@ -33,12 +34,12 @@ pub fn alias_term(
     args: &[TermId],
     depth: u32,
 ) -> Result<Found, Stop>
-    requires cache { IsValidCache setting.now terms.old effects.old.cache }
+    requires effects { AreSound setting.now terms.old effects.old }
     requires args { AreIn terms.old args.now }
-    ensures cache { IsValidCache setting.now terms.new effects.new.cache }
+    ensures effects { AreSound setting.now terms.new effects.new }
     ensures kept { Keeps terms.old terms.new }
     ensures within { IfOk result (FoundIn terms.new) }
-    ensures stops { is_headline setting.now.typing_mode.now ≡ true → IfErr result (λ s. s ≡ Stop.OutOfMemory) }
+    ensures stops { IfErr result (IsStop setting.now) }
     ensures says { (m : modes) → RunsFor setting.now m → IfOk result (SaysWhich ((level_in setting.now m depth).gives kind (erased_all terms.old args.now)) ((level_in setting.now m depth).gives_refuted kind (erased_all terms.old args.now)) terms.new) }
 {
     if depth == 0 {
@@ -65,13 +66,13 @@ fn fresh_alias_term(
     args: &[TermId],
     depth: u32,
 ) -> Result<Found, Stop>
-    requires cache { IsValidCache setting.now terms.old effects.old.cache }
+    requires effects { AreSound setting.now terms.old effects.old }
     requires args { AreIn terms.old args.now }
     requires above { depth ≢ 0 }
-    ensures cache { IsValidCache setting.now terms.new effects.new.cache }
+    ensures effects { AreSound setting.now terms.new effects.new }
     ensures kept { Keeps terms.old terms.new }
     ensures within { IfOk result (FoundIn terms.new) }
-    ensures stops { is_headline setting.now.typing_mode.now ≡ true → IfErr result (λ s. s ≡ Stop.OutOfMemory) }
+    ensures stops { IfErr result (IsStop setting.now) }
     ensures says { (m : modes) → RunsFor setting.now m → IfOk result (SaysWhich ((level_in setting.now m depth).gives kind (erased_all terms.old args.now)) ((level_in setting.now m depth).gives_refuted kind (erased_all terms.old args.now)) terms.new) }
 {
     match kind {
@@ -97,6 +98,7 @@ fn list_of_alias<'t>(
     requires { AreIn terms.old args.now }
     ensures kept { Keeps terms.old terms.new }
     ensures within { IfOk result (λ es. EntriesIn terms.new es.items) }
+    ensures caused { IfOk result (λ es. All (IsCausedEntry setting.now.rows.now) es.items) }
     ensures list { (m : modes) → RunsFor setting.now m → IfOk result (λ es. IsListFor setting.now.typing_mode.now (Some (entries_at terms.new es.items)) (Some (alias_list (setting_in setting.now m) kind (erased_all terms.old args.now)))) }
 {
     let alloc = setting.allocator();

@@ -1,15 +1,15 @@
 //! The terms that candidates give projections, by their lists.
-ghost use Rattle.std.specs.Prelude.{◌≡◌, true, false, IfErr, IfOk};
+ghost use Rattle.std.specs.Prelude.{◌≡◌, true, IfErr, IfOk};
 ghost use Rattle.goal_terms.specs.TableMeaning.{Keeps};
 ghost use Rattle.goal_terms.specs.declared.modes.TypingMode.{TypingMode as modes};
+ghost use Rattle.goal_kinds.specs.Causes.{IsCausedList};
 ghost use Rattle.goal_kinds.specs.Interned.{CandidateIn, erased_at, candidate_at};
 ghost use Rattle.goal_kinds.specs.InternedEntries.{ListIn, list_at};
 ghost use Rattle.goal_kinds.specs.ProjectionLists.{projection_list};
 ghost use Rattle.goal_kinds.specs.Projections.{CandidateGives, TermRefuted};
-ghost use Rattle.goal_kinds.specs.Settings.{is_headline};
 ghost use Rattle.goal_solver.specs.Lists.{IsListFor};
 ghost use Rattle.goal_solver.specs.Outcomes.{RunsFor, setting_in, level_in, SaysWhich, FoundIn, ProjectionIn, projection_at};
-ghost use Rattle.goal_solver.specs.EvaluationCache.{IsValidCache};
+ghost use Rattle.goal_solver.specs.Effects.{AreSound, IsStop};
 
 use crate::eval::effects::Effects;
 use crate::eval::lists::run_list;
@@ -35,13 +35,13 @@ pub(crate) fn candidate_term(
     candidate: &InternedCandidate<'_>,
     depth: u32,
 ) -> Result<Found, Stop>
-    requires cache { IsValidCache setting.now terms.old effects.old.cache }
+    requires effects { AreSound setting.now terms.old effects.old }
     requires projection { ProjectionIn terms.old projection.now }
     requires candidate { CandidateIn terms.old candidate.now }
-    ensures cache { IsValidCache setting.now terms.new effects.new.cache }
+    ensures effects { AreSound setting.now terms.new effects.new }
     ensures kept { Keeps terms.old terms.new }
     ensures within { IfOk result (FoundIn terms.new) }
-    ensures stops { is_headline setting.now.typing_mode.now ≡ true → IfErr result (λ s. s ≡ Stop.OutOfMemory) }
+    ensures stops { IfErr result (IsStop setting.now) }
     ensures says { (m : modes) → RunsFor setting.now m → IfOk result (SaysWhich (λ u. CandidateGives (setting_in setting.now m) (level_in setting.now m depth) (projection_at terms.old projection.now) (erased_at terms.old projection.now.rigid_alias) u (candidate_at terms.old candidate.now)) (TermRefuted (setting_in setting.now m) (level_in setting.now m depth) (projection_at terms.old projection.now) (candidate_at terms.old candidate.now)) terms.new) }
 {
     let list = candidate_list(&*setting, terms, &*projection, &*candidate)?;
@@ -70,6 +70,7 @@ fn candidate_list<'t>(
     requires candidate { CandidateIn terms.old candidate.now }
     ensures kept { Keeps terms.old terms.new }
     ensures within { IfOk result (ListIn terms.new) }
+    ensures caused { IfOk result (IsCausedList setting.now.rows.now) }
     ensures list { (m : modes) → RunsFor setting.now m → IfOk result (λ o. IsListFor setting.now.typing_mode.now (list_at terms.new o) (projection_list (setting_in setting.now m) (projection_at terms.old projection.now) (erased_at terms.old projection.now.rigid_alias) (candidate_at terms.old candidate.now))) }
 {
     let asked = AskedProjection {
@@ -89,7 +90,7 @@ fn stays_ambiguous(
     rigid_alias: TermId,
     found: Found,
 ) -> bool
-    ensures { result ≡ true → is_headline mode.now ≡ false }
+    ensures { result ≡ true → mode.now ≡ TypingMode.Coherence }
 {
     match (candidate, found) {
         (InternedCandidate::Impl(_), Found::Is(term)) => {

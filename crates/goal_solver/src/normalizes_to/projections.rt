@@ -1,15 +1,14 @@
 //! The terms of projections.
-ghost use Rattle.std.specs.Prelude.{true, IfErr, ◌≡◌, IfOk, map};
+ghost use Rattle.std.specs.Prelude.{IfErr, IfOk, map};
 ghost use Rattle.std.specs.List.{All};
 ghost use Rattle.goal_terms.specs.TableMeaning.{Keeps};
 ghost use Rattle.goal_terms.specs.declared.modes.TypingMode.{TypingMode};
 ghost use Rattle.goal_kinds.specs.Candidates.{environment, second_group};
 ghost use Rattle.goal_kinds.specs.Interned.{IsIn, AreIn, CandidateIn, erased_at, erased_all, candidate_at};
 ghost use Rattle.goal_kinds.specs.Projections.{GroupGives, GroupRefuted, GroupsGive, GroupsRefuted, OwnUnformed, ItemGives, ItemRefuted, ProjectionGives, ProjectionRefuted};
-ghost use Rattle.goal_kinds.specs.Settings.{is_headline};
 ghost use Rattle.goal_solver.specs.Outcomes.{RunsFor, setting_in, level_in, Says, SaysWhich, FoundIn, ProjectionIn, projection_at};
 ghost use Rattle.goal_solver.specs.ProjectionParts.{HaveHeadForms, SomeUnformed, FormedGives, LaterGives, LaterRefuted, ReplacedGives, ReplacedRefuted, ThroughGives, ThroughRefuted};
-ghost use Rattle.goal_solver.specs.EvaluationCache.{IsValidCache};
+ghost use Rattle.goal_solver.specs.Effects.{AreSound, IsStop};
 
 use crate::assembly::merging::merge_terms;
 use crate::eval::effects::Effects;
@@ -49,12 +48,12 @@ pub fn projection_term(
     args: &[TermId],
     depth: u32,
 ) -> Result<Found, Stop>
-    requires cache { IsValidCache setting.now terms.old effects.old.cache }
+    requires effects { AreSound setting.now terms.old effects.old }
     requires args { AreIn terms.old args.now }
-    ensures cache { IsValidCache setting.now terms.new effects.new.cache }
+    ensures effects { AreSound setting.now terms.new effects.new }
     ensures kept { Keeps terms.old terms.new }
     ensures within { IfOk result (FoundIn terms.new) }
-    ensures stops { is_headline setting.now.typing_mode.now ≡ true → IfErr result (λ s. s ≡ Stop.OutOfMemory) }
+    ensures stops { IfErr result (IsStop setting.now) }
     ensures says { (m : TypingMode) → RunsFor setting.now m → IfOk result (SaysWhich (ProjectionGives (setting_in setting.now m) (level_in setting.now m depth) kind item (erased_all terms.old args.now)) (ProjectionRefuted (setting_in setting.now m) (level_in setting.now m depth) kind item (erased_all terms.old args.now)) terms.new) }
 {
     let Some(row) = setting.rows.item_row(item) else {
@@ -78,12 +77,12 @@ fn item_term(
     args: &[TermId],
     depth: u32,
 ) -> Result<Found, Stop>
-    requires cache { IsValidCache setting.now terms.old effects.old.cache }
+    requires effects { AreSound setting.now terms.old effects.old }
     requires args { AreIn terms.old args.now }
-    ensures cache { IsValidCache setting.now terms.new effects.new.cache }
+    ensures effects { AreSound setting.now terms.new effects.new }
     ensures kept { Keeps terms.old terms.new }
     ensures within { IfOk result (FoundIn terms.new) }
-    ensures stops { is_headline setting.now.typing_mode.now ≡ true → IfErr result (λ s. s ≡ Stop.OutOfMemory) }
+    ensures stops { IfErr result (IsStop setting.now) }
     ensures says { (m : TypingMode) → RunsFor setting.now m → IfOk result (SaysWhich (λ u. ItemGives (setting_in setting.now m) (level_in setting.now m depth) kind (erased_all terms.old args.now) u item.now trait_row.now) (ItemRefuted (setting_in setting.now m) (level_in setting.now m depth) kind (erased_all terms.old args.now) item.now trait_row.now) terms.new) }
 {
     if args.is_empty() {
@@ -116,12 +115,12 @@ pub(crate) fn term_proven_via(
     given: &Given<'_>,
     depth: u32,
 ) -> Result<Found, Stop>
-    requires cache { IsValidCache setting.now terms.old effects.old.cache }
+    requires effects { AreSound setting.now terms.old effects.old }
     requires args { AreIn terms.old given.now.args.now }
-    ensures cache { IsValidCache setting.now terms.new effects.new.cache }
+    ensures effects { AreSound setting.now terms.new effects.new }
     ensures kept { Keeps terms.old terms.new }
     ensures within { IfOk result (FoundIn terms.new) }
-    ensures stops { is_headline setting.now.typing_mode.now ≡ true → IfErr result (λ s. s ≡ Stop.OutOfMemory) }
+    ensures stops { IfErr result (IsStop setting.now) }
     ensures says { (m : TypingMode) → RunsFor setting.now m → IfOk result (SaysWhich (ThroughGives (setting_in setting.now m) (level_in setting.now m depth) given.now.kind given.now.item.now given.now.trait_params given.now.class (erased_all terms.old given.now.args.now)) (ThroughRefuted (setting_in setting.now m) (level_in setting.now m depth) given.now.kind given.now.item.now given.now.trait_params given.now.class (erased_all terms.old given.now.args.now)) terms.new) }
 {
     let args = given.args;
@@ -146,13 +145,13 @@ fn replaced_term(
     self_ty: TermId,
     depth: u32,
 ) -> Result<Found, Stop>
-    requires cache { IsValidCache setting.now terms.old effects.old.cache }
+    requires effects { AreSound setting.now terms.old effects.old }
     requires args { AreIn terms.old given.now.args.now }
     requires self_ty { IsIn terms.old self_ty }
-    ensures cache { IsValidCache setting.now terms.new effects.new.cache }
+    ensures effects { AreSound setting.now terms.new effects.new }
     ensures kept { Keeps terms.old terms.new }
     ensures within { IfOk result (FoundIn terms.new) }
-    ensures stops { is_headline setting.now.typing_mode.now ≡ true → IfErr result (λ s. s ≡ Stop.OutOfMemory) }
+    ensures stops { IfErr result (IsStop setting.now) }
     ensures says { (m : TypingMode) → RunsFor setting.now m → IfOk result (SaysWhich (ReplacedGives (setting_in setting.now m) (level_in setting.now m depth) given.now.kind given.now.item.now given.now.trait_params given.now.class (erased_all terms.old given.now.args.now) (erased_at terms.old self_ty)) (ReplacedRefuted (setting_in setting.now m) (level_in setting.now m depth) given.now.kind given.now.item.now given.now.trait_params given.now.class (erased_all terms.old given.now.args.now) (erased_at terms.old self_ty)) terms.new) }
 {
     let alias = intern_alias(setting.allocator(), terms, given.kind, given.args)?;
@@ -188,14 +187,14 @@ fn groups_term(
     class: TraitGoalProvenVia,
     depth: u32,
 ) -> Result<Found, Stop>
-    requires cache { IsValidCache setting.now terms.old effects.old.cache }
+    requires effects { AreSound setting.now terms.old effects.old }
     requires projection { ProjectionIn terms.old projection.now }
     requires self_ty { IsIn terms.old self_ty }
     requires given { IsIn terms.old given }
-    ensures cache { IsValidCache setting.now terms.new effects.new.cache }
+    ensures effects { AreSound setting.now terms.new effects.new }
     ensures kept { Keeps terms.old terms.new }
     ensures within { IfOk result (FoundIn terms.new) }
-    ensures stops { is_headline setting.now.typing_mode.now ≡ true → IfErr result (λ s. s ≡ Stop.OutOfMemory) }
+    ensures stops { IfErr result (IsStop setting.now) }
     ensures says { (m : TypingMode) → RunsFor setting.now m → IfOk result (SaysWhich (GroupsGive (setting_in setting.now m) (level_in setting.now m depth) class (projection_at terms.old projection.now) (erased_at terms.old projection.now.rigid_alias) (erased_at terms.old given) (second_group (setting_in setting.now m) projection.now.item.now.trait_id (erased_at terms.old self_ty) class)) (GroupsRefuted (setting_in setting.now m) (level_in setting.now m depth) class (projection_at terms.old projection.now) (erased_at terms.old projection.now.rigid_alias) (second_group (setting_in setting.now m) projection.now.item.now.trait_id (erased_at terms.old self_ty) class)) terms.new) }
 {
     match environment_term(setting, terms, effects, projection, self_ty, depth)? {
@@ -219,14 +218,14 @@ fn later_term(
     class: TraitGoalProvenVia,
     depth: u32,
 ) -> Result<Found, Stop>
-    requires cache { IsValidCache setting.now terms.old effects.old.cache }
+    requires effects { AreSound setting.now terms.old effects.old }
     requires projection { ProjectionIn terms.old projection.now }
     requires self_ty { IsIn terms.old self_ty }
     requires given { IsIn terms.old given }
-    ensures cache { IsValidCache setting.now terms.new effects.new.cache }
+    ensures effects { AreSound setting.now terms.new effects.new }
     ensures kept { Keeps terms.old terms.new }
     ensures within { IfOk result (FoundIn terms.new) }
-    ensures stops { is_headline setting.now.typing_mode.now ≡ true → IfErr result (λ s. s ≡ Stop.OutOfMemory) }
+    ensures stops { IfErr result (IsStop setting.now) }
     ensures says { (m : TypingMode) → RunsFor setting.now m → IfOk result (SaysWhich (LaterGives (setting_in setting.now m) (level_in setting.now m depth) class (projection_at terms.old projection.now) (erased_at terms.old projection.now.rigid_alias) (erased_at terms.old given) (second_group (setting_in setting.now m) projection.now.item.now.trait_id (erased_at terms.old self_ty) class)) (LaterRefuted (setting_in setting.now m) (level_in setting.now m depth) class (projection_at terms.old projection.now) (erased_at terms.old projection.now.rigid_alias) (second_group (setting_in setting.now m) projection.now.item.now.trait_id (erased_at terms.old self_ty) class)) terms.new) }
 {
     match second_term(setting, terms, effects, projection, self_ty, class, depth)? {
@@ -253,13 +252,13 @@ fn environment_term(
     self_ty: TermId,
     depth: u32,
 ) -> Result<Found, Stop>
-    requires cache { IsValidCache setting.now terms.old effects.old.cache }
+    requires effects { AreSound setting.now terms.old effects.old }
     requires projection { ProjectionIn terms.old projection.now }
     requires self_ty { IsIn terms.old self_ty }
-    ensures cache { IsValidCache setting.now terms.new effects.new.cache }
+    ensures effects { AreSound setting.now terms.new effects.new }
     ensures kept { Keeps terms.old terms.new }
     ensures within { IfOk result (FoundIn terms.new) }
-    ensures stops { is_headline setting.now.typing_mode.now ≡ true → IfErr result (λ s. s ≡ Stop.OutOfMemory) }
+    ensures stops { IfErr result (IsStop setting.now) }
     ensures says { (m : TypingMode) → RunsFor setting.now m → IfOk result (SaysWhich (GroupGives (setting_in setting.now m) (level_in setting.now m depth) (projection_at terms.old projection.now) (erased_at terms.old projection.now.rigid_alias) (environment (setting_in setting.now m))) (GroupRefuted (setting_in setting.now m) (level_in setting.now m depth) (projection_at terms.old projection.now) (environment (setting_in setting.now m))) terms.new) }
 {
     let sought = Sought {
@@ -292,13 +291,13 @@ fn second_term(
     class: TraitGoalProvenVia,
     depth: u32,
 ) -> Result<Found, Stop>
-    requires cache { IsValidCache setting.now terms.old effects.old.cache }
+    requires effects { AreSound setting.now terms.old effects.old }
     requires projection { ProjectionIn terms.old projection.now }
     requires self_ty { IsIn terms.old self_ty }
-    ensures cache { IsValidCache setting.now terms.new effects.new.cache }
+    ensures effects { AreSound setting.now terms.new effects.new }
     ensures kept { Keeps terms.old terms.new }
     ensures within { IfOk result (FoundIn terms.new) }
-    ensures stops { is_headline setting.now.typing_mode.now ≡ true → IfErr result (λ s. s ≡ Stop.OutOfMemory) }
+    ensures stops { IfErr result (IsStop setting.now) }
     ensures says { (m : TypingMode) → RunsFor setting.now m → IfOk result (SaysWhich (GroupGives (setting_in setting.now m) (level_in setting.now m depth) (projection_at terms.old projection.now) (erased_at terms.old projection.now.rigid_alias) (second_group (setting_in setting.now m) projection.now.item.now.trait_id (erased_at terms.old self_ty) class)) (GroupRefuted (setting_in setting.now m) (level_in setting.now m depth) (projection_at terms.old projection.now) (second_group (setting_in setting.now m) projection.now.item.now.trait_id (erased_at terms.old self_ty) class)) terms.new) }
 {
     let sought = Sought {
@@ -327,13 +326,13 @@ fn own_args_normalized(
     term: TermId,
     depth: u32,
 ) -> Result<Found, Stop>
-    requires cache { IsValidCache setting.now terms.old effects.old.cache }
+    requires effects { AreSound setting.now terms.old effects.old }
     requires projection { ProjectionIn terms.old projection.now }
     requires term { IsIn terms.old term }
-    ensures cache { IsValidCache setting.now terms.new effects.new.cache }
+    ensures effects { AreSound setting.now terms.new effects.new }
     ensures kept { Keeps terms.old terms.new }
     ensures within { IfOk result (FoundIn terms.new) }
-    ensures stops { is_headline setting.now.typing_mode.now ≡ true → IfErr result (λ s. s ≡ Stop.OutOfMemory) }
+    ensures stops { IfErr result (IsStop setting.now) }
     ensures says { (m : TypingMode) → RunsFor setting.now m → IfOk result (SaysWhich (FormedGives (level_in setting.now m depth) (projection_at terms.old projection.now) (erased_at terms.old term)) (OwnUnformed (level_in setting.now m depth) (projection_at terms.old projection.now)) terms.new) }
 {
     let own = later_args(projection.args, projection.trait_params);
@@ -353,11 +352,11 @@ fn head_forms_outcome(
     ids: &[TermId],
     depth: u32,
 ) -> Result<Outcome, Stop>
-    requires cache { IsValidCache setting.now terms.old effects.old.cache }
+    requires effects { AreSound setting.now terms.old effects.old }
     requires ids { AreIn terms.old ids.now }
-    ensures cache { IsValidCache setting.now terms.new effects.new.cache }
+    ensures effects { AreSound setting.now terms.new effects.new }
     ensures kept { Keeps terms.old terms.new }
-    ensures stops { is_headline setting.now.typing_mode.now ≡ true → IfErr result (λ s. s ≡ Stop.OutOfMemory) }
+    ensures stops { IfErr result (IsStop setting.now) }
     ensures says { (m : TypingMode) → RunsFor setting.now m → IfOk result (Says (HaveHeadForms (level_in setting.now m depth) (erased_all terms.old ids.now)) (SomeUnformed (level_in setting.now m depth) (erased_all terms.old ids.now))) }
 {
     let mut outcome = Outcome::Holds;
@@ -382,13 +381,13 @@ fn group_term(
     candidates: &[InternedCandidate<'_>],
     depth: u32,
 ) -> Result<Found, Stop>
-    requires cache { IsValidCache setting.now terms.old effects.old.cache }
+    requires effects { AreSound setting.now terms.old effects.old }
     requires projection { ProjectionIn terms.old projection.now }
     requires candidates { All (CandidateIn terms.old) candidates.now }
-    ensures cache { IsValidCache setting.now terms.new effects.new.cache }
+    ensures effects { AreSound setting.now terms.new effects.new }
     ensures kept { Keeps terms.old terms.new }
     ensures within { IfOk result (FoundIn terms.new) }
-    ensures stops { is_headline setting.now.typing_mode.now ≡ true → IfErr result (λ s. s ≡ Stop.OutOfMemory) }
+    ensures stops { IfErr result (IsStop setting.now) }
     ensures says { (m : TypingMode) → RunsFor setting.now m → IfOk result (SaysWhich (GroupGives (setting_in setting.now m) (level_in setting.now m depth) (projection_at terms.old projection.now) (erased_at terms.old projection.now.rigid_alias) (map (candidate_at terms.old) candidates.now)) (GroupRefuted (setting_in setting.now m) (level_in setting.now m depth) (projection_at terms.old projection.now) (map (candidate_at terms.old) candidates.now)) terms.new) }
 {
     let mut found = Found::Refuted;

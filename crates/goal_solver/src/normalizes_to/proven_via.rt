@@ -15,7 +15,7 @@ ghost use Rattle.goal_solver.specs.Recording.{FitsKind};
 ghost use Rattle.goal_solver.specs.Outcomes.{RunsAs, RunsFor, StandsFor, setting_in, level_in, SaysWhich, FoundIn};
 ghost use Rattle.goal_solver.specs.Promises.{ListsTerm};
 ghost use Rattle.goal_solver.specs.State.{kinds_of};
-ghost use Rattle.goal_solver.specs.EvaluationCache.{IsValidCache};
+ghost use Rattle.goal_solver.specs.Effects.{AreSound, IsStop};
 
 use crate::context::EvalCtxt;
 use crate::eval::closed_goals::is_closed_alias;
@@ -51,11 +51,11 @@ fn alias_proven_via(
     alias: &AliasTerm,
     depth: u32,
 ) -> Result<Found, Stop>
-    requires cache { IsValidCache setting.now terms.old effects.old.cache }
-    ensures cache { IsValidCache setting.now terms.new effects.new.cache }
+    requires effects { AreSound setting.now terms.old effects.old }
+    ensures effects { AreSound setting.now terms.new effects.new }
     ensures kept { Keeps terms.old terms.new }
     ensures within { IfOk result (FoundIn terms.new) }
-    ensures stops { is_headline setting.now.typing_mode.now ≡ true → IfErr result (λ s. s ≡ Stop.OutOfMemory) }
+    ensures stops { IfErr result (IsStop setting.now) }
     ensures says { (m : TypingMode) → RunsFor setting.now m → IfOk result (SaysWhich ((level_through (setting_in setting.now m) (level_in setting.now m depth) class).gives alias.now.kind (erased_args alias.now.args.items)) ((level_through (setting_in setting.now m) (level_in setting.now m depth) class).gives_refuted alias.now.kind (erased_args alias.now.args.items)) terms.new) }
 {
     let Some(id) = projected_item(alias.kind) else {
@@ -100,13 +100,11 @@ impl EvalCtxt<'_> {
         if let OnAccess::Record = self.first_access() {
             return self.class_recorded(class, alias, environment);
         }
-        match self.class_run(OnAccess::Stop, class, alias, environment) {
-            Err(stop) => {
-                self.go_on(stop)?;
-                self.class_recorded(class, alias, environment)
-            }
-            found => found,
+        let first = self.class_run(OnAccess::Stop, class, alias, environment);
+        if let Some(found) = self.first_answer(first)? {
+            return Ok(found);
         }
+        self.class_recorded(class, alias, environment)
     }
 
     /// Which term a run that records finds so, if an answer can give it.

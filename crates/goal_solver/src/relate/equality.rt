@@ -1,15 +1,14 @@
 //! Whether two terms are equal, aliases opened.
-ghost use Rattle.std.specs.Prelude.{◌≡◌, true, IfErr, ℕ, IfOk};
+ghost use Rattle.std.specs.Prelude.{IfErr, IfOk};
 ghost use Rattle.std.specs.List.{All};
 ghost use Rattle.goal_terms.specs.TableMeaning.{Keeps};
 ghost use Rattle.goal_terms.specs.declared.modes.TypingMode.{TypingMode};
 ghost use Rattle.goal_kinds.specs.Interned.{IsIn, AreIn, erased_at, erased_all};
 ghost use Rattle.goal_kinds.specs.Words.{Pairs, SomePair};
 ghost use Rattle.goal_kinds.specs.Equality.{SameForm, OtherForm};
-ghost use Rattle.goal_kinds.specs.Settings.{is_headline};
 ghost use Rattle.goal_solver.specs.Outcomes.{RunsFor, level_in, Says};
 ghost use Rattle.goal_solver.specs.Pending.{IsOpen, Relates, AllEqual, SomeUnequal};
-ghost use Rattle.goal_solver.specs.EvaluationCache.{IsValidCache};
+ghost use Rattle.goal_solver.specs.Effects.{AreSound, IsStop};
 
 use crate::eval::effects::Effects;
 use crate::eval::head_forms::head_form;
@@ -29,12 +28,12 @@ pub fn compare_terms(
     right: TermId,
     depth: u32,
 ) -> Result<Outcome, Stop>
-    requires cache { IsValidCache setting.now terms.old effects.old.cache }
+    requires effects { AreSound setting.now terms.old effects.old }
     requires first { IsIn terms.old left }
     requires second { IsIn terms.old right }
-    ensures cache { IsValidCache setting.now terms.new effects.new.cache }
+    ensures effects { AreSound setting.now terms.new effects.new }
     ensures kept { Keeps terms.old terms.new }
-    ensures stops { is_headline setting.now.typing_mode.now ≡ true → IfErr result (λ s. s ≡ Stop.OutOfMemory) }
+    ensures stops { IfErr result (IsStop setting.now) }
     ensures says { (m : TypingMode) → RunsFor setting.now m → IfOk result (Says ((level_in setting.now m depth).equal (erased_at terms.old left) (erased_at terms.old right)) ((level_in setting.now m depth).unequal (erased_at terms.old left) (erased_at terms.old right))) }
 {
     let mut pending = Pending::new(setting.rows);
@@ -52,12 +51,12 @@ pub fn compare_lists(
     right: &[TermId],
     depth: u32,
 ) -> Result<Outcome, Stop>
-    requires cache { IsValidCache setting.now terms.old effects.old.cache }
+    requires effects { AreSound setting.now terms.old effects.old }
     requires first { AreIn terms.old left.now }
     requires second { AreIn terms.old right.now }
-    ensures cache { IsValidCache setting.now terms.new effects.new.cache }
+    ensures effects { AreSound setting.now terms.new effects.new }
     ensures kept { Keeps terms.old terms.new }
-    ensures stops { is_headline setting.now.typing_mode.now ≡ true → IfErr result (λ s. s ≡ Stop.OutOfMemory) }
+    ensures stops { IfErr result (IsStop setting.now) }
     ensures says { (m : TypingMode) → RunsFor setting.now m → IfOk result (Says (Pairs (level_in setting.now m depth).equal (erased_all terms.old left.now) (erased_all terms.old right.now)) (SomePair (level_in setting.now m depth).unequal (erased_all terms.old left.now) (erased_all terms.old right.now))) }
 {
     let mut pending = Pending::new(setting.rows);
@@ -74,11 +73,11 @@ fn compare_pending(
     pending: &Pending,
     depth: u32,
 ) -> Result<Outcome, Stop>
-    requires cache { IsValidCache setting.now terms.old effects.old.cache }
+    requires effects { AreSound setting.now terms.old effects.old }
     requires within { All (IsOpen terms.old) pending.now.pairs.items }
-    ensures cache { IsValidCache setting.now terms.new effects.new.cache }
+    ensures effects { AreSound setting.now terms.new effects.new }
     ensures kept { Keeps terms.old terms.new }
-    ensures stops { is_headline setting.now.typing_mode.now ≡ true → IfErr result (λ s. s ≡ Stop.OutOfMemory) }
+    ensures stops { IfErr result (IsStop setting.now) }
     ensures says { (m : TypingMode) → RunsFor setting.now m → IfOk result (Says (AllEqual (level_in setting.now m depth) terms.old pending.now.outcome pending.now.pairs.items) (SomeUnequal (level_in setting.now m depth) terms.old pending.now.outcome pending.now.pairs.items)) }
 {
     let mut outcome = pending.outcome;
@@ -101,11 +100,11 @@ fn compare_pair(
     pair: TermPair,
     depth: u32,
 ) -> Result<Outcome, Stop>
-    requires cache { IsValidCache setting.now terms.old effects.old.cache }
+    requires effects { AreSound setting.now terms.old effects.old }
     requires within { IsOpen terms.old pair }
-    ensures cache { IsValidCache setting.now terms.new effects.new.cache }
+    ensures effects { AreSound setting.now terms.new effects.new }
     ensures kept { Keeps terms.old terms.new }
-    ensures stops { is_headline setting.now.typing_mode.now ≡ true → IfErr result (λ s. s ≡ Stop.OutOfMemory) }
+    ensures stops { IfErr result (IsStop setting.now) }
     ensures says { (m : TypingMode) → RunsFor setting.now m → IfOk result (Says (Relates (level_in setting.now m depth).equal terms.old pair) (Relates (level_in setting.now m depth).unequal terms.old pair)) }
 {
     if depth == 0 {
@@ -130,12 +129,12 @@ fn compare_forms(
     other: TermId,
     depth: u32,
 ) -> Result<Outcome, Stop>
-    requires cache { IsValidCache setting.now terms.old effects.old.cache }
+    requires effects { AreSound setting.now terms.old effects.old }
     requires first { IsIn terms.old form }
     requires second { IsIn terms.old other }
-    ensures cache { IsValidCache setting.now terms.new effects.new.cache }
+    ensures effects { AreSound setting.now terms.new effects.new }
     ensures kept { Keeps terms.old terms.new }
-    ensures stops { is_headline setting.now.typing_mode.now ≡ true → IfErr result (λ s. s ≡ Stop.OutOfMemory) }
+    ensures stops { IfErr result (IsStop setting.now) }
     ensures says { (m : TypingMode) → RunsFor setting.now m → IfOk result (Says (SameForm (level_in setting.now m depth) (erased_at terms.old form) (erased_at terms.old other)) (OtherForm (level_in setting.now m depth) (erased_at terms.old form) (erased_at terms.old other))) }
 {
     if terms.same_erased(form, other) {

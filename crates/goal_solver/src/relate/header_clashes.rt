@@ -1,13 +1,12 @@
 //! Whether a header clashes with given arguments.
-ghost use Rattle.std.specs.Prelude.{◌≡◌, true, IfErr, IfOk};
+ghost use Rattle.std.specs.Prelude.{IfErr, IfOk};
 ghost use Rattle.std.specs.List.{All};
 ghost use Rattle.goal_terms.specs.TableMeaning.{Keeps};
 ghost use Rattle.goal_kinds.specs.Interned.{IsIn, AreIn, erased_at, erased_all};
 ghost use Rattle.goal_kinds.specs.Words.{Exists, SomePair};
-ghost use Rattle.goal_kinds.specs.Settings.{is_headline};
 ghost use Rattle.goal_solver.specs.Outcomes.{header_terms};
 ghost use Rattle.goal_solver.specs.HeaderWords.{is_any, erased_ref, IsBehind, KnownIn, IsKnown, known_trees, ClashAt, QuestionIn, Fills, TestOutcome};
-ghost use Rattle.goal_solver.specs.EvaluationCache.{IsValidCache};
+ghost use Rattle.goal_solver.specs.Effects.{AreSound, IsStop};
 
 use crate::eval::effects::Effects;
 use crate::eval::head_forms::head_form;
@@ -35,14 +34,14 @@ fn instance_clashes(
     given: TermId,
     depth: u32,
 ) -> Result<bool, Stop>
-    requires cache { IsValidCache setting.now terms.old effects.old.cache }
+    requires effects { AreSound setting.now terms.old effects.old }
     requires known { KnownIn terms.old known.now }
     requires args { AreIn terms.old args.now }
     requires fills { Fills known.now args.now }
     requires within { QuestionIn terms.old (Question.Instance header given) }
-    ensures cache { IsValidCache setting.now terms.new effects.new.cache }
+    ensures effects { AreSound setting.now terms.new effects.new }
     ensures kept { Keeps terms.old terms.new }
-    ensures stops { is_headline setting.now.typing_mode.now ≡ true → IfErr result (λ s. s ≡ Stop.OutOfMemory) }
+    ensures stops { IfErr result (IsStop setting.now) }
     ensures says { IfOk result (TestOutcome setting.now depth (λ L. L.clash (IsKnown (known_trees terms.old known.now)) (erased_ref header.entry) (erased_at terms.old given))) }
 {
     if mentions_unknown(known, header) {
@@ -67,14 +66,14 @@ fn question_clashes(
     question: Question<'_>,
     depth: u32,
 ) -> Result<bool, Stop>
-    requires cache { IsValidCache setting.now terms.old effects.old.cache }
+    requires effects { AreSound setting.now terms.old effects.old }
     requires known { KnownIn terms.old known.now }
     requires args { AreIn terms.old args.now }
     requires fills { Fills known.now args.now }
     requires within { QuestionIn terms.old question }
-    ensures cache { IsValidCache setting.now terms.new effects.new.cache }
+    ensures effects { AreSound setting.now terms.new effects.new }
     ensures kept { Keeps terms.old terms.new }
-    ensures stops { is_headline setting.now.typing_mode.now ≡ true → IfErr result (λ s. s ≡ Stop.OutOfMemory) }
+    ensures stops { IfErr result (IsStop setting.now) }
     ensures says { IfOk result (TestOutcome setting.now depth (λ L. ClashAt L (known_trees terms.old known.now) terms.old question.entry)) }
 {
     match question {
@@ -100,14 +99,14 @@ fn behind_clashes(
     given: TermId,
     depth: u32,
 ) -> Result<bool, Stop>
-    requires cache { IsValidCache setting.now terms.old effects.old.cache }
+    requires effects { AreSound setting.now terms.old effects.old }
     requires known { KnownIn terms.old known.now }
     requires args { AreIn terms.old args.now }
     requires fills { Fills known.now args.now }
     requires within { IsBehind terms.old is_any header given }
-    ensures cache { IsValidCache setting.now terms.new effects.new.cache }
+    ensures effects { AreSound setting.now terms.new effects.new }
     ensures kept { Keeps terms.old terms.new }
-    ensures stops { is_headline setting.now.typing_mode.now ≡ true → IfErr result (λ s. s ≡ Stop.OutOfMemory) }
+    ensures stops { IfErr result (IsStop setting.now) }
     ensures says { IfOk result (TestOutcome setting.now depth (λ L. L.clash (IsKnown (known_trees terms.old known.now)) (erased_ref header.entry) (erased_at terms.old given))) }
 {
     if depth == 0 {
@@ -146,14 +145,14 @@ fn form_clashes(
     given: TermId,
     depth: u32,
 ) -> Result<bool, Stop>
-    requires cache { IsValidCache setting.now terms.old effects.old.cache }
+    requires effects { AreSound setting.now terms.old effects.old }
     requires known { KnownIn terms.old known.now }
     requires args { AreIn terms.old args.now }
     requires fills { Fills known.now args.now }
     requires within { IsIn terms.old given }
-    ensures cache { IsValidCache setting.now terms.new effects.new.cache }
+    ensures effects { AreSound setting.now terms.new effects.new }
     ensures kept { Keeps terms.old terms.new }
-    ensures stops { is_headline setting.now.typing_mode.now ≡ true → IfErr result (λ s. s ≡ Stop.OutOfMemory) }
+    ensures stops { IfErr result (IsStop setting.now) }
     ensures says { IfOk result (TestOutcome setting.now depth (λ L. L.clash (IsKnown (known_trees terms.old known.now)) (erased_ref header.entry) (erased_at terms.old given))) }
 {
     let questions = questions_of(setting.allocator(), terms, header, given)?;
@@ -171,14 +170,14 @@ fn any_clash(
     questions: &[Question<'_>],
     depth: u32,
 ) -> Result<bool, Stop>
-    requires cache { IsValidCache setting.now terms.old effects.old.cache }
+    requires effects { AreSound setting.now terms.old effects.old }
     requires known { KnownIn terms.old known.now }
     requires args { AreIn terms.old args.now }
     requires fills { Fills known.now args.now }
     requires within { All (QuestionIn terms.old) questions.now }
-    ensures cache { IsValidCache setting.now terms.new effects.new.cache }
+    ensures effects { AreSound setting.now terms.new effects.new }
     ensures kept { Keeps terms.old terms.new }
-    ensures stops { is_headline setting.now.typing_mode.now ≡ true → IfErr result (λ s. s ≡ Stop.OutOfMemory) }
+    ensures stops { IfErr result (IsStop setting.now) }
     ensures says { IfOk result (TestOutcome setting.now depth (λ L. Exists (ClashAt L (known_trees terms.old known.now) terms.old) questions.now)) }
 {
     for i in 0..questions.len() {
@@ -201,14 +200,14 @@ pub fn header_clashes(
     args: &[TermId],
     depth: u32,
 ) -> Result<bool, Stop>
-    requires cache { IsValidCache setting.now terms.old effects.old.cache }
+    requires effects { AreSound setting.now terms.old effects.old }
     requires given { AreIn terms.old given.now }
     requires known { KnownIn terms.old known.now }
     requires args { AreIn terms.old args.now }
     requires fills { Fills known.now args.now }
-    ensures cache { IsValidCache setting.now terms.new effects.new.cache }
+    ensures effects { AreSound setting.now terms.new effects.new }
     ensures kept { Keeps terms.old terms.new }
-    ensures stops { is_headline setting.now.typing_mode.now ≡ true → IfErr result (λ s. s ≡ Stop.OutOfMemory) }
+    ensures stops { IfErr result (IsStop setting.now) }
     ensures says { IfOk result (TestOutcome setting.now depth (λ L. SomePair (L.clash (IsKnown (known_trees terms.old known.now))) (header_terms header.now) (erased_all terms.old given.now))) }
 {
     let questions = questions_of_args(setting.allocator(), terms, header, given)?;

@@ -1,14 +1,13 @@
 //! The terms of a header's parameters, as given arguments have them.
-ghost use Rattle.std.specs.Prelude.{true, IfErr, ◌≡◌, length, IfOk};
+ghost use Rattle.std.specs.Prelude.{IfErr, ◌≡◌, length, IfOk};
 ghost use Rattle.std.specs.Option.{option_map};
 ghost use Rattle.goal_terms.specs.TableMeaning.{Keeps};
 ghost use Rattle.goal_terms.specs.declared.modes.TypingMode.{TypingMode};
 ghost use Rattle.goal_kinds.specs.Headers.{PartAmong};
 ghost use Rattle.goal_kinds.specs.Interned.{AreIn, erased_at, erased_all};
-ghost use Rattle.goal_kinds.specs.Settings.{is_headline};
 ghost use Rattle.goal_solver.specs.Outcomes.{RunsFor, level_in, header_terms};
 ghost use Rattle.goal_solver.specs.HeaderWords.{is_this, erased_ref, IsBehind, GivesPart, PlaceIn, OptionIn, KnownIn, known_trees, SaysKnown, PartOutcome, KnownOutcome};
-ghost use Rattle.goal_solver.specs.EvaluationCache.{IsValidCache};
+ghost use Rattle.goal_solver.specs.Effects.{AreSound, IsStop};
 
 use crate::eval::effects::Effects;
 use crate::eval::head_forms::head_form;
@@ -32,12 +31,12 @@ fn part_at(
     place: Place<'_>,
     depth: u32,
 ) -> Result<Option<TermId>, Stop>
-    requires cache { IsValidCache setting.now terms.old effects.old.cache }
+    requires effects { AreSound setting.now terms.old effects.old }
     requires within { PlaceIn terms.old number place }
-    ensures cache { IsValidCache setting.now terms.new effects.new.cache }
+    ensures effects { AreSound setting.now terms.new effects.new }
     ensures kept { Keeps terms.old terms.new }
     ensures within { IfOk result (OptionIn terms.new) }
-    ensures stops { is_headline setting.now.typing_mode.now ≡ true → IfErr result (λ s. s ≡ Stop.OutOfMemory) }
+    ensures stops { IfErr result (IsStop setting.now) }
     ensures says { IfOk result (PartOutcome setting.now depth (λ L. GivesPart L number terms.old place.entry) terms.new) }
 {
     match place {
@@ -60,12 +59,12 @@ fn part_behind(
     given: TermId,
     depth: u32,
 ) -> Result<Option<TermId>, Stop>
-    requires cache { IsValidCache setting.now terms.old effects.old.cache }
+    requires effects { AreSound setting.now terms.old effects.old }
     requires within { IsBehind terms.old (is_this number) header given }
-    ensures cache { IsValidCache setting.now terms.new effects.new.cache }
+    ensures effects { AreSound setting.now terms.new effects.new }
     ensures kept { Keeps terms.old terms.new }
     ensures within { IfOk result (OptionIn terms.new) }
-    ensures stops { is_headline setting.now.typing_mode.now ≡ true → IfErr result (λ s. s ≡ Stop.OutOfMemory) }
+    ensures stops { IfErr result (IsStop setting.now) }
     ensures says { IfOk result (PartOutcome setting.now depth (λ L. L.part number (erased_ref header.entry) (erased_at terms.old given)) terms.new) }
 {
     if depth == 0 {
@@ -95,12 +94,12 @@ fn known_part(
     given: &[TermId],
     depth: u32,
 ) -> Result<Option<TermId>, Stop>
-    requires cache { IsValidCache setting.now terms.old effects.old.cache }
+    requires effects { AreSound setting.now terms.old effects.old }
     requires given { AreIn terms.old given.now }
-    ensures cache { IsValidCache setting.now terms.new effects.new.cache }
+    ensures effects { AreSound setting.now terms.new effects.new }
     ensures kept { Keeps terms.old terms.new }
     ensures within { IfOk result (OptionIn terms.new) }
-    ensures stops { is_headline setting.now.typing_mode.now ≡ true → IfErr result (λ s. s ≡ Stop.OutOfMemory) }
+    ensures stops { IfErr result (IsStop setting.now) }
     ensures says { IfOk result (PartOutcome setting.now depth (λ L. PartAmong L number (header_terms header.now) (erased_all terms.old given.now)) terms.new) }
 {
     let place = find_among(terms, number, Parts::Args(header), given);
@@ -119,12 +118,12 @@ fn known_arg(
     given: &[TermId],
     depth: u32,
 ) -> Result<Option<TermId>, Stop>
-    requires cache { IsValidCache setting.now terms.old effects.old.cache }
+    requires effects { AreSound setting.now terms.old effects.old }
     requires given { AreIn terms.old given.now }
-    ensures cache { IsValidCache setting.now terms.new effects.new.cache }
+    ensures effects { AreSound setting.now terms.new effects.new }
     ensures kept { Keeps terms.old terms.new }
     ensures within { IfOk result (OptionIn terms.new) }
-    ensures stops { is_headline setting.now.typing_mode.now ≡ true → IfErr result (λ s. s ≡ Stop.OutOfMemory) }
+    ensures stops { IfErr result (IsStop setting.now) }
     ensures says { IfOk result (λ o. (m : TypingMode) → RunsFor setting.now m → SaysKnown (level_in setting.now m depth) (header_terms header.now) (erased_all terms.old given.now) kind number (option_map (erased_at terms.new) o)) }
 {
     match kind {
@@ -145,13 +144,13 @@ pub fn known_args(
     given: &[TermId],
     depth: u32,
 ) -> Result<Vec<Option<TermId>>, Stop>
-    requires cache { IsValidCache setting.now terms.old effects.old.cache }
+    requires effects { AreSound setting.now terms.old effects.old }
     requires given { AreIn terms.old given.now }
-    ensures cache { IsValidCache setting.now terms.new effects.new.cache }
+    ensures effects { AreSound setting.now terms.new effects.new }
     ensures kept { Keeps terms.old terms.new }
     ensures within { IfOk result (λ known. KnownIn terms.new known.items) }
     ensures count { IfOk result (λ known. length known.items ≡ length params.now) }
-    ensures stops { is_headline setting.now.typing_mode.now ≡ true → IfErr result (λ s. s ≡ Stop.OutOfMemory) }
+    ensures stops { IfErr result (IsStop setting.now) }
     ensures says { IfOk result (λ known. KnownOutcome setting.now depth (header_terms header.now) (erased_all terms.old given.now) params.now (known_trees terms.new known.items)) }
 {
     let mut known = Vec::new(setting.allocator());

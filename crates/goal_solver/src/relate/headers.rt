@@ -5,10 +5,9 @@ ghost use Rattle.goal_terms.specs.declared.modes.TypingMode.{TypingMode};
 ghost use Rattle.goal_kinds.specs.Headers.{under};
 ghost use Rattle.goal_kinds.specs.Interned.{AreIn, erased_all};
 ghost use Rattle.goal_kinds.specs.Words.{Pairs};
-ghost use Rattle.goal_kinds.specs.Settings.{is_headline};
 ghost use Rattle.goal_solver.specs.Outcomes.{RunsFor, level_in, header_terms, SaysMatch, MatchIn};
 ghost use Rattle.goal_solver.specs.HeaderWords.{KnownIn, known_trees, AreFilled, is_complete, TestOutcome, KnownOutcome, MatchOutcome};
-ghost use Rattle.goal_solver.specs.EvaluationCache.{IsValidCache};
+ghost use Rattle.goal_solver.specs.Effects.{AreSound, IsStop};
 
 use crate::eval::effects::Effects;
 use crate::eval::outcomes::{HeaderMatch, Outcome, Setting, Stop};
@@ -33,12 +32,12 @@ fn instances_fit(
     args: &[TermId],
     depth: u32,
 ) -> Result<bool, Stop>
-    requires cache { IsValidCache setting.now terms.old effects.old.cache }
+    requires effects { AreSound setting.now terms.old effects.old }
     requires given { AreIn terms.old given.now }
     requires args { AreIn terms.old args.now }
-    ensures cache { IsValidCache setting.now terms.new effects.new.cache }
+    ensures effects { AreSound setting.now terms.new effects.new }
     ensures kept { Keeps terms.old terms.new }
-    ensures stops { is_headline setting.now.typing_mode.now ≡ true → IfErr result (λ s. s ≡ Stop.OutOfMemory) }
+    ensures stops { IfErr result (IsStop setting.now) }
     ensures says { IfOk result (TestOutcome setting.now depth (λ L. Pairs L.equal (map (under (erased_all terms.old args.now)) (header_terms header.now)) (erased_all terms.old given.now))) }
 {
     let ids = instances(setting.allocator(), terms, header, args)?;
@@ -62,17 +61,17 @@ fn match_complete(
     args: Vec<TermId>,
     depth: u32,
 ) -> Result<HeaderMatch, Stop>
-    requires cache { IsValidCache setting.now terms.old effects.old.cache }
+    requires effects { AreSound setting.now terms.old effects.old }
     requires given { AreIn terms.old given.now }
     requires known { KnownIn terms.old known.now }
     requires args { AreIn terms.old args.items }
     requires filled { AreFilled terms.old known.now args.items }
     requires complete { is_complete params.now known.now ≡ true }
     requires says { KnownOutcome setting.now depth (header_terms header.now) (erased_all terms.old given.now) params.now (known_trees terms.old known.now) }
-    ensures cache { IsValidCache setting.now terms.new effects.new.cache }
+    ensures effects { AreSound setting.now terms.new effects.new }
     ensures kept { Keeps terms.old terms.new }
     ensures within { IfOk result (MatchIn terms.new) }
-    ensures stops { is_headline setting.now.typing_mode.now ≡ true → IfErr result (λ s. s ≡ Stop.OutOfMemory) }
+    ensures stops { IfErr result (IsStop setting.now) }
     ensures says { IfOk result (MatchOutcome setting.now depth params.now (header_terms header.now) (erased_all terms.old given.now) terms.new) }
 {
     if instances_fit(setting, terms, effects, header, given, &args, depth)? {
@@ -97,17 +96,17 @@ fn match_incomplete(
     args: &[TermId],
     depth: u32,
 ) -> Result<HeaderMatch, Stop>
-    requires cache { IsValidCache setting.now terms.old effects.old.cache }
+    requires effects { AreSound setting.now terms.old effects.old }
     requires given { AreIn terms.old given.now }
     requires known { KnownIn terms.old known.now }
     requires args { AreIn terms.old args.now }
     requires filled { AreFilled terms.old known.now args.now }
     requires complete { is_complete params.now known.now ≡ false }
     requires says { KnownOutcome setting.now depth (header_terms header.now) (erased_all terms.old given.now) params.now (known_trees terms.old known.now) }
-    ensures cache { IsValidCache setting.now terms.new effects.new.cache }
+    ensures effects { AreSound setting.now terms.new effects.new }
     ensures kept { Keeps terms.old terms.new }
     ensures within { IfOk result (MatchIn terms.new) }
-    ensures stops { is_headline setting.now.typing_mode.now ≡ true → IfErr result (λ s. s ≡ Stop.OutOfMemory) }
+    ensures stops { IfErr result (IsStop setting.now) }
     ensures says { IfOk result (MatchOutcome setting.now depth params.now (header_terms header.now) (erased_all terms.old given.now) terms.new) }
 {
     if header_clashes(setting, terms, effects, header, given, known, args, depth)? {
@@ -130,15 +129,15 @@ fn match_known(
     known: &[Option<TermId>],
     depth: u32,
 ) -> Result<HeaderMatch, Stop>
-    requires cache { IsValidCache setting.now terms.old effects.old.cache }
+    requires effects { AreSound setting.now terms.old effects.old }
     requires given { AreIn terms.old given.now }
     requires known { KnownIn terms.old known.now }
     requires count { length params.now ≡ length known.now }
     requires says { KnownOutcome setting.now depth (header_terms header.now) (erased_all terms.old given.now) params.now (known_trees terms.old known.now) }
-    ensures cache { IsValidCache setting.now terms.new effects.new.cache }
+    ensures effects { AreSound setting.now terms.new effects.new }
     ensures kept { Keeps terms.old terms.new }
     ensures within { IfOk result (MatchIn terms.new) }
-    ensures stops { is_headline setting.now.typing_mode.now ≡ true → IfErr result (λ s. s ≡ Stop.OutOfMemory) }
+    ensures stops { IfErr result (IsStop setting.now) }
     ensures says { IfOk result (MatchOutcome setting.now depth params.now (header_terms header.now) (erased_all terms.old given.now) terms.new) }
 {
     let args = filled_args(setting.allocator(), terms, known)?;
@@ -166,12 +165,12 @@ pub fn match_header(
     given: &[TermId],
     depth: u32,
 ) -> Result<HeaderMatch, Stop>
-    requires cache { IsValidCache setting.now terms.old effects.old.cache }
+    requires effects { AreSound setting.now terms.old effects.old }
     requires given { AreIn terms.old given.now }
-    ensures cache { IsValidCache setting.now terms.new effects.new.cache }
+    ensures effects { AreSound setting.now terms.new effects.new }
     ensures kept { Keeps terms.old terms.new }
     ensures within { IfOk result (MatchIn terms.new) }
-    ensures stops { is_headline setting.now.typing_mode.now ≡ true → IfErr result (λ s. s ≡ Stop.OutOfMemory) }
+    ensures stops { IfErr result (IsStop setting.now) }
     ensures says { (m : TypingMode) → RunsFor setting.now m → IfOk result (SaysMatch (level_in setting.now m depth) params.now (header_terms header.now) (erased_all terms.old given.now) terms.new) }
 {
     let known = known_args(setting, terms, effects, params, header, given, depth)?;

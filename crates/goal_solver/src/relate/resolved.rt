@@ -1,12 +1,11 @@
 //! What terms come to that may hold inference variables.
-ghost use Rattle.std.specs.Prelude.{◌≡◌, ◌<◌, ◌||◌, not, true, IfOk, IfErr, length};
+ghost use Rattle.std.specs.Prelude.{◌≡◌, ◌<◌, ◌||◌, not, IfOk, IfErr, length};
 ghost use Rattle.goal_terms.specs.NodeTests.{some_node, is_any_infer};
 ghost use Rattle.goal_terms.specs.TableMeaning.{tree_at, Keeps};
 ghost use Rattle.goal_kinds.specs.Interned.{erased_at, erased_all};
-ghost use Rattle.goal_kinds.specs.Settings.{is_headline};
 ghost use Rattle.goal_solver.specs.Pending.{AreOfOneKind, AreListsOfOneKind, NeedForms};
 ghost use Rattle.goal_solver.specs.Settled.{IsSettled, AreSettled, HoldsWithMemory};
-ghost use Rattle.goal_solver.specs.EvaluationCache.{IsValidCache};
+ghost use Rattle.goal_solver.specs.Effects.{AreSound, IsStop};
 
 use crate::eval::effects::Effects;
 use crate::eval::id_lists::own_list;
@@ -30,11 +29,11 @@ pub(crate) fn relate_resolved(
     opens: bool,
     depth: u32,
 ) -> Result<Outcome, Stop>
-    requires cache { IsValidCache setting.now terms.old effects.old.cache }
+    requires effects { AreSound setting.now terms.old effects.old }
     requires alike { AreOfOneKind terms.old left right }
-    ensures cache { IsValidCache setting.now terms.new effects.new.cache }
+    ensures effects { AreSound setting.now terms.new effects.new }
     ensures kept { Keeps terms.old terms.new }
-    ensures stops { is_headline setting.now.typing_mode.now ≡ true → IfErr result (λ s. s ≡ Stop.OutOfMemory) }
+    ensures stops { IfErr result (IsStop setting.now) }
     ensures says { IfOk result (IsSettled setting.now opens depth (erased_at terms.old left) (erased_at terms.old right)) }
     ensures same { erased_at terms.old left ≡ erased_at terms.old right → HoldsWithMemory result }
 {
@@ -71,12 +70,12 @@ fn relate_resolved_forms(
     opens: bool,
     depth: u32,
 ) -> Result<Outcome, Stop>
-    requires cache { IsValidCache setting.now terms.old effects.old.cache }
+    requires effects { AreSound setting.now terms.old effects.old }
     requires alike { AreOfOneKind terms.old left right }
     requires forms { NeedForms (erased_at terms.old left) (erased_at terms.old right) }
-    ensures cache { IsValidCache setting.now terms.new effects.new.cache }
+    ensures effects { AreSound setting.now terms.new effects.new }
     ensures kept { Keeps terms.old terms.new }
-    ensures stops { is_headline setting.now.typing_mode.now ≡ true → IfErr result (λ s. s ≡ Stop.OutOfMemory) }
+    ensures stops { IfErr result (IsStop setting.now) }
     ensures says { IfOk result (IsSettled setting.now opens depth (erased_at terms.old left) (erased_at terms.old right)) }
 {
     if stays_open(terms, left, right, opens) {
@@ -97,11 +96,11 @@ pub(crate) fn relate_resolved_lists(
     opens: bool,
     depth: u32,
 ) -> Result<Outcome, Stop>
-    requires cache { IsValidCache setting.now terms.old effects.old.cache }
+    requires effects { AreSound setting.now terms.old effects.old }
     requires alike { AreListsOfOneKind terms.old left.now right.now }
-    ensures cache { IsValidCache setting.now terms.new effects.new.cache }
+    ensures effects { AreSound setting.now terms.new effects.new }
     ensures kept { Keeps terms.old terms.new }
-    ensures stops { is_headline setting.now.typing_mode.now ≡ true → IfErr result (λ s. s ≡ Stop.OutOfMemory) }
+    ensures stops { IfErr result (IsStop setting.now) }
     ensures says { IfOk result (AreSettled setting.now opens depth (erased_all terms.old left.now) (erased_all terms.old right.now)) }
     ensures same { erased_all terms.old left.now ≡ erased_all terms.old right.now → HoldsWithMemory result }
 {

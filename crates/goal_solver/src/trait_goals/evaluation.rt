@@ -1,13 +1,12 @@
 //! Trait goals: by which class of candidates they hold.
-ghost use Rattle.std.specs.Prelude.{IfErr, ◌≡◌, ◌≢◌, true, None, IfOk};
+ghost use Rattle.std.specs.Prelude.{IfErr, ◌≡◌, ◌≢◌, None, IfOk};
 ghost use Rattle.goal_terms.specs.TableMeaning.{Keeps};
 ghost use Rattle.goal_terms.specs.declared.modes.TypingMode.{TypingMode};
 ghost use Rattle.goal_kinds.specs.Interned.{AreIn, erased_at, erased_all};
-ghost use Rattle.goal_kinds.specs.Settings.{is_headline};
 ghost use Rattle.goal_solver.specs.AskedTraits.{AskedIn};
 ghost use Rattle.goal_solver.specs.Outcomes.{RunsFor, setting_in, level_in, SaysThrough};
 ghost use Rattle.goal_solver.specs.TraitOutcomes.{SaysClasses};
-ghost use Rattle.goal_solver.specs.EvaluationCache.{IsValidCache};
+ghost use Rattle.goal_solver.specs.Effects.{AreSound, IsStop};
 
 use crate::assembly::candidates::{AskedTrait, class_outcome};
 use crate::eval::effects::Effects;
@@ -31,11 +30,11 @@ pub fn evaluate_trait_goal(
     args: &[TermId],
     depth: u32,
 ) -> Result<TraitOutcome, Stop>
-    requires cache { IsValidCache setting.now terms.old effects.old.cache }
+    requires effects { AreSound setting.now terms.old effects.old }
     requires args { AreIn terms.old args.now }
-    ensures cache { IsValidCache setting.now terms.new effects.new.cache }
+    ensures effects { AreSound setting.now terms.new effects.new }
     ensures kept { Keeps terms.old terms.new }
-    ensures stops { is_headline setting.now.typing_mode.now ≡ true → IfErr result (λ s. s ≡ Stop.OutOfMemory) }
+    ensures stops { IfErr result (IsStop setting.now) }
     ensures says { (m : TypingMode) → RunsFor setting.now m → IfOk result (SaysThrough (λ c. (level_in setting.now m depth).through c trait_id (erased_all terms.old args.now)) ((level_in setting.now m depth).trait_refuted trait_id (erased_all terms.old args.now))) }
 {
     if depth == 0 {
@@ -62,12 +61,12 @@ fn fresh_trait_outcome(
     args: &[TermId],
     depth: u32,
 ) -> Result<TraitOutcome, Stop>
-    requires cache { IsValidCache setting.now terms.old effects.old.cache }
+    requires effects { AreSound setting.now terms.old effects.old }
     requires args { AreIn terms.old args.now }
     requires above { depth ≢ 0 }
-    ensures cache { IsValidCache setting.now terms.new effects.new.cache }
+    ensures effects { AreSound setting.now terms.new effects.new }
     ensures kept { Keeps terms.old terms.new }
-    ensures stops { is_headline setting.now.typing_mode.now ≡ true → IfErr result (λ s. s ≡ Stop.OutOfMemory) }
+    ensures stops { IfErr result (IsStop setting.now) }
     ensures says { (m : TypingMode) → RunsFor setting.now m → IfOk result (SaysThrough (λ c. (level_in setting.now m depth).through c trait_id (erased_all terms.old args.now)) ((level_in setting.now m depth).trait_refuted trait_id (erased_all terms.old args.now))) }
 {
     let Some((first, rest)) = split_self_type(args) else {
@@ -99,12 +98,12 @@ fn decide_trait(
     asked: &AskedTrait<'_>,
     depth: u32,
 ) -> Result<TraitOutcome, Stop>
-    requires cache { IsValidCache setting.now terms.old effects.old.cache }
+    requires effects { AreSound setting.now terms.old effects.old }
     requires asked { AskedIn terms.old asked.now }
     requires plain { asked.now.constness ≡ None }
-    ensures cache { IsValidCache setting.now terms.new effects.new.cache }
+    ensures effects { AreSound setting.now terms.new effects.new }
     ensures kept { Keeps terms.old terms.new }
-    ensures stops { is_headline setting.now.typing_mode.now ≡ true → IfErr result (λ s. s ≡ Stop.OutOfMemory) }
+    ensures stops { IfErr result (IsStop setting.now) }
     ensures says { (m : TypingMode) → RunsFor setting.now m → IfOk result (SaysClasses (setting_in setting.now m) (level_in setting.now m depth) asked.now.trait_id (erased_at terms.old asked.now.self_ty) (erased_all terms.old asked.now.args.now)) }
 {
     let class = TraitGoalProvenVia::ParamEnv;

@@ -4,13 +4,14 @@ ghost use Rattle.std.specs.Option.{ForSome, option_copied};
 ghost use Rattle.goal_terms.specs.TableMeaning.{Keeps};
 ghost use Rattle.goal_terms.specs.Tree.{Tree};
 ghost use Rattle.goal_terms.specs.View.{tree_of_ref};
+ghost use Rattle.goal_kinds.specs.Causes.{IsCaused, IsCausedEntry};
 ghost use Rattle.goal_kinds.specs.Interned.{AreIn, erased_all};
 ghost use Rattle.goal_kinds.specs.InternedEntries.{value_tree, arguments_at, ArgumentsIn, term_at, TermIn, entry_at, EntryIn};
 ghost use Rattle.goal_kinds.specs.ListModes.{IsAccess};
 ghost use Rattle.goal_kinds.specs.Settings.{is_headline as is_of_headline};
 ghost use Rattle.goal_solver.specs.Lists.{AtEachLevel, NamedIn, named_at, RunIn, RunsOn, SaysNamed, SaysHeader, SaysTerm, SaysRow, numbered_at, chosen_term};
 ghost use Rattle.goal_solver.specs.Outcomes.{FoundIn, MatchIn};
-ghost use Rattle.goal_solver.specs.EvaluationCache.{IsValidCache};
+ghost use Rattle.goal_solver.specs.Effects.{AreSound, IsStop};
 
 use crate::eval::effects::Effects;
 use crate::eval::head_forms::{head_form, head_form_under};
@@ -49,13 +50,14 @@ pub(crate) fn run_entry(
     entry: &InternedEntry<'_>,
     depth: u32,
 ) -> Result<Reached, Stop>
-    requires cache { IsValidCache setting.now terms.old effects.old.cache }
+    requires effects { AreSound setting.now terms.old effects.old }
     requires run { RunIn terms.old run.old }
     requires entry { EntryIn terms.old entry.now }
-    ensures cache { IsValidCache setting.now terms.new effects.new.cache }
+    requires caused { IsCausedEntry setting.now.rows.now entry.now }
+    ensures effects { AreSound setting.now terms.new effects.new }
     ensures kept { Keeps terms.old terms.new }
     ensures within { IfOk result (λ _. RunIn terms.new run.new) }
-    ensures stops { is_of_headline setting.now.typing_mode.now ≡ true → IfErr result (λ s. s ≡ Stop.OutOfMemory) }
+    ensures stops { IfErr result (IsStop setting.now) }
     ensures reads { setting.now.on_access ≡ OnAccess.Stop → is_of_headline setting.now.typing_mode.now ≡ false → IfOk result (λ _. IsAccess (entry_at terms.old entry.now) → ⊥) }
     ensures says { AtEachLevel setting.now depth (λ L. IfOk result (RunsOn L terms.old run.old entry.now terms.new run.new)) }
 {
@@ -107,21 +109,30 @@ fn reads_mode(
     effects: &mut Effects,
     access: OpaqueAccess,
 ) -> Result<Reached, Stop>
-    ensures cache { effects.new.cache ≡ effects.old.cache }
+    requires caused { IsCaused setting.now.rows.now access }
+    ensures effects { (T : List Tree) → AreSound setting.now T effects.old → AreSound setting.now T effects.new }
     ensures next { IfOk result (λ r. r ≡ Reached.Next) }
     ensures headline { setting.now.on_access ≡ OnAccess.Stop → IfOk result (λ _. is_of_headline setting.now.typing_mode.now ≡ true) }
-    ensures stops { is_of_headline setting.now.typing_mode.now ≡ true → IfErr result (λ s. s ≡ Stop.OutOfMemory) }
+    ensures stops { IfErr result (IsStop setting.now) }
 {
     if is_headline(setting.typing_mode) {
         return Ok(Reached::Next);
     }
-    match (setting.on_access, access) {
-        (OnAccess::Stop, _) | (_, OpaqueAccess::Always) => Err(Stop::ReadsMode(access)),
-        (OnAccess::Record, _) => {
-            effects.read_mode(access)?;
-            Ok(Reached::Next)
-        }
+    if ends_run(setting.on_access, access) {
+        return Err(Stop::ReadsMode(access));
     }
+    effects.read_mode(access)?;
+    Ok(Reached::Next)
+}
+
+/// Whether a run in a mode that isn't one of the headline ends at an access.
+fn ends_run(on_access: OnAccess, access: OpaqueAccess) -> bool
+    ensures { on_access ≡ OnAccess.Stop → result ≡ true }
+{
+    matches!(
+        (on_access, access),
+        (OnAccess::Stop, _) | (_, OpaqueAccess::Always)
+    )
 }
 
 /// The arguments of a number, if they were named.
@@ -143,13 +154,13 @@ fn arguments_match(
     arguments: &InternedArguments<'_>,
     depth: u32,
 ) -> Result<HeaderMatch, Stop>
-    requires cache { IsValidCache setting.now terms.old effects.old.cache }
+    requires effects { AreSound setting.now terms.old effects.old }
     requires named { NamedIn terms.old named.now }
     requires arguments { ArgumentsIn terms.old arguments.now }
-    ensures cache { IsValidCache setting.now terms.new effects.new.cache }
+    ensures effects { AreSound setting.now terms.new effects.new }
     ensures kept { Keeps terms.old terms.new }
     ensures within { IfOk result (MatchIn terms.new) }
-    ensures stops { is_of_headline setting.now.typing_mode.now ≡ true → IfErr result (λ s. s ≡ Stop.OutOfMemory) }
+    ensures stops { IfErr result (IsStop setting.now) }
     ensures says { AtEachLevel setting.now depth (λ L. IfOk result (SaysNamed L (named_at terms.old named.now) (arguments_at terms.old arguments.now) terms.new)) }
 {
     match arguments {
@@ -187,12 +198,12 @@ fn header_match(
     given: &[TermId],
     depth: u32,
 ) -> Result<HeaderMatch, Stop>
-    requires cache { IsValidCache setting.now terms.old effects.old.cache }
+    requires effects { AreSound setting.now terms.old effects.old }
     requires given { AreIn terms.old given.now }
-    ensures cache { IsValidCache setting.now terms.new effects.new.cache }
+    ensures effects { AreSound setting.now terms.new effects.new }
     ensures kept { Keeps terms.old terms.new }
     ensures within { IfOk result (MatchIn terms.new) }
-    ensures stops { is_of_headline setting.now.typing_mode.now ≡ true → IfErr result (λ s. s ≡ Stop.OutOfMemory) }
+    ensures stops { IfErr result (IsStop setting.now) }
     ensures says { AtEachLevel setting.now depth (λ L. IfOk result (SaysHeader L header.now (erased_all terms.old given.now) terms.new)) }
 {
     match header.terms {
@@ -218,11 +229,11 @@ fn row_outcome(
     args: Option<&[TermId]>,
     depth: u32,
 ) -> Result<Outcome, Stop>
-    requires cache { IsValidCache setting.now terms.old effects.old.cache }
+    requires effects { AreSound setting.now terms.old effects.old }
     requires within { ForSome (option_copied args) (AreIn terms.old) }
-    ensures cache { IsValidCache setting.now terms.new effects.new.cache }
+    ensures effects { AreSound setting.now terms.new effects.new }
     ensures kept { Keeps terms.old terms.new }
-    ensures stops { is_of_headline setting.now.typing_mode.now ≡ true → IfErr result (λ s. s ≡ Stop.OutOfMemory) }
+    ensures stops { IfErr result (IsStop setting.now) }
     ensures says { AtEachLevel setting.now depth (λ L. IfOk result (SaysRow L row.entry (numbered_at terms.old (option_copied args.entry)))) }
 {
     let Some(args) = args else {
@@ -249,13 +260,13 @@ fn term_found(
     term: &InternedTerm<'_>,
     depth: u32,
 ) -> Result<Found, Stop>
-    requires cache { IsValidCache setting.now terms.old effects.old.cache }
+    requires effects { AreSound setting.now terms.old effects.old }
     requires named { NamedIn terms.old named.now }
     requires term { TermIn terms.old term.now }
-    ensures cache { IsValidCache setting.now terms.new effects.new.cache }
+    ensures effects { AreSound setting.now terms.new effects.new }
     ensures kept { Keeps terms.old terms.new }
     ensures within { IfOk result (FoundIn terms.new) }
-    ensures stops { is_of_headline setting.now.typing_mode.now ≡ true → IfErr result (λ s. s ≡ Stop.OutOfMemory) }
+    ensures stops { IfErr result (IsStop setting.now) }
     ensures says { AtEachLevel setting.now depth (λ L. IfOk result (SaysTerm L (named_at terms.old named.now) (term_at terms.old term.now) terms.new)) }
 {
     match term {

@@ -1,5 +1,5 @@
 //! Entries of rules, with numbers for their terms and parts of rows for their ids.
-ghost use Rattle.std.specs.Prelude.{◌≡◌, List, true, IfOk, IfErr, IfSome};
+ghost use Rattle.std.specs.Prelude.{◌≡◌, List, IfOk, IfErr, IfSome};
 ghost use Rattle.std.specs.Option.{option_copied, option_map};
 ghost use Rattle.goal_terms.specs.Erased.{erased};
 ghost use Rattle.goal_terms.specs.PredicateTrees.{tree_of_kind};
@@ -13,11 +13,10 @@ ghost use Rattle.goal_kinds.specs.Entries.{chosen_by, equal_terms, row_clauses, 
 ghost use Rattle.goal_kinds.specs.InternedEntries.{ArgumentsIn, TermIn, EntryIn, arguments_at, term_at, entry_at, header_trees, value_tree};
 ghost use Rattle.goal_kinds.specs.RuleLists.{header_arguments, other_arguments, arguments_of, expected_of, entry_of, names_arguments};
 ghost use Rattle.goal_kinds.specs.Rules.{clauses_in, conditions_in, value_in, value_term};
-ghost use Rattle.goal_kinds.specs.Settings.{is_headline};
 ghost use Rattle.goal_solver.specs.Lists.{AtEachLevel, RunIn};
 ghost use Rattle.goal_solver.specs.Outcomes.{header_terms};
 ghost use Rattle.goal_solver.specs.RunRules.{RuleRunsOn, header_at};
-ghost use Rattle.goal_solver.specs.EvaluationCache.{IsValidCache};
+ghost use Rattle.goal_solver.specs.Effects.{AreSound, IsStop};
 
 use crate::eval::effects::Effects;
 use crate::eval::interning::{intern_args, intern_equation};
@@ -50,18 +49,17 @@ pub(crate) fn run_rule_entry(
     entry: &RuleEntry,
     depth: u32,
 ) -> Result<Reached, Stop>
-    requires cache { IsValidCache setting.now terms.old effects.old.cache }
+    requires effects { AreSound setting.now terms.old effects.old }
     requires run { RunIn terms.old run.old }
-    ensures cache { IsValidCache setting.now terms.new effects.new.cache }
+    ensures effects { AreSound setting.now terms.new effects.new }
     ensures kept { Keeps terms.old terms.new }
     ensures within { IfOk result (λ _. RunIn terms.new run.new) }
-    ensures stops { is_headline setting.now.typing_mode.now ≡ true → IfErr result (λ s. s ≡ Stop.OutOfMemory) }
+    ensures stops { IfErr result (IsStop setting.now) }
     ensures says { AtEachLevel setting.now depth (λ L. IfOk result (RuleRunsOn setting.now.rows.now L terms.old run.old entry.now terms.new run.new)) }
 {
-    match to_record(entry) {
-        ToRecord::Access(_) | ToRecord::DelayedFault(_) => return Ok(Reached::Next),
-        ToRecord::Nothing => {}
-    }
+    let ToRecord::Nothing = to_record(entry) else {
+        return Ok(Reached::Next);
+    };
     match interned_entry(setting, terms, entry)? {
         Some(interned) => run_entry(setting, terms, effects, run, &interned, depth),
         None if names_arguments(entry) => Ok(Reached::Undecided),

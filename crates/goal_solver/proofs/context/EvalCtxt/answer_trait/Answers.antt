@@ -7,6 +7,7 @@ use Rattle.goal_solver.proofs.AnswerLemmas.{trait-unsure}
 use Rattle.goal_solver.proofs.ApplicableLemmas.{nothing-applies-later, nothing-listed}
 use Rattle.std.specs.Prelude.{Ok, ◌≡◌, None}
 use Rattle.goal_solver.proofs.PromiseLemmas.{nothing-named, unnamed-maybe, yes-unsure}
+use Rattle.goal_solver.proofs.AccessLemmas.{recorded-stopped}
 use Rattle.goal_solver.proofs.context.EvalCtxt.answer_trait.Goals as goal
 
 pub returns-in-Ok-Holds-clause-goes_back : goal.returns-in-Ok-Holds-clause-goes_back
@@ -50,3 +51,17 @@ pub returns-in-Ok-Refuted-clause-sound : goal.returns-in-Ok-Refuted-clause-sound
 returns-in-Ok-Refuted-clause-sound c = λ m owed.
     subst (SaysThrough (λ k. (level (setting_of c.args.self.now.tables m c.args.environment.now) c.args.depth).through k c.args.trait_id (erased_args c.args.args.now)) ((level (setting_of c.args.self.now.tables m c.args.environment.now) c.args.depth).trait_refuted c.args.trait_id (erased_args c.args.args.now))) c.in-Ok-Refuted.field-0-is
     (c.in-Ok-Refuted.ensures.says m owed)
+
+pub returns-in-Ok-Holds-clause-caused : goal.returns-in-Ok-Holds-clause-caused
+returns-in-Ok-Holds-clause-caused c = c.trait_outcome_at.ensures.caused
+
+pub returns-in-Ok-Refuted-clause-caused : goal.returns-in-Ok-Refuted-clause-caused
+returns-in-Ok-Refuted-clause-caused c = c.trait_outcome_at.ensures.caused
+
+pub returns-in-Ok-Undecided-clause-caused : goal.returns-in-Ok-Undecided-clause-caused
+returns-in-Ok-Undecided-clause-caused c = c.trait_outcome_at.ensures.caused
+
+pub returns-in-Err-clause-caused : goal.returns-in-Err-clause-caused
+returns-in-Err-clause-caused c =
+    recorded-stopped c.args.self.now c.trait_outcome_at.new.self c.stopped.new.self c.in-Err.stop c.trait_outcome_at.ensures.goes_back c.trait_outcome_at.ensures.caused c.in-Err.ensures.ends
+    c.stopped.ensures.caused

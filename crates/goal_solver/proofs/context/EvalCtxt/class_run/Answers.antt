@@ -1,5 +1,5 @@
 use Rattle.goal_solver.proofs.GoingBackLemmas.{solved-grown}
-use Rattle.goal_solver.proofs.CacheLemmas.{cache-new}
+use Rattle.goal_solver.proofs.CacheLemmas.{sound-new}
 use Rattle.goal_solver.proofs.context.EvalCtxt.class_run.Goals as goal
 
 pub invariant_of-self : goal.invariant_of-self
@@ -14,4 +14,4 @@ invariant_of-self c = (
 )
 
 pub alias_proven_via-found-requires : goal.alias_proven_via-found-requires
-alias_proven_via-found-requires c = record { cache = cache-new _ _ _ c.new-effects.ensures.cache }
+alias_proven_via-found-requires c = record { effects = sound-new _ _ _ c.new-effects.ensures }

@@ -19,3 +19,6 @@ returns-clause-agrees c = no-two-disagree c.args.self.now.tables c.args.goal.now
 
 pub returns-clause-ambiguous : goal.returns-clause-ambiguous
 returns-clause-ambiguous c = λ closed is. c.normalizes_to_response.ensures.ambiguous closed is
+
+pub returns-clause-caused : goal.returns-clause-caused
+returns-clause-caused c = λ closed. c.normalizes_to_response.ensures.caused closed

@@ -11,3 +11,6 @@ returns-clause-closed c = λ closed.
 
 pub returns-clause-agrees : goal.returns-clause-agrees
 returns-clause-agrees c = no-two-disagree c.args.self.now.tables c.args.goal.now.param_env.items (whether (equation_asked c.args.goal.now.predicate))
+
+pub returns-clause-caused : goal.returns-clause-caused
+returns-clause-caused c = c.projection_goal_response.ensures.caused

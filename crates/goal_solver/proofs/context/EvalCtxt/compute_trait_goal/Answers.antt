@@ -13,3 +13,6 @@ returns-clause-merged c = λ variables n above. c.trait_goal_response.ensures.me
 
 pub returns-clause-agrees : goal.returns-clause-agrees
 returns-clause-agrees c = no-two-disagree c.args.self.now.tables c.args.goal.now.param_env.items (trait_question (trait_asked c.args.goal.now.predicate))
+
+pub returns-clause-caused : goal.returns-clause-caused
+returns-clause-caused c = λ closed. c.trait_goal_response.ensures.caused closed

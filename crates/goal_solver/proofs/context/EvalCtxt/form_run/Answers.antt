@@ -1,5 +1,5 @@
 use Rattle.goal_solver.proofs.GoingBackLemmas.{solved-grown}
-use Rattle.goal_solver.proofs.CacheLemmas.{cache-new}
+use Rattle.goal_solver.proofs.CacheLemmas.{sound-new}
 use Rattle.goal_solver.proofs.context.EvalCtxt.form_run.Goals as goal
 
 pub invariant_of-self : goal.invariant_of-self
@@ -13,5 +13,5 @@ invariant_of-self c = (
   c.self.invariant.6,
 )
 
-pub head_form-found-requires-clause-cache : goal.head_form-found-requires-clause-cache
-head_form-found-requires-clause-cache c = cache-new _ _ _ c.new-effects.ensures.cache
+pub head_form-found-requires-clause-effects : goal.head_form-found-requires-clause-effects
+head_form-found-requires-clause-effects c = sound-new _ _ _ c.new-effects.ensures

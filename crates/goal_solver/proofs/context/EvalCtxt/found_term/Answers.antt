@@ -1,5 +1,5 @@
 use Rattle.goal_solver.proofs.GoingBackLemmas.{solved-grown}
-use Rattle.goal_solver.proofs.CacheLemmas.{cache-new}
+use Rattle.goal_solver.proofs.CacheLemmas.{sound-new}
 use Rattle.goal_solver.proofs.context.EvalCtxt.found_term.Goals as goal
 
 pub invariant_of-self : goal.invariant_of-self
@@ -13,5 +13,5 @@ invariant_of-self c = (
   c.self.invariant.6,
 )
 
-pub alias_term-requires-clause-cache : goal.alias_term-requires-clause-cache
-alias_term-requires-clause-cache c = cache-new _ _ _ c.new-effects.ensures.cache
+pub alias_term-requires-clause-effects : goal.alias_term-requires-clause-effects
+alias_term-requires-clause-effects c = sound-new _ _ _ c.new-effects.ensures

@@ -1,5 +1,5 @@
 use Rattle.goal_solver.proofs.GoingBackLemmas.{solved-grown}
-use Rattle.goal_solver.proofs.CacheLemmas.{cache-new}
+use Rattle.goal_solver.proofs.CacheLemmas.{sound-new}
 use Rattle.goal_solver.proofs.context.EvalCtxt.header_outcome.Goals as goal
 
 pub invariant_of-self : goal.invariant_of-self
@@ -13,5 +13,5 @@ invariant_of-self c = (
   c.self.invariant.6,
 )
 
-pub match_header-requires-clause-cache : goal.match_header-requires-clause-cache
-match_header-requires-clause-cache c = cache-new _ _ _ c.new-effects.ensures.cache
+pub match_header-requires-clause-effects : goal.match_header-requires-clause-effects
+match_header-requires-clause-effects c = sound-new _ _ _ c.new-effects.ensures

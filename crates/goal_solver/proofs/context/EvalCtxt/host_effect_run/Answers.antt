@@ -2,7 +2,10 @@ use Rattle.goal_terms.proofs.InternLemmas.{keeps-chain}
 use Rattle.std.proofs.Common.{refl}
 use Rattle.goal_solver.proofs.BindingLemmas.{goes_back-interned}
 use Rattle.goal_solver.proofs.GoingBackLemmas.{goes_back-through, solved-grown, solved-grown_twice}
-use Rattle.goal_solver.proofs.CacheLemmas.{cache-new}
+use Rattle.goal_solver.proofs.CacheLemmas.{sound-new, sound-parts}
+use Rattle.std.proofs.Common.{◌∙◌, ap}
+use Rattle.goal_solver.specs.State.{State}
+use Rattle.goal_solver.proofs.AccessLemmas.{none-recorded, run-recorded, ends-here}
 use Rattle.goal_solver.proofs.context.EvalCtxt.host_effect_run.Goals as goal
 
 pub invariant_of-self : goal.invariant_of-self
@@ -30,8 +33,8 @@ invariant_of-self-2 c = (
 pub returns-in_err-ids-clause-goes_back : goal.returns-in_err-ids-clause-goes_back
 returns-in_err-ids-clause-goes_back c = goes_back-interned _ c.args.self.now _ c.intern_args.new.terms c.self.view_is refl c.intern_args.ensures.kept
 
-pub evaluate_host_effect_goal-outcome-requires-clause-cache : goal.evaluate_host_effect_goal-outcome-requires-clause-cache
-evaluate_host_effect_goal-outcome-requires-clause-cache c = cache-new _ _ _ c.new-effects.ensures.cache
+pub evaluate_host_effect_goal-outcome-requires-clause-effects : goal.evaluate_host_effect_goal-outcome-requires-clause-effects
+evaluate_host_effect_goal-outcome-requires-clause-effects c = sound-new _ _ _ c.new-effects.ensures
 
 pub returns-clause-goes_back : goal.returns-clause-goes_back
 returns-clause-goes_back c =
@@ -39,3 +42,19 @@ returns-clause-goes_back c =
     (goes_back-interned _ c.args.self.now _ c.evaluate_host_effect_goal-outcome.new.terms c.self.view_is refl
     (keeps-chain c.self.inside.terms c.intern_args.new.terms c.evaluate_host_effect_goal-outcome.new.terms c.intern_args.ensures.kept c.evaluate_host_effect_goal-outcome.ensures.kept))
     c.record_effects.ensures.goes_back
+
+pub returns-in_err-ids-clause-caused : goal.returns-in_err-ids-clause-caused
+returns-in_err-ids-clause-caused c = none-recorded c.args.self.now _ (ap (λ (s : State). s.accesses) c.self.view_is)
+
+pub returns-in_err-record_effects-clause-caused : goal.returns-in_err-record_effects-clause-caused
+returns-in_err-record_effects-clause-caused c =
+    run-recorded _ _ c.args.self.now c.record_effects.new.self _ c.evaluate_host_effect_goal-outcome.new.effects.accesses.items c.self.view_is refl c.rows.ensures.rows (sound-parts _ _ _ c.evaluate_host_effect_goal-outcome.ensures.effects).causes c.record_effects.ensures.listed
+
+pub returns-clause-caused : goal.returns-clause-caused
+returns-clause-caused c =
+    run-recorded _ _ c.args.self.now c.record_effects.new.self _ c.evaluate_host_effect_goal-outcome.new.effects.accesses.items c.self.view_is refl c.rows.ensures.rows (sound-parts _ _ _ c.evaluate_host_effect_goal-outcome.ensures.effects).causes c.record_effects.ensures.listed
+
+pub returns-clause-ends : goal.returns-clause-ends
+returns-clause-ends c =
+    ends-here _ c.args.self.now.tables _ c.args.self.now.typing_mode c.evaluate_host_effect_goal-outcome.result (c.rows.ensures.rows ∙ ap (λ (s : State). s.tables) c.self.view_is) (ap (λ (s : State). s.typing_mode) c.self.view_is)
+    c.evaluate_host_effect_goal-outcome.ensures.stops

@@ -22,6 +22,7 @@ use Rattle.goal_solver.specs.State.{State, kinds_of}
 use Rattle.goal_solver.proofs.ApplicableLemmas.{nothing-applies, nothing-applies-later, nothing-listed, accepted-open, fitting-applies, given-fits, stands-for-some}
 use Rattle.goal_solver.specs.Answers.{expected_variable}
 use Rattle.goal_solver.proofs.PromiseLemmas.{found-lists, unsure-lists, maybe-lists, leaves-undecided, not-at_once, nothing-named, empty-maybe}
+use Rattle.goal_solver.proofs.AccessLemmas.{none-recorded, recorded-stopped}
 use Rattle.goal_solver.proofs.context.EvalCtxt.normalizes_to_response.Goals as goal
 
 pub returns-in_default-clause-goes_back : goal.returns-in_default-clause-goes_back
@@ -239,3 +240,26 @@ returns-in-Ok-Undecided-clause-ambiguous c = λ closed is. absurd (true≢false 
 
 pub returns-in-Err-clause-ambiguous : goal.returns-in-Err-clause-ambiguous
 returns-in-Err-clause-ambiguous c = λ closed is. absurd (true≢false (sym is ∙ sym c.is_ambiguous.ensures ∙ c.if-is_ambiguous.false))
+
+pub returns-in_default-clause-caused : goal.returns-in_default-clause-caused
+returns-in_default-clause-caused c = λ closed. none-recorded c.args.self.now _ refl
+
+pub returns-then-remaining_depth-eq0-clause-caused : goal.returns-then-remaining_depth-eq0-clause-caused
+returns-then-remaining_depth-eq0-clause-caused c = λ closed. none-recorded c.args.self.now _ refl
+
+pub returns-then-is_ambiguous-clause-caused : goal.returns-then-is_ambiguous-clause-caused
+returns-then-is_ambiguous-clause-caused c = λ closed. none-recorded c.args.self.now _ refl
+
+pub returns-in-Ok-Is-clause-caused : goal.returns-in-Ok-Is-clause-caused
+returns-in-Ok-Is-clause-caused c = λ closed. c.alias_outcome.ensures.caused
+
+pub returns-in-Ok-Refuted-clause-caused : goal.returns-in-Ok-Refuted-clause-caused
+returns-in-Ok-Refuted-clause-caused c = λ closed. c.alias_outcome.ensures.caused
+
+pub returns-in-Ok-Undecided-clause-caused : goal.returns-in-Ok-Undecided-clause-caused
+returns-in-Ok-Undecided-clause-caused c = λ closed. c.alias_outcome.ensures.caused
+
+pub returns-in-Err-clause-caused : goal.returns-in-Err-clause-caused
+returns-in-Err-clause-caused c = λ closed.
+    recorded-stopped c.args.self.now c.alias_outcome.new.self c.stopped.new.self c.in-Err.stop c.alias_outcome.ensures.goes_back c.alias_outcome.ensures.caused c.in-Err.ensures.ends
+    c.stopped.ensures.caused

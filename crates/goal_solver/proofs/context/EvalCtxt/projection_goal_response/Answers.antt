@@ -7,6 +7,8 @@ use Rattle.goal_solver.proofs.AnswerLemmas.{undecided-ground, predicate-sound, p
 use Rattle.goal_solver.proofs.GoingBackLemmas.{goes_back-same}
 use Rattle.goal_solver.proofs.ApplicableLemmas.{nothing-applies, nothing-applies-later}
 use Rattle.goal_solver.proofs.PromiseLemmas.{leaves-undecided}
+use Rattle.std.proofs.Common.{refl}
+use Rattle.goal_solver.proofs.AccessLemmas.{none-recorded, recorded-concluded}
 use Rattle.goal_solver.proofs.context.EvalCtxt.projection_goal_response.Goals as goal
 
 pub returns-then-remaining_depth-eq0-clause-decided : goal.returns-then-remaining_depth-eq0-clause-decided
@@ -68,3 +70,14 @@ returns-then-has_variable-clause-at_once c = λ h.
 
 pub returns-clause-variables : goal.returns-clause-variables
 returns-clause-variables c = λ variables. absurd (variables (sym c.has_variable.ensures ∙ c.if-has_variable.false))
+
+pub returns-then-remaining_depth-eq0-clause-caused : goal.returns-then-remaining_depth-eq0-clause-caused
+returns-then-remaining_depth-eq0-clause-caused c = none-recorded c.args.self.now _ refl
+
+pub returns-then-has_variable-clause-caused : goal.returns-then-has_variable-clause-caused
+returns-then-has_variable-clause-caused c = none-recorded c.args.self.now _ refl
+
+pub returns-clause-caused : goal.returns-clause-caused
+returns-clause-caused c =
+    recorded-concluded c.args.self.now c.projection_goal_outcome-outcome.new.self c.conclude.new.self c.projection_goal_outcome-outcome.result c.projection_goal_outcome-outcome.ensures.goes_back c.projection_goal_outcome-outcome.ensures.caused
+    c.projection_goal_outcome-outcome.ensures.ends c.conclude.ensures.caused

@@ -9,7 +9,7 @@ use Rattle.goal_solver.specs.Pending.{AreListsOfOneKind}
 use Rattle.goal_solver.specs.Relating.{all_bound}
 use Rattle.goal_solver.specs.State.{State}
 use Rattle.goal_solver.proofs.RelatedLemmas.{followed-alike, followed-lefts, followed-rights, settled-in}
-use Rattle.goal_solver.proofs.CacheLemmas.{cache-new}
+use Rattle.goal_solver.proofs.CacheLemmas.{sound-new}
 use Rattle.goal_solver.proofs.context.EvalCtxt.relate_followed.Goals as goal
 use Rattle.goal_solver.proofs.context.EvalCtxt.relate_followed.Goals.{After-relate_resolved_lists}
 
@@ -61,7 +61,7 @@ invariant_of-self-2 c = (
 
 pub relate_resolved_lists-requires : goal.relate_resolved_lists-requires
 relate_resolved_lists-requires c = record {
-  cache = cache-new _ _ _ c.new-effects.ensures.cache;
+  effects = sound-new _ _ _ c.new-effects.ensures;
   alike = subst (λ xs. AreListsOfOneKind c.follow_all-2.new.table xs c.deref-2.result.now) (sym c.deref.ensures.value)
       (subst (AreListsOfOneKind c.follow_all-2.new.table c.in_ok-lefts.lefts.items) (sym c.deref-2.ensures.value)
       (followed-alike _ c.args.self.now c.self.view_is c.follow_all.new.table c.follow_all-2.new.table c.args.left.now c.args.right.now c.in_ok-lefts.lefts.items c.in_ok-rights.rights.items (record {

@@ -5,6 +5,8 @@ use Rattle.goal_solver.proofs.AnswerLemmas.{open-ground}
 use Rattle.goal_solver.proofs.GoingBackLemmas.{goes_back-same}
 use Rattle.goal_solver.proofs.ApplicableLemmas.{nothing-applies}
 use Rattle.goal_solver.proofs.PromiseLemmas.{leaves-undecided}
+use Rattle.std.proofs.Common.{refl}
+use Rattle.goal_solver.proofs.AccessLemmas.{none-recorded}
 use Rattle.goal_solver.proofs.context.EvalCtxt.trait_goal_response.Goals as goal
 
 pub returns-then-remaining_depth-eq0-clause-decided : goal.returns-then-remaining_depth-eq0-clause-decided
@@ -21,3 +23,9 @@ returns-then-remaining_depth-eq0-clause-applies c = nothing-applies c.args.self.
 pub returns-then-remaining_depth-eq0-clause-at_once : goal.returns-then-remaining_depth-eq0-clause-at_once
 returns-then-remaining_depth-eq0-clause-at_once c = λ z.
     leaves-undecided c.args.self.now c.respond.result c.respond.ensures.certainty c.respond.ensures.proven_via c.respond.ensures.values c.respond.ensures.quiet
+
+pub returns-then-remaining_depth-eq0-clause-caused : goal.returns-then-remaining_depth-eq0-clause-caused
+returns-then-remaining_depth-eq0-clause-caused c = λ closed. none-recorded c.args.self.now _ refl
+
+pub returns-clause-caused : goal.returns-clause-caused
+returns-clause-caused c = λ closed. c.answer_trait.ensures.caused

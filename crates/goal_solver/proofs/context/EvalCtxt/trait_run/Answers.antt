@@ -1,7 +1,10 @@
 use Rattle.std.proofs.Common.{refl}
 use Rattle.goal_solver.proofs.BindingLemmas.{goes_back-interned}
 use Rattle.goal_solver.proofs.GoingBackLemmas.{solved-grown, solved-grown_twice}
-use Rattle.goal_solver.proofs.CacheLemmas.{cache-new}
+use Rattle.goal_solver.proofs.CacheLemmas.{sound-new, sound-parts}
+use Rattle.std.proofs.Common.{◌∙◌, ap}
+use Rattle.goal_solver.specs.State.{State}
+use Rattle.goal_solver.proofs.AccessLemmas.{none-recorded, run-recorded, ends-here}
 use Rattle.goal_solver.proofs.context.EvalCtxt.trait_run.Goals as goal
 
 pub invariant_of-self : goal.invariant_of-self
@@ -29,5 +32,21 @@ invariant_of-self-2 c = (
 pub returns-in_err-ids-clause-goes_back : goal.returns-in_err-ids-clause-goes_back
 returns-in_err-ids-clause-goes_back c = goes_back-interned _ c.args.self.now _ c.intern_args.new.terms c.self.view_is refl c.intern_args.ensures.kept
 
-pub evaluate_trait_goal-outcome-requires-clause-cache : goal.evaluate_trait_goal-outcome-requires-clause-cache
-evaluate_trait_goal-outcome-requires-clause-cache c = cache-new _ _ _ c.new-effects.ensures.cache
+pub evaluate_trait_goal-outcome-requires-clause-effects : goal.evaluate_trait_goal-outcome-requires-clause-effects
+evaluate_trait_goal-outcome-requires-clause-effects c = sound-new _ _ _ c.new-effects.ensures
+
+pub returns-in_err-ids-clause-caused : goal.returns-in_err-ids-clause-caused
+returns-in_err-ids-clause-caused c = none-recorded c.args.self.now _ (ap (λ (s : State). s.accesses) c.self.view_is)
+
+pub returns-in_err-record_effects-clause-caused : goal.returns-in_err-record_effects-clause-caused
+returns-in_err-record_effects-clause-caused c =
+    run-recorded _ _ c.args.self.now c.record_effects.new.self _ c.evaluate_trait_goal-outcome.new.effects.accesses.items c.self.view_is refl c.rows.ensures.rows (sound-parts _ _ _ c.evaluate_trait_goal-outcome.ensures.effects).causes c.record_effects.ensures.listed
+
+pub returns-clause-caused : goal.returns-clause-caused
+returns-clause-caused c =
+    run-recorded _ _ c.args.self.now c.record_effects.new.self _ c.evaluate_trait_goal-outcome.new.effects.accesses.items c.self.view_is refl c.rows.ensures.rows (sound-parts _ _ _ c.evaluate_trait_goal-outcome.ensures.effects).causes c.record_effects.ensures.listed
+
+pub returns-clause-ends : goal.returns-clause-ends
+returns-clause-ends c =
+    ends-here _ c.args.self.now.tables _ c.args.self.now.typing_mode c.evaluate_trait_goal-outcome.result (c.rows.ensures.rows ∙ ap (λ (s : State). s.tables) c.self.view_is) (ap (λ (s : State). s.typing_mode) c.self.view_is)
+    c.evaluate_trait_goal-outcome.ensures.stops

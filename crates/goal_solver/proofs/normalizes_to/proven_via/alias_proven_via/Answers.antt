@@ -3,7 +3,7 @@ use Rattle.goal_kinds.specs.Interned.{erased_all}
 use Rattle.goal_solver.specs.Answers.{erased_args}
 use Rattle.goal_solver.specs.Outcomes.{setting_in, level_in}
 use Rattle.goal_solver.proofs.AssembledLemmas.{item-missing, item-rowless, item-traitless, nothing-said, class-says}
-use Rattle.goal_solver.proofs.CacheLemmas.{cache-grown}
+use Rattle.goal_solver.proofs.CacheLemmas.{sound-grown}
 use Rattle.goal_solver.proofs.normalizes_to.proven_via.alias_proven_via.Goals as goal
 
 pub returns-in_default-clause-says : goal.returns-in_default-clause-says
@@ -30,10 +30,10 @@ returns-clause-says c = λ m s.
     (ap (erased_all c.intern_args.new.terms) c.as_slice.ensures.value ∙ c.in_ok-args.ensures.trees ∙ ap erased_args c.deref.ensures.value)
     c.term_proven_via.result (c.term_proven_via.ensures.says m s)
 
-pub term_proven_via-requires-clause-cache : goal.term_proven_via-requires-clause-cache
-term_proven_via-requires-clause-cache c =
-    cache-grown c.args.setting.now c.args.terms.now c.intern_args.new.terms c.args.effects.now.cache c.intern_args.ensures.kept c.requires.cache
+pub term_proven_via-requires-clause-effects : goal.term_proven_via-requires-clause-effects
+term_proven_via-requires-clause-effects c =
+    sound-grown c.args.setting.now c.args.terms.now c.intern_args.new.terms c.args.effects.now c.intern_args.ensures.kept c.requires.effects
 
-pub returns-in_err-args-clause-cache : goal.returns-in_err-args-clause-cache
-returns-in_err-args-clause-cache c =
-    cache-grown c.args.setting.now c.args.terms.now c.intern_args.new.terms c.args.effects.now.cache c.intern_args.ensures.kept c.requires.cache
+pub returns-in_err-args-clause-effects : goal.returns-in_err-args-clause-effects
+returns-in_err-args-clause-effects c =
+    sound-grown c.args.setting.now c.args.terms.now c.intern_args.new.terms c.args.effects.now c.intern_args.ensures.kept c.requires.effects

@@ -20,7 +20,7 @@ relate_resolved-relate_resolved_lists-requires t c =
     let right : AreBelow c.args.right.0 c.deref-in-NeedParts.result.now = subst (AreBelow c.args.right.0) (sym rs) c.parts-in-NeedParts.ensures.earlier in (
       omega (arith, ceiling-below c.args.left.0 c.deref.result.now left),
       (
-        c.requires.cache,
+        c.requires.effects,
         lists-of_one_kind c.args.terms.now c.args.left c.args.right c.deref.result.now c.deref-in-NeedParts.result.now c.requires.alike.1.0 c.requires.alike.2.0
             (ap (map (tree_at c.args.terms.now)) ls ∙ c.parts.ensures.trees) left (ap (map (tree_at c.args.terms.now)) rs ∙ c.parts-in-NeedParts.ensures.trees) right
             c.in-NeedParts.ensures.1,
@@ -58,7 +58,7 @@ relate_resolved_lists-returns-then-right-count-clause-same t c = λ e. absurd (s
 
 pub relate_resolved_lists-loop-i-init : goal.relate_resolved_lists-loop-i-init
 relate_resolved_lists-loop-i-init t c = record {
-  cache = c.requires.cache;
+  effects = c.requires.effects;
   kept = record { longer = omega arith; same = λ id e. refl };
   settled = settled-none c.args.setting.now c.args.opens c.args.depth;
   same = λ e. refl;
@@ -82,7 +82,7 @@ relate_resolved_lists-relate_resolved-requires t c =
     let left : IsOfKind c.args.terms.now c.requires.alike.0 (get_or c.args.left.now c.loop-i.i (record { 0 = 0 })) = All-get_or (IsOfKind c.args.terms.now c.requires.alike.0) c.args.left.now c.loop-i.i (record { 0 = 0 }) p c.requires.alike.1 in
     let right : IsOfKind c.args.terms.now c.requires.alike.0 (get_or c.args.right.now c.loop-i.i (record { 0 = 0 })) = All-get_or (IsOfKind c.args.terms.now c.requires.alike.0) c.args.right.now c.loop-i.i (record { 0 = 0 }) r c.requires.alike.2 in (
       omega (arith, below-ceiling c.args.left.now c.loop-i.i (record { 0 = 0 }) p, c.decreases),
-      (c.loop-i.invariant.cache, (c.requires.alike.0, kind-grown c.args.terms.now c.loop-i.terms c.loop-i.invariant.kept c.requires.alike.0 _ left, kind-grown c.args.terms.now c.loop-i.terms c.loop-i.invariant.kept c.requires.alike.0 _ right)),
+      (c.loop-i.invariant.effects, (c.requires.alike.0, kind-grown c.args.terms.now c.loop-i.terms c.loop-i.invariant.kept c.requires.alike.0 _ left, kind-grown c.args.terms.now c.loop-i.terms c.loop-i.invariant.kept c.requires.alike.0 _ right)),
     )
 
 pub relate_resolved_lists-returns-in_err-next-clause-kept : goal.relate_resolved_lists-returns-in_err-next-clause-kept
@@ -103,7 +103,7 @@ relate_resolved_lists-loop-i-preserved t c =
     let r : c.loop-i.i < length c.args.right.now = omega arith in
     let left : IsOfKind c.args.terms.now c.requires.alike.0 (get_or c.args.left.now c.loop-i.i (record { 0 = 0 })) = All-get_or (IsOfKind c.args.terms.now c.requires.alike.0) c.args.left.now c.loop-i.i (record { 0 = 0 }) p c.requires.alike.1 in
     let right : IsOfKind c.args.terms.now c.requires.alike.0 (get_or c.args.right.now c.loop-i.i (record { 0 = 0 })) = All-get_or (IsOfKind c.args.terms.now c.requires.alike.0) c.args.right.now c.loop-i.i (record { 0 = 0 }) r c.requires.alike.2 in record {
-      cache = c.in_ok-next.ensures.cache;
+      effects = c.in_ok-next.ensures.effects;
       kept = keeps-chain _ _ _ c.loop-i.invariant.kept c.in_ok-next.ensures.kept;
       settled = subst (AreSettled c.args.setting.now c.args.opens c.args.depth (take (c.loop-i.i + 1) (erased_all c.args.terms.now c.args.left.now)) (take (c.loop-i.i + 1) (erased_all c.args.terms.now c.args.right.now))) (sym c.and-outcome.ensures)
           (settled-more c.args.setting.now c.args.opens c.args.depth c.args.terms.now c.loop-i.terms c.args.left.now c.args.right.now c.loop-i.i (record { 0 = 0 }) c.loop-i.outcome c.in_ok-next.next

@@ -1,7 +1,7 @@
 use Rattle.std.proofs.Common.{◌≡◌, ◌+◌, ◌*◌, take}
 use Rattle.goal_terms.specs.TableMeaning.{Keeps}
 use Rattle.goal_kinds.specs.Interned.{erased_all}
-use Rattle.goal_solver.specs.EvaluationCache.{IsValidCache}
+use Rattle.goal_solver.specs.Effects.{AreSound}
 use Rattle.goal_solver.specs.Settled.{AreSettled}
 use Rattle.goal_solver.specs.declared.eval.outcomes.Outcome.TheVariants as outcome
 use Rattle.goal_solver.proofs.PendingLemmas.{ceiling}
@@ -15,7 +15,7 @@ decreases-relate_resolved_lists l = 2 * ceiling l.left.now
 
 abbrev pub invariant-relate_resolved_lists-loop-i : goal.invariant-relate_resolved_lists-loop-i
 invariant-relate_resolved_lists-loop-i l = record {
-  cache : IsValidCache l.setting l.terms l.effects.cache;
+  effects : AreSound l.setting l.terms l.effects;
   kept : Keeps l.fn.terms l.terms;
   settled : AreSettled l.setting l.opens l.depth (take l.i (erased_all l.fn.terms l.left)) (take l.i (erased_all l.fn.terms l.right)) l.outcome;
   same : erased_all l.fn.terms l.left ≡ erased_all l.fn.terms l.right → l.outcome ≡ outcome.Holds;

@@ -1,21 +1,26 @@
-use Rattle.std.proofs.Common.{ap, sym, ◌∙◌, ⊎_elim}
+use Rattle.std.proofs.Common.{ap, sym, ◌∙◌}
 use Rattle.std.specs.Option.{option_map}
 use Rattle.goal_terms.proofs.InternLemmas.{keeps-refl}
 use Rattle.goal_kinds.specs.InternedEntries.{entry_at}
 use Rattle.goal_solver.specs.Outcomes.{level_in}
-use Rattle.goal_solver.proofs.RuleEntryLemmas.{found-runs, missing-names, missing-asks, recording-runs, not-access, not-fault}
+use Rattle.goal_solver.proofs.RuleEntryLemmas.{found-runs, missing-names, missing-asks, recording-runs, run-caused}
 use Rattle.goal_solver.proofs.eval.run_rule.interned.run_rule_entry.Goals as goal
 
-pub returns-in-Access : goal.returns-in-Access
-returns-in-Access c = record {
-  cache = c.requires.cache;
+pub returns-in_default : goal.returns-in_default
+returns-in_default c = record {
+  effects = c.requires.effects;
   kept = keeps-refl c.args.terms.now;
   within = c.requires.run;
-  stops = λ h. tt;
+  stops = tt;
   says = λ m s.
       recording-runs c.args.setting.now.rows.now (level_in c.args.setting.now m c.args.depth) c.args.terms.now c.args.run.now c.requires.run c.args.entry.now
-      (⊎_elim (λ w. not-access c.to_record.result c.args.entry.now w.0 c.to_record.ensures w.1) (λ w. not-fault c.to_record.result c.args.entry.now w.0 c.to_record.ensures w.1) c.in-Access.is);
+      (λ h. c.in_default.not-Nothing (c.to_record.ensures ∙ sym h));
 }
+
+pub run_entry-requires-clause-caused : goal.run_entry-requires-clause-caused
+run_entry-requires-clause-caused c =
+    run-caused c.args.setting.now.rows.now c.interned_entry.new.terms c.args.entry.now c.in-Some.interned (sym c.in-Nothing.is ∙ c.to_record.ensures)
+    (sym (ap (option_map (entry_at c.interned_entry.new.terms)) c.in-Some.is) ∙ c.in_ok-interned.ensures.entry)
 
 pub returns-in-Some-clause-says : goal.returns-in-Some-clause-says
 returns-in-Some-clause-says c = λ m s.

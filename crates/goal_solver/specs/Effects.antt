@@ -1,0 +1,37 @@
+-- What is so of an evaluation's effects, and of why it ends without an outcome.
+use Rattle.std.specs.Prelude.{◌≡◌, false, List, []}
+use Rattle.std.specs.List.{All}
+use Rattle.goal_terms.specs.Tree.{Tree}
+use Rattle.goal_terms.specs.declared.modes.TypingMode.{TypingMode}
+use Rattle.goal_terms.specs.declared.modes.TypingMode.TheVariants as mode
+use Rattle.goal_tables.specs.declared.rows.Tables.{Tables}
+use Rattle.goal_kinds.specs.Causes.{IsCaused}
+use Rattle.goal_kinds.specs.Settings.{is_headline}
+use Rattle.goal_solver.specs.EvaluationCache.{IsValidCache, IsEmptyCache}
+use Rattle.goal_solver.specs.declared.eval.effects.Effects.{Effects}
+use Rattle.goal_solver.specs.declared.eval.outcomes.Setting as over
+use Rattle.goal_solver.specs.declared.eval.outcomes.Stop.{Stop}
+use Rattle.goal_solver.specs.declared.eval.outcomes.Stop.TheVariants as stop
+
+-- the answers that are kept are right, and each access has its cause in the tables
+pub record Soundness (c : over.Setting) (T : List Tree) (e : Effects) : Type 0 where
+  pub answers : IsValidCache c T e.cache
+  pub causes : All (IsCaused c.rows.now) e.accesses.items
+
+-- the same as one word, which a search takes whole
+unfoldable pub AreSound : over.Setting → List Tree → Effects → Type 0
+AreSound c T e = Soundness c T e
+
+-- nothing is kept, and no access is recorded
+pub record AreNone (e : Effects) : Type 0 where
+  pub answers : IsEmptyCache e.cache
+  pub accesses : e.accesses.items ≡ []
+
+-- an evaluation ends for want of memory; or in a mode that isn't of the headline at an access, which in the erased mode has its cause in the tables
+abbrev pub EndsIn : Tables → TypingMode → Stop → Type 0
+EndsIn t m stop.OutOfMemory = Unit {0}
+EndsIn t m (stop.ReadsMode a) = (is_headline m ≡ false) × (m ≡ mode.ErasedNotCoherence → IsCaused t a)
+
+-- so does one over a setting
+abbrev pub IsStop : over.Setting → Stop → Type 0
+IsStop c s = EndsIn c.rows.now c.typing_mode.now s

@@ -1,0 +1,146 @@
+//! Host effect goals whose plain goals hold through a class.
+ghost use Rattle.std.specs.Prelude.{◌≡◌, [], None, suc, true, IfOk, IfErr, length};
+ghost use Rattle.goal_terms.specs.TableMeaning.{Keeps};
+ghost use Rattle.goal_terms.specs.declared.modes.TypingMode.{TypingMode};
+ghost use Rattle.goal_kinds.specs.Answers.{setting_of};
+ghost use Rattle.goal_kinds.specs.Settings.{is_headline};
+ghost use Rattle.goal_solver.specs.Answers.{IsOwed, level_over, IsPredicateAnswer, IsUndecided, IsMaybe, AnswersQuietly, IsFaultOf};
+ghost use Rattle.goal_solver.specs.Assembled.{level_above};
+ghost use Rattle.goal_solver.specs.Binding.{IsApplicable};
+ghost use Rattle.goal_solver.specs.Effects.{AreSound, IsStop};
+ghost use Rattle.goal_solver.specs.GoingBack.{GoesBack, restored};
+ghost use Rattle.goal_solver.specs.HostGoals.{HoldsThroughClass, SaysHostAt, host_asked, through_at};
+ghost use Rattle.goal_solver.specs.Outcomes.{RunsAs, RunsFor, setting_in, level_in};
+ghost use Rattle.goal_solver.specs.State.{kinds_of};
+
+use crate::assembly::candidates::AskedTrait;
+use crate::context::EvalCtxt;
+use crate::effect_goals::evaluation::groups_outcome;
+use crate::eval::effects::Effects;
+use crate::eval::head_forms::head_form;
+use crate::eval::interning::intern_args;
+use crate::eval::outcomes::{Found, OnAccess, Outcome, Setting, Stop};
+use crate::eval::self_types::{split_self_type, with_self_type};
+use crate::faults::Fault;
+use goal_kinds::goal_kind::TraitView;
+use goal_terms::answers::{Response, TraitGoalProvenVia};
+use goal_terms::predicates::{BoundConstness, Clause};
+use goal_terms::term_table::TermTable;
+
+/// A host effect goal whose plain goal is taken to hold through a class.
+#[derive(Clone, Copy)]
+pub(crate) struct HostEffectThrough<'a> {
+    pub class: TraitGoalProvenVia,
+    pub constness: BoundConstness,
+    pub asked: TraitView<'a>,
+}
+
+/// What such a goal comes to one above a depth: by the candidates for the head form of its self type. That is
+/// so where the plain goal does hold through the class at the depth.
+fn outcome_proven_via(
+    setting: &Setting<'_>,
+    terms: &mut TermTable,
+    effects: &mut Effects,
+    goal: &HostEffectThrough<'_>,
+    depth: u32,
+) -> Result<Outcome, Stop>
+    requires effects { AreSound setting.now terms.old effects.old }
+    ensures effects { AreSound setting.now terms.new effects.new }
+    ensures kept { Keeps terms.old terms.new }
+    ensures stops { IfErr result (IsStop setting.now) }
+    ensures says { (m : TypingMode) → RunsFor setting.now m → HoldsThroughClass (level_in setting.now m depth) (through_at goal.now) →
+        IfOk result (SaysHostAt (setting_in setting.now m) (suc depth) (through_at goal.now)) }
+{
+    let ids = intern_args(setting.allocator(), terms, goal.asked.args)?;
+    let Some((first, rest)) = split_self_type(&ids) else {
+        return Ok(Outcome::Undecided);
+    };
+    let found = head_form(setting, terms, effects, first, depth)?;
+    let Found::Is(self_ty) = found else {
+        return Ok(Outcome::Undecided);
+    };
+    let replaced = with_self_type(setting.rows, self_ty, rest)?;
+    let asked = AskedTrait {
+        constness: Some(goal.constness),
+        trait_id: goal.asked.def_id,
+        self_ty,
+        args: replaced.as_slice(),
+    };
+    groups_outcome(setting, terms, effects, &asked, goal.class, depth)
+}
+
+#[tactic(auto, using(crate::proofs::AnswerLemmas::answering))]
+impl EvalCtxt<'_> {
+    /// What such a goal comes to by the candidates at the remaining depth. Nothing changes but that there may be
+    /// more terms, accesses and delayed faults.
+    fn host_effect_outcome_through(
+        &mut self,
+        goal: &HostEffectThrough<'_>,
+        environment: &[Clause],
+    ) -> Result<Outcome, Stop>
+        ensures kept { Keeps self.old.terms self.new.terms }
+        ensures unchanged { self.new ≡ restored self.old self.new }
+        ensures goes_back { GoesBack self.old self.new }
+        ensures says { (m : TypingMode) → IsOwed self.new m → HoldsThroughClass (level_over self.old m environment.now) (through_at goal.now) →
+            IfOk result (SaysHostAt (setting_of self.old.tables m environment.now) (suc self.old.remaining_depth) (through_at goal.now)) }
+        ensures stops { is_headline self.old.typing_mode ≡ true → IfErr result (λ s. s ≡ Stop.OutOfMemory) }
+    {
+        let on_access = self.first_access();
+        let first = self.host_effect_run_through(on_access, goal, environment);
+        if let Some(outcome) = self.first_answer(first)? {
+            return Ok(outcome);
+        }
+        self.host_effect_run_through(OnAccess::Record, goal, environment)
+    }
+
+    /// One run over the candidates.
+    fn host_effect_run_through(
+        &mut self,
+        on_access: OnAccess,
+        goal: &HostEffectThrough<'_>,
+        environment: &[Clause],
+    ) -> Result<Outcome, Stop>
+        ensures kept { Keeps self.old.terms self.new.terms }
+        ensures unchanged { self.new ≡ restored self.old self.new }
+        ensures goes_back { GoesBack self.old self.new }
+        ensures says { (m : TypingMode) → RunsAs on_access self.old.typing_mode m → HoldsThroughClass (level_over self.old m environment.now) (through_at goal.now) →
+            IfOk result (SaysHostAt (setting_of self.old.tables m environment.now) (suc self.old.remaining_depth) (through_at goal.now)) }
+        ensures stops { is_headline self.old.typing_mode ≡ true → IfErr result (λ s. s ≡ Stop.OutOfMemory) }
+    {
+        let mut effects = Effects::new(self.allocator());
+        let setting = Setting {
+            rows: self.tables.rows(),
+            typing_mode: &self.typing_mode,
+            on_access,
+            environment,
+        };
+        let depth = self.remaining_depth;
+        let outcome = outcome_proven_via(&setting, &mut self.terms, &mut effects, goal, depth);
+        self.record_effects(&effects)?;
+        outcome
+    }
+
+    /// What is answered to such a goal by the candidates at the remaining depth, where the plain goal does hold
+    /// through the class there. Inference state, added goals and storage are as before; the answer can be applied.
+    pub(crate) fn answer_host_effect_through(
+        &mut self,
+        goal: &HostEffectThrough<'_>,
+        environment: &[Clause],
+    ) -> Result<Response, Fault>
+        ensures sound { (m : TypingMode) → IsOwed self.new m → HoldsThroughClass (level_over self.old m environment.now) (through_at goal.now) →
+            IsPredicateAnswer (level_above self.old m environment.now) (host_asked (through_at goal.now)) result }
+        ensures decided { (m : TypingMode) → IsOwed self.new m → HoldsThroughClass (level_over self.old m environment.now) (through_at goal.now) → IsMaybe result →
+            IsUndecided (level_above self.old m environment.now) (host_asked (through_at goal.now)) }
+        ensures unchanged { self.new ≡ restored self.old self.new }
+        ensures goes_back { GoesBack self.old self.new }
+        ensures fault { IsFaultOf self.old self.new result }
+        ensures quiet { AnswersQuietly (length (kinds_of self.old)) result }
+        ensures lists { IfOk result (λ r. r.var_values.items ≡ []) }
+        ensures no_class { IfOk result (λ r. r.proven_via ≡ None) }
+        ensures applies { IfOk result (IsApplicable self.new) }
+    {
+        self.is_well_formed();
+        let outcome = self.host_effect_outcome_through(goal, environment);
+        self.conclude(outcome)
+    }
+}
