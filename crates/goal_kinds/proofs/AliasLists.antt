@@ -16,7 +16,7 @@ use Rattle.goal_tables.specs.declared.rows.InherentImplRow.{InherentImplRow}
 use Rattle.goal_tables.specs.declared.rows.InherentRow.{InherentRow}
 use Rattle.goal_tables.specs.declared.rows.OpaqueRow.{OpaqueRow}
 use Rattle.goal_kinds.specs.Aliases.{AliasGives, AliasRefuted, ValueGives, ValueRefuted, FreeGives, FreeRefuted, InherentGives, InherentRefuted, InherentAliasGives, InherentAliasRefuted, OpaqueGives, OpaqueRefuted}
-use Rattle.goal_kinds.specs.AliasLists.{row_value, entries_of_row, free_list, inherent_list, inherent_alias_list, hidden_list, opaque_list, opaque_alias_list, alias_list}
+use Rattle.goal_kinds.specs.AliasLists.{row_value, entries_of_row, free_list, inherent_list, inherent_alias_list, defined_list, hidden_list, opaque_list, opaque_alias_list, alias_list}
 use Rattle.goal_kinds.specs.Entries.{ListGives, ListRefuted, Entry, arguments, followed_by, row_clauses, expected, value_under, undecided}
 use Rattle.goal_kinds.specs.Level.{Level}
 use Rattle.goal_kinds.specs.Premises.{PremisesHold, PremisesRefuted, clauses_under}
@@ -25,6 +25,8 @@ use Rattle.goal_kinds.specs.Projections.{projected_item}
 use Rattle.goal_kinds.specs.RuleModes.{among}
 use Rattle.goal_kinds.specs.Settings.{Setting, is_empty, is_headline, reveals}
 use Rattle.goal_kinds.specs.Words.{OfRow, Either}
+use Rattle.goal_kinds.specs.declared.rules.FirstUse.{FirstUse}
+use Rattle.goal_kinds.specs.declared.rules.FirstUse.TheVariants as first
 use Rattle.goal_kinds.proofs.EntryLemmas.{iff-same}
 use Rattle.goal_kinds.proofs.ListEntries.{EntriesSay, say-gives, say-refuted, says-same, given-says, followed-says, header-says, row_clauses-say, standing-says, value-says, undecided-says}
 
@@ -83,15 +85,15 @@ none_among [] r e = and_false r.is_local
 none_among (i ∷ ids) r e = absurd (false≢true e)
 
 -- what a headline mode makes of an opaque type
-by_mode : (m : TypingMode) → is_headline m ≡ true → (r : OpaqueRow) (revealed itself : List Entry) →
-    opaque_list m r revealed itself ≡ (if reveals m r then revealed else itself)
+by_mode : (m : TypingMode) → is_headline m ≡ true → (r : OpaqueRow) (defined : FirstUse → List Entry) (revealed itself : List Entry) →
+    opaque_list m r defined revealed itself ≡ (if reveals m r then revealed else itself)
 unfolding opaque_list
-by_mode mode.Coherence e r revealed itself = absurd (false≢true e)
-by_mode (mode.Analysis ids) e r revealed itself = ap (λ b. if b then undecided ∷ [] else itself) (none_among ids.items r e)
-by_mode (mode.Borrowck ids) e r revealed itself = ap (λ b. if b then undecided ∷ [] else itself) (none_among ids.items r e)
-by_mode (mode.PostBorrowckAnalysis ids) e r revealed itself = refl
-by_mode mode.PostAnalysis e r revealed itself = refl
-by_mode mode.ErasedNotCoherence e r revealed itself = absurd (false≢true e)
+by_mode mode.Coherence e r defined revealed itself = absurd (false≢true e)
+by_mode (mode.Analysis ids) e r defined revealed itself = ap (λ b. if b then defined first.Expected else itself) (none_among ids.items r e)
+by_mode (mode.Borrowck ids) e r defined revealed itself = ap (λ b. if b then defined first.TypeChecked else itself) (none_among ids.items r e)
+by_mode (mode.PostBorrowckAnalysis ids) e r defined revealed itself = refl
+by_mode mode.PostAnalysis e r defined revealed itself = refl
+by_mode mode.ErasedNotCoherence e r defined revealed itself = absurd (false≢true e)
 
 -- one of two lists, by a test
 either-says : (L : Level) (b : Bool) (es zs : List Entry) (P Q : Tree → Type 0) (R T : Type 0) → EntriesSay L [] es P R → EntriesSay L [] zs Q T →
@@ -106,7 +108,7 @@ opaque-says : (S : Setting) → is_headline S.mode ≡ true → (L : Level) (i :
 unfolding OpaqueGives OpaqueRefuted
 opaque-says S headline L i args r =
     let itself = alias (OpaqueTy i) (forest args) in
-    subst (λ es. EntriesSay L [] es (λ u. OpaqueGives S L i args u r) (OpaqueRefuted S L args r)) (sym (by_mode S.mode headline r (hidden_list args r) (standing itself)))
+    subst (λ es. EntriesSay L [] es (λ u. OpaqueGives S L i args u r) (OpaqueRefuted S L args r)) (sym (by_mode S.mode headline r (defined_list i args) (hidden_list args r) (standing itself)))
     (either-says L (reveals S.mode r) (hidden_list args r) (standing itself) _ _ _ _
     (given-says L [] args (expected (value_under (tree_of_ty r.hidden) 0) ∷ []) _ _ (value-says L (args ∷ []) (tree_of_ty r.hidden) 0 args refl))
     (standing-says L [] itself))

@@ -1,4 +1,4 @@
--- Each access in the list of a candidate or of an alias has its cause in the tables.
+-- What the list of a candidate or of an alias records has its cause in the tables.
 use Rattle.std.proofs.Common.{◌≡◌, ◌==◌, eq-eqb, Bool, true, false, ℕ, List, [], ◌∷◌, ◌++◌, Option, Some, None, Vec, if◌then◌else◌, refl, sym, ap, subst, ◌∙◌}
 use Rattle.std.specs.Prelude.{◌&&◌, not, IfSome}
 use Rattle.std.specs.Global.{Global}
@@ -12,6 +12,7 @@ use Rattle.goal_terms.specs.declared.answers.DelayedFault.TheVariants.{MissingIt
 use Rattle.goal_terms.specs.declared.answers.GoalSource.{GoalSource}
 use Rattle.goal_terms.specs.declared.answers.GoalSource.TheVariants as source
 use Rattle.goal_terms.specs.declared.answers.OpaqueAccess.TheVariants.{IfDefining, IfPostAnalysis, Always}
+use Rattle.goal_terms.specs.declared.ids.DefId.{DefId}
 use Rattle.goal_terms.specs.declared.ids.ItemId.{ItemId}
 use Rattle.goal_terms.specs.declared.ids.OpaqueId.{OpaqueId}
 use Rattle.goal_terms.specs.declared.ids.TraitId.{TraitId}
@@ -36,13 +37,13 @@ use Rattle.goal_tables.specs.declared.rows.Source.{Source}
 use Rattle.goal_tables.specs.declared.rows.Source.TheVariants as item_source
 use Rattle.goal_tables.specs.declared.rows.SourceRow.{SourceRow}
 use Rattle.goal_tables.specs.declared.rows.Tables.{Tables}
-use Rattle.goal_kinds.specs.AliasLists.{row_value, entries_of_row, free_list, inherent_list, inherent_alias_list, hidden_list, opaque_list, opaque_alias_list, alias_list}
+use Rattle.goal_kinds.specs.AliasLists.{row_value, entries_of_row, free_list, inherent_list, inherent_alias_list, defined_list, hidden_list, opaque_list, opaque_alias_list, alias_list}
 use Rattle.goal_kinds.specs.Builtins.{Listed, nothing_listed, listed, listed_rigid, listed_by_size, term_rule, trait_rule}
 use Rattle.goal_kinds.specs.Candidates.{Candidate, assumption, implied_bound, by_impl, built_in, error}
-use Rattle.goal_kinds.specs.Causes.{IsCaused, IsCausedEntry, IsCausedList}
+use Rattle.goal_kinds.specs.Causes.{IsCaused, IsFaultCaused, IsCausedEntry, IsCausedList, is_missing}
 use Rattle.goal_kinds.specs.ConstRules.{const_rule}
 use Rattle.goal_kinds.specs.EffectLists.{effect_assumption_list, const_rule_entries, source_of_const_rule, effect_list}
-use Rattle.goal_kinds.specs.Entries.{Entry, arguments, equal_terms, clause, row_clauses, row_conditions, expected, access, delayed_fault, evaluation, ambiguous, undecided, refused, head_form_of, premise_entry, premise_entries}
+use Rattle.goal_kinds.specs.Entries.{Entry, arguments, equal_terms, clause, row_clauses, row_conditions, expected, hidden_type, access, delayed_fault, evaluation, ambiguous, undecided, refused, head_form_of, premise_entry, premise_entries}
 use Rattle.goal_kinds.specs.ImplTerms.{Projection, Taken, from_projection, from_impl, from_other, taken}
 use Rattle.goal_kinds.specs.InternedEntries.{entry_at, entries_at, list_at}
 use Rattle.goal_kinds.specs.Laws.{is_default_source}
@@ -55,12 +56,15 @@ use Rattle.goal_kinds.specs.Settings.{Setting}
 use Rattle.goal_kinds.specs.TraitGoals.{any_error}
 use Rattle.goal_kinds.specs.TraitLists.{is_trait, trait_assumption_list, reserved_list, list_by_polarity, source_of_rule, trait_list}
 use Rattle.goal_kinds.specs.declared.lists.InternedEntry.{InternedEntry}
+use Rattle.goal_kinds.specs.declared.rules.FirstUse.{FirstUse}
+use Rattle.goal_kinds.specs.declared.rules.FirstUse.TheVariants as first
 use Rattle.goal_kinds.specs.declared.lists.InternedEntry.TheVariants as entries
 use Rattle.goal_kinds.proofs.AcceptedLemmas.{found_fails}
 
--- an entry that records an access has its cause in the tables, and so has each of a list
+-- an entry that records something has its cause in the tables, and so has each of a list
 abbrev pub Caused : Tables → Entry → Type 0
 Caused t (access a) = IsCaused t a
+Caused t (delayed_fault f) = IsFaultCaused t f
 Caused t _ = Unit {0}
 
 unfoldable pub AreCaused : Tables → List Entry → Type 0
@@ -91,6 +95,11 @@ access-caused t i r false l e = found-some (λ q. q.id.0 == i.0) (λ q. not q.is
 default-caused : (t : Tables) (r : ImplRow) (i : ItemId) (q : SourceRow) → source_of t r.id i ≡ Some q → is_default_source q.source ≡ true → IsCaused t Always
 unfolding IsCaused
 default-caused t r i q e d = found-some (λ x. (x.impl_id.0 == r.id.0) && (x.item_id.0 == i.0)) (λ x. is_default_source x.source) t.sources.items q e d
+
+-- a definition that is found without a value is what its fault is about
+missing-caused : (t : Tables) (i : DefId) (d : DefRow) → definition_of t i ≡ Some d → is_missing d.value ≡ true → IsFaultCaused t (MissingItem d.id)
+unfolding IsFaultCaused
+missing-caused t i d e m = found-some (λ r. r.id.0 == i.0) (λ r. is_missing r.value && (r.id.0 == d.id.0)) t.definitions.items d e (ap (λ b. b && (d.id.0 == d.id.0)) m ∙ same-number d.id.0)
 
 -- one list or another, and a list behind a test
 one-caused : (t : Tables) (b : Bool) (es fs : List Entry) → AreCaused t es → AreCaused t fs → AreCaused t (if b then es else fs)
@@ -210,24 +219,25 @@ module _ (S : Setting) (r : ImplRow) (p : Projection) (itself : Tree) where
   taken-caused v (from_other None) = (tt, tt)
   taken-caused v (from_other (Some q)) = (tt, (tt, (tt, (definition_value-caused S.tables v 3, tt))))
 
-  fault-caused : (es : List Entry) (d : DefRow) → AreCaused S.tables es → AreCaused S.tables (delayed_fault (MissingItem d.id) ∷ es)
+  fault-caused : (es : List Entry) (d : DefRow) → IsFaultCaused S.tables (MissingItem d.id) → AreCaused S.tables es → AreCaused S.tables (delayed_fault (MissingItem d.id) ∷ es)
   unfolding AreCaused
-  fault-caused es d h = (tt, h)
+  fault-caused es d c h = (c, h)
 
-  value-caused : (d : DefRow) (v : DefValue) → AreCaused S.tables (value_entries S r p itself d v)
-  value-caused d value.Missing = one-caused S.tables r.guaranteed_unsized _ _ (rigid-caused S.tables S.mode itself) (fault-caused _ d (standing-caused S.tables _))
-  value-caused d (value.Term e) = taken-caused (value.Term e) (taken S r d.container)
-  value-caused d value.Evaluated = taken-caused value.Evaluated (taken S r d.container)
+  value-caused : (i : DefId) (d : DefRow) (v : DefValue) → definition_of S.tables i ≡ Some d → d.value ≡ v → AreCaused S.tables (value_entries S r p itself d v)
+  value-caused i d value.Missing e g =
+      one-caused S.tables r.guaranteed_unsized _ _ (rigid-caused S.tables S.mode itself) (fault-caused _ d (missing-caused S.tables i d e (ap is_missing g)) (standing-caused S.tables _))
+  value-caused i d (value.Term x) e g = taken-caused (value.Term x) (taken S r d.container)
+  value-caused i d value.Evaluated e g = taken-caused value.Evaluated (taken S r d.container)
 
-  definition-caused : (o : Option DefRow) → AreCaused S.tables (definition_entries S r p itself o)
+  definition-caused : (i : DefId) (o : Option DefRow) → definition_of S.tables i ≡ o → AreCaused S.tables (definition_entries S r p itself o)
   unfolding AreCaused
-  definition-caused None = (tt, tt)
-  definition-caused (Some d) = value-caused d d.value
+  definition-caused i None e = (tt, tt)
+  definition-caused i (Some d) e = value-caused i d d.value e refl
 
   source-caused : (x : Source) → (is_default_source x ≡ true → IsCaused S.tables Always) → AreCaused S.tables (source_entries S r p itself x)
   source-caused (item_source.Broken n) c = standing-caused S.tables _
-  source-caused (item_source.Def d true) c = hidden_default-caused S.tables S.mode _ itself (c refl) (definition-caused (definition_of S.tables d))
-  source-caused (item_source.Def d false) c = definition-caused (definition_of S.tables d)
+  source-caused (item_source.Def d true) c = hidden_default-caused S.tables S.mode _ itself (c refl) (definition-caused d (definition_of S.tables d) refl)
+  source-caused (item_source.Def d false) c = definition-caused d (definition_of S.tables d) refl
 
   row-caused : (o : Option SourceRow) → source_of S.tables r.id p.item.id ≡ o → AreCaused S.tables (said_by_row_entries S r p itself o)
   unfolding AreCaused
@@ -293,14 +303,19 @@ unfolding inherent_alias_list AreCaused
 inherent_alias-caused S o [] = (tt, tt)
 inherent_alias-caused S o (self ∷ own) = of_row-caused S.tables o _ (λ i e. of_row-caused S.tables (inherent_impl_of S.tables i.impl_id) _ (λ q g. inherent-caused S.tables self own i q))
 
-opaque-caused : (t : Tables) (m : TypingMode) (r : OpaqueRow) (es fs : List Entry) → IsCaused t (access_to r) → AreCaused t es → AreCaused t fs → AreCaused t (opaque_list m r es fs)
+defined-caused : (t : Tables) (i : OpaqueId) (args : List Tree) (f : FirstUse) → AreCaused t (defined_list i args f)
+unfolding AreCaused
+defined-caused t i args f = (tt, tt)
+
+opaque-caused : (t : Tables) (m : TypingMode) (r : OpaqueRow) (d : FirstUse → List Entry) (es fs : List Entry) → IsCaused t (access_to r) → ((f : FirstUse) → AreCaused t (d f)) →
+    AreCaused t es → AreCaused t fs → AreCaused t (opaque_list m r d es fs)
 unfolding opaque_list AreCaused
-opaque-caused t mode.Coherence r es fs c h k = (tt, tt)
-opaque-caused t (mode.Analysis ids) r es fs c h k = one-caused t (among ids.items r) (undecided ∷ []) fs (tt, tt) k
-opaque-caused t (mode.Borrowck ids) r es fs c h k = one-caused t (among ids.items r) (undecided ∷ []) fs (tt, tt) k
-opaque-caused t (mode.PostBorrowckAnalysis ids) r es fs c h k = one-caused t (among ids.items r) es fs h k
-opaque-caused t mode.PostAnalysis r es fs c h k = h
-opaque-caused t mode.ErasedNotCoherence r es fs c h k = (c, k)
+opaque-caused t mode.Coherence r d es fs c g h k = (tt, tt)
+opaque-caused t (mode.Analysis ids) r d es fs c g h k = one-caused t (among ids.items r) (d first.Expected) fs (g first.Expected) k
+opaque-caused t (mode.Borrowck ids) r d es fs c g h k = one-caused t (among ids.items r) (d first.TypeChecked) fs (g first.TypeChecked) k
+opaque-caused t (mode.PostBorrowckAnalysis ids) r d es fs c g h k = one-caused t (among ids.items r) es fs h k
+opaque-caused t mode.PostAnalysis r d es fs c g h k = h
+opaque-caused t mode.ErasedNotCoherence r d es fs c g h k = (c, k)
 
 hidden-caused : (t : Tables) (args : List Tree) (r : OpaqueRow) → AreCaused t (hidden_list args r)
 unfolding AreCaused
@@ -312,7 +327,7 @@ alias_list-caused S (InherentTy i) args = inherent_alias-caused S (inherent_of S
 alias_list-caused S (InherentConst i) args = inherent_alias-caused S (inherent_of S.tables i) args
 alias_list-caused S (OpaqueTy i) args =
     of_row-caused S.tables (opaque_of S.tables i) (opaque_alias_list S i args)
-    (λ r e. opaque-caused S.tables S.mode r _ _ (access-caused S.tables i r r.is_local refl e) (hidden-caused S.tables args r) (standing-caused S.tables (alias (OpaqueTy i) (forest args))))
+    (λ r e. opaque-caused S.tables S.mode r _ _ _ (access-caused S.tables i r r.is_local refl e) (defined-caused S.tables i args) (hidden-caused S.tables args r) (standing-caused S.tables (alias (OpaqueTy i) (forest args))))
 alias_list-caused S (FreeTy i) args = of_row-caused S.tables (free_of S.tables i) (free_list args) (λ r e. free-caused S.tables args r)
 alias_list-caused S (FreeConst i) args = of_row-caused S.tables (free_of S.tables i) (free_list args) (λ r e. free-caused S.tables args r)
 alias_list-caused S (UnevaluatedConst n) args = (tt, tt)
@@ -328,7 +343,8 @@ entry-caused t T (entries.RowClauses r cs n) h = tt
 entry-caused t T (entries.RowConditions c i rs n) h = tt
 entry-caused t T (entries.Expected e) h = tt
 entry-caused t T (entries.Access a) h = h
-entry-caused t T (entries.DelayedFault f) h = tt
+entry-caused t T (entries.HiddenType i ids f) h = tt
+entry-caused t T (entries.DelayedFault f) h = h
 entry-caused t T entries.Evaluation h = tt
 entry-caused t T entries.Ambiguous h = tt
 entry-caused t T entries.Undecided h = tt
@@ -356,6 +372,7 @@ accesses-caused t (clause g p ∷ es) h = accesses-caused t es h.1
 accesses-caused t (row_clauses cs n ∷ es) h = accesses-caused t es h.1
 accesses-caused t (row_conditions c rs n ∷ es) h = accesses-caused t es h.1
 accesses-caused t (expected e ∷ es) h = accesses-caused t es h.1
+accesses-caused t (hidden_type i ts f ∷ es) h = accesses-caused t es h.1
 accesses-caused t (access a ∷ es) h = All-cons (IsCaused t) a (accesses_in es) h.0 (accesses-caused t es h.1)
 accesses-caused t (delayed_fault f ∷ es) h = accesses-caused t es h.1
 accesses-caused t (evaluation ∷ es) h = accesses-caused t es h.1

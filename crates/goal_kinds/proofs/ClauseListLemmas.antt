@@ -71,7 +71,7 @@ pub parts-erased : (T : List Tree) (id : TermId) (ids : List TermId) → map (tr
 parts-erased T id ids e = mapped-twice (tree_at T) erased ids ∙ ap (map erased) e ∙ sym (parts_of-erased (tree_at T id))
 
 -- what all terms of some numbers have
-all-unmapped : {A B : Type 0} (P : B → Type 0) (f : A → B) (xs : List A) → All P (map f xs) → All (λ x. P (f x)) xs
+pub all-unmapped : {A B : Type 0} (P : B → Type 0) (f : A → B) (xs : List A) → All P (map f xs) → All (λ x. P (f x)) xs
 all-unmapped P f [] h = λ k d l. absurd (omega arith)
 all-unmapped P f (x ∷ xs) h = All-cons (λ y. P (f y)) x xs (All-head P (f x) (map f xs) h) (all-unmapped P f xs (All-tail P (f x) (map f xs) h))
 

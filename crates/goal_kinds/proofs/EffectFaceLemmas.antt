@@ -45,6 +45,7 @@ use Rattle.goal_kinds.proofs.EffectLists.{effect_candidate_list-holds, effect_ca
 use Rattle.goal_kinds.proofs.FaceLemmas.{IsSomeGiven, one-given, some-given, then-yes, listed-yes_back, face-gives, face-refuted, face-told, face-refusal, face-named}
 use Rattle.goal_kinds.proofs.ListTerms.{effect_list-asks_none}
 use Rattle.goal_kinds.proofs.ListedRules.{some-accepted}
+use Rattle.goal_kinds.proofs.RebuiltLemmas.{zip-push}
 use Rattle.goal_kinds.proofs.SortedEffects.{effect_list-sorted}
 use Rattle.goal_kinds.proofs.TraitFaceLemmas.{or-false, polarity-some}
 use Rattle.goal_kinds.proofs.TraitLists.{ReadsHeadline}
@@ -79,14 +80,14 @@ module _ (S : ListSetting) (t : Tables) (m : TypingMode) (env : List Clause) (p 
 
   pub effect-gives : (sure : Certainty) (r : Result Rule Fault) → ReadsHeadline m c → ListedThen sure r →
       IfOk r (GivesAs false (setting_of t m env) sure (λ n u. EffectCandidateHolds p (setting_of t m env) n c))
-  effect-gives sure r reads h = face-gives asked Holds Refuted S t m env rows mode sure r (made-holds reads) h
+  effect-gives sure r reads h = face-gives false asked (λ V n u. Holds V n) Refuted S t m env rows mode sure r (λ n u. made-holds reads n) h
 
   pub effect-refuted : (sure : Certainty) (r : Result Rule Fault) → ReadsHeadline m c → ListedThen sure r →
       IfOk r (RefutedAs (setting_of t m env) (λ n. EffectCandidateRefuted p (setting_of t m env) n c))
-  effect-refuted sure r reads h = face-refuted asked Holds Refuted S t m env rows mode sure r (made-refuted reads) h
+  effect-refuted sure r reads h = face-refuted false asked (λ V n u. Holds V n) Refuted S t m env rows mode sure r (made-refuted reads) h
 
   pub effect-told : (sure : Certainty) (r : Result Rule Fault) → ListedThen sure r → IfOk r (IsToldBy t sure (Some (asked_effect_list p (setting_of t m env) c)))
-  effect-told sure r h = face-told asked Holds Refuted S t m env rows mode sure r h
+  effect-told sure r h = face-told false asked (λ V n u. Holds V n) Refuted S t m env rows mode sure r h
 
   -- the same where nothing is left undecided behind the list
   pub sure_effect-gives : (r : Result Rule Fault) → ReadsHeadline m c → Listed r →
@@ -102,12 +103,12 @@ module _ (S : ListSetting) (t : Tables) (m : TypingMode) (env : List Clause) (p 
 
   pub effect-refusal : (r : Result Rule Fault) → ReadsHeadline m c → IfErr r (IsRefusal (asked (setting_at S env) ≡ None)) →
       IfErr r (IsRefusal (EffectCandidateRefuted p (setting_of t m env) 0 c))
-  effect-refusal r reads h = face-refusal asked Holds Refuted S t m env rows mode r (made-refuted reads) h
+  effect-refusal r reads h = face-refusal false asked (λ V n u. Holds V n) Refuted S t m env rows mode r (made-refuted reads) h
 
   pub effect-named : (b : Bool) (r : Result Rule Fault) → ReadsHeadline m c → (b ≡ false → r ≡ Err fault.NotForThisKind) → Listed r →
       (b ≡ true → IfErr r (IsRefusal (asked (setting_at S env) ≡ None))) →
       IsNamedAnswer b false (setting_of t m env) (λ n u. EffectCandidateHolds p (setting_of t m env) n c) (λ n. EffectCandidateRefuted p (setting_of t m env) n c) r
-  effect-named b r reads other listed refused = face-named asked Holds Refuted S t m env rows mode b r (made-holds reads) (made-refuted reads) other listed refused
+  effect-named b r reads other listed refused = face-named false asked (λ V n u. Holds V n) Refuted S t m env rows mode b r (λ n u. made-holds reads n) (made-refuted reads) other listed refused
 
 -- the answer of a function of the trait alias, or of a built-in rule, by the test that it makes
 pub effect-answer : (S : ListSetting) (t : Tables) (m : TypingMode) (env : List Clause) (p : HostEffectPredicate) → S.rows.now ≡ t → S.mode.now ≡ m →
@@ -198,13 +199,6 @@ implied-is_of t T i candidates.Error e = tt
 pub one-in_table : (T : List Tree) (found xs : List InternedCandidate) (x : InternedCandidate) (i : ℕ) → xs ≡ found → All (CandidateIn T) found → i < length xs → x ≡ get_or xs i x →
     CandidateIn T x
 one-in_table T found xs x i same h lt is = subst (CandidateIn T) (sym is) (subst (All (CandidateIn T)) (sym same) h i x lt)
-
--- two lists in step, with one more of each
-zip-push : {A B : Type 0} (R : A → B → Type 0) (xs : List A) (ys : List B) (x : A) (y : B) → AllZip R xs ys → R x y → AllZip R (xs ++ x ∷ []) (ys ++ y ∷ [])
-zip-push R [] [] x y h r = (r, tt)
-zip-push R [] (b ∷ ys) x y h r = absurd h
-zip-push R (a ∷ xs) [] x y h r = absurd h
-zip-push R (a ∷ xs) (b ∷ ys) x y h r = (h.0, zip-push R xs ys x y h.1 r)
 
 -- one more candidate: its rule is there if it is an implied const bound of the goal's trait
 module _ (t : Tables) (p : HostEffectPredicate) (S : Setting) (cs : List Candidate) (c : Candidate) where

@@ -1,4 +1,4 @@
--- Public rules whose entries are those of a candidate's list say what the candidate does, for any kind of goals whose lists ask for no term.
+-- Public rules whose entries are those of a candidate's list say what the candidate does, for any kind of goals.
 use Rattle.std.proofs.Common.{◌≡◌, ◌↔◌, ℕ, Bool, true, false, List, ◌∷◌, ◌++◌, Option, Some, None, Result, Ok, Err, IfOk, IfErr, refl, sym, ◌∙◌, ap, ap₂, subst, append-nil}
 use Rattle.goal_terms.specs.TableMeaning.{Keeps}
 use Rattle.goal_terms.specs.Tree.{Tree}
@@ -11,7 +11,7 @@ use Rattle.goal_tables.specs.declared.rows.Tables.{Tables}
 use Rattle.goal_kinds.specs.Answers.{setting_of}
 use Rattle.goal_kinds.specs.CandidateRules.{GivesAs, RefutedAs, IsRefusal, IsNamedAnswer, only_given}
 use Rattle.goal_kinds.specs.Candidates.{Candidate}
-use Rattle.goal_kinds.specs.Entries.{Entry, equal_terms, ListHolds, ListRefuted}
+use Rattle.goal_kinds.specs.Entries.{Entry, equal_terms, ListRefuted}
 use Rattle.goal_kinds.specs.Interned.{CandidateIn, erased_all, candidate_at}
 use Rattle.goal_kinds.specs.InternedEntries.{setting_at}
 use Rattle.goal_kinds.specs.Levels.{level}
@@ -23,7 +23,7 @@ use Rattle.goal_kinds.specs.declared.faults.Fault.TheVariants as fault
 use Rattle.goal_kinds.specs.declared.lists.ListSetting.{ListSetting}
 use Rattle.goal_kinds.specs.declared.rules.Rule.{Rule}
 use Rattle.goal_kinds.proofs.InternedLemmas.{candidate_same-grown}
-use Rattle.goal_kinds.proofs.ListedRules.{AreGiven, listed-given, listed-list, listed-gives, listed-refuted, none-refuted, refusal-says, named-answer}
+use Rattle.goal_kinds.proofs.ListedRules.{ListSays, AreGiven, listed-given, listed-list, listed-gives, listed-refuted, none-refuted, refusal-says, named-answer}
 
 -- a list with nothing more behind it
 pub then-yes : (o : Option (List Entry)) → list_then certainty.Yes o ≡ o
@@ -42,10 +42,10 @@ listed-told t c o (Ok x) h = listed-list t x (list_then c o) h
 listed-told t c o (Err e) h = tt
 
 -- the list of a candidate, what the candidate does, and the setting in which the list was made
-module _ (Asked : Setting → Option (List Entry)) (Holds Refuted : Setting → ℕ → Type 0) (S : ListSetting) (t : Tables) (m : TypingMode) (env : List Clause) (rows : S.rows.now ≡ t) (mode : S.mode.now ≡ m) where
+module _ (b : Bool) (Asked : Setting → Option (List Entry)) (Gives : Setting → ℕ → Tree → Type 0) (Refuted : Setting → ℕ → Type 0) (S : ListSetting) (t : Tables) (m : TypingMode) (env : List Clause) (rows : S.rows.now ≡ t) (mode : S.mode.now ≡ m) where
   -- the list says what the candidate does
-  abbrev pub SaysHolds : Type 0
-  SaysHolds = (n : ℕ) → ListHolds (level (setting_at S env) n) (Asked (setting_at S env)) ↔ Holds (setting_at S env) n
+  abbrev pub SaysGives : Type 0
+  SaysGives = (n : ℕ) (u : Tree) → ListSays b (level (setting_at S env) n) (Asked (setting_at S env)) u ↔ Gives (setting_at S env) n u
 
   abbrev pub SaysRefuted : Type 0
   SaysRefuted = (n : ℕ) → ListRefuted (level (setting_at S env) n) (Asked (setting_at S env)) ↔ Refuted (setting_at S env) n
@@ -54,11 +54,11 @@ module _ (Asked : Setting → Option (List Entry)) (Holds Refuted : Setting → 
   pub as-asked : (P : Setting → Type 0) → P (setting_at S env) → P (setting_of t m env)
   as-asked P h = subst (λ u. P (setting_of u m env)) rows (subst (λ k. P (setting_of S.rows.now k env)) mode h)
 
-  pub face-gives : (sure : Certainty) (r : Result Rule Fault) → SaysHolds → IfOk r (λ x. IsListed S.rows.now x (list_then sure (Asked (setting_at S env)))) →
-      IfOk r (GivesAs false (setting_of t m env) sure (λ n u. Holds (setting_of t m env) n))
+  pub face-gives : (sure : Certainty) (r : Result Rule Fault) → SaysGives → IfOk r (λ x. IsListed S.rows.now x (list_then sure (Asked (setting_at S env)))) →
+      IfOk r (GivesAs b (setting_of t m env) sure (Gives (setting_of t m env)))
   face-gives sure r says h =
-      as-asked (λ V. IfOk r (GivesAs false V sure (λ n u. Holds V n)))
-      (listed-gives (setting_at S env) sure (Asked (setting_at S env)) (λ n. Holds (setting_at S env) n) r h says)
+      as-asked (λ V. IfOk r (GivesAs b V sure (Gives V)))
+      (listed-gives (setting_at S env) sure (Asked (setting_at S env)) b (Gives (setting_at S env)) r h says)
 
   pub face-refuted : (sure : Certainty) (r : Result Rule Fault) → SaysRefuted → IfOk r (λ x. IsListed S.rows.now x (list_then sure (Asked (setting_at S env)))) →
       IfOk r (RefutedAs (setting_of t m env) (λ n. Refuted (setting_of t m env) n))
@@ -77,12 +77,12 @@ module _ (Asked : Setting → Option (List Entry)) (Holds Refuted : Setting → 
       (refusal-says (Asked (setting_at S env) ≡ None) (Refuted (setting_at S env) 0) r
       (none-refuted (level (setting_at S env) 0) (Asked (setting_at S env)) (Refuted (setting_at S env) 0) (says 0)) h)
 
-  pub face-named : (b : Bool) (r : Result Rule Fault) → SaysHolds → SaysRefuted → (b ≡ false → r ≡ Err fault.NotForThisKind) →
-      IfOk r (λ x. IsListed S.rows.now x (Asked (setting_at S env))) → (b ≡ true → IfErr r (IsRefusal (Asked (setting_at S env) ≡ None))) →
-      IsNamedAnswer b false (setting_of t m env) (λ n u. Holds (setting_of t m env) n) (λ n. Refuted (setting_of t m env) n) r
-  face-named b r holds refuted other listed declined =
-      as-asked (λ V. IsNamedAnswer b false V (λ n u. Holds V n) (λ n. Refuted V n) r)
-      (named-answer b (setting_at S env) (Asked (setting_at S env)) (λ n. Holds (setting_at S env) n) (λ n. Refuted (setting_at S env) n) r other listed declined holds refuted)
+  pub face-named : (is_for : Bool) (r : Result Rule Fault) → SaysGives → SaysRefuted → (is_for ≡ false → r ≡ Err fault.NotForThisKind) →
+      IfOk r (λ x. IsListed S.rows.now x (Asked (setting_at S env))) → (is_for ≡ true → IfErr r (IsRefusal (Asked (setting_at S env) ≡ None))) →
+      IsNamedAnswer is_for b (setting_of t m env) (Gives (setting_of t m env)) (λ n. Refuted (setting_of t m env) n) r
+  face-named is_for r gives refuted other listed declined =
+      as-asked (λ V. IsNamedAnswer is_for b V (Gives V) (λ n. Refuted V n) r)
+      (named-answer is_for b (setting_at S env) (Asked (setting_at S env)) (Gives (setting_at S env)) (λ n. Refuted (setting_at S env) n) r other listed declined gives refuted)
 
 -- the list that is made over a table for a candidate of an older one
 pub list-made : (list : List Tree → Candidate → Option (List Entry)) (T U : List Tree) (k : Keeps T U) (c : InternedCandidate) → CandidateIn T c →

@@ -4,7 +4,7 @@ use Rattle.std.specs.Prelude.{Option, Some, None, Vec}
 use Rattle.std.specs.Global.{Global}
 use Rattle.goal_terms.specs.TableMeaning.{Keeps}
 use Rattle.goal_terms.specs.Tree.{Tree}
-use Rattle.goal_kinds.specs.Entries.{given_arguments, of_header, followed_by, as_it_stands, head_form_of, arguments, equal_terms, clause, expected}
+use Rattle.goal_kinds.specs.Entries.{given_arguments, of_header, followed_by, as_it_stands, head_form_of, arguments, equal_terms, clause, expected, hidden_type}
 use Rattle.goal_kinds.specs.InternedEntries.{header_trees, arguments_at, ArgumentsIn, term_at, TermIn, entry_at, EntryIn, entries_at, EntriesIn, list_at, ListIn, projection_at, ProjectionIn}
 use Rattle.goal_kinds.specs.declared.lists.AskedProjection.{AskedProjection}
 use Rattle.goal_kinds.specs.declared.lists.InternedArguments.{InternedArguments}
@@ -56,6 +56,7 @@ entry_in-grown T U k (entries.Expected e) h = term_in-grown T U k e h
 entry_in-grown T U k (entries.Access a) h = tt
 entry_in-grown T U k (entries.DelayedFault f) h = tt
 entry_in-grown T U k entries.Evaluation h = tt
+entry_in-grown T U k (entries.HiddenType i ids first) h = are_in-grown T U k ids.items h
 entry_in-grown T U k entries.Ambiguous h = tt
 entry_in-grown T U k entries.Undecided h = tt
 entry_in-grown T U k entries.Refused h = tt
@@ -70,6 +71,7 @@ entry_same-grown T U k (entries.Expected e) h = ap expected (term_same-grown T U
 entry_same-grown T U k (entries.Access a) h = refl
 entry_same-grown T U k (entries.DelayedFault f) h = refl
 entry_same-grown T U k entries.Evaluation h = refl
+entry_same-grown T U k (entries.HiddenType i ids first) h = ap (λ args. hidden_type i args first) (all_same-grown T U k ids.items h)
 entry_same-grown T U k entries.Ambiguous h = refl
 entry_same-grown T U k entries.Undecided h = refl
 entry_same-grown T U k entries.Refused h = refl

@@ -96,17 +96,12 @@ pub mod PlacedLevels
 pub mod RuleLemmas
 pub mod EntryLemmas
 pub mod ExpectedLemmas
-pub mod AliasRuleLemmas
 pub mod TraitCandidateLaws
 pub mod TraitKindLemmas
-pub mod AfterLemmas
-pub mod ProjectionRuleLemmas
 pub mod RuleListLemmas
 pub mod AcceptedAliases
 pub mod ProjectionKindLaws
 pub mod RejectedImplTerms
-pub mod DefinitionLemmas
-pub mod ImplRuleLemmas
 pub mod ImplTermKindLemmas
 pub mod ListWords
 pub mod TraitLists
@@ -139,3 +134,8 @@ pub mod TraitFaceLemmas
 pub mod SortedEffects
 pub mod EffectFaceLemmas
 pub mod EffectKindLaws
+pub mod SortedTerms
+pub mod SortedProjections
+pub mod ProjectionFaceLemmas
+pub mod AliasFaceLemmas
+pub mod AliasTerms

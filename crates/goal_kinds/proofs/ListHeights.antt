@@ -3,7 +3,7 @@ use Rattle.std.proofs.Common.{◌≡◌, ◌≤◌, ◌+◌, ℕ, List, [], ◌�
 use Rattle.std.specs.Prelude.{slice_get}
 use Rattle.goal_terms.specs.Erased.{erased}
 use Rattle.goal_terms.specs.Tree.{Tree}
-use Rattle.goal_kinds.specs.Entries.{Arguments, given_arguments, of_header, of_other_header, followed_by, ExpectedTerm, as_it_stands, head_form_of, value_under, chosen_by, Entry, arguments, equal_terms, clause, row_clauses, row_conditions, expected, access, delayed_fault, evaluation, ambiguous, undecided, refused, Named, NamedKnown, NamesNothing, TermIs, NoTerm, EntriesHold, EntriesRefuted, ListHolds, ListGives, ListRefuted}
+use Rattle.goal_kinds.specs.Entries.{Arguments, given_arguments, of_header, of_other_header, followed_by, ExpectedTerm, as_it_stands, head_form_of, value_under, chosen_by, Entry, arguments, equal_terms, clause, row_clauses, row_conditions, expected, access, delayed_fault, evaluation, hidden_type, ambiguous, undecided, refused, Named, NamedKnown, NamesNothing, TermIs, NoTerm, EntriesHold, EntriesRefuted, ListHolds, ListGives, ListRefuted}
 use Rattle.goal_kinds.specs.Headers.{under, Fits}
 use Rattle.goal_kinds.specs.Laws.{IsWithin, IsConsistent}
 use Rattle.goal_kinds.specs.Level.{Level}
@@ -79,6 +79,7 @@ module _ {L M : Level} (w : IsWithin L M) where
   within-entries_hold Said Unsaid named (access a ∷ es) h = within-entries_hold Said Unsaid named es h
   within-entries_hold Said Unsaid named (delayed_fault f ∷ es) h = within-entries_hold Said Unsaid named es h
   within-entries_hold Said Unsaid named (evaluation ∷ es) h = within-entries_hold Said Unsaid named es h
+  within-entries_hold Said Unsaid named (hidden_type i args first ∷ es) h = h
   within-entries_hold Said Unsaid named (ambiguous ∷ es) h = h
   within-entries_hold Said Unsaid named (undecided ∷ es) h = h
   within-entries_hold Said Unsaid named (refused ∷ es) h = h
@@ -99,6 +100,7 @@ module _ {L M : Level} (w : IsWithin L M) where
   within-entries_refuted named (access a ∷ es) h = within-entries_refuted named es h
   within-entries_refuted named (delayed_fault f ∷ es) h = within-entries_refuted named es h
   within-entries_refuted named (evaluation ∷ es) h = within-entries_refuted named es h
+  within-entries_refuted named (hidden_type i args first ∷ es) h = within-entries_refuted named es h
   within-entries_refuted named (ambiguous ∷ es) h = within-entries_refuted named es h
   within-entries_refuted named (undecided ∷ es) h = within-entries_refuted named es h
   within-entries_refuted named (refused ∷ es) h = h
@@ -190,6 +192,7 @@ module _ (L : Level) (c : IsConsistent L) where
   no_entries_refuted Said Unsaid named (access a ∷ es) h k = no_entries_refuted Said Unsaid named es h k
   no_entries_refuted Said Unsaid named (delayed_fault f ∷ es) h k = no_entries_refuted Said Unsaid named es h k
   no_entries_refuted Said Unsaid named (evaluation ∷ es) h k = no_entries_refuted Said Unsaid named es h k
+  no_entries_refuted Said Unsaid named (hidden_type i args first ∷ es) h k = h
   no_entries_refuted Said Unsaid named (ambiguous ∷ es) h k = h
   no_entries_refuted Said Unsaid named (undecided ∷ es) h k = h
   no_entries_refuted Said Unsaid named (refused ∷ es) h k = h
@@ -210,6 +213,7 @@ module _ (L : Level) (c : IsConsistent L) where
   one_said t u named (access a ∷ es) h k = one_said t u named es h k
   one_said t u named (delayed_fault f ∷ es) h k = one_said t u named es h k
   one_said t u named (evaluation ∷ es) h k = one_said t u named es h k
+  one_said t u named (hidden_type i args first ∷ es) h k = absurd h
   one_said t u named (ambiguous ∷ es) h k = absurd h
   one_said t u named (undecided ∷ es) h k = absurd h
   one_said t u named (refused ∷ es) h k = absurd h

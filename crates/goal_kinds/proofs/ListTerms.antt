@@ -16,7 +16,7 @@ use Rattle.goal_kinds.specs.Candidates.{Candidate, assumption, implied_bound, by
 use Rattle.goal_kinds.specs.ConstGoals.{satisfies}
 use Rattle.goal_kinds.specs.ConstRules.{const_rule}
 use Rattle.goal_kinds.specs.EffectLists.{effect_assumption_list, const_rule_entries, source_of_const_rule, effect_list}
-use Rattle.goal_kinds.specs.Entries.{Entry, arguments, equal_terms, clause, row_clauses, row_conditions, expected, access, delayed_fault, evaluation, ambiguous, undecided, refused, EntriesHold, ListHolds, ListGives, ListHoldsWith, AsksNoTerm, ListAsksNoTerm, premise_entry, premise_entries}
+use Rattle.goal_kinds.specs.Entries.{Entry, arguments, equal_terms, clause, row_clauses, row_conditions, expected, access, delayed_fault, evaluation, hidden_type, ambiguous, undecided, refused, EntriesHold, ListHolds, ListGives, ListHoldsWith, AsksNoTerm, ListAsksNoTerm, premise_entry, premise_entries}
 use Rattle.goal_kinds.specs.Level.{Level}
 use Rattle.goal_kinds.specs.Premises.{Premise, predicate, equation, ConstRule, conditions_as}
 use Rattle.goal_kinds.specs.Settings.{Setting}
@@ -114,6 +114,7 @@ said_as L P Q X named (expected e ∷ es) a h = absurd a.0
 said_as L P Q X named (access x ∷ es) a h = said_as L P Q X named es a.1 h
 said_as L P Q X named (delayed_fault f ∷ es) a h = said_as L P Q X named es a.1 h
 said_as L P Q X named (evaluation ∷ es) a h = said_as L P Q X named es a.1 h
+said_as L P Q X named (hidden_type i args first ∷ es) a h = absurd h
 said_as L P Q X named (ambiguous ∷ es) a h = absurd h
 said_as L P Q X named (undecided ∷ es) a h = absurd h
 said_as L P Q X named (refused ∷ es) a h = absurd h
@@ -131,6 +132,7 @@ unsaid L P named (expected e ∷ es) a h = a.0
 unsaid L P named (access x ∷ es) a h = unsaid L P named es a.1 h
 unsaid L P named (delayed_fault f ∷ es) a h = unsaid L P named es a.1 h
 unsaid L P named (evaluation ∷ es) a h = unsaid L P named es a.1 h
+unsaid L P named (hidden_type i args first ∷ es) a h = h
 unsaid L P named (ambiguous ∷ es) a h = h
 unsaid L P named (undecided ∷ es) a h = h
 unsaid L P named (refused ∷ es) a h = h
@@ -159,6 +161,7 @@ weaker L P Q X Y named (expected e ∷ es) f g h = ((h.0.0, h.0.1, f h.0.0 h.0.2
 weaker L P Q X Y named (access x ∷ es) f g h = weaker L P Q X Y named es f g h
 weaker L P Q X Y named (delayed_fault x ∷ es) f g h = weaker L P Q X Y named es f g h
 weaker L P Q X Y named (evaluation ∷ es) f g h = weaker L P Q X Y named es f g h
+weaker L P Q X Y named (hidden_type i args first ∷ es) f g h = h
 weaker L P Q X Y named (ambiguous ∷ es) f g h = h
 weaker L P Q X Y named (undecided ∷ es) f g h = h
 weaker L P Q X Y named (refused ∷ es) f g h = h

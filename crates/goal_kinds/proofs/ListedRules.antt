@@ -11,11 +11,11 @@ use Rattle.goal_tables.specs.Rows.{impl_of, inherent_impl_of}
 use Rattle.goal_tables.specs.declared.rows.ImplRow.{ImplRow}
 use Rattle.goal_tables.specs.declared.rows.Tables.{Tables}
 use Rattle.goal_kinds.specs.CandidateRules.{after, only_given, RuleSays, GivesAs, RefutedAs, IsRefusal, IsNamedAnswer}
-use Rattle.goal_kinds.specs.Entries.{Arguments, given_arguments, of_header, of_other_header, followed_by, Entry, arguments, equal_terms, clause, row_clauses, row_conditions, expected, access, delayed_fault, evaluation, ambiguous, undecided, refused, EntriesHold, EntriesRefuted, ListHolds, ListRefuted}
+use Rattle.goal_kinds.specs.Entries.{of_header, of_other_header, followed_by, Entry, arguments, equal_terms, clause, row_clauses, row_conditions, expected, access, delayed_fault, evaluation, hidden_type, ambiguous, undecided, refused, EntriesHold, EntriesRefuted, ListHolds, ListGives, ListRefuted}
 use Rattle.goal_kinds.specs.Level.{Level}
 use Rattle.goal_kinds.specs.Levels.{level}
-use Rattle.goal_kinds.specs.RuleLists.{header_arguments, other_arguments, entry_of, entries_of, list_of_rule, entries_then, list_then, IsListed}
-use Rattle.goal_kinds.specs.Rules.{given, RuleHolds, RuleRefuted}
+use Rattle.goal_kinds.specs.RuleLists.{header_arguments, other_arguments, entry_of, list_of_rule, entries_then, list_then, IsListed}
+use Rattle.goal_kinds.specs.Rules.{given, RuleRefuted}
 use Rattle.goal_kinds.specs.Settings.{Setting}
 use Rattle.goal_kinds.specs.declared.faults.Fault.{Fault}
 use Rattle.goal_kinds.specs.declared.faults.Fault.TheVariants as fault
@@ -27,7 +27,12 @@ use Rattle.goal_kinds.specs.declared.rules.RuleHeader.{RuleHeader}
 use Rattle.goal_kinds.specs.declared.rules.RuleHeader.TheVariants as header
 use Rattle.goal_kinds.proofs.EntryLemmas.{iff-chain, iff-back, iff-both, iff-same}
 use Rattle.goal_kinds.proofs.RebuiltLemmas.{entries-named}
-use Rattle.goal_kinds.proofs.RulesAsLists.{rule_list-holds, rule_list-refuted}
+use Rattle.goal_kinds.proofs.RulesAsLists.{rule_list-holds, rule_list-gives, rule_list-refuted}
+
+-- a list says a term: it gives it; or, for goals that ask for none, it holds
+abbrev pub ListSays : Bool → Level → Option (List Entry) → Tree → Type 0
+ListSays true L o t = ListGives L o t
+ListSays false L o t = ListHolds L o
 
 -- entries that say the same of a level, more or less
 module _ (L : Level) where
@@ -44,6 +49,7 @@ module _ (L : Level) where
   undecided-holds Said Unsaid named (access a ∷ es) h = undecided-holds Said Unsaid named es h
   undecided-holds Said Unsaid named (delayed_fault f ∷ es) h = undecided-holds Said Unsaid named es h
   undecided-holds Said Unsaid named (evaluation ∷ es) h = undecided-holds Said Unsaid named es h
+  undecided-holds Said Unsaid named (hidden_type i args first ∷ es) h = h
   undecided-holds Said Unsaid named (ambiguous ∷ es) h = h
   undecided-holds Said Unsaid named (undecided ∷ es) h = h
   undecided-holds Said Unsaid named (refused ∷ es) h = h
@@ -66,6 +72,7 @@ module _ (L : Level) where
   undecided-refuted named (access a ∷ es) = undecided-refuted named es
   undecided-refuted named (delayed_fault f ∷ es) = undecided-refuted named es
   undecided-refuted named (evaluation ∷ es) = undecided-refuted named es
+  undecided-refuted named (hidden_type i args first ∷ es) = undecided-refuted named es
   undecided-refuted named (ambiguous ∷ es) = undecided-refuted named es
   undecided-refuted named (undecided ∷ es) = undecided-refuted named es
   undecided-refuted named (refused ∷ es) = iff-same
@@ -80,6 +87,20 @@ module _ (L : Level) where
   list_then-holds certainty.Maybe None = (λ h. absurd h, λ h. h.1)
   list_then-holds certainty.Maybe (Some es) =
       (λ h. absurd (undecided-holds (λ u. Unit {0}) (Unit {0}) [] es h), λ h. let e : certainty.Maybe ≡ certainty.Yes = h.0 in absurd (cc))
+
+  list_then-gives : (c : Certainty) (o : Option (List Entry)) (t : Tree) → ListGives L (list_then c o) t ↔ ((c ≡ certainty.Yes) × ListGives L o t)
+  unfolding ListGives
+  list_then-gives certainty.Yes None t = (λ h. absurd h, λ h. h.1)
+  list_then-gives certainty.Yes (Some es) t =
+      subst (λ xs. EntriesHold L (λ u. u ≡ t) ⊥ [] xs ↔ ((certainty.Yes ≡ certainty.Yes) × EntriesHold L (λ u. u ≡ t) ⊥ [] es)) (sym (append-nil es))
+      (λ h. (refl, h), λ h. h.1)
+  list_then-gives certainty.Maybe None t = (λ h. absurd h, λ h. h.1)
+  list_then-gives certainty.Maybe (Some es) t =
+      (λ h. absurd (undecided-holds (λ u. u ≡ t) ⊥ [] es h), λ h. let e : certainty.Maybe ≡ certainty.Yes = h.0 in absurd (cc))
+
+  list_then-says : (b : Bool) (c : Certainty) (o : Option (List Entry)) (t : Tree) → ListSays b L (list_then c o) t ↔ ((c ≡ certainty.Yes) × ListSays b L o t)
+  list_then-says true c o t = list_then-gives c o t
+  list_then-says false c o t = list_then-holds c o
 
   pub list_then-refuted : (c : Certainty) (o : Option (List Entry)) → ListRefuted L (list_then c o) ↔ ListRefuted L o
   unfolding ListRefuted
@@ -103,22 +124,27 @@ pub listed-then : (t : Tables) (made all : List RuleEntry) (es : List Entry) (c 
 listed-then t made all es c h is =
     ap (map (entry_of t)) is ∙ map-append (entry_of t) made (after c) ∙ ap₂ (λ xs ys. xs ++ ys) h (then-same t c) ∙ sym (map-append Some es (entries_then c))
 
+-- a rule says what its list does
+rule_list-says : (b : Bool) (S : Setting) (n : ℕ) (r : Rule) (t : Tree) → ListSays b (level S n) (list_of_rule S.tables r) t ↔ RuleSays b S n r t
+rule_list-says true S n r t = rule_list-gives S (level S n) r t
+rule_list-says false S n r t = rule_list-holds S (level S n) r
+
 -- a rule that is listed says what the list does
 module _ (S : Setting) (c : Certainty) (o : Option (List Entry)) where
-  rule-holds : (r : Rule) (n : ℕ) → IsListed S.tables r (list_then c o) → RuleHolds S (level S n) r ↔ ((c ≡ certainty.Yes) × ListHolds (level S n) o)
-  rule-holds r n h =
-      iff-chain (iff-back (rule_list-holds S (level S n) r))
-      (subst (λ l. ListHolds (level S n) l ↔ ((c ≡ certainty.Yes) × ListHolds (level S n) o)) (sym (listed-list S.tables r (list_then c o) h)) (list_then-holds (level S n) c o))
+  rule-says : (b : Bool) (r : Rule) (n : ℕ) (t : Tree) → IsListed S.tables r (list_then c o) → RuleSays b S n r t ↔ ((c ≡ certainty.Yes) × ListSays b (level S n) o t)
+  rule-says b r n t h =
+      iff-chain (iff-back (rule_list-says b S n r t))
+      (subst (λ l. ListSays b (level S n) l t ↔ ((c ≡ certainty.Yes) × ListSays b (level S n) o t)) (sym (listed-list S.tables r (list_then c o) h)) (list_then-says (level S n) b c o t))
 
   rule-refuted : (r : Rule) (n : ℕ) → IsListed S.tables r (list_then c o) → RuleRefuted S (level S n) r ↔ ListRefuted (level S n) o
   rule-refuted r n h =
       iff-chain (iff-back (rule_list-refuted S (level S n) r))
       (subst (λ l. ListRefuted (level S n) l ↔ ListRefuted (level S n) o) (sym (listed-list S.tables r (list_then c o) h)) (list_then-refuted (level S n) c o))
 
-  pub listed-gives : (Claim : ℕ → Type 0) (r : Result Rule Fault) → IfOk r (λ x. IsListed S.tables x (list_then c o)) →
-      ((n : ℕ) → ListHolds (level S n) o ↔ Claim n) → IfOk r (GivesAs false S c (λ n t. Claim n))
-  listed-gives Claim (Ok x) h f = λ n t. iff-chain (rule-holds x n h) (iff-both iff-same (f n))
-  listed-gives Claim (Err e) h f = tt
+  pub listed-gives : (b : Bool) (Claim : ℕ → Tree → Type 0) (r : Result Rule Fault) → IfOk r (λ x. IsListed S.tables x (list_then c o)) →
+      ((n : ℕ) (t : Tree) → ListSays b (level S n) o t ↔ Claim n t) → IfOk r (GivesAs b S c Claim)
+  listed-gives b Claim (Ok x) h f = λ n t. iff-chain (rule-says b x n t h) (iff-both iff-same (f n t))
+  listed-gives b Claim (Err e) h f = tt
 
   pub listed-refuted : (Claim : ℕ → Type 0) (r : Result Rule Fault) → IfOk r (λ x. IsListed S.tables x (list_then c o)) →
       ((n : ℕ) → ListRefuted (level S n) o ↔ Claim n) → IfOk r (RefutedAs S Claim)
@@ -146,16 +172,16 @@ some-accepted es o (Err fault.RerunNonErased) e h = absurd h
 some-accepted es o (Err fault.NotForThisKind) e h = absurd h
 
 -- the answer of a function of the trait alias, or of a built-in rule
-pub named-answer : (b : Bool) (S : Setting) (o : Option (List Entry)) (Holds Refuted : ℕ → Type 0) (r : Result Rule Fault) →
-    (b ≡ false → r ≡ Err fault.NotForThisKind) → IfOk r (λ x. IsListed S.tables x o) → (b ≡ true → IfErr r (IsRefusal (o ≡ None))) →
-    ((n : ℕ) → ListHolds (level S n) o ↔ Holds n) → ((n : ℕ) → ListRefuted (level S n) o ↔ Refuted n) → IsNamedAnswer b false S (λ n t. Holds n) Refuted r
-named-answer b S o Holds Refuted (Ok x) other listed declined f g = record {
-  gives = λ n t h. (f n).0 (subst (ListHolds (level S n)) (listed-list S.tables x o listed) ((rule_list-holds S (level S n) x).1 h));
+pub named-answer : (is_for b : Bool) (S : Setting) (o : Option (List Entry)) (Gives : ℕ → Tree → Type 0) (Refuted : ℕ → Type 0) (r : Result Rule Fault) →
+    (is_for ≡ false → r ≡ Err fault.NotForThisKind) → IfOk r (λ x. IsListed S.tables x o) → (is_for ≡ true → IfErr r (IsRefusal (o ≡ None))) →
+    ((n : ℕ) (t : Tree) → ListSays b (level S n) o t ↔ Gives n t) → ((n : ℕ) → ListRefuted (level S n) o ↔ Refuted n) → IsNamedAnswer is_for b S Gives Refuted r
+named-answer is_for b S o Gives Refuted (Ok x) other listed declined f g = record {
+  gives = λ n t h. (f n t).0 (subst (λ l. ListSays b (level S n) l t) (listed-list S.tables x o listed) ((rule_list-says b S n x t).1 h));
   refuted = λ n h. (g n).0 (subst (ListRefuted (level S n)) (listed-list S.tables x o listed) ((rule_list-refuted S (level S n) x).1 h));
   not_for = other;
   fault = λ e. tt;
 }
-named-answer b S o Holds Refuted (Err e) other listed declined f g = record {
+named-answer is_for b S o Gives Refuted (Err e) other listed declined f g = record {
   gives = tt;
   refuted = tt;
   not_for = other;
@@ -216,6 +242,7 @@ listed-given t (entry.Term v u ∷ rs) (x ∷ es) e h = listed-given t rs es (re
 listed-given t (entry.Access a ∷ rs) (x ∷ es) e h = listed-given t rs es (rest-here t (entry.Access a) rs x es e) h.1
 listed-given t (entry.DelayedFault f ∷ rs) (x ∷ es) e h = listed-given t rs es (rest-here t (entry.DelayedFault f) rs x es e) h.1
 listed-given t (entry.Evaluation ∷ rs) (x ∷ es) e h = listed-given t rs es (rest-here t entry.Evaluation rs x es e) h.1
+listed-given t (entry.HiddenType v key first ∷ rs) (x ∷ es) e h = listed-given t rs es (rest-here t (entry.HiddenType v key first) rs x es e) h.1
 listed-given t (entry.Ambiguous ∷ rs) (x ∷ es) e h = listed-given t rs es (rest-here t entry.Ambiguous rs x es e) h.1
 listed-given t (entry.Undecided ∷ rs) (x ∷ es) e h = listed-given t rs es (rest-here t entry.Undecided rs x es e) h.1
 listed-given t (entry.Refused ∷ rs) (x ∷ es) e h = listed-given t rs es (rest-here t entry.Refused rs x es e) h.1

@@ -1,10 +1,9 @@
 -- The laws of candidates for projections: more height keeps them, and a clause that is rejected is refuted with no height.
-use Rattle.std.proofs.Common.{◌≡◌, ◌≢◌, ◌≤◌, ◌==◌, ◌&&◌, ◌||◌, ◌⊎◌, ℕ, Bool, true, false, not, cond, List, [], ◌∷◌, map, take, Option, Some, None, find, IfSome, inl, inr, refl, sym, ◌∙◌, ap, subst, eq-eqb}
+use Rattle.std.proofs.Common.{◌≡◌, ◌≢◌, ◌≤◌, ◌==◌, ◌&&◌, ◌||◌, ℕ, Bool, true, false, cond, List, [], ◌∷◌, map, take, Option, Some, None, find, IfSome, inl, inr, refl, sym, ◌∙◌, ap, subst, eq-eqb}
 use Rattle.std.proofs.lemmas.Bool.{false≢true, true≢false, eqb-true}
 use Rattle.std.specs.Option.{option_map, option_and_then}
 use Rattle.goal_terms.specs.Erased.{erased, erased_row}
 use Rattle.goal_terms.specs.Kinds.{same_kind, kind_of_alias}
-use Rattle.goal_terms.specs.PredicateTrees.{tree_of_kind}
 use Rattle.goal_terms.specs.Tree.{Tree, Trees, alias, forest, list_of}
 use Rattle.goal_terms.specs.TreeOf.{trees_of, tree_of_alias, tree_of_term}
 use Rattle.goal_terms.specs.declared.answers.ParamKind.{ParamKind}
@@ -12,34 +11,29 @@ use Rattle.goal_terms.specs.declared.answers.ParamKind.TheVariants as kind
 use Rattle.goal_terms.specs.declared.ids.ItemId.{ItemId}
 use Rattle.goal_terms.specs.declared.predicates.ClauseKind.{ClauseKind}
 use Rattle.goal_terms.specs.declared.predicates.ClauseKind.TheVariants as clause
-use Rattle.goal_terms.specs.declared.predicates.ProjectionPredicate.{ProjectionPredicate}
 use Rattle.goal_terms.specs.declared.terms.AliasTerm.{AliasTerm}
 use Rattle.goal_terms.specs.declared.terms.AliasTermKind.{AliasTermKind}
 use Rattle.goal_terms.specs.declared.terms.AliasTermKind.TheVariants.{ProjectionTy, ProjectionConst}
 use Rattle.goal_terms.specs.declared.terms.GenericArg.{GenericArg}
 use Rattle.goal_terms.specs.declared.terms.Term.{Term}
-use Rattle.goal_terms.specs.declared.heads.Node.TheVariants as nodes
 use Rattle.goal_terms.proofs.TreeLemmas.{list_of-forest, tree_of_alias-record}
 use Rattle.goal_tables.specs.Clauses.{kinds_differ, lies_in_equation, lies_in_clause_kind}
 use Rattle.goal_tables.specs.Faults.{IsChecked}
 use Rattle.goal_tables.specs.Rows.{item_of, trait_of}
 use Rattle.goal_tables.specs.Sites.{kind_of_value, kind_of_row, is_of_other_kind, is_misplaced, lies_in, lies_in_row, lies_here}
 use Rattle.goal_tables.specs.declared.rows.ItemRow.{ItemRow}
-use Rattle.goal_tables.specs.declared.rows.TraitRow.{TraitRow}
 use Rattle.goal_tables.specs.declared.rows.Tables.{Tables}
 use Rattle.goal_tables.specs.declared.sites.TermFault.{TermFault}
 use Rattle.goal_tables.specs.declared.sites.TermFault.TheVariants.{UnknownItem, WrongArgumentCount, WrongArgumentKind}
-use Rattle.goal_kinds.specs.Answers.{erased_predicate}
 use Rattle.goal_kinds.specs.CandidateRules.{HasNoKindFault, IsAcceptedClause, said_by}
 use Rattle.goal_kinds.specs.Candidates.{Candidate}
 use Rattle.goal_kinds.specs.FastReject.{lists_may_unify, heads_agree}
 use Rattle.goal_kinds.specs.ImplTerms.{Projection, trait_args}
 use Rattle.goal_kinds.specs.KindedTerms.{NoKindFault}
-use Rattle.goal_kinds.specs.Level.{Level, nothing}
+use Rattle.goal_kinds.specs.Level.{nothing}
 use Rattle.goal_kinds.specs.Levels.{level}
-use Rattle.goal_kinds.specs.ProjectionEntries.{same_kind_of_alias, may_match_term}
-use Rattle.goal_kinds.specs.ProjectionKind.{ProjectionCandidateGives, ProjectionCandidateRefuted, projected_trait}
-use Rattle.goal_kinds.specs.Projections.{projected_item, EquationRefuted, AssumptionTermRefuted, CandidateGives, TermRefuted, asked}
+use Rattle.goal_kinds.specs.ProjectionKind.{ProjectionCandidateGives, ProjectionCandidateRefuted, projected_trait, same_kind_of_alias, may_match_term}
+use Rattle.goal_kinds.specs.Projections.{projected_item, EquationRefuted, AssumptionTermRefuted, TermRefuted, asked}
 use Rattle.goal_kinds.specs.RuleWords.{projection_in, asked_by}
 use Rattle.goal_kinds.specs.declared.rules.assoc_items.AskedItem.{AskedItem}
 use Rattle.goal_kinds.specs.Rules.{given}
@@ -80,7 +74,7 @@ found-passes : {A : Type 0} (test : A → Bool) (xs : List A) (x : A) → find t
 found-passes test [] x e = absurd (cc)
 found-passes test (y ∷ ys) x e = passes-step test (test y) (find test ys) x y refl e (found-passes test ys x)
 
-found-item : (t : Tables) (i : ItemId) (q : ItemRow) → item_of t i ≡ Some q → q.id ≡ i
+pub found-item : (t : Tables) (i : ItemId) (q : ItemRow) → item_of t i ≡ Some q → q.id ≡ i
 found-item t i q e = ap (λ n. record { 0 = n }) (eqb-true q.id.0 i.0 (found-passes (λ r. r.id.0 == i.0) t.items.items q e))
 
 -- the kind that the row of a projection's item says

@@ -27,7 +27,7 @@ use Rattle.goal_kinds.proofs.EntryLemmas.{iff-chain, iff-both, iff-either, iff-s
 use Rattle.goal_kinds.proofs.ListEntries.{EntriesSay, say-gives, say-refuted, given-says, header-says, equal_terms-say, row_clauses-say, premises-say, evaluation-says, term-says, standing-says, head_form-says}
 use Rattle.goal_kinds.proofs.ListWords.{nothing-more, test-fails, tested-gives, tested-refuted, by_polarity}
 use Rattle.goal_kinds.proofs.SaidLists.{impl-said}
-use Rattle.goal_kinds.proofs.TraitLists.{equation-holds, equation-refuted}
+use Rattle.goal_kinds.proofs.TraitLists.{ReadsHeadline, reads-headline, equation-holds, equation-refuted}
 
 -- whether an item is the one of a number
 pub item-tested : (i : ItemId) (o : Option ItemId) → (is_item i o ≡ true) ↔ (o ≡ Some i)
@@ -134,22 +134,29 @@ module _ (S : Setting) (headline : is_headline S.mode ≡ true) (L : Level) (p :
       )
 
 -- each candidate
+module _ (S : Setting) (L : Level) (p : Projection) (itself : Tree) where
+  pub term_candidate-gives : (c : Candidate) (u : Tree) → ReadsHeadline S.mode c → ListGives L (projection_list S p itself c) u ↔ CandidateGives S L p itself u c
+  unfolding projection_list CandidateGives ListGives
+  term_candidate-gives (assumption q) u e = assumption-gives L p q u
+  term_candidate-gives (implied_bound b cs) u e = iff-same
+  term_candidate-gives (by_impl r) u e = impl-gives S e L p itself r u
+  term_candidate-gives built_in u e = listed-gives L p itself (term_rule S.tables p.item.id p.args) u
+  term_candidate-gives error u e = iff-same
+
+  pub term_candidate-refuted : (c : Candidate) → ReadsHeadline S.mode c → ListRefuted L (projection_list S p itself c) ↔ TermRefuted S L p c
+  unfolding projection_list TermRefuted ListRefuted
+  term_candidate-refuted (assumption q) e = assumption-refuted L p q
+  term_candidate-refuted (implied_bound b cs) e = iff-same
+  term_candidate-refuted (by_impl r) e = impl-refuted S e L p itself r
+  term_candidate-refuted built_in e = listed-refuted L p itself (term_rule S.tables p.item.id p.args)
+  term_candidate-refuted error e = iff-same
+
 module _ (S : Setting) (headline : is_headline S.mode ≡ true) (L : Level) (p : Projection) (itself : Tree) where
   pub projection_list-gives : (c : Candidate) (u : Tree) → ListGives L (projection_list S p itself c) u ↔ CandidateGives S L p itself u c
-  unfolding projection_list CandidateGives ListGives
-  projection_list-gives (assumption q) u = assumption-gives L p q u
-  projection_list-gives (implied_bound b cs) u = iff-same
-  projection_list-gives (by_impl r) u = impl-gives S headline L p itself r u
-  projection_list-gives built_in u = listed-gives L p itself (term_rule S.tables p.item.id p.args) u
-  projection_list-gives error u = iff-same
+  projection_list-gives c u = term_candidate-gives S L p itself c u (reads-headline S.mode c headline)
 
   pub projection_list-refuted : (c : Candidate) → ListRefuted L (projection_list S p itself c) ↔ TermRefuted S L p c
-  unfolding projection_list TermRefuted ListRefuted
-  projection_list-refuted (assumption q) = assumption-refuted L p q
-  projection_list-refuted (implied_bound b cs) = iff-same
-  projection_list-refuted (by_impl r) = impl-refuted S headline L p itself r
-  projection_list-refuted built_in = listed-refuted L p itself (term_rule S.tables p.item.id p.args)
-  projection_list-refuted error = iff-same
+  projection_list-refuted c = term_candidate-refuted S L p itself c (reads-headline S.mode c headline)
 
 -- a projection goal
 pub equation_list-holds : (S : Setting) (n : ℕ) (a t : Tree) → EquationListHolds S n a t

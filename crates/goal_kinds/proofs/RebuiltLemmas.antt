@@ -1,9 +1,7 @@
 -- Entries over numbers, with owned terms in place of the numbers.
-use Rattle.std.proofs.Common.{◌≡◌, ℕ, ◌<◌, ◌≤◌, ◌+◌, Bool, true, false, List, [], ◌∷◌, ◌++◌, length, get_or, map, take, Option, Some, None, Vec, Global, zero, suc, refl, sym, ap, ap₂, ◌∙◌, subst, arith}
-use Rattle.std.specs.Prelude.{IfSome}
-use Rattle.std.specs.List.{All}
+use Rattle.std.proofs.Common.{◌≡◌, ℕ, ◌<◌, ◌≤◌, ◌+◌, List, [], ◌∷◌, ◌++◌, length, get_or, map, take, Some, Vec, Global, zero, suc, refl, sym, ap, ap₂, ◌∙◌, subst, arith}
+use Rattle.std.specs.List.{AllZip}
 use Rattle.std.proofs.lemmas.List.{map-append, take_more, take_all}
-use Rattle.std.proofs.lemmas.List.Elements.{All-cons, All-nil}
 use Rattle.goal_terms.specs.Erased.{erased, erased_head}
 use Rattle.goal_terms.specs.Sorts.{sort_of, sort_of_head, is_term_sort, IsTerm}
 use Rattle.goal_terms.specs.TableMeaning.{tree_at}
@@ -24,7 +22,7 @@ use Rattle.goal_tables.specs.declared.rows.Tables.{Tables}
 use Rattle.goal_kinds.specs.Entries.{Entry, ExpectsNone, AsksNoTerm}
 use Rattle.goal_kinds.specs.Interned.{erased_at, erased_all}
 use Rattle.goal_kinds.specs.InternedEntries.{entry_at, entries_at}
-use Rattle.goal_kinds.specs.NamedRows.{IsAlias, IsSorted}
+use Rattle.goal_kinds.specs.NamedRows.{IsAlias, IsSorted, KeepsKey}
 use Rattle.goal_kinds.specs.RuleLists.{before, names_arguments, entry_of, entries_of}
 use Rattle.goal_kinds.specs.Rules.{given}
 use Rattle.goal_kinds.specs.RuleWords.{TermIsFor, TermsAreFor}
@@ -113,6 +111,23 @@ pub for-more : (P : Tree → Type 0) (made : List RuleEntry) (e : RuleEntry) →
 unfolding TermsAreFor
 for-more P [] e h k = (k, tt)
 for-more P (x ∷ made) e h k = (h.0, for-more P made e h.1 k)
+
+-- two lists in step, with one more of each
+pub zip-push : {A B : Type 0} (R : A → B → Type 0) (xs : List A) (ys : List B) (x : A) (y : B) → AllZip R xs ys → R x y → AllZip R (xs ++ x ∷ []) (ys ++ y ∷ [])
+zip-push R [] [] x y h r = (r, tt)
+zip-push R [] (b ∷ ys) x y h r = absurd h
+zip-push R (a ∷ xs) [] x y h r = absurd h
+zip-push R (a ∷ xs) (b ∷ ys) x y h r = (h.0, zip-push R xs ys x y h.1 r)
+
+-- one more entry that keeps its key
+pub keys-more : (T : List Tree) (es : List InternedEntry) (i : ℕ) (d : InternedEntry) (made after : List RuleEntry) (e : RuleEntry) → i < length es →
+    AllZip (KeepsKey T) (take i es) made → KeepsKey T (get_or es i d) e → after ≡ made ++ e ∷ [] → AllZip (KeepsKey T) (take (i + 1) es) after
+keys-more T es i d made after e l so_far here is =
+    subst (λ xs. AllZip (KeepsKey T) xs after) (sym (take_more es i d l))
+    (subst (AllZip (KeepsKey T) (take i es ++ get_or es i d ∷ [])) (sym is) (zip-push (KeepsKey T) (take i es) made (get_or es i d) e so_far here))
+
+pub keys-all : (T : List Tree) (es : List InternedEntry) (i : ℕ) (made : List RuleEntry) → length es ≤ i → AllZip (KeepsKey T) (take i es) made → AllZip (KeepsKey T) es made
+keys-all T es i made l h = subst (λ xs. AllZip (KeepsKey T) xs made) (take_all i es l) h
 
 -- entries that are all there are the list
 some-here : {A : Type 0} (x y : A) → Some x ≡ Some y → x ≡ y

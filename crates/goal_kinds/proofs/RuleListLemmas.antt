@@ -1,20 +1,18 @@
 -- Lists of entries with clauses behind them, and lists that nothing decides.
-use Rattle.std.proofs.Common.{◌≡◌, ◌↔◌, ◌⊎◌, ℕ, Bool, true, false, List, [], ◌∷◌, ◌++◌, map, Result, Ok, Err, IfOk, IfErr, IsOkUnless, inl, inr, refl, sym, ◌∙◌, ap, subst, ⊎_elim}
+use Rattle.std.proofs.Common.{◌≡◌, ◌↔◌, ◌⊎◌, ℕ, Bool, true, false, List, [], ◌∷◌, ◌++◌, Err, inl, inr, refl, sym, ◌∙◌, ap, subst, ⊎_elim}
 use Rattle.goal_terms.specs.PredicateTrees.{tree_of_kind}
 use Rattle.goal_terms.specs.Tree.{Tree}
-use Rattle.goal_terms.specs.declared.answers.Certainty.{Certainty}
 use Rattle.goal_terms.specs.declared.answers.Certainty.TheVariants as certainty
 use Rattle.goal_terms.specs.declared.answers.GoalSource.{GoalSource}
 use Rattle.goal_terms.specs.declared.predicates.ClauseKind.{ClauseKind}
 use Rattle.goal_kinds.specs.Answers.{erased_predicate}
-use Rattle.goal_kinds.specs.CandidateRules.{RuleSays, GivesAs, RefutedAs, IsRefusal, entries_for, AllHold, OneRefuted, only_given, IsNamedAnswer}
+use Rattle.goal_kinds.specs.CandidateRules.{RuleSays, GivesAs, RefutedAs, entries_for, AllHold, OneRefuted, only_given, IsNamedAnswer}
 use Rattle.goal_kinds.specs.Level.{Level}
 use Rattle.goal_kinds.specs.Levels.{level}
 use Rattle.goal_kinds.specs.Premises.{ClauseHolds, ClauseRefuted}
 use Rattle.goal_kinds.specs.Rules.{given, NamesKnown, EntriesHold, EntriesRefuted, has_term, RuleHolds, RuleGives, RuleRefuted}
 use Rattle.goal_kinds.specs.Settings.{Setting}
 use Rattle.goal_kinds.specs.Words.{Each, Exists}
-use Rattle.goal_kinds.specs.declared.faults.Fault.{Fault}
 use Rattle.goal_kinds.specs.declared.faults.Fault.TheVariants as fault
 use Rattle.goal_kinds.specs.declared.rules.Rule.{Rule}
 use Rattle.goal_kinds.specs.declared.rules.RuleArguments.TheVariants as arguments
@@ -72,6 +70,7 @@ hold-behind S L Said named (entry.Term v e ∷ es) ks =
 hold-behind S L Said named (entry.Access a ∷ es) ks = hold-behind S L Said named es ks
 hold-behind S L Said named (entry.DelayedFault f ∷ es) ks = hold-behind S L Said named es ks
 hold-behind S L Said named (entry.Evaluation ∷ es) ks = hold-behind S L Said named es ks
+hold-behind S L Said named (entry.HiddenType v key first ∷ es) ks = (λ h. absurd h, λ h. absurd h.0)
 hold-behind S L Said named (entry.Ambiguous ∷ es) ks = (λ h. absurd h, λ h. absurd h.0)
 hold-behind S L Said named (entry.Undecided ∷ es) ks = (λ h. absurd h, λ h. absurd h.0)
 hold-behind S L Said named (entry.Refused ∷ es) ks = (λ h. absurd h, λ h. absurd h.0)
@@ -106,6 +105,7 @@ refuted-behind S L named (entry.Term v x ∷ es) ks e = regroup (refuted-behind 
 refuted-behind S L named (entry.Access a ∷ es) ks e = refuted-behind S L named es ks e
 refuted-behind S L named (entry.DelayedFault f ∷ es) ks e = refuted-behind S L named es ks e
 refuted-behind S L named (entry.Evaluation ∷ es) ks e = refuted-behind S L named es ks e
+refuted-behind S L named (entry.HiddenType v key first ∷ es) ks e = refuted-behind S L named es ks e
 refuted-behind S L named (entry.Ambiguous ∷ es) ks e = refuted-behind S L named es ks e
 refuted-behind S L named (entry.Undecided ∷ es) ks e = refuted-behind S L named es ks e
 refuted-behind S L named (entry.Refused ∷ es) ks e = (λ h. inl h, λ h. tt)
@@ -128,6 +128,7 @@ term-behind (entry.Term v e ∷ es) ks = refl
 term-behind (entry.Access a ∷ es) ks = term-behind es ks
 term-behind (entry.DelayedFault f ∷ es) ks = term-behind es ks
 term-behind (entry.Evaluation ∷ es) ks = term-behind es ks
+term-behind (entry.HiddenType v key first ∷ es) ks = refl
 term-behind (entry.Ambiguous ∷ es) ks = term-behind es ks
 term-behind (entry.Undecided ∷ es) ks = term-behind es ks
 term-behind (entry.Refused ∷ es) ks = term-behind es ks
@@ -164,34 +165,6 @@ refuted_as-behind S Refuted r q ks e o g = λ n.
       λ h. subst (λ es. EntriesRefuted S (level S n) [] es) (sym e) (x.1 (⊎_elim (λ z. inl (y.1 z)) (λ z. inr z) h)),
     )
 
--- a rule that nothing decides says nothing
-undecided-says : (b : Bool) (S : Setting) (n : ℕ) (r : Rule) (t : Tree) → r.entries.items ≡ entry.Undecided ∷ [] → RuleSays b S n r t → ⊥
-unfolding RuleHolds RuleGives EntriesHold
-undecided-says true S n r t e h = subst (λ es. EntriesHold S (level S n) (λ u. u ≡ t) [] es) e h.0
-undecided-says false S n r t e h = subst (λ es. EntriesHold S (level S n) (λ u. Unit {0}) [] es) e h
-
-undecided-refuted : (S : Setting) (n : ℕ) (r : Rule) → r.entries.items ≡ entry.Undecided ∷ [] → RuleRefuted S (level S n) r → ⊥
-unfolding RuleRefuted EntriesRefuted
-undecided-refuted S n r e h = subst (λ es. EntriesRefuted S (level S n) [] es) e h
-
-pub undecided-named : (b : Bool) (S : Setting) (Gives : ℕ → Tree → Type 0) (Refuted : ℕ → Type 0) (r : Result Rule Fault) →
-    IfOk r (λ x. x.entries.items ≡ entry.Undecided ∷ []) → IsOkUnless r fault.OutOfMemory → IsNamedAnswer true b S Gives Refuted r
-undecided-named b S Gives Refuted (Ok x) h k = record {
-  gives = λ n t y. absurd (undecided-says b S n x t h y);
-  refuted = λ n y. absurd (undecided-refuted S n x h y);
-  not_for = λ e. absurd (cc);
-  fault = λ e. tt;
-}
-undecided-named b S Gives Refuted (Err e) h k = record { gives = tt; refuted = tt; not_for = λ f. absurd (cc); fault = λ f. subst (IsRefusal (Refuted 0)) (sym k) tt }
-
 -- a rule that isn't for a goal
 pub other-named : (b : Bool) (S : Setting) (Gives : ℕ → Tree → Type 0) (Refuted : ℕ → Type 0) → IsNamedAnswer false b S Gives Refuted (Err fault.NotForThisKind)
 other-named b S Gives Refuted = record { gives = tt; refuted = tt; not_for = λ e. refl; fault = λ e. absurd (cc) }
-
--- a rule that is for some goals, and says nothing of them
-pub undecided-where : (x is_for b : Bool) (S : Setting) (Gives : ℕ → Tree → Type 0) (Refuted : ℕ → Type 0) (r : Result Rule Fault) → x ≡ is_for →
-    (x ≡ false → r ≡ Err fault.NotForThisKind) → (x ≡ true → IsOkUnless r fault.OutOfMemory) → IfOk r (λ y. y.entries.items ≡ entry.Undecided ∷ []) →
-    IsNamedAnswer is_for b S Gives Refuted r
-undecided-where true is_for b S Gives Refuted r e f g h = subst (λ y. IsNamedAnswer y b S Gives Refuted r) e (undecided-named b S Gives Refuted r h (g refl))
-undecided-where false is_for b S Gives Refuted r e f g h =
-    subst (λ y. IsNamedAnswer y b S Gives Refuted r) e (subst (λ y. IsNamedAnswer false b S Gives Refuted y) (sym (f refl)) (other-named b S Gives Refuted))

@@ -213,6 +213,7 @@ module _ (S : Setting) (L : Level) where
   entries-hold Said Unsaid named (entry.Access a ∷ es) = entries-hold Said Unsaid named es
   entries-hold Said Unsaid named (entry.DelayedFault f ∷ es) = entries-hold Said Unsaid named es
   entries-hold Said Unsaid named (entry.Evaluation ∷ es) = entries-hold Said Unsaid named es
+  entries-hold Said Unsaid named (entry.HiddenType v key first ∷ es) = (λ h. absurd h, λ h. h.0)
   entries-hold Said Unsaid named (entry.Ambiguous ∷ es) = (λ h. absurd h, λ h. h.0)
   entries-hold Said Unsaid named (entry.Undecided ∷ es) = (λ h. absurd h, λ h. h.0)
   entries-hold Said Unsaid named (entry.Refused ∷ es) = (λ h. absurd h, λ h. h.0)
@@ -238,6 +239,7 @@ module _ (S : Setting) (L : Level) where
   entries-refuted named (entry.Access a ∷ es) = entries-refuted named es
   entries-refuted named (entry.DelayedFault f ∷ es) = entries-refuted named es
   entries-refuted named (entry.Evaluation ∷ es) = entries-refuted named es
+  entries-refuted named (entry.HiddenType v key first ∷ es) = entries-refuted named es
   entries-refuted named (entry.Ambiguous ∷ es) = entries-refuted named es
   entries-refuted named (entry.Undecided ∷ es) = entries-refuted named es
   entries-refuted named (entry.Refused ∷ es) = iff-same

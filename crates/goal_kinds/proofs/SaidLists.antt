@@ -15,17 +15,27 @@ use Rattle.goal_tables.specs.declared.rows.ImplRow.{ImplRow}
 use Rattle.goal_tables.specs.declared.rows.Source.{Source}
 use Rattle.goal_tables.specs.declared.rows.Source.TheVariants as item_source
 use Rattle.goal_tables.specs.declared.rows.SourceRow.{SourceRow}
-use Rattle.goal_kinds.specs.DefinitionEntries.{FormOfValue, NoFormOfValue}
 use Rattle.goal_kinds.specs.Entries.{Entry, arguments, followed_by, row_clauses, undecided}
-use Rattle.goal_kinds.specs.Headers.{AllKnown, Fits, Clashes}
+use Rattle.goal_kinds.specs.Headers.{under, AllKnown, Fits, Clashes}
 use Rattle.goal_kinds.specs.ImplTerms.{Said, an_error, the_alias, not_said, said_by_value, said_by_definition, said_by_source, said_by_row, said, Projection, own_args, error_term, header_under, OtherImplHolds, OtherImplKnown, OtherImplRefuted, Taken, from_projection, from_impl, from_other, taken, Translated, KnownTranslated, TranslationRefuted, SaidGives, SaidRefuted}
-use Rattle.goal_kinds.specs.Level.{Level}
+use Rattle.goal_kinds.specs.Level.{Level, HasHeadForm, HeadFormRefuted}
 use Rattle.goal_kinds.specs.Premises.{PremisesHold, PremisesRefuted, clauses_under}
 use Rattle.goal_kinds.specs.ProjectionLists.{standing, definition_value, other_impl_entries, taken_entries, rigid_entries, value_entries, definition_entries, default_entries, source_entries, said_by_row_entries, said_entries}
 use Rattle.goal_kinds.specs.Settings.{Setting, is_headline, takes_defaults}
 use Rattle.goal_kinds.specs.TraitGoals.{header_of}
 use Rattle.goal_kinds.specs.Words.{OfRow}
 use Rattle.goal_kinds.proofs.ListEntries.{EntriesSay, says-same, followed-says, other-says, row_clauses-say, fault-says, standing-says, value-says, undecided-says}
+
+-- a value under arguments has a head form, or has none; a constant to be evaluated has neither
+abbrev FormOfValue : Level → DefValue → List Tree → Tree → Type 0
+FormOfValue L (value.Term e) args u = HasHeadForm L (under args (tree_of_term e)) u
+FormOfValue L value.Missing args u = ⊥
+FormOfValue L value.Evaluated args u = ⊥
+
+abbrev NoFormOfValue : Level → DefValue → List Tree → Type 0
+NoFormOfValue L (value.Term e) args = HeadFormRefuted L (under args (tree_of_term e))
+NoFormOfValue L value.Missing args = ⊥
+NoFormOfValue L value.Evaluated args = ⊥
 
 -- what is so of one list of arguments is so of some list that is that one
 at-one : (a : List Tree) (C : List Tree → Type 0) → C a ↔ ((args : List Tree) × (args ≡ a) × C args)

@@ -71,14 +71,14 @@ module _ (S : ListSetting) (t : Tables) (m : TypingMode) (env : List Clause) (a 
 
   pub trait-gives : (sure : Certainty) (r : Result Rule Fault) → ReadsHeadline m c → ListedThen sure r →
       IfOk r (GivesAs false (setting_of t m env) sure (λ n u. TraitCandidateHolds a (setting_of t m env) n c))
-  trait-gives sure r reads h = face-gives asked Holds Refuted S t m env rows mode sure r (made-holds reads) h
+  trait-gives sure r reads h = face-gives false asked (λ V n u. Holds V n) Refuted S t m env rows mode sure r (λ n u. made-holds reads n) h
 
   pub trait-refuted : (sure : Certainty) (r : Result Rule Fault) → ReadsHeadline m c → ListedThen sure r →
       IfOk r (RefutedAs (setting_of t m env) (λ n. TraitCandidateRefuted a (setting_of t m env) n c))
-  trait-refuted sure r reads h = face-refuted asked Holds Refuted S t m env rows mode sure r (made-refuted reads) h
+  trait-refuted sure r reads h = face-refuted false asked (λ V n u. Holds V n) Refuted S t m env rows mode sure r (made-refuted reads) h
 
   pub trait-told : (sure : Certainty) (r : Result Rule Fault) → ListedThen sure r → IfOk r (IsToldBy t sure (Some (trait_list (setting_of t m env) a.def_id (given a.args) c)))
-  trait-told sure r h = face-told asked Holds Refuted S t m env rows mode sure r h
+  trait-told sure r h = face-told false asked (λ V n u. Holds V n) Refuted S t m env rows mode sure r h
 
   -- the same where nothing is left undecided behind the list
   pub sure-gives : (r : Result Rule Fault) → ReadsHeadline m c → Listed r →
@@ -93,12 +93,12 @@ module _ (S : ListSetting) (t : Tables) (m : TypingMode) (env : List Clause) (a 
 
   pub trait-refusal : (r : Result Rule Fault) → ReadsHeadline m c → IfErr r (IsRefusal (asked (setting_at S env) ≡ None)) →
       IfErr r (IsRefusal (TraitCandidateRefuted a (setting_of t m env) 0 c))
-  trait-refusal r reads h = face-refusal asked Holds Refuted S t m env rows mode r (made-refuted reads) h
+  trait-refusal r reads h = face-refusal false asked (λ V n u. Holds V n) Refuted S t m env rows mode r (made-refuted reads) h
 
   pub trait-named : (b : Bool) (r : Result Rule Fault) → ReadsHeadline m c → (b ≡ false → r ≡ Err fault.NotForThisKind) → Listed r →
       (b ≡ true → IfErr r (IsRefusal (asked (setting_at S env) ≡ None))) →
       IsNamedAnswer b false (setting_of t m env) (λ n u. TraitCandidateHolds a (setting_of t m env) n c) (λ n. TraitCandidateRefuted a (setting_of t m env) n c) r
-  trait-named b r reads other listed refused = face-named asked Holds Refuted S t m env rows mode b r (made-holds reads) (made-refuted reads) other listed refused
+  trait-named b r reads other listed refused = face-named false asked (λ V n u. Holds V n) Refuted S t m env rows mode b r (λ n u. made-holds reads n) (made-refuted reads) other listed refused
 
 -- the list of a clause of the goal's trait
 said-list : (S : Setting) (a : TraitRef) (k : ClauseKind) → is_of_trait a k ≡ true → IsSomeGiven (trait_list S a.def_id (given a.args) (said_by k))

@@ -13,10 +13,12 @@ use Rattle.goal_tables.specs.declared.rows.FreeRow.{FreeRow}
 use Rattle.goal_tables.specs.declared.rows.InherentImplRow.{InherentImplRow}
 use Rattle.goal_tables.specs.declared.rows.InherentRow.{InherentRow}
 use Rattle.goal_tables.specs.declared.rows.OpaqueRow.{OpaqueRow}
-use Rattle.goal_kinds.specs.Entries.{Entry, arguments, given_arguments, of_header, followed_by, row_clauses, expected, value_under, access, ambiguous, undecided}
+use Rattle.goal_kinds.specs.Entries.{Entry, arguments, given_arguments, of_header, followed_by, row_clauses, expected, hidden_type, value_under, access, ambiguous, undecided}
 use Rattle.goal_kinds.specs.ProjectionLists.{standing}
 use Rattle.goal_kinds.specs.RuleModes.{among, access_to}
 use Rattle.goal_kinds.specs.Settings.{Setting}
+use Rattle.goal_kinds.specs.declared.rules.FirstUse.{FirstUse}
+use Rattle.goal_kinds.specs.declared.rules.FirstUse.TheVariants as first
 
 -- a row's value under the arguments of a number; a constant that lacks it is undecided
 abbrev pub row_value : Option Term → ℕ → Entry
@@ -45,17 +47,21 @@ inherent_alias_list S r (self ∷ own) = entries_of_row r (λ i. entries_of_row 
 abbrev pub hidden_list : List Tree → OpaqueRow → List Entry
 hidden_list args r = arguments (given_arguments args) ∷ expected (value_under (tree_of_ty r.hidden) 0) ∷ []
 
--- an opaque type, by the typing mode: its hidden type, or itself; ambiguous in coherence, undecided where it is being defined, and recorded in the erased mode
-unfoldable pub opaque_list : TypingMode → OpaqueRow → List Entry → List Entry → List Entry
-opaque_list mode.Coherence r revealed itself = ambiguous ∷ []
-opaque_list (mode.Analysis ids) r revealed itself = if among ids.items r then undecided ∷ [] else itself
-opaque_list (mode.Borrowck ids) r revealed itself = if among ids.items r then undecided ∷ [] else itself
-opaque_list (mode.PostBorrowckAnalysis ids) r revealed itself = if among ids.items r then revealed else itself
-opaque_list mode.PostAnalysis r revealed itself = revealed
-opaque_list mode.ErasedNotCoherence r revealed itself = access (access_to r) ∷ itself
+-- the hidden type of an opaque type that is being defined
+abbrev pub defined_list : OpaqueId → List Tree → FirstUse → List Entry
+defined_list i args f = hidden_type i args f ∷ []
+
+-- an opaque type, by the typing mode: its hidden type, or itself; ambiguous in coherence, its hidden type's entry where it is being defined, and recorded in the erased mode
+unfoldable pub opaque_list : TypingMode → OpaqueRow → (FirstUse → List Entry) → List Entry → List Entry → List Entry
+opaque_list mode.Coherence r defined revealed itself = ambiguous ∷ []
+opaque_list (mode.Analysis ids) r defined revealed itself = if among ids.items r then defined first.Expected else itself
+opaque_list (mode.Borrowck ids) r defined revealed itself = if among ids.items r then defined first.TypeChecked else itself
+opaque_list (mode.PostBorrowckAnalysis ids) r defined revealed itself = if among ids.items r then revealed else itself
+opaque_list mode.PostAnalysis r defined revealed itself = revealed
+opaque_list mode.ErasedNotCoherence r defined revealed itself = access (access_to r) ∷ itself
 
 abbrev pub opaque_alias_list : Setting → OpaqueId → List Tree → OpaqueRow → List Entry
-opaque_alias_list S i args r = opaque_list S.mode r (hidden_list args r) (standing (alias (OpaqueTy i) (forest args)))
+opaque_alias_list S i args r = opaque_list S.mode r (defined_list i args) (hidden_list args r) (standing (alias (OpaqueTy i) (forest args)))
 
 -- the list of an alias that is no projection; nothing decides an unevaluated constant
 unfoldable pub alias_list : Setting → AliasTermKind → List Tree → List Entry

@@ -168,6 +168,7 @@ only_given (entry.Clause g k ∷ es) = only_given es
 only_given (entry.RowClauses c n ∷ es) = only_given es
 only_given (entry.RowConditions b i n ∷ es) = only_given es
 only_given (entry.Term v e ∷ es) = only_given es
+only_given (entry.HiddenType v k f ∷ es) = only_given es
 only_given (entry.Access a ∷ es) = only_given es
 only_given (entry.DelayedFault f ∷ es) = only_given es
 only_given (entry.Evaluation ∷ es) = only_given es

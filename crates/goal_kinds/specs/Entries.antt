@@ -7,6 +7,7 @@ use Rattle.goal_terms.specs.declared.answers.DelayedFault.{DelayedFault}
 use Rattle.goal_terms.specs.declared.answers.GoalSource.{GoalSource}
 use Rattle.goal_terms.specs.declared.answers.OpaqueAccess.{OpaqueAccess}
 use Rattle.goal_terms.specs.declared.answers.ParamKind.{ParamKind}
+use Rattle.goal_terms.specs.declared.ids.OpaqueId.{OpaqueId}
 use Rattle.goal_terms.specs.declared.predicates.BoundConstness.{BoundConstness}
 use Rattle.goal_terms.specs.declared.predicates.Clause.{Clause}
 use Rattle.goal_terms.specs.declared.predicates.TraitRef.{TraitRef}
@@ -14,6 +15,7 @@ use Rattle.goal_kinds.specs.Headers.{under, AllKnown, Fits, Clashes}
 use Rattle.goal_kinds.specs.Level.{Level, HasHeadForm, HeadFormRefuted}
 use Rattle.goal_kinds.specs.Premises.{Premise, predicate, equation, ClauseHolds, ClauseRefuted, PremisesHold, PremisesRefuted, clauses_under, traits_under, conditions_as}
 use Rattle.goal_kinds.specs.Words.{OfRow, Pairs, SomePair}
+use Rattle.goal_kinds.specs.declared.rules.FirstUse.{FirstUse}
 
 -- arguments that later entries take; those that are named are counted from 0
 pub data Arguments : Type 0 where
@@ -51,6 +53,8 @@ pub data Entry : Type 0 where
   row_conditions : BoundConstness → List TraitRef → ℕ → Entry
   -- the goal's expected term
   expected : ExpectedTerm → Entry
+  -- the goal's expected term is the hidden type of an opaque type that is being defined, by its arguments as they are given; its storage decides, which no height knows
+  hidden_type : OpaqueId → List Tree → FirstUse → Entry
   -- an access to an opaque type is recorded
   access : OpaqueAccess → Entry
   -- a delayed fault is recorded
@@ -112,6 +116,7 @@ EntriesHold L Said Unsaid named (row_clauses cs n ∷ es) = OfNumbered named n (
 EntriesHold L Said Unsaid named (row_conditions c rs n ∷ es) =
     OfNumbered named n (λ s. PremisesHold L (conditions_as c (traits_under s rs))) × EntriesHold L Said Unsaid named es
 EntriesHold L Said Unsaid named (expected e ∷ es) = ((u : Tree) × TermIs L named e u × Said u) × EntriesHold L Said (Unit {0}) named es
+EntriesHold L Said Unsaid named (hidden_type i ts f ∷ es) = ⊥
 EntriesHold L Said Unsaid named (access a ∷ es) = EntriesHold L Said Unsaid named es
 EntriesHold L Said Unsaid named (delayed_fault f ∷ es) = EntriesHold L Said Unsaid named es
 EntriesHold L Said Unsaid named (evaluation ∷ es) = EntriesHold L Said Unsaid named es
@@ -129,6 +134,7 @@ EntriesRefuted L named (row_clauses cs n ∷ es) = OfNumbered named n (λ s. Pre
 EntriesRefuted L named (row_conditions c rs n ∷ es) =
     OfNumbered named n (λ s. PremisesRefuted L (conditions_as c (traits_under s rs))) ⊎ EntriesRefuted L named es
 EntriesRefuted L named (expected e ∷ es) = NoTerm L named e ⊎ EntriesRefuted L named es
+EntriesRefuted L named (hidden_type i ts f ∷ es) = EntriesRefuted L named es
 EntriesRefuted L named (access a ∷ es) = EntriesRefuted L named es
 EntriesRefuted L named (delayed_fault f ∷ es) = EntriesRefuted L named es
 EntriesRefuted L named (evaluation ∷ es) = EntriesRefuted L named es
@@ -162,6 +168,7 @@ premise_entries g ps = map (premise_entry g) ps
 -- no term is expected by an entry, and by a list
 abbrev pub ExpectsNone : Entry → Type 0
 ExpectsNone (expected e) = ⊥
+ExpectsNone (hidden_type i ts f) = ⊥
 ExpectsNone _ = Unit {0}
 
 unfoldable pub AsksNoTerm : List Entry → Type 0

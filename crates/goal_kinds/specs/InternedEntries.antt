@@ -7,7 +7,7 @@ use Rattle.goal_terms.specs.Tree.{Tree}
 use Rattle.goal_terms.specs.TreeOf.{trees_of, tree_of_ty, tree_of_term}
 use Rattle.goal_terms.specs.declared.predicates.Clause.{Clause}
 use Rattle.goal_kinds.specs.Answers.{setting_of}
-use Rattle.goal_kinds.specs.Entries.{Arguments, given_arguments, of_header, of_other_header, followed_by, ExpectedTerm, as_it_stands, head_form_of, value_under, chosen_by, Entry, arguments, equal_terms, clause, row_clauses, row_conditions, expected, access, delayed_fault, evaluation, ambiguous, undecided, refused}
+use Rattle.goal_kinds.specs.Entries.{Arguments, given_arguments, of_header, of_other_header, followed_by, ExpectedTerm, as_it_stands, head_form_of, value_under, chosen_by, Entry, arguments, equal_terms, clause, row_clauses, row_conditions, expected, hidden_type, access, delayed_fault, evaluation, ambiguous, undecided, refused}
 use Rattle.goal_kinds.specs.Interned.{erased_at, erased_all, IsIn, AreIn, predicate_at, PredicateIn}
 use Rattle.goal_kinds.specs.Settings.{Setting}
 use Rattle.goal_kinds.specs.declared.lists.HeaderTerms.{HeaderTerms}
@@ -68,6 +68,7 @@ entry_at T (entries.Clause g p) = clause g (predicate_at T p)
 entry_at T (entries.RowClauses r cs n) = row_clauses cs.now n
 entry_at T (entries.RowConditions c i rs n) = row_conditions c rs.now n
 entry_at T (entries.Expected e) = expected (term_at T e)
+entry_at T (entries.HiddenType i ids f) = hidden_type i (erased_all T ids.items) f
 entry_at T (entries.Access a) = access a
 entry_at T (entries.DelayedFault f) = delayed_fault f
 entry_at T entries.Evaluation = evaluation
@@ -83,6 +84,7 @@ EntryIn T (entries.Clause g p) = PredicateIn T p
 EntryIn T (entries.RowClauses r cs n) = Unit {0}
 EntryIn T (entries.RowConditions c i rs n) = Unit {0}
 EntryIn T (entries.Expected e) = TermIn T e
+EntryIn T (entries.HiddenType i ids f) = AreIn T ids.items
 EntryIn T (entries.Access a) = Unit {0}
 EntryIn T (entries.DelayedFault f) = Unit {0}
 EntryIn T entries.Evaluation = Unit {0}

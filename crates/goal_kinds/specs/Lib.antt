@@ -29,8 +29,6 @@ pub mod Tops
 pub mod Rules
 pub mod RuleModes
 pub mod RuleWords
-pub mod ProjectionEntries
-pub mod DefinitionEntries
 pub mod CandidateRules
 pub mod ProjectionKind
 pub mod Entries

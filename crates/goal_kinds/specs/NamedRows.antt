@@ -1,14 +1,23 @@
 -- Entries over numbers that can be named by ids again: what they borrow is their rows', and what stands in them is of the sort that its place takes.
-use Rattle.std.specs.Prelude.{◌≡◌, ℕ, List, Option, Some, None, Vec, IfSome}
+use Rattle.std.specs.Prelude.{◌≡◌, ◌++◌, ◌∷◌, [], List, map, Option, Some, None, Vec, IfSome}
 use Rattle.std.specs.Global.{Global}
-use Rattle.std.specs.List.{All}
+use Rattle.std.specs.List.{All, AllZip}
 use Rattle.goal_terms.specs.PredicateTrees.{PredicateTree, holds, equals, holds_const}
 use Rattle.goal_terms.specs.Sorts.{IsTerm}
+use Rattle.goal_terms.specs.TableMeaning.{tree_at}
 use Rattle.goal_terms.specs.Tree.{Tree, alias}
 use Rattle.goal_terms.specs.TreeOf.{trees_of, tree_of_term}
+use Rattle.goal_terms.specs.declared.answers.Certainty.{Certainty}
+use Rattle.goal_terms.specs.declared.ids.OpaqueId.{OpaqueId}
+use Rattle.goal_terms.specs.declared.term_nodes.TermId.{TermId}
+use Rattle.goal_terms.specs.declared.terms.AliasTerm.{AliasTerm}
+use Rattle.goal_terms.specs.declared.terms.AliasTermKind.{AliasTermKind}
+use Rattle.goal_terms.specs.declared.terms.AliasTermKind.TheVariants.{OpaqueTy}
 use Rattle.goal_terms.specs.declared.terms.Term.{Term}
-use Rattle.goal_tables.specs.Rows.{impl_of}
+use Rattle.goal_tables.specs.Rows.{impl_of, item_of}
 use Rattle.goal_tables.specs.declared.rows.Tables.{Tables}
+use Rattle.goal_kinds.specs.CandidateRules.{after}
+use Rattle.goal_kinds.specs.Candidates.{Candidate, assumption}
 use Rattle.goal_kinds.specs.Entries.{of_header, of_other_header, ExpectedTerm, as_it_stands, head_form_of, chosen_by, Entry, clause, expected}
 use Rattle.goal_kinds.specs.InternedEntries.{header_trees, value_tree}
 use Rattle.goal_kinds.specs.RuleLists.{header_arguments, other_arguments}
@@ -16,9 +25,13 @@ use Rattle.goal_kinds.specs.Rules.{clauses_in, conditions_in, value_in}
 use Rattle.goal_kinds.specs.Words.{Each}
 use Rattle.goal_kinds.specs.declared.candidates.interned.InternedCandidate.{InternedCandidate}
 use Rattle.goal_kinds.specs.declared.candidates.interned.InternedCandidate.TheVariants as candidates
+use Rattle.goal_kinds.specs.declared.lists.AskedProjection.{AskedProjection}
 use Rattle.goal_kinds.specs.declared.lists.InternedArguments.{InternedArguments}
 use Rattle.goal_kinds.specs.declared.lists.InternedArguments.TheVariants as named
 use Rattle.goal_kinds.specs.declared.lists.RowHeader.{RowHeader}
+use Rattle.goal_kinds.specs.declared.rules.FirstUse.{FirstUse}
+use Rattle.goal_kinds.specs.declared.rules.RuleEntry.{RuleEntry}
+use Rattle.goal_kinds.specs.declared.rules.RuleEntry.TheVariants as entry
 use Rattle.goal_kinds.specs.declared.rules.RuleHeader.{RuleHeader}
 use Rattle.goal_kinds.specs.declared.lists.InternedTerm.{InternedTerm}
 use Rattle.goal_kinds.specs.declared.lists.InternedTerm.TheVariants as terms
@@ -84,7 +97,40 @@ abbrev pub IsExpected : Option Term → Tree → Type 0
 IsExpected None t = ⊥
 IsExpected (Some e) t = t ≡ tree_of_term e
 
+-- a candidate that is a clause is sorted
+abbrev pub CandidateIsSorted : Candidate → Type 0
+CandidateIsSorted (assumption p) = IsSortedPredicate p
+CandidateIsSorted _ = Unit {0}
+
 -- the impl of a candidate is the one that the tables have under its id
 abbrev pub CandidateIsOf : Tables → InternedCandidate → Type 0
 CandidateIsOf t (candidates.Impl r) = impl_of t r.now.id ≡ Some r.now
 CandidateIsOf t _ = Unit {0}
+
+-- the item of a projection is the one that the tables have under its id
+abbrev pub ProjectionIsOf : Tables → AskedProjection → Type 0
+ProjectionIsOf t p = item_of t p.item.now.id ≡ Some p.item.now
+
+-- an entry for a hidden type is of the type and the arguments of another one over numbers, lifetimes included
+abbrev pub KeepsKey : List Tree → InternedEntry → RuleEntry → Type 0
+KeepsKey T (entries.HiddenType i ids f) (entry.HiddenType v k g) =
+    (k.def_id ≡ i) × (g ≡ f) × (trees_of k.args.items ≡ map (tree_at T) ids.items)
+KeepsKey T (entries.HiddenType i ids f) _ = ⊥
+KeepsKey T _ _ = Unit {0}
+
+-- the entries of a list are kept so, one by one, with nothing decided behind them by a certainty
+abbrev pub KeepsKeys : List Tree → Certainty → Option (Vec InternedEntry Global) → List RuleEntry → Type 0
+KeepsKeys T c None es = ⊥
+KeepsKeys T c (Some xs) es = (made : List RuleEntry) × (es ≡ made ++ after c) × AllZip (KeepsKey T) xs.items made
+
+-- the only entry of a list is that of an opaque type that is being defined, by arguments of numbers
+abbrev pub IsDefined : OpaqueId → List TermId → FirstUse → List InternedEntry → Type 0
+IsDefined i ids f es = (v : Vec TermId Global) × (v.items ≡ ids) × (es ≡ entries.HiddenType i v f ∷ [])
+
+-- so it is of the opaque type of a kind of alias
+abbrev pub DefinesKind : AliasTermKind → List TermId → FirstUse → List InternedEntry → Type 0
+DefinesKind k ids f es = (i : OpaqueId) × (k ≡ OpaqueTy i) × IsDefined i ids f es
+
+-- and of the one that an alias is, by its arguments
+abbrev pub Defines : List Tree → AliasTerm → FirstUse → List InternedEntry → Type 0
+Defines T a f es = (ids : List TermId) × (map (tree_at T) ids ≡ trees_of a.args.items) × DefinesKind a.kind ids f es

@@ -1,27 +1,63 @@
--- Candidates for projections, by the alias that is asked.
-use Rattle.std.specs.Prelude.{◌≡◌, ◌==◌, ◌&&◌, ◌||◌, ℕ, Bool, true, false, List, [], ◌∷◌, drop, Option, Some, None, IfSome}
+-- Projections as a kind of goals: which clauses and which impls may give a term, what the candidates say, by the alias that is asked, and their lists.
+use Rattle.std.specs.Prelude.{◌≡◌, ◌&&◌, ◌||◌, not, ℕ, Bool, true, false, List, [], ◌∷◌, drop, take, Option, Some, None, IfSome}
 use Rattle.std.specs.Option.{option_map, option_and_then}
 use Rattle.goal_terms.specs.Tree.{Tree, alias, forest}
 use Rattle.goal_terms.specs.TreeOf.{trees_of, tree_of_term}
+use Rattle.goal_terms.specs.contracts.terms.AliasTermKindPartialEq.TheImpl as kinds
+use Rattle.goal_terms.specs.declared.modes.TypingMode.{TypingMode}
+use Rattle.goal_terms.specs.declared.predicates.ClauseKind.{ClauseKind}
+use Rattle.goal_terms.specs.declared.predicates.ClauseKind.TheVariants as clause
 use Rattle.goal_terms.specs.declared.predicates.NormalizesTo.{NormalizesTo}
 use Rattle.goal_terms.specs.declared.terms.AliasTerm.{AliasTerm}
 use Rattle.goal_terms.specs.declared.terms.AliasTermKind.{AliasTermKind}
 use Rattle.goal_tables.specs.Rows.{same_lang_item}
+use Rattle.goal_tables.specs.SourceFaults.{is_positive}
 use Rattle.goal_tables.specs.declared.lang.LangItem.{LangItem}
 use Rattle.goal_tables.specs.declared.lang.LangItem.TheVariants as lang
 use Rattle.goal_tables.specs.declared.rows.ImplRow.{ImplRow}
 use Rattle.goal_tables.specs.declared.rows.Tables.{Tables}
 use Rattle.goal_kinds.specs.Builtins.{lang_of_item}
-use Rattle.goal_kinds.specs.CandidateRules.{NamedRule, trait_alias, sizedness, copy_clone, fn_ptr_trait, fn_trait, tuple, pointee, discriminant_kind, destruct, field}
+use Rattle.goal_kinds.specs.CandidateRules.{NamedRule, trait_alias, sizedness, copy_clone, fn_ptr_trait, fn_trait, tuple, pointee, discriminant_kind, destruct, field, only_bars}
 use Rattle.goal_kinds.specs.Candidates.{Candidate}
-use Rattle.goal_kinds.specs.ImplTerms.{trait_args}
+use Rattle.goal_kinds.specs.Entries.{Entry, refused}
+use Rattle.goal_kinds.specs.FastReject.{lists_may_unify}
+use Rattle.goal_kinds.specs.ImplTerms.{Projection, trait_args}
 use Rattle.goal_kinds.specs.Levels.{level}
 use Rattle.goal_kinds.specs.Premises.{TraitTree}
+use Rattle.goal_kinds.specs.ProjectionLists.{projection_list}
 use Rattle.goal_kinds.specs.Projections.{projected_item, CandidateGives, TermRefuted}
 use Rattle.goal_kinds.specs.Rules.{given}
 use Rattle.goal_kinds.specs.RuleWords.{projection_in}
 use Rattle.goal_kinds.specs.Settings.{Setting}
 use Rattle.goal_kinds.specs.Words.{OfRow}
+use Rattle.goal_kinds.specs.declared.fast_reject.Parameters.TheVariants.{Rigid, Inferred}
+
+-- whether two aliases are of one kind, with one number
+abbrev pub same_kind_of_alias : AliasTermKind → AliasTermKind → Bool
+same_kind_of_alias a b = (kinds.ghosts).eq a b
+
+-- whether a clause may give the term of an alias: it is a projection of the same item, and no two heads or kinds of the arguments differ
+abbrev pub may_match_term : AliasTerm → ClauseKind → Bool
+may_match_term a (clause.Projection q) =
+    same_kind_of_alias q.projection_term.kind a.kind && lists_may_unify Rigid (trees_of q.projection_term.args.items) (trees_of a.args.items)
+may_match_term a (clause.Trait q) = false
+may_match_term a (clause.HostEffect q) = false
+
+-- whether an impl is refused for a projection: it or the item has no row, its header is rejected, or it isn't positive and doesn't bar a refutation
+abbrev pub refuses_term : TypingMode → AliasTerm → Option Projection → Option ImplRow → Bool
+refuses_term m a p None = true
+refuses_term m a None (Some r) = true
+refuses_term m a (Some p) (Some r) =
+    not (lists_may_unify Inferred (trees_of (take p.trait_params a.args.items)) (trees_of r.trait_args.items)) || not (is_positive r.polarity || only_bars m r)
+
+-- the list of a candidate for a projection; where an alias asks for none whose item has rows, no rule stands
+abbrev pub list_for : Option Projection → (Projection → Option (List Entry)) → Option (List Entry)
+list_for None f = Some (refused ∷ [])
+list_for (Some p) f = f p
+
+-- the list of a candidate for the projection that an alias asks for
+abbrev pub asked_projection_list : AliasTerm → Setting → Candidate → Option (List Entry)
+asked_projection_list a S c = list_for (projection_in S.tables a) (λ p. projection_list S p (alias a.kind (forest (given a.args))) c)
 
 -- a candidate gives the term of the projection that an alias asks for
 abbrev pub ProjectionCandidateGives : AliasTerm → Setting → ℕ → Candidate → Tree → Type 0

@@ -11,7 +11,7 @@ use Rattle.goal_tables.specs.Rows.{impl_of, inherent_impl_of}
 use Rattle.goal_tables.specs.declared.rows.ImplRow.{ImplRow}
 use Rattle.goal_tables.specs.declared.rows.Tables.{Tables}
 use Rattle.goal_kinds.specs.Answers.{erased_predicate}
-use Rattle.goal_kinds.specs.Entries.{Arguments, given_arguments, of_header, of_other_header, followed_by, ExpectedTerm, as_it_stands, head_form_of, value_under, chosen_by, Entry, arguments, equal_terms, clause, row_clauses, row_conditions, expected, access, delayed_fault, evaluation, ambiguous, undecided, refused, ListHolds, ListGives, ListRefuted}
+use Rattle.goal_kinds.specs.Entries.{Arguments, given_arguments, of_header, of_other_header, followed_by, ExpectedTerm, as_it_stands, head_form_of, value_under, chosen_by, Entry, arguments, equal_terms, clause, row_clauses, row_conditions, expected, hidden_type, access, delayed_fault, evaluation, ambiguous, undecided, refused, ListHolds, ListGives, ListRefuted}
 use Rattle.goal_kinds.specs.Level.{Level}
 use Rattle.goal_kinds.specs.Rules.{given, clauses_in, conditions_in, value_in, RuleHolds, RuleGives, RuleRefuted}
 use Rattle.goal_kinds.specs.Settings.{Setting}
@@ -57,6 +57,7 @@ entry_of t (entry.Clause g k) = Some (clause g (erased_predicate (tree_of_kind k
 entry_of t (entry.RowClauses c n) = option_map (λ cs. row_clauses cs n) (clauses_in t c)
 entry_of t (entry.RowConditions c i n) = option_map (λ rs. row_conditions c rs n) (conditions_in t i)
 entry_of t (entry.Term v e) = option_map expected (expected_of t e)
+entry_of t (entry.HiddenType v k f) = Some (hidden_type k.def_id (given k.args) f)
 entry_of t (entry.Access a) = Some (access a)
 entry_of t (entry.DelayedFault f) = Some (delayed_fault f)
 entry_of t entry.Evaluation = Some evaluation

@@ -1,7 +1,7 @@
 -- What a rule records, and for which typing modes it stands.
-use Rattle.std.specs.Prelude.{◌≡◌, ◌⊎◌, ◌==◌, ◌&&◌, Bool, true, List, [], ◌∷◌, ◌++◌, Option, Some, if◌then◌else◌}
+use Rattle.std.specs.Prelude.{◌≡◌, ◌⊎◌, ◌==◌, ◌&&◌, Bool, true, List, [], ◌∷◌, ◌++◌, Option, Some, None, if◌then◌else◌}
 use Rattle.std.specs.List.{list_any}
-use Rattle.goal_terms.specs.declared.answers.DelayedFault.{DelayedFault}
+use Rattle.std.specs.Option.{option_and_then}
 use Rattle.goal_terms.specs.declared.answers.OpaqueAccess.{OpaqueAccess}
 use Rattle.goal_terms.specs.declared.answers.OpaqueAccess.TheVariants.{IfDefining, IfPostAnalysis}
 use Rattle.goal_terms.specs.declared.ids.OpaqueId.{OpaqueId}
@@ -15,6 +15,8 @@ use Rattle.goal_tables.specs.declared.rows.Tables.{Tables}
 use Rattle.goal_kinds.specs.Settings.{is_headline}
 use Rattle.goal_kinds.specs.declared.rules.aliases.OpaqueUse.{OpaqueUse}
 use Rattle.goal_kinds.specs.declared.rules.aliases.OpaqueUse.TheVariants as uses
+use Rattle.goal_kinds.specs.declared.rules.FirstUse.{FirstUse}
+use Rattle.goal_kinds.specs.declared.rules.FirstUse.TheVariants as first
 use Rattle.goal_kinds.specs.declared.rules.Rule.{Rule}
 use Rattle.goal_kinds.specs.declared.rules.RuleEntry.{RuleEntry}
 use Rattle.goal_kinds.specs.declared.rules.RuleEntry.TheVariants as entry
@@ -28,16 +30,6 @@ access_of _ = []
 unfoldable pub accesses_of : List RuleEntry → List OpaqueAccess
 accesses_of [] = []
 accesses_of (e ∷ es) = access_of e ++ accesses_of es
-
--- the delayed fault that an entry records
-abbrev pub fault_of : RuleEntry → List DelayedFault
-fault_of (entry.DelayedFault f) = f ∷ []
-fault_of _ = []
-
--- the delayed faults that a list of entries records
-unfoldable pub faults_of : List RuleEntry → List DelayedFault
-faults_of [] = []
-faults_of (e ∷ es) = fault_of e ++ faults_of es
 
 -- entries that were made in a mode stand for a headline mode: the mode is that one, or it is the erased mode and no access is recorded
 abbrev pub StandFor : TypingMode → List RuleEntry → TypingMode → Type 0
@@ -58,11 +50,22 @@ access_to r = if r.is_local then IfDefining r.id else IfPostAnalysis
 -- what a mode makes of an opaque type
 abbrev pub opaque_use : TypingMode → OpaqueRow → OpaqueUse
 opaque_use mode.Coherence r = uses.Undecided
-opaque_use (mode.Analysis ids) r = if among ids.items r then uses.Undecided else uses.Rigid
-opaque_use (mode.Borrowck ids) r = if among ids.items r then uses.Undecided else uses.Rigid
+opaque_use (mode.Analysis ids) r = if among ids.items r then uses.Defining first.Expected else uses.Rigid
+opaque_use (mode.Borrowck ids) r = if among ids.items r then uses.Defining first.TypeChecked else uses.Rigid
 opaque_use (mode.PostBorrowckAnalysis ids) r = if among ids.items r then uses.Revealed else uses.Rigid
 opaque_use mode.PostAnalysis r = uses.Revealed
 opaque_use mode.ErasedNotCoherence r = uses.Recorded (access_to r)
+
+-- what the first use of an opaque type takes as its hidden type, where the mode defines it
+abbrev pub first_use : TypingMode → OpaqueRow → Option FirstUse
+first_use (mode.Analysis ids) r = if among ids.items r then Some first.Expected else None
+first_use (mode.Borrowck ids) r = if among ids.items r then Some first.TypeChecked else None
+first_use _ r = None
+
+-- the same of an alias, if it is an opaque type that has a row
+abbrev pub first_use_of : Tables → TypingMode → AliasTermKind → Option FirstUse
+first_use_of t m (OpaqueTy i) = option_and_then (first_use m) (opaque_of t i)
+first_use_of t m _ = None
 
 -- the accesses that the rule of an opaque type records: one, in the erased mode
 abbrev pub accesses_for_opaque : TypingMode → Option OpaqueRow → List OpaqueAccess

@@ -95,7 +95,7 @@ pub trait GoalKind: PredicateTerms {
     /// That a candidate is refuted at a height.
     ghost candidate_refuted: { Self → setting → ℕ → candidate → Type 0 };
 
-    /// The list of a candidate, by the mode; none where the rules of a kind aren't told by lists yet.
+    /// The list of a candidate, by the mode; none in a kind whose rules no lists tell.
     ghost candidate_list: { Self → setting → candidate → Option (Option (List list_entry)) };
 
     /// Whether the trait alias or a built-in rule is for a goal.

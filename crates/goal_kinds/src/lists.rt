@@ -7,11 +7,11 @@ pub mod projections;
 pub mod traits;
 
 use crate::candidates::interned::InternedPredicate;
-use crate::rules::{RowClauses, RowValue, RuleHeader};
+use crate::rules::{FirstUse, RowClauses, RowValue, RuleHeader};
 use goal_tables::lookup::IndexedTables;
 use goal_tables::rows::ItemRow;
 use goal_terms::answers::{DelayedFault, GoalSource, OpaqueAccess, ParamKind};
-use goal_terms::ids::ImplId;
+use goal_terms::ids::{ImplId, OpaqueId};
 use goal_terms::modes::TypingMode;
 use goal_terms::predicates::{BoundConstness, Clause, TraitRef};
 use goal_terms::term_nodes::TermId;
@@ -116,6 +116,9 @@ pub enum InternedEntry<'t> {
     RowConditions(BoundConstness, ImplId, &'t [TraitRef], usize),
     /// The goal's expected term.
     Expected(InternedTerm<'t>),
+    /// The goal's expected term is the hidden type of an opaque type that is being defined, by its
+    /// arguments as they are given.
+    HiddenType(OpaqueId, Vec<TermId>, FirstUse),
     /// An access to an opaque type is recorded.
     Access(OpaqueAccess),
     /// A delayed fault is recorded.
@@ -139,6 +142,7 @@ impl Drop for InternedEntry<'_> {
             InternedEntry::RowClauses(_, _, _) => {}
             InternedEntry::RowConditions(_, _, _, _) => {}
             InternedEntry::Expected(_) => {}
+            InternedEntry::HiddenType(_, _, _) => {}
             InternedEntry::Access(_) => {}
             InternedEntry::DelayedFault(_) => {}
             InternedEntry::Evaluation => {}

@@ -1,10 +1,8 @@
 //! Rules as data: what a candidate or an alias asks for, as a list of entries that a solver runs in order.
 pub mod aliases;
 pub(crate) mod assoc_items;
-pub(crate) mod definitions;
 pub(crate) mod effect_goal_kind;
 pub mod effects;
-pub mod impl_terms;
 pub(crate) mod lists;
 pub(crate) mod named;
 pub(crate) mod parts;
@@ -14,7 +12,9 @@ pub mod rebuilt;
 pub(crate) mod trait_goal_kind;
 pub mod traits;
 
-use goal_terms::answers::{CandidateSource, DelayedFault, GoalSource, OpaqueAccess, Response};
+use goal_terms::answers::{
+    CandidateSource, DelayedFault, GoalSource, OpaqueAccess, OpaqueTypeKey, Response,
+};
 use goal_terms::ids::{DefId, FreeId, ImplId, InherentId, InherentImplId, ItemId, OpaqueId};
 use goal_terms::predicates::{BoundConstness, ClauseKind};
 use goal_terms::terms::{GenericArg, Term};
@@ -57,6 +57,9 @@ pub enum RuleEntry {
     RowConditions(BoundConstness, ImplId, u32),
     /// The goal's expected term, the first, stands for the second.
     Term(Term, RuleTerm),
+    /// The goal's expected term is the hidden type of an opaque type that is being defined, by its
+    /// arguments as they are given.
+    HiddenType(Term, OpaqueTypeKey, FirstUse),
     /// An access to an opaque type is recorded.
     Access(OpaqueAccess),
     /// A delayed fault is recorded.
@@ -80,6 +83,7 @@ impl Drop for RuleEntry {
             RuleEntry::RowClauses(_, _) => {}
             RuleEntry::RowConditions(_, _, _) => {}
             RuleEntry::Term(_, _) => {}
+            RuleEntry::HiddenType(_, _, _) => {}
             RuleEntry::Access(_) => {}
             RuleEntry::DelayedFault(_) => {}
             RuleEntry::Evaluation => {}
@@ -151,6 +155,15 @@ impl Drop for RuleTerm {
             RuleTerm::ChosenBy(_, _, _) => {}
         }
     }
+}
+
+/// What the first use of an opaque type that is being defined takes as its hidden type.
+#[derive(Clone, Copy, Debug)]
+pub enum FirstUse {
+    /// The expected term, whatever that comes to be.
+    Expected,
+    /// The type that type checking found.
+    TypeChecked,
 }
 
 /// A row whose value is taken.

@@ -39,7 +39,7 @@ pub inference-through : (a b c : State) → ChangesInference a b → ChangesInfe
 inference-through a b c e h = h ∙ ap (λ (s : State). record s { terms = c.terms; inference = c.inference }) e
 
 pub records-through : (a b c : State) → ChangesRecords a b → ChangesRecords b c → ChangesRecords a c
-records-through a b c e h = h ∙ ap (λ (s : State). record s { terms = c.terms; inference = c.inference; accesses = c.accesses }) e
+records-through a b c e h = h ∙ ap (λ (s : State). record s { terms = c.terms; inference = c.inference; accesses = c.accesses; delayed_faults = c.delayed_faults }) e
 
 -- a context with another inference state that goes back to the one before
 pub goes_back-bound : (a b : State) → b ≡ record a { inference = b.inference } → inference.GoesBack a.inference b.inference → GoesBack a b
@@ -66,11 +66,8 @@ restored-owed s b z m e g owed =
     let there : IsOwed (restored s b) m = subst (λ (x : State). IsOwed x m) e owed in
     (there.0, elim there.1 [ inl h ↦ inl (g.typing_mode ∙ h) | inr h ↦ inr (g.typing_mode ∙ h.0, h.1) ])
 
-pub restored-alone : (s b z : State) → z ≡ restored s b → ChangesTaken s b → ChangesTaken s z
-restored-alone s b z e h =
-    let whole : z ≡ record s { terms = b.terms; accesses = b.accesses } =
-    e ∙ ap (λ fs. record s { terms = b.terms; accesses = b.accesses; delayed_faults = fs }) (ap (λ (x : State). x.delayed_faults) h) in
-    whole ∙ sym (ap (λ (x : State). record s { terms = x.terms; inference = x.inference; taken = x.taken; accesses = x.accesses }) whole)
+pub restored-alone : (s b z : State) → z ≡ restored s b → ChangesTaken s z
+restored-alone s b z e = e ∙ sym (ap (λ (x : State). record s { terms = x.terms; inference = x.inference; taken = x.taken; accesses = x.accesses; delayed_faults = x.delayed_faults }) e)
 
 restored-fault_as : {T : Type 0} (s b : State) (r : Result T Fault) → IsFaultFor s b r → IsFaultFor s (restored s b) r
 restored-fault_as s b (Ok x) h = tt

@@ -4,7 +4,6 @@ use Rattle.std.specs.Prelude.{IfOk, IfErr}
 use Rattle.goal_terms.specs.declared.answers.Certainty.{Certainty}
 use Rattle.goal_terms.specs.declared.answers.Certainty.TheVariants as certainty
 use Rattle.goal_terms.specs.declared.answers.Response.{Response}
-use Rattle.goal_terms.specs.declared.predicates.BoundConstness.{BoundConstness}
 use Rattle.goal_terms.specs.PredicateTrees.{PredicateTree, holds, equals, holds_const}
 use Rattle.goal_terms.specs.TableMeaning.{Keeps}
 use Rattle.goal_terms.specs.Tree.{Tree}
@@ -19,6 +18,7 @@ use Rattle.goal_kinds.specs.Settings.{Setting, is_headline}
 use Rattle.goal_kinds.specs.Level.{Level}
 use Rattle.goal_kinds.proofs.AnswerLaws.{answers-agree}
 use Rattle.goal_solver.specs.Answers.{IsOwed, level_over, IsMaybe, IsOpen, IsUndecided, IsAliasOpen, IsTraitResponse, IsTraitAnswer, IsAliasResponse, IsAliasAnswer, IsHoldingResponse, IsPredicateAnswer, IsConclusion}
+use Rattle.goal_solver.specs.Evaluations.{SaysOf}
 use Rattle.goal_solver.specs.GoingBack.{BeginsWith, GoesBack, restored}
 use Rattle.goal_solver.specs.Outcomes.{RunsAs, StandsFor, Says}
 use Rattle.goal_solver.specs.Relating.{IsFinalIn}
@@ -184,10 +184,6 @@ concluded-open L p (Ok outcome.Refuted) r h c e = absurd (subst IsMaybe c e)
 concluded-open L p (Ok outcome.Undecided) r h c e = h
 concluded-open L p (Err s) r h c e = absurd (subst IsMaybe c e)
 
--- what an evaluation says of a predicate before a conclusion
-abbrev pub SaysOf : State → State → List Clause → PredicateTree → Result Outcome Stop → Type 0
-SaysOf a b env p o = (m : TypingMode) → IsOwed b m → IfOk o (Says (ClauseHolds (level_over a m env) p) (ClauseRefuted (level_over a m env) p))
-
 -- a conclusion is owed
 abbrev pub IsConcluded : State → State → Result Outcome Stop → Result Response Fault → Type 0
 IsConcluded b z o r = (m : TypingMode) → IsOwed z m → (is_headline b.typing_mode ≡ true → IfErr o (λ s. s ≡ stop.OutOfMemory)) → IsConclusion o r
@@ -208,17 +204,6 @@ pub predicate-decided : (a b z : State) (env : List Clause) (p : PredicateTree) 
     (m : TypingMode) → IsOwed z m → IsMaybe r → IsUndecided (level_over a m env) p
 predicate-decided a b z env p o r e g says stops concluded m owed =
     concluded-open (level_over a m env) p o r (says m (owed-before b z m g owed)) (concluded m owed (stops-later a b o e stops))
-
--- what is said of const goals and of equations is said of their predicates
-pub const-says_of : (a b : State) (env : List Clause) (c : BoundConstness) (i : TraitId) (ts : List Tree) (o : Result Outcome Stop) →
-    ((m : TypingMode) → IsOwed b m → IfOk o (Says ((level_over a m env).const_holds c i ts) ((level_over a m env).const_refuted c i ts))) → SaysOf a b env (holds_const c i ts) o
-unfolding ClauseHolds ClauseRefuted
-const-says_of a b env c i ts o h = h
-
-pub equation-says_of : (a b : State) (env : List Clause) (t u : Tree) (o : Result Outcome Stop) →
-    ((m : TypingMode) → IsOwed b m → IfOk o (Says ((level_over a m env).equation_holds t u) ((level_over a m env).equation_refuted t u))) → SaysOf a b env (equals t u) o
-unfolding ClauseHolds ClauseRefuted
-equation-says_of a b env t u o h = h
 
 -- no two answers disagree
 pub ruleset answering = (answers-agree)

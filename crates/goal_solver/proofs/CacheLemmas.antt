@@ -17,7 +17,7 @@ use Rattle.goal_terms.specs.declared.predicates.BoundConstness.TheVariants as co
 use Rattle.goal_terms.specs.declared.term_nodes.TermId.{TermId}
 use Rattle.goal_terms.specs.declared.terms.AliasTermKind.{AliasTermKind}
 use Rattle.goal_terms.proofs.TreeLemmas.{list_of-forest}
-use Rattle.goal_kinds.specs.Causes.{IsCaused}
+use Rattle.goal_kinds.specs.Causes.{IsCaused, IsFaultCaused}
 use Rattle.goal_kinds.specs.Interned.{erased_at}
 use Rattle.goal_kinds.specs.Laws.{IsWithin}
 use Rattle.goal_kinds.specs.Level.{Level}
@@ -242,16 +242,17 @@ sound-of c T e s = s
 -- an evaluation's effects stay sound, and it begins with none
 pub sound-grown : (c : over.Setting) (T U : List Tree) (e : Effects) → Keeps T U → AreSound c T e → AreSound c U e
 unfolding AreSound
-sound-grown c T U e keeps s = record { answers = cache-grown c T U e.cache keeps s.answers; causes = s.causes }
+sound-grown c T U e keeps s = record { answers = cache-grown c T U e.cache keeps s.answers; causes = s.causes; faults = s.faults }
 
 pub sound-new : (c : over.Setting) (T : List Tree) (e : Effects) → AreNone e → AreSound c T e
 unfolding AreSound
 sound-new c T e none = record {
   answers = cache-new c T e.cache none.answers;
   causes = All-same (IsCaused c.rows.now) e.accesses.items [] none.accesses (All-nil (IsCaused c.rows.now));
+  faults = All-same (IsFaultCaused c.rows.now) e.delayed_faults.items [] none.delayed_faults (All-nil (IsFaultCaused c.rows.now));
 }
 
-pub ruleset caching = (sound-grown)
+pub ruleset caching = (sound-grown, cache-grown)
 
 -- what is known of a trait goal is so
 pub known-trait : (c : over.Setting) (T : List Tree) (k : Cache) (id : TermId) (i : TraitId) (n : ℕ) (xs : List Tree) (d : ℕ) (o : TraitOutcome) →

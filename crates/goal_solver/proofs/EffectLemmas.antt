@@ -1,48 +1,47 @@
 -- An evaluation's effects stay sound, and the accesses of the lists that it runs have their cause in the tables.
-use Rattle.std.proofs.Common.{◌≡◌, ◌⊎◌, List, Option, Vec, Result, Ok, Err, refl, sym, ap, subst, ⊎_elim}
+use Rattle.std.proofs.Common.{◌≡◌, ◌⊎◌, List, Option, Vec, Result, Ok, Err, sym, ap, subst, ⊎_elim}
 use Rattle.std.specs.Prelude.{IfOk}
 use Rattle.std.specs.Global.{Global}
 use Rattle.std.specs.List.{All, Contains}
 use Rattle.std.proofs.lemmas.List.Elements.{All-contains, All-contains_itself, All-weaker}
 use Rattle.goal_terms.specs.Tree.{Tree}
+use Rattle.goal_terms.specs.declared.answers.DelayedFault.{DelayedFault}
 use Rattle.goal_terms.specs.declared.answers.OpaqueAccess.{OpaqueAccess}
-use Rattle.goal_terms.specs.declared.modes.TypingMode.{TypingMode}
-use Rattle.goal_terms.specs.declared.modes.TypingMode.TheVariants as mode
 use Rattle.goal_tables.specs.declared.rows.Tables.{Tables}
-use Rattle.goal_kinds.specs.Causes.{IsCaused, IsCausedEntry, IsCausedList}
+use Rattle.goal_kinds.specs.Causes.{IsCaused, IsFaultCaused, IsCausedEntry, IsCausedList}
 use Rattle.goal_kinds.specs.Entries.{Entry}
 use Rattle.goal_kinds.specs.InternedEntries.{entries_at, list_at}
 use Rattle.goal_kinds.specs.declared.lists.InternedEntry.{InternedEntry}
 use Rattle.goal_kinds.proofs.CauseLemmas.{AreCaused, ListCaused, made-caused, list-caused}
-use Rattle.goal_solver.specs.Effects.{AreSound, EndsIn}
+use Rattle.goal_solver.specs.Effects.{AreSound}
 use Rattle.goal_solver.specs.EvaluationCache.{IsValidCache}
 use Rattle.goal_solver.specs.declared.eval.effects.Effects.{Effects}
 use Rattle.goal_solver.specs.declared.eval.outcomes.Setting as over
-use Rattle.goal_solver.specs.declared.eval.outcomes.Stop.{Stop}
-use Rattle.goal_solver.specs.declared.eval.outcomes.Stop.TheVariants as stop
 
 -- after an access with a cause, and after a delayed fault
 pub sound-read : (c : over.Setting) (T : List Tree) (e n : Effects) (a : OpaqueAccess) → IsCaused c.rows.now a →
-    ((x : OpaqueAccess) → Contains n.accesses.items x → Contains e.accesses.items x ⊎ (a ≡ x)) → n.cache ≡ e.cache → AreSound c T e → AreSound c T n
+    ((x : OpaqueAccess) → Contains n.accesses.items x → Contains e.accesses.items x ⊎ (a ≡ x)) → n.delayed_faults ≡ e.delayed_faults → n.cache ≡ e.cache → AreSound c T e → AreSound c T n
 unfolding AreSound
-sound-read c T e n a caused listed same s = record {
+sound-read c T e n a caused listed faults same s = record {
   answers = subst (IsValidCache c T) (sym same) s.answers;
   causes =
       All-weaker (Contains n.accesses.items) (IsCaused c.rows.now)
       (λ x h. ⊎_elim (λ k. All-contains (IsCaused c.rows.now) e.accesses.items x s.causes k) (λ q. subst (IsCaused c.rows.now) q caused) (listed x h))
       n.accesses.items (All-contains_itself n.accesses.items);
+  faults = subst (λ (v : Vec DelayedFault Global). All (IsFaultCaused c.rows.now) v.items) (sym faults) s.faults;
 }
 
-pub sound-met : (c : over.Setting) (T : List Tree) (e n : Effects) → n.accesses ≡ e.accesses → n.cache ≡ e.cache → AreSound c T e → AreSound c T n
+pub sound-met : (c : over.Setting) (T : List Tree) (e n : Effects) (f : DelayedFault) → IsFaultCaused c.rows.now f →
+    ((x : DelayedFault) → Contains n.delayed_faults.items x → Contains e.delayed_faults.items x ⊎ (f ≡ x)) → n.accesses ≡ e.accesses → n.cache ≡ e.cache → AreSound c T e → AreSound c T n
 unfolding AreSound
-sound-met c T e n accesses same s = record {
+sound-met c T e n f caused listed accesses same s = record {
   answers = subst (IsValidCache c T) (sym same) s.answers;
   causes = subst (λ (v : Vec OpaqueAccess Global). All (IsCaused c.rows.now) v.items) (sym accesses) s.causes;
+  faults =
+      All-weaker (Contains n.delayed_faults.items) (IsFaultCaused c.rows.now)
+      (λ x h. ⊎_elim (λ k. All-contains (IsFaultCaused c.rows.now) e.delayed_faults.items x s.faults k) (λ q. subst (IsFaultCaused c.rows.now) q caused) (listed x h))
+      n.delayed_faults.items (All-contains_itself n.delayed_faults.items);
 }
-
--- a stop in coherence
-pub ends-ambiguous : (t : Tables) (m : TypingMode) (a : OpaqueAccess) → m ≡ mode.Coherence → EndsIn t m (stop.ReadsMode a)
-ends-ambiguous t m a e = subst (λ k. EndsIn t k (stop.ReadsMode a)) (sym e) (refl, λ h. absurd (cc))
 
 -- the list that was made for a candidate or an alias
 pub listed-caused : {E : Type 0} (t u : Tables) (T : List Tree) (r : Result (Option (Vec InternedEntry Global)) E) (f : Option (List Entry)) → t ≡ u → ListCaused t f →

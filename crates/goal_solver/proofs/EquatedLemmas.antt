@@ -27,11 +27,11 @@ use Rattle.goal_kinds.specs.Interned.{AreIn, erased_at, erased_all}
 use Rattle.goal_kinds.proofs.InternedLemmas.{are_in-grown}
 use Rattle.goal_kinds.proofs.UnderLemmas.{are_in-below}
 use Rattle.goal_kinds.specs.Settings.{is_headline}
+use Rattle.goal_solver.specs.Accesses.{RecordsCausedFaults}
 use Rattle.goal_solver.specs.Answers.{IsOwed, level_over}
 use Rattle.goal_solver.specs.Equating.{IsEquated, certainty_of}
 use Rattle.goal_solver.specs.GoingBack.{GoesBack, restored}
-use Rattle.goal_solver.specs.Outcomes.{StandsFor}
-use Rattle.goal_solver.specs.Relating.{IsRelated, ChangesInference, ChangesRecords, AgreesWith, IsFinalIn, all_replaced, all_bound, AreDefinite, IsEqualAnswer, LeavesOpen, SaysYes, Refuses, IsFaultFor, all_equated, AreIdentical}
+use Rattle.goal_solver.specs.Relating.{IsRelated, ChangesInference, ChangesRecords, AgreesWith, all_replaced, all_bound, AreDefinite, IsEqualAnswer, LeavesOpen, SaysYes, Refuses, IsFaultFor, all_equated, AreIdentical}
 use Rattle.goal_solver.specs.Settled.{IsPlainOrSame}
 use Rattle.goal_solver.specs.State.{State, IsValid, kinds_of}
 use Rattle.goal_kinds.specs.declared.faults.Fault.{Fault}
@@ -42,6 +42,7 @@ use Rattle.goal_solver.specs.declared.eval.outcomes.Stop.{Stop}
 use Rattle.goal_solver.specs.declared.eval.outcomes.Stop.TheVariants as stop
 use Rattle.goal_solver.proofs.BindingLemmas.{goes_back-interned}
 use Rattle.goal_solver.proofs.GoingBackLemmas.{goes_back-restored, goes_back-through}
+use Rattle.goal_solver.proofs.AddedGoalLemmas.{owed-before, restored-owed}
 use Rattle.goal_solver.proofs.RelatedLemmas.{agreed-back}
 
 -- region variables that came to a state are bound to nothing
@@ -74,15 +75,6 @@ agrees-added T s z a ρ = (
   agrees-forth T T s z (bindings-added s z a) (λ v id e. refl) ρ,
 )
 
--- what is owed after a call is final in the mode of its run
-owed-final : (run : TypingMode) (z : State) (m : TypingMode) → z.typing_mode ≡ run → IsOwed z m → IsFinalIn run m
-owed-final run z m e (h, inl f) = (h, inl (sym e ∙ f))
-owed-final run z m e (h, inr f) = (h, inr (sym e ∙ f.0))
-
-owed-stands : (run : TypingMode) (z : State) (m : TypingMode) → z.typing_mode ≡ run → IsOwed z m → StandsFor run m
-owed-stands run z m e (h, inl f) = (h, inl (sym e ∙ f))
-owed-stands run z m e (h, inr f) = (h, inr (ap is_headline (sym e ∙ f.0)))
-
 -- an error is no answer
 no_error : (f : Fault) → IsOk {T = Certainty} {E = Fault} (Err f) → ⊥
 no_error f e = false≢true e
@@ -99,17 +91,14 @@ pub record AddsLifetimes (old new : State) (ts us : List Tree) : Type 0 where
   pub identical : AreIdentical ts us → new.inference ≡ all_equated ts us old.inference
 
 module _ (a z : State) (env : List Clause) (ts us : List Tree) (valid : IsValid a) (back : GoesBack a z) where
-  final : (m : TypingMode) → IsOwed z m → IsFinalIn a.typing_mode m
-  final m = owed-final a.typing_mode z m back.typing_mode
-
-  stands : (m : TypingMode) → IsOwed z m → StandsFor a.typing_mode m
-  stands m = owed-stands a.typing_mode z m back.typing_mode
-
   bound-alike : AreIdentical ts us → all_bound a (map erased ts) ≡ all_bound a (map erased us)
   bound-alike e = ap (all_bound a) e
 
   -- lists that were related, and lifetimes that were equated then
-  module _ (b : State) (going : IsValid b) (adds : AddsLifetimes b z ts us) where
+  module _ (b : State) (going : IsValid b) (further : GoesBack b z) (adds : AddsLifetimes b z ts us) where
+    earlier : (m : TypingMode) → IsOwed z m → IsOwed b m
+    earlier m = owed-before b z m further
+
     later : (ρ : Variable → Tree) → AgreesWith z ρ ↔ AgreesWith b ρ
     later ρ =
         let first : Agrees z.terms z.inference ρ ↔ Agrees z.terms b.inference ρ = agrees-added z.terms b.inference z.inference adds.adds ρ in
@@ -118,9 +107,9 @@ module _ (a z : State) (env : List Clause) (ts us : List Tree) (valid : IsValid 
 
     equated-yes : IsRelated a b env (map erased ts) (map erased us) a.remaining_depth outcome.Holds → IsEquated a z env ts us (Ok certainty.Yes)
     equated-yes rel = record {
-      sound = λ m owed sides. (rel.closed sides m (final m owed)).0;
+      sound = λ m owed sides. (rel.closed sides m (earlier m owed)).0;
       decided = λ m owed sides x. absurd x;
-      equal = λ m owed x ρ agrees. rel.equal refl m (stands m owed) ρ ((later ρ).0 agrees);
+      equal = λ m owed x ρ agrees. rel.equal refl m (earlier m owed) ρ ((later ρ).0 agrees);
       never = λ x. absurd x;
       agreed = λ ρ agrees. rel.agreed ρ ((later ρ).0 agrees);
       most_general = λ x ρ agrees same. (later ρ).1 (rel.kept (λ e. absurd (cc)) ρ agrees same);
@@ -133,7 +122,7 @@ module _ (a z : State) (env : List Clause) (ts us : List Tree) (valid : IsValid 
     equated-maybe : IsRelated a b env (map erased ts) (map erased us) a.remaining_depth outcome.Undecided → IsEquated a z env ts us (Ok certainty.Maybe)
     equated-maybe rel = record {
       sound = λ m owed sides. tt;
-      decided = λ m owed sides x. (rel.closed sides m (final m owed)).0;
+      decided = λ m owed sides x. (rel.closed sides m (earlier m owed)).0;
       equal = λ m owed x. absurd x;
       never = λ x. absurd x;
       agreed = λ ρ agrees. rel.agreed ρ ((later ρ).0 agrees);
@@ -150,9 +139,9 @@ module _ (a z : State) (env : List Clause) (ts us : List Tree) (valid : IsValid 
     equated-related outcome.Refuted n rel = absurd (n refl)
 
   -- lists that were refuted
-  pub equated-refuted : (b : State) → IsRelated a b env (map erased ts) (map erased us) a.remaining_depth outcome.Refuted → IsEquated a z env ts us (Err fault.NoSolution)
-  equated-refuted b rel = record {
-    sound = λ m owed sides. (rel.closed sides m (final m owed)).0;
+  pub equated-refuted : (b : State) → ((m : TypingMode) → IsOwed z m → IsOwed b m) → IsRelated a b env (map erased ts) (map erased us) a.remaining_depth outcome.Refuted → IsEquated a z env ts us (Err fault.NoSolution)
+  equated-refuted b earlier rel = record {
+    sound = λ m owed sides. (rel.closed sides m (earlier m owed)).0;
     decided = λ m owed sides x. absurd x;
     equal = λ m owed x. absurd x;
     never = λ x ρ kinds agrees same. rel.never refl ρ kinds agrees same;
@@ -268,12 +257,16 @@ back-undone a b y z back undone further = goes_back-through a y z (subst (GoesBa
 undone-is : (a b y z : State) → y ≡ restored a b → z ≡ record y { accesses = z.accesses } → z ≡ record a { terms = b.terms; accesses = z.accesses; delayed_faults = b.delayed_faults }
 undone-is a b y z undone alone = alone ∙ ap (λ (s : State). record s { accesses = z.accesses }) undone
 
-pub alone-undone : (a b y z : State) → ChangesInference a b → y ≡ restored a b → z ≡ record y { accesses = z.accesses } → ChangesRecords a z
-alone-undone a b y z changes undone alone =
+pub alone-undone : (a b y z : State) → y ≡ restored a b → z ≡ record y { accesses = z.accesses } → ChangesRecords a z
+alone-undone a b y z undone alone =
     let e : z ≡ record a { terms = b.terms; accesses = z.accesses; delayed_faults = b.delayed_faults } = undone-is a b y z undone alone in
-    e ∙ ap (λ d. record a { terms = b.terms; accesses = z.accesses; delayed_faults = d }) (ap (λ (s : State). s.delayed_faults) changes)
-    ∙ ap (λ T. record a { terms = T; accesses = z.accesses }) (sym (ap (λ (s : State). s.terms) e))
-    ∙ ap (λ i. record a { terms = z.terms; inference = i; accesses = z.accesses }) (sym (ap (λ (s : State). s.inference) e))
+    e ∙ sym (ap (λ (s : State). record a { terms = s.terms; inference = s.inference; accesses = s.accesses; delayed_faults = s.delayed_faults }) e)
+
+-- and lists that were related, and whose lifetimes were equated then
+pub alone-through : (a b c : State) → ChangesRecords a b → ChangesInference b c → ChangesRecords a c
+alone-through a b c h k =
+    let e : c ≡ record a { terms = c.terms; inference = c.inference; accesses = b.accesses; delayed_faults = b.delayed_faults } = k ∙ ap (λ (s : State). record s { terms = c.terms; inference = c.inference }) h in
+    e ∙ sym (ap (λ (s : State). record a { terms = s.terms; inference = s.inference; accesses = s.accesses; delayed_faults = s.delayed_faults }) e)
 
 pub unchanged-undone : (a b y z : State) → y ≡ restored a b → z ≡ record y { accesses = z.accesses } → z ≡ restored a z
 unchanged-undone a b y z undone alone = let e = undone-is a b y z undone alone in e ∙ ap (restored a) (sym e)
@@ -294,7 +287,7 @@ equated-undone a b y z env ls rs s r valid back undone alone further owed memory
 pub refuted-undone : (a b z : State) (env : List Clause) (ls rs : List TermId) (n : ℕ) (o : Outcome) → IsValid a → GoesBack a b → z ≡ restored a b → n ≡ a.remaining_depth → o ≡ outcome.Refuted →
     IsRelated a b env (erased_all a.terms ls) (erased_all a.terms rs) n o → IsEquated a z env (map (tree_at a.terms) ls) (map (tree_at a.terms) rs) (Err fault.NoSolution)
 refuted-undone a b z env ls rs n o valid back undone depth refuted rel =
-    equated-refuted a z env (map (tree_at a.terms) ls) (map (tree_at a.terms) rs) valid (subst (GoesBack a) (sym undone) (goes_back-restored a b back)) b
+    equated-refuted a z env (map (tree_at a.terms) ls) (map (tree_at a.terms) rs) valid (subst (GoesBack a) (sym undone) (goes_back-restored a b back)) b (λ m owed. restored-owed a b z m undone back owed)
     (subst (IsRelated a b env (map erased (map (tree_at a.terms) ls)) (map erased (map (tree_at a.terms) rs)) a.remaining_depth) refuted (related-trees a b env ls rs n a.remaining_depth o depth rel))
 
 pub memory-undone : (a b z : State) (env : List Clause) (ls rs : List TermId) → IsValid a → GoesBack a b → z ≡ restored a b →
@@ -313,7 +306,7 @@ related-equated a b z env ls rs n o valid going first second depth some rel back
     let same : AreIdentical (map (tree_at a.terms) ls) (map (tree_at a.terms) rs) → z.inference ≡ all_equated (map (tree_at a.terms) ls) (map (tree_at a.terms) rs) b.inference =
     subst (λ xs. AreIdentical xs (map (tree_at a.terms) rs) → z.inference ≡ all_equated xs (map (tree_at a.terms) rs) b.inference) ts
     (subst (λ xs. AreIdentical (map (tree_at b.terms) ls) xs → z.inference ≡ all_equated (map (tree_at b.terms) ls) xs b.inference) us identical) in
-    equated-related a z env (map (tree_at a.terms) ls) (map (tree_at a.terms) rs) valid (goes_back-through a b z back further) b going
+    equated-related a z env (map (tree_at a.terms) ls) (map (tree_at a.terms) rs) valid (goes_back-through a b z back further) b going further
     (record { kept = kept; adds = adds; identical = same }) o some (related-trees a b env ls rs n a.remaining_depth o depth rel)
 
 -- two terms that got their numbers, or two lists of them
@@ -336,6 +329,10 @@ agreed-interned o s T e kept solved ρ agrees = subst (λ (a : State). AgreesWit
 pub unchanged-interned : (o s z : State) (T : List Tree) (r : Result Certainty Fault) → o ≡ s → OnErr r (z ≡ restored (record o { terms = T }) z) → OnErr r (z ≡ restored s z)
 unchanged-interned o s z T r e h = subst (λ a. OnErr r (z ≡ restored a z)) e h
 
+-- what is recorded beside more terms
+pub faults-interned : (o s z : State) (T : List Tree) → o ≡ s → RecordsCausedFaults (record o { terms = T }) z → RecordsCausedFaults s z
+faults-interned o s z T e h = subst (λ a. RecordsCausedFaults a z) e h
+
 -- which mode a run was in stays so with more terms
 fault-at : (o z : State) (T : List Tree) (r : Result Certainty Fault) → IsFaultFor (record o { terms = T }) z r → IsFaultFor o z r
 fault-at o z T (Ok x) h = tt
@@ -346,3 +343,18 @@ fault-at o z T (Err fault.NotForThisKind) h = h
 
 pub fault-interned : (o s z : State) (T : List Tree) (r : Result Certainty Fault) → o ≡ s → IsFaultFor (record o { terms = T }) z r → IsFaultFor s z r
 fault-interned o s z T r e h = subst (λ a. IsFaultFor a z r) e (fault-at o z T r h)
+
+-- want of memory says nothing of the lists
+pub equated-unanswered : (a z : State) (env : List Clause) (ts us : List Tree) → ((ρ : Variable → Tree) → AgreesWith z ρ → AgreesWith a ρ) → IsEquated a z env ts us (Err fault.OutOfMemory)
+equated-unanswered a z env ts us agreed = record {
+  sound = λ m owed closed. tt;
+  decided = λ m owed closed h. absurd h;
+  equal = λ m owed h. absurd h;
+  never = λ h. absurd h;
+  agreed = agreed;
+  most_general = λ h. absurd (false≢true h);
+  identified = λ h. absurd h;
+  plain = λ e h. h;
+  regions = λ e h. absurd (false≢true h);
+  same = λ e h. ⊎_elim (λ k. k) (λ k. k) h;
+}

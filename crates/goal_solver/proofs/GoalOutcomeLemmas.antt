@@ -49,43 +49,16 @@ followed-all_in T U (id ∷ ids) (r ∷ rs) h b e =
     All-cons (IsIn U) r rs (followed-in T U id r (All-head (IsIn T) id ids h) (All-head (λ x. x.0 < length U) r rs b) first)
     (followed-all_in T U ids rs (All-tail (IsIn T) id ids h) (All-tail (λ x. x.0 < length U) r rs b) rest)
 
--- what is said of a premise over the context's tables is said of its predicate
-pub clause-says : (o s : State) (t : Tables) (env : List Clause) (p : InternedPredicate) (r : Result Outcome Stop) → o ≡ s → t ≡ o.tables →
-    ((m : TypingMode) → RunsAs on_access.Stop o.typing_mode m →
-    IfOk r (Says (PremiseHolds (level (setting_of t m env) o.remaining_depth) (predicate (predicate_at o.terms p))) (PremiseRefuted (level (setting_of t m env) o.remaining_depth) (predicate (predicate_at o.terms p))))) →
-    (m : TypingMode) → StandsFor s.typing_mode m → IfOk r (Says (ClauseHolds (level_over s m env) (predicate_at s.terms p)) (ClauseRefuted (level_over s m env) (predicate_at s.terms p)))
-unfolding PremiseHolds PremiseRefuted
-clause-says o s t env p r e f h m stands =
-    subst (λ (a : State). StandsFor a.typing_mode m → IfOk r (Says (ClauseHolds (level_over a m env) (predicate_at a.terms p)) (ClauseRefuted (level_over a m env) (predicate_at a.terms p)))) e
-    (λ x. subst (λ (u : Tables). IfOk r (Says (ClauseHolds (level (setting_of u m env) o.remaining_depth) (predicate_at o.terms p)) (ClauseRefuted (level (setting_of u m env) o.remaining_depth) (predicate_at o.terms p)))) f (h m (stops-runs on_access.Stop o.typing_mode m refl x)))
-    stands
-
 -- more terms, and nothing else
-pub grown-inference : (a b : State) → b ≡ record a { terms = b.terms } → ChangesInference a b
-grown-inference a b e = e ∙ sym (ap (λ (x : State). record a { terms = x.terms; inference = x.inference }) e)
-
-pub bound-inference : (a b : State) → b ≡ record a { inference = b.inference } → ChangesInference a b
-bound-inference a b e = e ∙ sym (ap (λ (x : State). record a { terms = x.terms; inference = x.inference }) e)
-
-pub grown-twice : (a b c : State) → b ≡ record a { terms = b.terms } → c ≡ record b { terms = c.terms } → c ≡ record a { terms = c.terms }
-grown-twice a b c e f = f ∙ ap (λ (x : State). record x { terms = c.terms }) e
-
 pub grown-goes_back : (a b : State) → b ≡ record a { terms = b.terms } → Keeps a.terms b.terms → GoesBack a b
 grown-goes_back = goes_back-grown
 
 pub grown-goes_back_twice : (a b c : State) → b ≡ record a { terms = b.terms } → c ≡ record b { terms = c.terms } → Keeps a.terms b.terms → Keeps b.terms c.terms → GoesBack a c
 grown-goes_back_twice a b c e f k l = goes_back-through a b c (goes_back-grown a b e k) (goes_back-grown b c f l)
 
-pub grown-goes_back_thrice : (a b c d : State) → b ≡ record a { terms = b.terms } → c ≡ record b { terms = c.terms } → d ≡ record c { terms = d.terms } →
-    Keeps a.terms b.terms → Keeps b.terms c.terms → Keeps c.terms d.terms → GoesBack a d
-grown-goes_back_thrice a b c d e f g k l m = goes_back-through a c d (grown-goes_back_twice a b c e f k l) (goes_back-grown c d g m)
+pub grown-twice_then_back : (a b c d : State) → b ≡ record a { terms = b.terms } → c ≡ record b { terms = c.terms } → Keeps a.terms b.terms → Keeps b.terms c.terms → GoesBack c d → GoesBack a d
+grown-twice_then_back a b c d e f k l g = goes_back-through a c d (grown-goes_back_twice a b c e f k l) g
 
 -- then another step
-pub grown-then : (a b c : State) → b ≡ record a { terms = b.terms } → ChangesInference b c → ChangesInference a c
-grown-then a b c e h = inference-through a b c (grown-inference a b e) h
-
 pub grown-then_back : (a b c : State) → b ≡ record a { terms = b.terms } → Keeps a.terms b.terms → GoesBack b c → GoesBack a c
 grown-then_back a b c e k g = goes_back-through a b c (goes_back-grown a b e k) g
-
-pub headline-before : (a b : State) → GoesBack a b → is_headline a.typing_mode ≡ true → is_headline b.typing_mode ≡ true
-headline-before a b g h = ap is_headline g.typing_mode ∙ h

@@ -15,6 +15,7 @@ pub mod RunModes
 pub mod CacheLemmas
 pub mod EffectLemmas
 pub mod AccessLemmas
+pub mod FaultLemmas
 pub mod TraitOutcomeLemmas
 pub mod BeforeLemmas
 pub mod ProjectionArgLemmas
@@ -51,6 +52,7 @@ pub mod AddedGoalLemmas
 pub mod RoundLemmas
 pub mod AsideLemmas
 pub mod GoalOutcomeLemmas
+pub mod EvaluationLemmas
 pub mod SinceMarkLemmas
 pub mod RuleEntryLemmas
 pub mod RuleAnswerLemmas
@@ -84,3 +86,4 @@ pub mod ListedTermLemmas
 pub mod ComparisonLemmas
 pub mod HostGoalLemmas
 pub mod HiddenTypeLemmas
+pub mod DefinedGoalLemmas

@@ -16,7 +16,9 @@ use Rattle.goal_terms.specs.declared.predicates.BoundConstness.{BoundConstness}
 use Rattle.goal_terms.specs.declared.predicates.Clause.{Clause}
 use Rattle.goal_terms.specs.declared.predicates.TraitRef.{TraitRef}
 use Rattle.goal_terms.specs.declared.term_nodes.TermId.{TermId}
-use Rattle.goal_kinds.specs.Entries.{Arguments, given_arguments, of_header, of_other_header, followed_by, ExpectedTerm, Entry, arguments, equal_terms, clause, row_clauses, row_conditions, expected, access, delayed_fault, evaluation, ambiguous, undecided, refused, OfNumbered, Named, NamedKnown, NamesNothing, TermIs, NoTerm, EntriesHold, EntriesRefuted, ListHolds, ListGives, ListRefuted, ListHoldsWith, ExpectsNone, AsksNoTerm}
+use Rattle.goal_terms.specs.declared.ids.OpaqueId.{OpaqueId}
+use Rattle.goal_kinds.specs.declared.rules.FirstUse.{FirstUse}
+use Rattle.goal_kinds.specs.Entries.{Arguments, given_arguments, of_header, of_other_header, followed_by, ExpectedTerm, Entry, arguments, equal_terms, clause, row_clauses, row_conditions, expected, access, delayed_fault, evaluation, hidden_type, ambiguous, undecided, refused, OfNumbered, Named, NamedKnown, NamesNothing, TermIs, NoTerm, EntriesHold, EntriesRefuted, ListHolds, ListGives, ListRefuted, ListHoldsWith, ExpectsNone, AsksNoTerm}
 use Rattle.goal_kinds.specs.Headers.{under, no_lifetime}
 use Rattle.goal_kinds.specs.Interned.{IsIn, AreIn, erased_at, erased_all}
 use Rattle.goal_kinds.specs.Laws.{IsConsistent}
@@ -114,7 +116,7 @@ pub record Asks (L : Level) (named : List (List Tree)) (e : Entry) (P R : Type 0
   pub whole : (t : Tree) (rest : List Entry) → P → HoldWith L named t rest → HoldWith L named t (e ∷ rest)
   pub refuted_part : (rest : List Entry) → EntriesRefuted L named (e ∷ rest) → R ⊎ EntriesRefuted L named rest
   pub refuted_whole : (rest : List Entry) → R ⊎ EntriesRefuted L named rest → EntriesRefuted L named (e ∷ rest)
-  pub silent : ExpectsNone e
+  pub silent : P → ExpectsNone e
   pub apart : P → R → ⊥
 
 -- progress after such an entry
@@ -128,7 +130,7 @@ asks-held L p e P R a held rest all h = record {
   refuted_back = λ y. ⊎_elim (λ r. absurd (a.apart held r)) (λ x. x) (a.refuted_part rest (h.refuted_back y));
   holds = λ i t m x. h.holds i t m (a.whole t rest held x);
   holds_back = λ t x. let back = h.holds_back t x in (back.0, back.1, (a.part t rest back.2).1);
-  asks = λ i. silent-on p.term e rest all a.silent (h.asks i);
+  asks = λ i. silent-on p.term e rest all (a.silent held) (h.asks i);
 }
 
 -- it neither holds nor is refuted
@@ -178,7 +180,7 @@ module _ (L : Level) (c : IsConsistent L) (named : List (List Tree)) where
     whole = λ t rest h x. (h, x);
     refuted_part = λ rest h. h;
     refuted_whole = λ rest h. h;
-    silent = tt;
+    silent = λ h. tt;
     apart = λ h x. no_pair_unequal L c ts us h x;
   }
 
@@ -189,7 +191,7 @@ module _ (L : Level) (c : IsConsistent L) (named : List (List Tree)) where
     whole = λ t rest h x. (h, x);
     refuted_part = λ rest h. h;
     refuted_whole = λ rest h. h;
-    silent = tt;
+    silent = λ h. tt;
     apart = λ h x. no_clause_refuted L c p h x;
   }
 
@@ -201,7 +203,7 @@ module _ (L : Level) (c : IsConsistent L) (named : List (List Tree)) where
     whole = λ t rest h x. (h, x);
     refuted_part = λ rest h. h;
     refuted_whole = λ rest h. h;
-    silent = tt;
+    silent = λ h. tt;
     apart = λ h x. OfRow-twice _ _ (λ s d e. no_premises_refuted L c (clauses_under s cs) d e) (slice_get named n) h x;
   }
 
@@ -214,7 +216,7 @@ module _ (L : Level) (c : IsConsistent L) (named : List (List Tree)) where
     whole = λ t rest h x. (h, x);
     refuted_part = λ rest h. h;
     refuted_whole = λ rest h. h;
-    silent = tt;
+    silent = λ h. tt;
     apart = λ h x. OfRow-twice _ _ (λ s d e. no_premises_refuted L c (conditions_as b (traits_under s rs)) d e) (slice_get named n) h x;
   }
 
@@ -227,7 +229,7 @@ module _ (L : Level) (named : List (List Tree)) where
     whole = λ t rest h x. x;
     refuted_part = λ rest h. inr h;
     refuted_whole = λ rest h. ⊎_elim (λ x. absurd x) (λ x. x) h;
-    silent = tt;
+    silent = λ h. tt;
     apart = λ h x. x;
   }
 
@@ -238,7 +240,7 @@ module _ (L : Level) (named : List (List Tree)) where
     whole = λ t rest h x. x;
     refuted_part = λ rest h. inr h;
     refuted_whole = λ rest h. ⊎_elim (λ x. absurd x) (λ x. x) h;
-    silent = tt;
+    silent = λ h. tt;
     apart = λ h x. x;
   }
 
@@ -249,7 +251,7 @@ module _ (L : Level) (named : List (List Tree)) where
     whole = λ t rest h x. x;
     refuted_part = λ rest h. inr h;
     refuted_whole = λ rest h. ⊎_elim (λ x. absurd x) (λ x. x) h;
-    silent = tt;
+    silent = λ h. tt;
     apart = λ h x. x;
   }
 
@@ -261,7 +263,18 @@ module _ (L : Level) (named : List (List Tree)) where
     whole = λ t rest h x. absurd h;
     refuted_part = λ rest h. inr h;
     refuted_whole = λ rest h. ⊎_elim (λ x. absurd x) (λ x. x) h;
-    silent = tt;
+    silent = λ h. tt;
+    apart = λ h x. x;
+  }
+
+  pub hidden-asks : (i : OpaqueId) (ts : List Tree) (f : FirstUse) → Asks L named (hidden_type i ts f) ⊥ ⊥
+  unfolding EntriesHold EntriesRefuted
+  hidden-asks i ts f = record {
+    part = λ t rest h. absurd h;
+    whole = λ t rest h x. absurd h;
+    refuted_part = λ rest h. inr h;
+    refuted_whole = λ rest h. ⊎_elim (λ x. absurd x) (λ x. x) h;
+    silent = λ h. absurd h;
     apart = λ h x. x;
   }
 
@@ -272,7 +285,7 @@ module _ (L : Level) (named : List (List Tree)) where
     whole = λ t rest h x. absurd h;
     refuted_part = λ rest h. inr h;
     refuted_whole = λ rest h. ⊎_elim (λ x. absurd x) (λ x. x) h;
-    silent = tt;
+    silent = λ h. tt;
     apart = λ h x. x;
   }
 
@@ -283,7 +296,7 @@ module _ (L : Level) (named : List (List Tree)) where
     whole = λ t rest h x. absurd h;
     refuted_part = λ rest h. inl tt;
     refuted_whole = λ rest h. tt;
-    silent = tt;
+    silent = λ h. tt;
     apart = λ h x. h;
   }
 
@@ -496,6 +509,7 @@ asked-gives L P named (expected e ∷ es) asks h = h
 asked-gives L P named (access a ∷ es) asks h = asked-gives L P named es (λ x. asks (tt, x)) h
 asked-gives L P named (delayed_fault f ∷ es) asks h = asked-gives L P named es (λ x. asks (tt, x)) h
 asked-gives L P named (evaluation ∷ es) asks h = asked-gives L P named es (λ x. asks (tt, x)) h
+asked-gives L P named (hidden_type i ts f ∷ es) asks h = absurd h
 asked-gives L P named (ambiguous ∷ es) asks h = h
 asked-gives L P named (undecided ∷ es) asks h = h
 asked-gives L P named (refused ∷ es) asks h = h

@@ -37,7 +37,8 @@ use Rattle.goal_solver.specs.Answers.{IsOwed, level_over}
 use Rattle.goal_solver.specs.Collecting.{KindWords, words_for, Speaks, Lacks, AreCollected, CollectsBounds, CollectsEnvironment, CollectsFor}
 use Rattle.goal_solver.specs.GoingBack.{restored}
 use Rattle.goal_solver.specs.HeadForms.{IsClosedForm, IsFormAnswer, IsFormOpen, IsAnswered, bound_term}
-use Rattle.goal_solver.specs.OpenGoals.{AsksForm, IsNoForm, IsConsidered, Considers, fault_in, has_kind_fault, IsLeft, IsFormless, FormsGoal, IsClassAnswer, ClassAnswers, IsRefusedIn, ByClasses, trait_classes, WhenAnswered, MergesGoal}
+use Rattle.goal_solver.specs.HiddenTypes.{AsksForm}
+use Rattle.goal_solver.specs.OpenGoals.{IsNoForm, IsConsidered, Considers, fault_in, has_kind_fault, IsLeft, IsFormless, FormsGoal, IsClassAnswer, ClassAnswers, IsRefusedIn, ByClasses, trait_classes, WhenAnswered, MergesGoal}
 use Rattle.goal_solver.specs.MergedRules.{MergesRules}
 use Rattle.goal_solver.specs.OpenRuns.{refusal_in}
 use Rattle.goal_solver.specs.Pending.{is_alias}

@@ -26,8 +26,9 @@ use Rattle.goal_solver.specs.Binding.{IsApplicable}
 use Rattle.goal_solver.specs.GoingBack.{GoesBack, restored}
 use Rattle.goal_solver.specs.Collecting.{KindWords, CollectsFor}
 use Rattle.goal_solver.specs.MergedRules.{MergesRules}
-use Rattle.goal_solver.specs.OpenGoals.{AsksForm, Considers, FormsGoal, IsFormless, IsLeft, IsRefusedIn, WhenAnswered, has_kind_fault}
-use Rattle.goal_solver.specs.OpenProjections.{CollectsAll, tree_in, is_formed, Forms, FormsAll, RefusesForm, LacksForm, WithForms, IsRigidList, IsRigid, own_args, proven_class, MergesGroup, ByBounds, ByRest, ByLater, ByGroups, alias_words, ByClass, MergesThrough, MergesProjection, AsksItsTrait, AnswersTrait}
+use Rattle.goal_solver.specs.HiddenTypes.{AsksForm, tree_in}
+use Rattle.goal_solver.specs.OpenGoals.{Considers, FormsGoal, IsFormless, IsLeft, IsRefusedIn, WhenAnswered, has_kind_fault}
+use Rattle.goal_solver.specs.OpenProjections.{CollectsAll, is_formed, Forms, FormsAll, RefusesForm, LacksForm, WithForms, IsRigidList, IsRigid, own_args, proven_class, MergesGroup, ByBounds, ByRest, ByLater, ByGroups, alias_words, ByClass, MergesThrough, MergesProjection, AsksItsTrait, AnswersTrait}
 use Rattle.goal_solver.specs.OpenRuns.{RunsOpen}
 use Rattle.goal_solver.specs.Refusals.{WhenRefused, IsRefusedOpen}
 use Rattle.goal_solver.specs.Relating.{IsFaultFor}

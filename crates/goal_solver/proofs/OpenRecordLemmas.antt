@@ -16,6 +16,7 @@ use Rattle.goal_solver.specs.Relating.{IsFaultFor}
 use Rattle.goal_solver.specs.Responses.{both_certain}
 use Rattle.goal_solver.specs.RunRules.{IsRecorded, AreRecorded, AreListed}
 use Rattle.goal_solver.specs.State.{State}
+use Rattle.goal_solver.proofs.GoingBackLemmas.{goes_back-same}
 use Rattle.goal_solver.proofs.RecordedLemmas.{entered-contains, recorded-next, stays-recorded}
 
 -- two certainties that are sure together
@@ -44,6 +45,7 @@ steps-recorded env (entry.Access a) s p u q h sure =
     (done.0, ⊎_elim (λ r. entered-contains a s.accesses u.accesses r.0.0) (λ r. absurd (cc)) done.1)
 steps-recorded env (entry.DelayedFault f) s p u q h sure = (sym (ap (λ (x : OpenProgress). x.certainty) h.1) ∙ sure, entered-contains f s.delayed_faults u.delayed_faults h.0.0)
 steps-recorded env entry.Evaluation s p u q h sure = (sym (ap (λ (x : OpenProgress). x.certainty) h.2) ∙ sure, tt)
+steps-recorded env (entry.HiddenType v k f) s p u q h sure = ((joins-yes p q _ h sure).0, tt)
 steps-recorded env entry.Ambiguous s p u q h sure = ((both-yes p.certainty certainty.Maybe (sym (ap (λ (x : OpenProgress). x.certainty) h.1) ∙ sure)).0, tt)
 steps-recorded env entry.Undecided s p u q h sure = ((both-yes p.certainty certainty.Maybe (sym (ap (λ (x : OpenProgress). x.certainty) h.1) ∙ sure)).0, tt)
 steps-recorded env entry.Refused s p u q h sure = ((joins-yes p q _ h sure).0, tt)
@@ -53,7 +55,7 @@ pub open_recorded-next : (env : List Clause) (a b : State) (es : List RuleEntry)
     Steps env e a p b q → (p.certainty ≡ certainty.Yes → AreRecorded a (take i es)) → q.certainty ≡ certainty.Yes → AreRecorded b (take (i + 1) es)
 open_recorded-next env a b es i e p q g l at step before sure =
     let done = steps-recorded env e a p b q step sure in
-    recorded-next a b b es i e g refl l at (before done.0) done.1
+    recorded-next a b b es i e g (goes_back-same b) l at (before done.0) done.1
 
 -- what is recorded in a trial stays so after it
 pub tried-recorded : (s a z : State) (es : List RuleEntry) → z ≡ restored s a → AreRecorded a es → AreRecorded z es
@@ -62,6 +64,7 @@ tried-recorded s a z es e h =
     (All-weaker (IsRecorded a) (IsRecorded (restored s a)) (λ x i. stays-recorded a (restored s a) (take-length a.accesses) (take-length a.delayed_faults) x i) es h)
 
 pub tried-listed : (s b a z : State) (es : List RuleEntry) → b ≡ begun s → z ≡ restored s a → AreListed es b a → AreListed es s z
+unfolding AreListed
 tried-listed s b a z es f e h = subst (AreListed es s) (sym e) (subst (λ (y : State). AreListed es y a) f h)
 
 -- a fault in a trial is one after it

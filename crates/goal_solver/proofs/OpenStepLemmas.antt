@@ -16,6 +16,7 @@ use Rattle.goal_terms.specs.declared.answers.Certainty.TheVariants as certainty
 use Rattle.goal_terms.specs.declared.answers.DelayedFault.{DelayedFault}
 use Rattle.goal_terms.specs.declared.answers.GoalSource.{GoalSource}
 use Rattle.goal_terms.specs.declared.answers.OpaqueAccess.{OpaqueAccess}
+use Rattle.goal_terms.specs.declared.answers.OpaqueTypeKey.{OpaqueTypeKey}
 use Rattle.goal_terms.specs.declared.ids.ImplId.{ImplId}
 use Rattle.goal_terms.specs.declared.predicates.BoundConstness.{BoundConstness}
 use Rattle.goal_terms.specs.declared.predicates.Clause.{Clause}
@@ -26,14 +27,16 @@ use Rattle.goal_terms.specs.declared.terms.Term.{Term}
 use Rattle.goal_tables.specs.declared.rows.ImplRow.{ImplRow}
 use Rattle.goal_kinds.specs.Rules.{MatchedHeader, clauses_in}
 use Rattle.goal_kinds.specs.declared.faults.Fault.{Fault}
+use Rattle.goal_kinds.specs.declared.rules.FirstUse.{FirstUse}
 use Rattle.goal_kinds.specs.declared.rules.RowClauses.{RowClauses}
 use Rattle.goal_kinds.specs.declared.rules.RuleArguments.{RuleArguments}
 use Rattle.goal_kinds.specs.declared.rules.RuleEntry.{RuleEntry}
 use Rattle.goal_kinds.specs.declared.rules.RuleEntry.TheVariants as entry
 use Rattle.goal_kinds.specs.declared.rules.RuleTerm.{RuleTerm}
+use Rattle.goal_solver.specs.Accesses.{uncaused_faults, RecordsCausedFaults}
 use Rattle.goal_solver.specs.Added.{with_goals, Enters, RecordsFault}
 use Rattle.goal_solver.specs.GoingBack.{GoesBack}
-use Rattle.goal_solver.specs.OpenRuns.{OpenProgress, named_trees, after_entry, after_naming, clauses_with, predicate_of, other_header, refusal_in, source_of, AddsGoals, AddsRow, Equates, Evaluates, Follows, GivesForm, GivesTerm, GivesValue, IsGoalOf, Matches, MatchesIf, NamesOpen, ReadsMode, Steps}
+use Rattle.goal_solver.specs.OpenRuns.{OpenProgress, named_trees, after_entry, after_naming, clauses_with, predicate_of, other_header, refusal_in, source_of, AddsGoals, AddsRow, Defines, Equates, Evaluates, Follows, GivesForm, GivesTerm, GivesValue, IsGoalOf, Matches, MatchesIf, NamesOpen, ReadsMode, Steps}
 use Rattle.goal_solver.specs.RunRules.{AreListed}
 use Rattle.goal_solver.specs.State.{State}
 use Rattle.goal_solver.proofs.BindingLemmas.{zip-map}
@@ -64,8 +67,8 @@ goal-added from env k p xs s z asks clones e = record {
 pub added-back : (from : GoalSource) (env : List Clause) (qs : List PredicateTree) (s z : State) → AddsGoals from env qs s z → GoesBack s z
 added-back from env qs s z h = goes_back-when_goals s z h.added h.is
 
-pub added-faults : (from : GoalSource) (env : List Clause) (qs : List PredicateTree) (s z : State) → AddsGoals from env qs s z → z.delayed_faults ≡ s.delayed_faults
-added-faults from env qs s z h = ap (λ (x : State). x.delayed_faults) h.is
+pub added-faults : (from : GoalSource) (env : List Clause) (qs : List PredicateTree) (s z : State) → AddsGoals from env qs s z → RecordsCausedFaults s z
+added-faults from env qs s z h = ap (λ (x : State). uncaused_faults x) h.is
 
 -- no goal is added
 pub none-added : (from : GoalSource) (env : List Clause) (s : State) → AddsGoals from env [] s s
@@ -215,6 +218,11 @@ pub term-step : (env : List Clause) (e : RuleEntry) (v : Term) (t : RuleTerm) (s
     GivesTerm env p.named (tree_of_term v) t s c u → q ≡ after_entry p c → Steps env e s p u q
 unfolding Steps
 term-step env e v t s p u q c is gives after = subst (λ x. Steps env x s p u q) (sym is) (c, gives, after)
+
+pub hidden-step : (env : List Clause) (e : RuleEntry) (v : Term) (k : OpaqueTypeKey) (f : FirstUse) (s : State) (p : OpenProgress) (u : State) (q : OpenProgress) (c : Certainty) →
+    e ≡ entry.HiddenType v k f → Defines env v k f s c u → q ≡ after_entry p c → Steps env e s p u q
+unfolding Steps
+hidden-step env e v k f s p u q c is defines after = subst (λ x. Steps env x s p u q) (sym is) (c, defines, after)
 
 pub access-step : (env : List Clause) (e : RuleEntry) (a : OpaqueAccess) (s : State) (p : OpenProgress) (u : State) (q : OpenProgress) (c : Certainty) → e ≡ entry.Access a →
     ReadsMode a s c u → q ≡ after_entry p c → Steps env e s p u q

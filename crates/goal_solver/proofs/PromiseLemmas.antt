@@ -286,7 +286,7 @@ answers-alias before after env p r sound whole quiet given values unnamed =
           let expected : (n : ℕ) × (expected_variable p.term ≡ Some n) = accepted-expected before p env ok in
           term-right (level_over before m env) p.alias.kind (erased_args p.alias.args.items) p.term r (sound m o) (whole m expected.0 o ok expected.1);
       lasts = λ m n stands le. term-lasts (within-level (setting_of before.tables m env) before.remaining_depth n le) p.alias.kind (erased_args p.alias.args.items) p.term r (sound m stands);
-      quiet = gives-alone before p.term r quiet given values;
+      quiet = λ none. gives-alone before p.term r quiet given values;
       no_class = unnamed;
     }
 
@@ -389,3 +389,8 @@ given-parts c (Some p) a e = let given : Through = record { class = c; asked = p
 
 pub closed-same : (o : Option NormalizesTo) (p : NormalizesTo) (env : List Clause) → o ≡ Some p → is_closed_alias p.alias env ≡ true → (q : NormalizesTo) → o ≡ Some q → is_closed_alias q.alias env ≡ true
 closed-same o p env e closed q f = subst (λ (x : NormalizesTo). is_closed_alias x.alias env ≡ true) (some-same p q (sym e ∙ f)) closed
+
+-- a goal that isn't closed is open
+pub is-open : (b e : Bool) → b ≡ e → (e ≡ false → ⊥) → b ≡ true
+is-open true e h f = refl
+is-open false e h f = absurd (f (sym h))

@@ -10,6 +10,8 @@ use Rattle.goal_terms.specs.declared.answers.Certainty.TheVariants as certainty
 use Rattle.goal_kinds.specs.declared.faults.Fault.{Fault}
 use Rattle.goal_kinds.specs.declared.rules.RuleEntry.{RuleEntry}
 use Rattle.goal_kinds.specs.declared.rules.RuleEntry.TheVariants as entry
+use Rattle.goal_kinds.specs.Causes.{IsFaultCaused}
+use Rattle.goal_solver.specs.Accesses.{RecordsCausedFaults}
 use Rattle.goal_solver.specs.Added.{Enters}
 use Rattle.goal_solver.specs.GoingBack.{BeginsWith, GoesBack}
 use Rattle.goal_solver.specs.RunRules.{to_record, IsRecorded, AreRecorded, IsRecordedAnswer, AreListed}
@@ -17,6 +19,7 @@ use Rattle.goal_solver.specs.State.{State}
 use Rattle.goal_solver.specs.declared.eval.run_rule.recorded.ToRecord.{ToRecord}
 use Rattle.goal_solver.specs.declared.eval.run_rule.recorded.ToRecord.TheVariants as recorded
 use Rattle.goal_solver.specs.Stored.{IsSet}
+use Rattle.goal_solver.proofs.FaultLemmas.{come-caused}
 use Rattle.goal_solver.proofs.StoredLemmas.{set-pushed}
 use Rattle.std.proofs.Math.Seq.{take-append_seam}
 
@@ -60,21 +63,19 @@ stays-recorded a b x f (entry.RowClauses y z) h = tt
 stays-recorded a b x f (entry.RowConditions c y z) h = tt
 stays-recorded a b x f (entry.Term y z) h = tt
 stays-recorded a b x f entry.Evaluation h = tt
+stays-recorded a b x f (entry.HiddenType y z w) h = tt
 stays-recorded a b x f entry.Ambiguous h = tt
 stays-recorded a b x f entry.Undecided h = tt
 stays-recorded a b x f entry.Refused h = tt
 
--- more terms change nothing of it
-pub grown-recorded : (a b : State) → b ≡ record a { terms = b.terms } → (e : RuleEntry) → IsRecorded a e → IsRecorded b e
-grown-recorded a b e = stays-recorded a b (same-begins a.accesses b.accesses (ap (λ (s : State). s.accesses) e)) (same-begins a.delayed_faults b.delayed_faults (ap (λ (s : State). s.delayed_faults) e))
-
 -- the next entry
-pub recorded-next : (a b c : State) (es : List RuleEntry) (i : ℕ) (e : RuleEntry) → GoesBack a b → c ≡ record b { terms = c.terms } → i < length es → e ≡ get_or es i e →
+pub recorded-next : (a b c : State) (es : List RuleEntry) (i : ℕ) (e : RuleEntry) → GoesBack a b → GoesBack b c → i < length es → e ≡ get_or es i e →
     AreRecorded a (take i es) → IsRecorded b e → AreRecorded c (take (i + 1) es)
 recorded-next a b c es i e g f l at before here =
+    let stays : (x : RuleEntry) → IsRecorded b x → IsRecorded c x = stays-recorded b c f.accesses f.delayed_faults in
     All-more (IsRecorded c) es i e l
-    (All-weaker (IsRecorded a) (IsRecorded c) (λ x h. grown-recorded b c f x (stays-recorded a b g.accesses g.delayed_faults x h)) (take i es) before)
-    (subst (IsRecorded c) at (grown-recorded b c f e here))
+    (All-weaker (IsRecorded a) (IsRecorded c) (λ x h. stays x (stays-recorded a b g.accesses g.delayed_faults x h)) (take i es) before)
+    (subst (IsRecorded c) at (stays e here))
 
 -- after the last entry
 pub recorded-end : (a : State) (es : List RuleEntry) (i : ℕ) → length es ≤ i → AreRecorded a (take i es) → AreRecorded a es
@@ -82,7 +83,8 @@ recorded-end a es i l h = subst (AreRecorded a) (take_all i es l) h
 
 -- a fault that one entry names
 pub one-listed : (a b : State) (e : RuleEntry) (g : DelayedFault) → e ≡ entry.DelayedFault g → ((f : DelayedFault) → Contains b.delayed_faults f → Contains a.delayed_faults f ⊎ (g ≡ f)) → AreListed (e ∷ []) a b
-one-listed a b e g is h f p = ⊎_elim inl (λ q. inr (subst (Contains (e ∷ [])) (is ∙ ap entry.DelayedFault q) (Contains-push [] e))) (h f p)
+unfolding AreListed
+one-listed a b e g is h f p = ⊎_elim inl (λ q. inr (inl (subst (Contains (e ∷ [])) (is ∙ ap entry.DelayedFault q) (Contains-push [] e)))) (h f p)
 
 -- only one entry says to record a fault
 only-fault : (e : RuleEntry) (f : DelayedFault) → to_record e ≡ recorded.DelayedFault f → e ≡ entry.DelayedFault f
@@ -95,6 +97,7 @@ only-fault (entry.RowClauses y z) f h = cc
 only-fault (entry.RowConditions c y z) f h = cc
 only-fault (entry.Term y z) f h = cc
 only-fault entry.Evaluation f h = cc
+only-fault (entry.HiddenType y z w) f h = cc
 only-fault entry.Ambiguous f h = cc
 only-fault entry.Undecided f h = cc
 only-fault entry.Refused f h = cc
@@ -102,25 +105,43 @@ only-fault entry.Refused f h = cc
 -- the faults that one entry names
 pub entry-listed : (a b : State) (e : RuleEntry) (x : ToRecord) → x ≡ to_record e →
     ((f : DelayedFault) → Contains b.delayed_faults f → Contains a.delayed_faults f ⊎ (x ≡ recorded.DelayedFault f)) → AreListed (e ∷ []) a b
+unfolding AreListed
 entry-listed a b e x is h f p =
-    ⊎_elim inl (λ q. inr (subst (Contains (e ∷ [])) (only-fault e f (sym is ∙ q)) (Contains-push [] e))) (h f p)
+    ⊎_elim inl (λ q. inr (inl (subst (Contains (e ∷ [])) (only-fault e f (sym is ∙ q)) (Contains-push [] e)))) (h f p)
 
 -- no fault has come
 pub none-listed : (a b : State) (es : List RuleEntry) → b.delayed_faults ≡ a.delayed_faults → AreListed es a b
+unfolding AreListed
 none-listed a b es e f p = inl (subst (λ xs. Contains xs f) e p)
 
 -- one entry more
-pub listed-next : (s a b : State) (es : List RuleEntry) (i : ℕ) (e : RuleEntry) → i < length es → e ≡ get_or es i e → AreListed es s a → AreListed (e ∷ []) a b → AreListed es s b
-listed-next s a b es i e l at before here f p =
-    ⊎_elim (before f) (λ q. inr (subst (Contains es) (sym at ∙ one-contained e (entry.DelayedFault f) q) (Contains-get_or es i e l))) (here f p)
+pub listed-next : (s a b : State) (es : List RuleEntry) (i : ℕ) (e : RuleEntry) → i < length es → e ≡ get_or es i e → GoesBack s a → AreListed es s a → AreListed (e ∷ []) a b → AreListed es s b
+unfolding AreListed
+listed-next s a b es i e l at back before here f p =
+    ⊎_elim (before f)
+    (λ q. inr (⊎_elim (λ k. inl (subst (Contains es) (sym at ∙ one-contained e (entry.DelayedFault f) k) (Contains-get_or es i e l))) (λ k. inr (subst (λ t. IsFaultCaused t f) back.tables k)) q)) (here f p)
+
+-- what has its cause is named by none
+pub listed-caused : (s a b : State) (es : List RuleEntry) → GoesBack s a → b.tables ≡ a.tables → RecordsCausedFaults a b → AreListed es s a → AreListed es s b
+unfolding AreListed
+listed-caused s a b es back e faults h f p = ⊎_elim (h f) (λ k. inr (inr (subst (λ t. IsFaultCaused t f) back.tables k))) (come-caused a b e faults f p)
+
+pub step-caused : (a b : State) (es : List RuleEntry) → GoesBack a b → RecordsCausedFaults a b → AreListed es a b
+unfolding AreListed
+step-caused a b es back faults f p = ⊎_elim inl (λ k. inr (inr k)) (come-caused a b back.tables faults f p)
+
+pub ruleset stepping = (step-caused)
 
 -- no other fault names none
 pub listed-kept : (s a b : State) (es : List RuleEntry) → b.delayed_faults ≡ a.delayed_faults → AreListed es s a → AreListed es s b
+unfolding AreListed
 listed-kept s a b es e h f p = h f (subst (λ xs. Contains xs f) e p)
 
--- more terms name no fault
-pub listed-grown : (s a b : State) (es : List RuleEntry) → b ≡ record a { terms = b.terms } → AreListed es s a → AreListed es s b
-listed-grown s a b es e = listed-kept s a b es (ap (λ (x : State). x.delayed_faults) e)
+-- of two runs after one another each names its own
+pub listed-through : (s a b : State) (es : List RuleEntry) → GoesBack s a → AreListed es s a → AreListed es a b → AreListed es s b
+unfolding AreListed
+listed-through s a b es back before here f p =
+    ⊎_elim (before f) (λ q. inr (⊎_elim inl (λ k. inr (subst (λ t. IsFaultCaused t f) back.tables k)) q)) (here f p)
 
 -- an answer that isn't sure says nothing of what is recorded
 pub unsure-recorded : (a : State) (es : List RuleEntry) (x : Result Response Fault) → IfOk x (λ r. r.certainty ≢ certainty.Yes) → IfOk x (IsRecordedAnswer a es)

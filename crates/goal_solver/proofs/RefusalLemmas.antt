@@ -7,6 +7,7 @@ use Rattle.goal_terms.specs.Folding.{instance}
 use Rattle.goal_terms.specs.Tree.{Tree}
 use Rattle.goal_terms.specs.TreeOf.{trees_of, tree_of_term}
 use Rattle.goal_terms.specs.declared.answers.Certainty.{Certainty}
+use Rattle.goal_terms.specs.declared.answers.OpaqueTypeKey.{OpaqueTypeKey}
 use Rattle.goal_terms.specs.declared.answers.Response.{Response}
 use Rattle.goal_terms.specs.declared.answers.GoalSource.{GoalSource}
 use Rattle.goal_terms.specs.declared.modes.TypingMode.{TypingMode}
@@ -19,6 +20,7 @@ use Rattle.goal_terms.specs.declared.terms.Term.{Term}
 use Rattle.goal_kinds.specs.Rules.{MatchedHeader}
 use Rattle.goal_kinds.specs.declared.faults.Fault.{Fault}
 use Rattle.goal_kinds.specs.declared.faults.Fault.TheVariants as fault
+use Rattle.goal_kinds.specs.declared.rules.FirstUse.{FirstUse}
 use Rattle.goal_kinds.specs.declared.rules.RuleArguments.{RuleArguments}
 use Rattle.goal_kinds.specs.declared.rules.RuleEntry.{RuleEntry}
 use Rattle.goal_kinds.specs.declared.rules.RuleEntry.TheVariants as entry
@@ -28,7 +30,7 @@ use Rattle.goal_solver.specs.Answers.{IsOwed}
 use Rattle.goal_solver.specs.Equating.{IsEquated}
 use Rattle.goal_solver.specs.GoingBack.{BeginsWith, GoesBack, restored, begun}
 use Rattle.goal_solver.specs.OpenRuns.{OpenProgress, open_start, refusal_in, RunsThrough}
-use Rattle.goal_solver.specs.Refusals.{WhenRefused, RefusesGoal, RefusesListed, RefusesOne, RefusesEqual, RefusesPending, RefusesMatch, RefusesMatchIf, RefusesNames, RefusesForm, RefusesValue, RefusesTerm, StepRefused, StopsAtEntry, StopsSomewhere, IsRefusedOpen}
+use Rattle.goal_solver.specs.Refusals.{WhenRefused, RefusesGoal, RefusesListed, RefusesOne, RefusesEqual, RefusesPending, RefusesMatch, RefusesMatchIf, RefusesNames, RefusesForm, RefusesValue, RefusesTerm, RefusesHidden, StepRefused, StopsAtEntry, StopsSomewhere, IsRefusedOpen}
 use Rattle.goal_solver.specs.Relating.{ChangesRecords, SaysYes, Refuses}
 use Rattle.goal_solver.specs.State.{State, kinds_of}
 use Rattle.goal_solver.specs.Variables.{with_variables, kind_for, fresh_args}
@@ -167,6 +169,11 @@ pub term-refused : (env : List Clause) (e : RuleEntry) (v : Term) (t : RuleTerm)
     RefusesTerm env p.named (tree_of_term v) t s u → StepRefused env e s p u
 unfolding StepRefused
 term-refused env e v t s p u is h = subst (λ x. StepRefused env x s p u) (sym is) h
+
+pub hidden-refused : (env : List Clause) (e : RuleEntry) (v : Term) (k : OpaqueTypeKey) (f : FirstUse) (s : State) (p : OpenProgress) (u : State) → e ≡ entry.HiddenType v k f →
+    RefusesHidden env v k f s u → StepRefused env e s p u
+unfolding StepRefused
+hidden-refused env e v k f s p u is h = subst (λ x. StepRefused env x s p u) (sym is) h
 
 pub evaluation-refused : (env : List Clause) (e : RuleEntry) (s : State) (p : OpenProgress) (u : State) → e ≡ entry.Evaluation → RefusesPending s u → StepRefused env e s p u
 unfolding StepRefused

@@ -41,18 +41,18 @@ use Rattle.goal_kinds.specs.Level.{Level, nothing}
 use Rattle.goal_kinds.specs.Levels.{level}
 use Rattle.goal_kinds.specs.Settings.{Setting, is_headline}
 use Rattle.goal_kinds.specs.Words.{Pairs, SomePair}
-use Rattle.goal_solver.specs.GoingBack.{GoesBack}
-use Rattle.goal_solver.specs.Outcomes.{RunsFor, StandsFor}
+use Rattle.goal_solver.specs.Answers.{IsOwed}
+use Rattle.goal_solver.specs.GoingBack.{GoesBack, restored}
+use Rattle.goal_solver.specs.Outcomes.{RunsAs, RunsFor}
 use Rattle.goal_solver.specs.Pending.{IsOfKind, AreListsOfOneKind}
-use Rattle.goal_solver.specs.Relating.{IsRelated, ChangesInference, AgreesWith, Identifies, all_replaced, all_bound, SaysEqual, IsFinalIn}
+use Rattle.goal_solver.specs.Relating.{IsRelated, ChangesRecords, AgreesWith, Identifies, all_replaced, all_bound, SaysEqual, IsFinalIn}
 use Rattle.goal_solver.specs.Settled.{AreSettled, AreSettledIn, outcome_in, IsPlainOrSame}
 use Rattle.goal_solver.specs.State.{State, IsValid, kinds_of}
-use Rattle.goal_solver.specs.declared.eval.outcomes.OnAccess.TheVariants as on_access
+use Rattle.goal_solver.specs.declared.eval.outcomes.OnAccess.{OnAccess}
 use Rattle.goal_solver.specs.declared.eval.outcomes.Setting as over
 use Rattle.goal_solver.specs.declared.eval.outcomes.Outcome.{Outcome}
 use Rattle.goal_solver.specs.declared.eval.outcomes.Outcome.TheVariants as outcome
 use Rattle.goal_solver.specs.declared.eval.outcomes.Stop.{Stop}
-use Rattle.goal_solver.proofs.AnswerLemmas.{stops-runs}
 use Rattle.goal_solver.proofs.GoingBackLemmas.{goes_back-same, goes_back-through}
 use Rattle.goal_solver.proofs.SettledLemmas.{replaced-closed}
 
@@ -175,13 +175,14 @@ pub followed-second : (s : State) (U V : List Tree) (ids rs : List TermId) → K
 followed-second s U V ids rs k solved b e = sym (erased-terms V rs) ∙ e ∙ resolved-grown s.terms U s.inference k solved ids b ∙ bound-resolved s ids
 
 -- what is settled over a context
-pub settled-in : (c : over.Setting) (s : State) (env : List Clause) (b : Bool) (n : ℕ) (ts us xs ys : List Tree) (o : Result Outcome Stop) → IfOk o (AreSettled c b n xs ys) → c.rows.now ≡ s.tables → c.typing_mode.now ≡ s.typing_mode → c.on_access ≡ on_access.Stop → c.environment.now ≡ env →
-    b ≡ not (some_in_env is_any_infer env) → xs ≡ ts → ys ≡ us → IfOk o (AreSettledIn s env n ts us)
-settled-in c s env b n ts us xs ys (Err x) a e f w g h p q = tt
-settled-in c s env b n ts us xs ys (Ok o) a e f w g h p q =
+pub settled-in : (c : over.Setting) (s : State) (env : List Clause) (on : OnAccess) (b : Bool) (n : ℕ) (ts us xs ys : List Tree) (o : Result Outcome Stop) → IfOk o (AreSettled c b n xs ys) →
+    c.rows.now ≡ s.tables → c.typing_mode.now ≡ s.typing_mode → c.on_access ≡ on → c.environment.now ≡ env → b ≡ not (some_in_env is_any_infer env) → xs ≡ ts → ys ≡ us →
+    IfOk o (AreSettledIn s (RunsAs on s.typing_mode) env n ts us)
+settled-in c s env on b n ts us xs ys (Err x) a e f w g h p q = tt
+settled-in c s env on b n ts us xs ys (Ok o) a e f w g h p q =
     let alike : (m : TypingMode) → setting_of c.rows.now m c.environment.now ≡ setting_of s.tables m env =
     λ m. ap (λ t. setting_of t m c.environment.now) e ∙ ap (setting_of s.tables m) g in
-    let stands : (m : TypingMode) → StandsFor s.typing_mode m → RunsFor c m = λ m st. stops-runs c.on_access c.typing_mode.now m w (subst (λ r. StandsFor r m) (sym f) st) in
+    let stands : (m : TypingMode) → RunsAs on s.typing_mode m → RunsFor c m = λ m st. subst (λ k. RunsAs k c.typing_mode.now m) (sym w) (subst (λ r. RunsAs on r m) (sym f) st) in
     let z : AreSettled c b n ts us o = subst (λ z. AreSettled c b n z us o) p (subst (λ z. AreSettled c b n xs z o) q a) in
     record {
       holds = λ held m st ρ. subst (λ S. Pairs (level S n).equal (all_replaced ρ ts) (all_replaced ρ us)) (alike m) (z.holds held m (stands m st) ρ);
@@ -388,11 +389,16 @@ final-in (mode.PostBorrowckAnalysis i) m x f = refl
 final-in mode.PostAnalysis m x f = refl
 final-in mode.ErasedNotCoherence m x f = refl
 
-final-stands : (run m : TypingMode) → IsFinalIn run m → StandsFor run m
-final-stands run m (h, inl e) = (h, inl e)
-final-stands run m (h, inr e) = (h, inr (ap is_headline e))
+-- what is owed after a call is final in the mode of its run
+pub owed-final : (run : TypingMode) (z : State) (m : TypingMode) → z.typing_mode ≡ run → IsOwed z m → IsFinalIn run m
+owed-final run z m e (h, inl f) = (h, inl (sym e ∙ f))
+owed-final run z m e (h, inr f) = (h, inr (sym e ∙ f.0))
 
-module _ (a b z : State) (env : List Clause) (n : ℕ) (ls rs : List TermId) (u : Unified) (un : Unifies a b ls rs u) (grown : z ≡ record b { terms = z.terms }) (kept : Keeps b.terms z.terms) where
+-- both steps of equating are in one mode
+pub mode-same : (a b z : State) → b ≡ record a { inference = b.inference } → z ≡ restored b z → z.typing_mode ≡ a.typing_mode
+mode-same a b z e f = ap (λ (s : State). s.typing_mode) f ∙ ap (λ (s : State). s.typing_mode) e
+
+module _ (a b z : State) (env : List Clause) (n : ℕ) (ls rs : List TermId) (u : Unified) (un : Unifies a b ls rs u) (grown : z ≡ restored b z) (kept : Keeps b.terms z.terms) where
   -- the context between
   between : (ids : List TermId) → erased_all b.terms ids ≡ erased_all a.terms ids
   between ids = ap (λ (s : State). erased_all s.terms ids) un.alone
@@ -426,23 +432,24 @@ module _ (a b z : State) (env : List Clause) (n : ℕ) (ls rs : List TermId) (u 
     only unified.No p q = absurd (p refl)
   plain-yes some (inr e) = (un.identified (bound-resolved a ls ∙ e ∙ sym (bound-resolved a rs))).0
 
-  pub related-settled : u ≢ unified.No → (x : Outcome) → AreSettledIn b env n (all_bound b (erased_all b.terms ls)) (all_bound b (erased_all b.terms rs)) x →
+  pub related-settled : u ≢ unified.No → (x : Outcome) → AreSettledIn b (IsOwed z) env n (all_bound b (erased_all b.terms ls)) (all_bound b (erased_all b.terms rs)) x →
       (all_bound b (erased_all b.terms ls) ≡ all_bound b (erased_all b.terms rs) → x ≡ outcome.Holds) →
       ((ρ : Variable → Tree) → AgreesWith z ρ → AgreesWith a ρ) → IsRelated a z env (erased_all a.terms ls) (erased_all a.terms rs) n (outcome_in a.typing_mode x)
   unfolding AreIdentified AreUntouched
   related-settled some x settled same agreed =
       let ts : List Tree = erased_all a.terms ls in
       let us : List Tree = erased_all a.terms rs in
-      let in_a : AreSettledIn a env n (all_bound b ts) (all_bound b us) x =
-      subst (λ zs. AreSettledIn a env n (all_bound b zs) (all_bound b us) x) (between ls)
-      (subst (λ zs. AreSettledIn a env n (all_bound b (erased_all b.terms ls)) (all_bound b zs) x) (between rs)
+      let in_a : AreSettledIn a (IsOwed z) env n (all_bound b ts) (all_bound b us) x =
+      subst (λ zs. AreSettledIn a (IsOwed z) env n (all_bound b zs) (all_bound b us) x) (between ls)
+      (subst (λ zs. AreSettledIn a (IsOwed z) env n (all_bound b (erased_all b.terms ls)) (all_bound b zs) x) (between rs)
       (record {
-        holds = λ e m st. subst (λ (s : State). (ρ : Variable → Tree) → Pairs (level (setting_of s.tables m env) n).equal (all_replaced ρ (all_bound b (erased_all b.terms ls))) (all_replaced ρ (all_bound b (erased_all b.terms rs)))) un.alone
-            (settled.holds e m (subst (λ (s : State). StandsFor s.typing_mode m) (sym un.alone) st));
+        holds = λ e m owed. subst (λ (s : State). (ρ : Variable → Tree) → Pairs (level (setting_of s.tables m env) n).equal (all_replaced ρ (all_bound b (erased_all b.terms ls))) (all_replaced ρ (all_bound b (erased_all b.terms rs)))) un.alone
+            (settled.holds e m owed);
         refuted = settled.refuted;
-        closed = λ sides m st. subst (λ (s : State). SaysEqual (level (setting_of s.tables m env) n) (all_bound b (erased_all b.terms ls)) (all_bound b (erased_all b.terms rs)) x) un.alone
-            (settled.closed sides m (subst (λ (s : State). StandsFor s.typing_mode m) (sym un.alone) st));
+        closed = λ sides m owed. subst (λ (s : State). SaysEqual (level (setting_of s.tables m env) n) (all_bound b (erased_all b.terms ls)) (all_bound b (erased_all b.terms rs)) x) un.alone
+            (settled.closed sides m owed);
       })) in
+      let mode : z.typing_mode ≡ a.typing_mode = mode-same a b z un.alone grown in
       let holding : u ≡ unified.Yes → outcome_in a.typing_mode x ≡ outcome.Holds = λ is_yes. holding-in a.typing_mode x (same (bound-same is_yes)) in
       let alike : (ρ : Variable → Tree) → AgreesWith b ρ → (zs : List Tree) → all_replaced ρ (all_bound b zs) ≡ all_replaced ρ zs = bound-alike b solved-between in
       let state : z.inference ≡ b.inference = ap (λ (s : State). s.inference) grown in
@@ -461,14 +468,13 @@ module _ (a b z : State) (env : List Clause) (n : ℕ) (ls rs : List TermId) (u 
         plain = λ p e. let never : outcome.Holds ≡ outcome.Undecided = sym (holding (plain-yes some (inl p))) ∙ e in absurd (cc);
         same = λ e.
             let found = un.identified (bound-resolved a ls ∙ e ∙ sym (bound-resolved a rs)) in (holding found.0, state ∙ found.1);
-        closed = λ sides m final.
+        closed = λ sides m owed.
             let left : all_bound b ts ≡ ts = closed-bound b ts sides.1 in
-            let right : all_bound b us ≡ us = closed-bound b us sides.2 in
-            let stands : StandsFor a.typing_mode m = final-stands a.typing_mode m final in (
-              subst (SaysEqual (level (setting_of a.tables m env) n) ts us) (sym (final-in a.typing_mode m x final))
+            let right : all_bound b us ≡ us = closed-bound b us sides.2 in (
+              subst (SaysEqual (level (setting_of a.tables m env) n) ts us) (sym (final-in a.typing_mode m x (owed-final a.typing_mode z m mode owed)))
                   (subst (λ zs. SaysEqual (level (setting_of a.tables m env) n) zs us x) left
                   (subst (λ zs. SaysEqual (level (setting_of a.tables m env) n) (all_bound b ts) zs x) right
-                  (in_a.closed (sides.0, subst AllClosed (sym left) sides.1, subst AllClosed (sym right) sides.2) m stands))),
+                  (in_a.closed (sides.0, subst AllClosed (sym left) sides.1, subst AllClosed (sym right) sides.2) m owed))),
               state ∙ un.closed (closed-resolved a ls sides.1) (closed-resolved a rs sides.2),
             );
       }
@@ -493,13 +499,13 @@ goes_back-unified a b e i =
     })
 
 -- and then terms
-pub changes-unified : (a b : State) → b ≡ record a { inference = b.inference } → ChangesInference a b
-changes-unified a b e = e ∙ ap (λ T. record a { terms = T; inference = b.inference }) (sym (ap (λ (s : State). s.terms) e))
+pub changes-unified : (a b : State) → b ≡ record a { inference = b.inference } → ChangesRecords a b
+changes-unified a b e = e ∙ sym (ap (λ (s : State). record a { terms = s.terms; inference = b.inference; accesses = s.accesses; delayed_faults = s.delayed_faults }) e)
 
-pub changes-grown : (a b z : State) → b ≡ record a { inference = b.inference } → z ≡ record b { terms = z.terms } → ChangesInference a z
+pub changes-grown : (a b z : State) → b ≡ record a { inference = b.inference } → z ≡ restored b z → ChangesRecords a z
 changes-grown a b z e f =
-    f ∙ ap (λ (s : State). record s { terms = z.terms }) e
-    ∙ ap (λ i. record a { terms = z.terms; inference = i }) (sym (ap (λ (s : State). s.inference) f))
+    f ∙ ap (λ (s : State). restored s z) e
+    ∙ ap (λ i. record a { terms = z.terms; inference = i; accesses = z.accesses; delayed_faults = z.delayed_faults }) (sym (ap (λ (s : State). s.inference) f))
 
 -- two lists of a context, the second followed after the first
 pub record Followed (o : State) (U V : List Tree) (ls rs fs gs : List TermId) : Type 0 where
@@ -527,13 +533,3 @@ module _ (o s : State) (is : o ≡ s) (U V : List Tree) (ls rs fs gs : List Term
   followed-rights right =
       subst (λ (a : State). erased_all V gs ≡ all_bound a (erased_all a.terms rs)) is
       (followed-second o U V rs gs h.kept h.solved (are_in-below o.terms rs (subst (λ (a : State). AreIn a.terms rs) (sym is) right)) h.second)
-
--- what both steps of equating do to a context
-pub goes_back-related : (a b z : State) → b ≡ record a { inference = b.inference } → inference.GoesBack a.inference b.inference → z ≡ record b { terms = z.terms } → Keeps b.terms z.terms → GoesBack a z
-goes_back-related a b z e i f k =
-    goes_back-through a b z (goes_back-unified a b e i)
-    (goes_back-inferred b z (f ∙ ap (λ j. record b { terms = z.terms; inference = j }) (sym (ap (λ (s : State). s.inference) f))) k
-    (subst (inference.GoesBack b.inference) (sym (ap (λ (s : State). s.inference) f)) (goes_back-same b).inference))
-
-pub mode-same : (a b z : State) → b ≡ record a { inference = b.inference } → z ≡ record b { terms = z.terms } → z.typing_mode ≡ a.typing_mode
-mode-same a b z e f = ap (λ (s : State). s.typing_mode) f ∙ ap (λ (s : State). s.typing_mode) e

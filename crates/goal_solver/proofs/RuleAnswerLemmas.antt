@@ -1,9 +1,9 @@
 -- A run through all entries of a rule, and the answer that it leads to.
-use Rattle.std.proofs.Common.{◌≡◌, ◌<◌, ◌≤◌, ◌+◌, ℕ, Bool, true, false, List, [], ◌∷◌, length, get_or, drop, Some, None, Option, Result, Ok, Err, inl, inr, refl, sym, ap, ◌∙◌, subst, ⊎_elim}
+use Rattle.std.proofs.Common.{◌≡◌, ◌<◌, ◌≤◌, ◌+◌, ℕ, Bool, true, false, List, [], ◌∷◌, length, get_or, drop, Some, None, Option, Result, Ok, Err, refl, sym, ap, ◌∙◌, subst}
 use Rattle.std.proofs.lemmas.Bool.{false≢true}
 use Rattle.std.proofs.lemmas.List.{drop_all}
 use Rattle.goal_terms.specs.Sorts.{IsTerm, is_term_sort}
-use Rattle.goal_terms.specs.TableMeaning.{tree_at, Keeps}
+use Rattle.goal_terms.specs.TableMeaning.{tree_at}
 use Rattle.goal_terms.specs.Tree.{Tree}
 use Rattle.goal_terms.specs.declared.answers.Certainty.TheVariants as certainty
 use Rattle.goal_terms.specs.declared.answers.Response.{Response}
@@ -18,8 +18,8 @@ use Rattle.goal_kinds.specs.Interned.{erased_at}
 use Rattle.goal_kinds.specs.Level.{Level}
 use Rattle.goal_kinds.specs.Levels.{level}
 use Rattle.goal_kinds.specs.RuleLists.{names_arguments, entry_of, before, entries_of, list_of_rule}
-use Rattle.goal_kinds.specs.Rules.{RuleHolds, RuleGives, RuleRefuted}
-use Rattle.goal_kinds.specs.Settings.{Setting, is_headline}
+use Rattle.goal_kinds.specs.Rules.{RuleHolds, RuleGives}
+use Rattle.goal_kinds.specs.Settings.{Setting}
 use Rattle.goal_kinds.specs.declared.faults.Fault.{Fault}
 use Rattle.goal_kinds.specs.declared.faults.Fault.TheVariants as fault
 use Rattle.goal_kinds.specs.declared.rules.Rule.{Rule}
@@ -27,10 +27,10 @@ use Rattle.goal_kinds.specs.declared.rules.RuleEntry.{RuleEntry}
 use Rattle.goal_kinds.proofs.ListTerms.{asks_none-gives, asks_none-with, weaker}
 use Rattle.goal_kinds.proofs.RuleLemmas.{entries_hold-said, one_given, gives-not_refuted, holds-not_refuted}
 use Rattle.goal_kinds.proofs.RulesAsLists.{rule_list-holds, rule_list-gives, rule_list-refuted}
-use Rattle.goal_solver.specs.Answers.{IsOwed, IsMaybe, level_over}
+use Rattle.goal_solver.specs.Answers.{IsMaybe, level_over}
 use Rattle.goal_solver.specs.GoingBack.{GoesBack, restored}
 use Rattle.goal_solver.specs.Lists.{SaysList, named_at, taken_at, progress_at, IsRunning, Leads}
-use Rattle.goal_solver.specs.Outcomes.{StandsFor}
+use Rattle.goal_solver.specs.Outcomes.{RunsAs}
 use Rattle.goal_solver.specs.RunRules.{setting_over, asked_of, RuleRunsOn, ListsTerm, IsRuleResponse, IsRuleAnswer, IsRuleOpen}
 use Rattle.goal_solver.specs.State.{State}
 use Rattle.goal_solver.specs.declared.eval.lists.ListOutcome.{ListOutcome}
@@ -38,20 +38,19 @@ use Rattle.goal_solver.specs.declared.eval.lists.ListOutcome.TheVariants as list
 use Rattle.goal_solver.specs.declared.eval.lists.progress.ListRun.{ListRun}
 use Rattle.goal_solver.specs.declared.eval.lists.progress.Reached.{Reached}
 use Rattle.goal_solver.specs.declared.eval.lists.progress.Reached.TheVariants as reached
-use Rattle.goal_solver.proofs.AnswerLemmas.{goes_back-grown}
+use Rattle.goal_solver.specs.declared.eval.outcomes.OnAccess.{OnAccess}
 use Rattle.goal_solver.proofs.FoundAnswers.{AnswersFound, is_term, sort-erased}
-use Rattle.goal_solver.proofs.GoingBackLemmas.{goes_back-through}
 use Rattle.goal_solver.proofs.ListRunLemmas.{progress-same, start-running, end-says, refuted-says, unsettled-says}
 use Rattle.goal_solver.proofs.RuleEntryLemmas.{left-at, no_term-asks_none, asked-has_term}
 
 -- what is left of a rule's list says the same as all of it, in each mode for which a run stands
-abbrev pub RunsSoFar : State → List Clause → List RuleEntry → List Tree → ListRun → ℕ → Type 0
-RunsSoFar a env es T r i =
-    (m : TypingMode) → StandsFor a.typing_mode m → IsRunning (level_over a m env) (progress_at T r) (entries_of a.tables (drop i es)) (entries_of a.tables es)
+abbrev pub RunsSoFar : State → OnAccess → List Clause → List RuleEntry → List Tree → ListRun → ℕ → Type 0
+RunsSoFar a on env es T r i =
+    (m : TypingMode) → RunsAs on a.typing_mode m → IsRunning (level_over a m env) (progress_at T r) (entries_of a.tables (drop i es)) (entries_of a.tables es)
 
 -- before the first entry
-pub runs-start : (a : State) (env : List Clause) (es : List RuleEntry) (T : List Tree) (r : ListRun) → r.named.items ≡ [] → r.holds ≡ true → r.term ≡ None → RunsSoFar a env es T r 0
-runs-start a env es T r named holds term m s =
+pub runs-start : (a : State) (on : OnAccess) (env : List Clause) (es : List RuleEntry) (T : List Tree) (r : ListRun) → r.named.items ≡ [] → r.holds ≡ true → r.term ≡ None → RunsSoFar a on env es T r 0
+runs-start a on env es T r named holds term m s =
     subst (λ p. IsRunning (level_over a m env) p (entries_of a.tables es) (entries_of a.tables es))
     (sym (progress-same (named_at T r.named.items) [] r.holds true (taken_at T r.term) None (ap (named_at T) named) holds (ap (taken_at T) term)))
     (start-running (level_over a m env) (entries_of a.tables es))
@@ -63,23 +62,23 @@ leads-back a c env m g T V r z e o h =
     subst (λ n. RuleRunsOn a.tables (level (setting_over a m env) n) T r e V z o) g.remaining_depth
     (subst (λ t. RuleRunsOn t (level (setting_of t m env) c.remaining_depth) T r e V z o) g.tables h)
 
-module _ (a c : State) (env : List Clause) (es : List RuleEntry) (T V : List Tree) (r z : ListRun) (i : ℕ) (e : RuleEntry) (o : Reached) (back : GoesBack a c) (same : c.terms ≡ T)
-    (below : i < length es) (at : e ≡ get_or es i e) (so_far : RunsSoFar a env es T r i)
-    (says : (m : TypingMode) → StandsFor c.typing_mode m → RuleRunsOn c.tables (level_over c m env) c.terms r e V z o) where
+module _ (a c : State) (on : OnAccess) (env : List Clause) (es : List RuleEntry) (T V : List Tree) (r z : ListRun) (i : ℕ) (e : RuleEntry) (o : Reached) (back : GoesBack a c) (same : c.terms ≡ T)
+    (below : i < length es) (at : e ≡ get_or es i e) (so_far : RunsSoFar a on env es T r i)
+    (says : (m : TypingMode) → RunsAs on c.typing_mode m → RuleRunsOn c.tables (level_over c m env) c.terms r e V z o) where
   -- an entry, with what comes before and behind it
-  lead-here : (m : TypingMode) → StandsFor a.typing_mode m →
+  lead-here : (m : TypingMode) → RunsAs on a.typing_mode m →
       Leads (level_over a m env) (progress_at T r) (before (names_arguments e) (entry_of a.tables e) (entries_of a.tables (drop (i + 1) es))) (entries_of a.tables (drop (i + 1) es))
       (entries_of a.tables es) (progress_at V z) o
       × IsRunning (level_over a m env) (progress_at T r) (before (names_arguments e) (entry_of a.tables e) (entries_of a.tables (drop (i + 1) es))) (entries_of a.tables es)
   lead-here m s = (
     subst (λ U. RuleRunsOn a.tables (level_over a m env) U r e V z o) same
-        (leads-back a c env m back c.terms V r z e o (says m (subst (λ k. StandsFor k m) (sym back.typing_mode) s)))
+        (leads-back a c env m back c.terms V r z e o (says m (subst (λ k. RunsAs on k m) (sym back.typing_mode) s)))
         (entries_of a.tables (drop (i + 1) es)) (entries_of a.tables es),
     subst (λ xs. IsRunning (level_over a m env) (progress_at T r) xs (entries_of a.tables es)) (left-at a.tables es i e below at) (so_far m s),
   )
 
   -- where it leads
-  lead-on : (m : TypingMode) → StandsFor a.typing_mode m → (q : Reached) → o ≡ q →
+  lead-on : (m : TypingMode) → RunsAs on a.typing_mode m → (q : Reached) → o ≡ q →
       Leads (level_over a m env) (progress_at T r) (before (names_arguments e) (entry_of a.tables e) (entries_of a.tables (drop (i + 1) es))) (entries_of a.tables (drop (i + 1) es))
       (entries_of a.tables es) (progress_at V z) q
   lead-on m s q is =
@@ -87,33 +86,26 @@ module _ (a c : State) (env : List Clause) (es : List RuleEntry) (T V : List Tre
       (entries_of a.tables es) (progress_at V z) x) is (lead-here m s).0
 
   -- the next entry
-  pub runs-next : o ≡ reached.Next → RunsSoFar a env es V z (i + 1)
+  pub runs-next : o ≡ reached.Next → RunsSoFar a on env es V z (i + 1)
   runs-next is m s = lead-on m s reached.Next is (lead-here m s).1
 
   -- an entry that settles the list
-  pub runs-refuted : o ≡ reached.Refuted → (m : TypingMode) → StandsFor a.typing_mode m → (W : List Tree) →
+  pub runs-refuted : o ≡ reached.Refuted → (m : TypingMode) → RunsAs on a.typing_mode m → (W : List Tree) →
       SaysList (level_over a m env) (Some (entries_of a.tables es)) W list.Refuted
   runs-refuted is m s W = refuted-says (level_over a m env) W (entries_of a.tables es) (lead-on m s reached.Refuted is (lead-here m s).1)
 
-  pub runs-undecided : o ≡ reached.Undecided → (m : TypingMode) → StandsFor a.typing_mode m → (W : List Tree) →
+  pub runs-undecided : o ≡ reached.Undecided → (m : TypingMode) → RunsAs on a.typing_mode m → (W : List Tree) →
       SaysList (level_over a m env) (Some (entries_of a.tables es)) W list.Undecided
   runs-undecided is m s W = unsettled-says (level_over a m env) W (entries_of a.tables es) (lead-on m s reached.Undecided is (lead-here m s).1)
 
 -- after the last entry
-pub runs-end : (a : State) (env : List Clause) (es : List RuleEntry) (T : List Tree) (r : ListRun) (i : ℕ) (o : ListOutcome) → length es ≤ i → RunsSoFar a env es T r i →
+pub runs-end : (a : State) (on : OnAccess) (env : List Clause) (es : List RuleEntry) (T : List Tree) (r : ListRun) (i : ℕ) (o : ListOutcome) → length es ≤ i → RunsSoFar a on env es T r i →
     (r.holds ≡ true → o ≡ list.Holds r.term) → (r.holds ≡ false → o ≡ list.Undecided) →
-    (m : TypingMode) → StandsFor a.typing_mode m → SaysList (level_over a m env) (Some (entries_of a.tables es)) T o
+    (m : TypingMode) → RunsAs on a.typing_mode m → SaysList (level_over a m env) (Some (entries_of a.tables es)) T o
 unfolding entries_of
-runs-end a env es T r i o l so_far whole partly m s =
+runs-end a on env es T r i o l so_far whole partly m s =
     end-says (level_over a m env) T r (entries_of a.tables es) o
     (subst (λ xs. IsRunning (level_over a m env) (progress_at T r) (entries_of a.tables xs) (entries_of a.tables es)) (drop_all i es l) (so_far m s)) whole partly
-
--- a mode that is owed an answer is one that the run stands for
-pub owed-run : (a b : State) (m : TypingMode) → GoesBack a b → IsOwed b m → StandsFor a.typing_mode m
-owed-run a b m g owed = (
-  owed.0,
-  ⊎_elim (λ h. inl (sym g.typing_mode ∙ h)) (λ h. inr (ap is_headline (sym g.typing_mode ∙ h.0))) owed.1,
-)
 
 -- what a rule's list comes to is what the rule does
 given-holds : (S : Setting) (L : Level) (r : Rule) (t : Tree) → RuleGives S L r t → RuleHolds S L r
@@ -202,21 +194,11 @@ pub says_list-as : (t : Tables) (L : Level) (es fs : List RuleEntry) (T : List T
     SaysList L (Some (entries_of t es)) T o → SaysList L (Some (entries_of t fs)) T q
 says_list-as t L es fs T o q e f h = subst (SaysList L (Some (entries_of t fs)) T) f (subst (λ xs. SaysList L (Some (entries_of t xs)) T o) e h)
 
--- what records leaves the context restored, and so do more terms
+-- what records leaves the context restored
 pub restored-recorded : (a b c : State) → b ≡ restored a b → c ≡ record b { accesses = c.accesses; delayed_faults = c.delayed_faults } → c ≡ restored a c
 restored-recorded a b c e f =
     f ∙ ap (λ (s : State). record s { accesses = c.accesses; delayed_faults = c.delayed_faults }) e
     ∙ ap (λ (t : List Tree). record a { terms = t; accesses = c.accesses; delayed_faults = c.delayed_faults }) (sym (ap (λ (s : State). s.terms) f))
-
-pub restored-grown : (a c d : State) → c ≡ restored a c → d ≡ record c { terms = d.terms } → d ≡ restored a d
-restored-grown a c d e f =
-    f ∙ ap (λ (s : State). record s { terms = d.terms }) e
-    ∙ ap (λ xs. record a { terms = d.terms; accesses = xs; delayed_faults = c.delayed_faults }) (sym (ap (λ (s : State). s.accesses) f))
-    ∙ ap (λ xs. record a { terms = d.terms; accesses = d.accesses; delayed_faults = xs }) (sym (ap (λ (s : State). s.delayed_faults) f))
-
--- more terms than in a context that goes back
-pub back-grown : (a c d : State) → GoesBack a c → d ≡ record c { terms = d.terms } → Keeps c.terms d.terms → GoesBack a d
-back-grown a c d g e k = goes_back-through a c d g (goes_back-grown c d e k)
 
 -- only accesses, or only faults, are recorded
 pub recorded-accesses : (a b : State) → b ≡ record a { accesses = b.accesses } → b ≡ record a { accesses = b.accesses; delayed_faults = b.delayed_faults }

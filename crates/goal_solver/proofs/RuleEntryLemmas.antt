@@ -18,6 +18,7 @@ use Rattle.goal_kinds.specs.declared.lists.InternedEntry.{InternedEntry}
 use Rattle.goal_kinds.specs.declared.lists.InternedEntry.TheVariants as interned
 use Rattle.goal_kinds.specs.declared.rules.RuleEntry.{RuleEntry}
 use Rattle.goal_kinds.specs.declared.rules.RuleEntry.TheVariants as entry
+use Rattle.goal_terms.specs.declared.answers.DelayedFault.{DelayedFault}
 use Rattle.goal_terms.specs.declared.answers.OpaqueAccess.{OpaqueAccess}
 use Rattle.goal_terms.specs.declared.predicates.BoundConstness.{BoundConstness}
 use Rattle.goal_terms.specs.declared.predicates.Clause.{Clause}
@@ -73,28 +74,45 @@ recording-runs t L T r i (entry.RowClauses c n) some = absurd (some refl)
 recording-runs t L T r i (entry.RowConditions b j n) some = absurd (some refl)
 recording-runs t L T r i (entry.Term v x) some = absurd (some refl)
 recording-runs t L T r i entry.Evaluation some = absurd (some refl)
+recording-runs t L T r i (entry.HiddenType v k f) some = absurd (some refl)
 recording-runs t L T r i entry.Ambiguous some = absurd (some refl)
 recording-runs t L T r i entry.Undecided some = absurd (some refl)
 recording-runs t L T r i entry.Refused some = absurd (some refl)
 
--- the engine runs none that records an access
-not_mapped : {X : Type 0} (f : X → Entry) (a : OpaqueAccess) → ((x : X) → access a ≡ f x → ⊥) → (o : Option X) → Some (access a) ≡ option_map f o → ⊥
-not_mapped f a h None e = absurd (cc)
-not_mapped f a h (Some x) e = let same : access a ≡ f x = cc in h x same
+-- the engine runs none that records an access or a delayed fault
+not_mapped : {X : Type 0} (f : X → Entry) (w : Entry) → ((x : X) → w ≡ f x → ⊥) → (o : Option X) → Some w ≡ option_map f o → ⊥
+not_mapped f w h None e = absurd (cc)
+not_mapped f w h (Some x) e = let same : w ≡ f x = cc in h x same
 
 no_access : (t : Tables) (e : RuleEntry) (a : OpaqueAccess) → recorded.Nothing ≡ to_record e → Some (access a) ≡ entry_of t e → ⊥
 no_access t (entry.Access b) a n e = absurd (cc)
 no_access t (entry.DelayedFault f) a n e = absurd (cc)
-no_access t (entry.Arguments x) a n e = not_mapped arguments a (λ y h. absurd (cc)) (arguments_of t x) e
+no_access t (entry.Arguments x) a n e = not_mapped arguments (access a) (λ y h. absurd (cc)) (arguments_of t x) e
 no_access t (entry.Equation ts us) a n e = absurd (cc)
 no_access t (entry.Clause g k) a n e = absurd (cc)
-no_access t (entry.RowClauses c k) a n e = not_mapped (λ cs. row_clauses cs k) a (λ y h. absurd (cc)) (clauses_in t c) e
-no_access t (entry.RowConditions b j k) a n e = not_mapped (λ rs. row_conditions b rs k) a (λ y h. absurd (cc)) (conditions_in t j) e
-no_access t (entry.Term v x) a n e = not_mapped expected a (λ y h. absurd (cc)) (expected_of t x) e
+no_access t (entry.RowClauses c k) a n e = not_mapped (λ cs. row_clauses cs k) (access a) (λ y h. absurd (cc)) (clauses_in t c) e
+no_access t (entry.RowConditions b j k) a n e = not_mapped (λ rs. row_conditions b rs k) (access a) (λ y h. absurd (cc)) (conditions_in t j) e
+no_access t (entry.Term v x) a n e = not_mapped expected (access a) (λ y h. absurd (cc)) (expected_of t x) e
 no_access t entry.Evaluation a n e = absurd (cc)
+no_access t (entry.HiddenType v k f) a n e = absurd (cc)
 no_access t entry.Ambiguous a n e = absurd (cc)
 no_access t entry.Undecided a n e = absurd (cc)
 no_access t entry.Refused a n e = absurd (cc)
+
+no_fault : (t : Tables) (e : RuleEntry) (a : DelayedFault) → recorded.Nothing ≡ to_record e → Some (delayed_fault a) ≡ entry_of t e → ⊥
+no_fault t (entry.Access b) a n e = absurd (cc)
+no_fault t (entry.DelayedFault f) a n e = absurd (cc)
+no_fault t (entry.Arguments x) a n e = not_mapped arguments (delayed_fault a) (λ y h. absurd (cc)) (arguments_of t x) e
+no_fault t (entry.Equation ts us) a n e = absurd (cc)
+no_fault t (entry.Clause g k) a n e = absurd (cc)
+no_fault t (entry.RowClauses c k) a n e = not_mapped (λ cs. row_clauses cs k) (delayed_fault a) (λ y h. absurd (cc)) (clauses_in t c) e
+no_fault t (entry.RowConditions b j k) a n e = not_mapped (λ rs. row_conditions b rs k) (delayed_fault a) (λ y h. absurd (cc)) (conditions_in t j) e
+no_fault t (entry.Term v x) a n e = not_mapped expected (delayed_fault a) (λ y h. absurd (cc)) (expected_of t x) e
+no_fault t entry.Evaluation a n e = absurd (cc)
+no_fault t (entry.HiddenType v k f) a n e = absurd (cc)
+no_fault t entry.Ambiguous a n e = absurd (cc)
+no_fault t entry.Undecided a n e = absurd (cc)
+no_fault t entry.Refused a n e = absurd (cc)
 
 pub run-caused : (t : Tables) (T : List Tree) (e : RuleEntry) (x : InternedEntry) → recorded.Nothing ≡ to_record e → Some (entry_at T x) ≡ entry_of t e → IsCausedEntry t x
 run-caused t T e (interned.Access a) n is = absurd (no_access t e a n is)
@@ -104,8 +122,9 @@ run-caused t T e (interned.Clause g p) n is = tt
 run-caused t T e (interned.RowClauses r cs k) n is = tt
 run-caused t T e (interned.RowConditions c i rs k) n is = tt
 run-caused t T e (interned.Expected a) n is = tt
-run-caused t T e (interned.DelayedFault f) n is = tt
+run-caused t T e (interned.DelayedFault f) n is = absurd (no_fault t e f n is)
 run-caused t T e interned.Evaluation n is = tt
+run-caused t T e (interned.HiddenType i ids f) n is = tt
 run-caused t T e interned.Ambiguous n is = tt
 run-caused t T e interned.Undecided n is = tt
 run-caused t T e interned.Refused n is = tt
@@ -144,6 +163,7 @@ no_term-asks_none t (entry.Term v x ∷ es) none = absurd (false≢true (sym non
 no_term-asks_none t (entry.Access a ∷ es) none = (tt, no_term-asks_none t es none)
 no_term-asks_none t (entry.DelayedFault f ∷ es) none = (tt, no_term-asks_none t es none)
 no_term-asks_none t (entry.Evaluation ∷ es) none = (tt, no_term-asks_none t es none)
+no_term-asks_none t (entry.HiddenType v k f ∷ es) none = absurd (false≢true (sym none))
 no_term-asks_none t (entry.Ambiguous ∷ es) none = (tt, no_term-asks_none t es none)
 no_term-asks_none t (entry.Undecided ∷ es) none = (tt, no_term-asks_none t es none)
 no_term-asks_none t (entry.Refused ∷ es) none = (tt, no_term-asks_none t es none)
@@ -161,6 +181,7 @@ asked-has_term (entry.Term v x ∷ es) n e = refl
 asked-has_term (entry.Access a ∷ es) n e = asked-has_term es n e
 asked-has_term (entry.DelayedFault f ∷ es) n e = asked-has_term es n e
 asked-has_term (entry.Evaluation ∷ es) n e = asked-has_term es n e
+asked-has_term (entry.HiddenType v k f ∷ es) n e = refl
 asked-has_term (entry.Ambiguous ∷ es) n e = asked-has_term es n e
 asked-has_term (entry.Undecided ∷ es) n e = asked-has_term es n e
 asked-has_term (entry.Refused ∷ es) n e = asked-has_term es n e

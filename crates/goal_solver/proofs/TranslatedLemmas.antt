@@ -17,7 +17,6 @@ use Rattle.goal_terms.specs.declared.answers.ParamKind.TheVariants as kind
 use Rattle.goal_terms.specs.declared.answers.VarKind.{VarKind}
 use Rattle.goal_terms.specs.declared.heads.Variable.{Variable}
 use Rattle.goal_terms.specs.declared.modes.TypingMode.{TypingMode}
-use Rattle.goal_terms.specs.declared.modes.TypingMode.TheVariants as mode
 use Rattle.goal_terms.specs.declared.term_nodes.TermId.{TermId}
 use Rattle.goal_terms.specs.declared.terms.GenericArg.{GenericArg}
 use Rattle.goal_tables.specs.declared.rows.ImplRow.{ImplRow}
@@ -29,21 +28,19 @@ use Rattle.goal_kinds.specs.Headers.{under, PartsFrom, AllKnown, Fits, Clashes}
 use Rattle.goal_kinds.specs.Interned.{erased_at, erased_all}
 use Rattle.goal_kinds.specs.Laws.{IsConsistent}
 use Rattle.goal_kinds.specs.Level.{Level}
-use Rattle.goal_kinds.specs.Settings.{is_headline}
 use Rattle.goal_kinds.specs.TraitGoals.{header_of}
 use Rattle.goal_kinds.specs.declared.faults.Fault.{Fault}
 use Rattle.goal_kinds.proofs.SubstitutionLemmas.{one_substitution}
 use Rattle.goal_kinds.proofs.UnderLemmas.{under-erased_term}
 use Rattle.goal_solver.specs.Answers.{IsOwed, erased_args}
-use Rattle.goal_solver.specs.Outcomes.{StandsFor, SaysMatch}
+use Rattle.goal_solver.specs.Outcomes.{SaysMatch}
 use Rattle.goal_solver.specs.Relating.{AgreesWith}
 use Rattle.goal_solver.specs.State.{State}
-use Rattle.goal_solver.specs.TranslatedArgs.{AnswersJust, IsTranslatedBy, IsTranslation, IsHeaderOpen, MakesVariables}
+use Rattle.goal_solver.specs.TranslatedArgs.{AnswersJust, IsTranslatedBy, IsTranslation, IsHeaderOpen, MakesVariables, MatchCounts}
 use Rattle.goal_solver.specs.Variables.{unbound, with_variables, fresh_args}
 use Rattle.goal_solver.specs.declared.eval.outcomes.HeaderMatch.{HeaderMatch}
 use Rattle.goal_solver.specs.declared.eval.outcomes.HeaderMatch.TheVariants as match
 use Rattle.goal_solver.specs.GoingBack.{GoesBack}
-use Rattle.goal_solver.proofs.AnswerLemmas.{goes_back-grown, owed-grown}
 use Rattle.goal_solver.proofs.GoingBackLemmas.{goes_back-through}
 use Rattle.goal_solver.proofs.VariableLemmas.{goes_back-when_made}
 use Rattle.goal_solver.proofs.EquatedLemmas.{erased-trees}
@@ -77,13 +74,6 @@ all_bound-here T U V s ids rs ts keeps solved here trees =
     followed-terms V rs ∙ trees ∙ resolved-steps U s ids
     ∙ ap (λ (ρ : Variable → Tree). map (replaced ρ) (map erased (map (tree_at U) ids))) (resolution-kept T U s keeps solved)
     ∙ ap (λ us. map (replaced (resolution T s)) (map erased us)) here
-
--- each run stands for a mode
-pub some_mode : (run : TypingMode) → (m : TypingMode) × StandsFor run m
-some_mode run = by (is_headline run) refl where
-  by : (b : Bool) → is_headline run ≡ b → (m : TypingMode) × StandsFor run m
-  by true e = (run, (e, inl refl))
-  by false e = (mode.PostAnalysis, (refl, inr e))
 
 -- a list has as many terms as there are parameters, whose terms they are
 parts-count : (L : Level) (hs gs : List Tree) (n : ℕ) (ps : List ParamKind) (s : List Tree) → PartsFrom L hs gs n ps s → length s ≡ length ps
@@ -192,22 +182,25 @@ module _ (L : Level) (q : ImplRow) (gs T : List Tree) (o : HeaderMatch) (found :
   unfolding Fits
   fits-known e none = none (erased_all T found.items) (subst (SaysMatch L q.params.items (header_of q) gs T) e says).0
 
-  pub fits-count : o ≡ match.Fits found → ids ≡ found.items → length (map (tree_at T) ids) ≡ length q.params.items
-  unfolding Fits
-  fits-count e f =
-      ap (λ (ns : List TermId). length (map (tree_at T) ns)) f ∙ known-count L q gs T found.items (subst (SaysMatch L q.params.items (header_of q) gs T) e says).0
+-- a match whose parameters are known has their terms
+known-terms : (L : Level) (q : ImplRow) (gs : List Tree) (T : List Tree) (ids : List TermId) → AllKnown L q.params.items (header_of q) gs (erased_all T ids) → length ids ≡ length q.params.items
+known-terms L q gs T ids h = sym (length-map ids (tree_at T)) ∙ known-count L q gs T ids h
 
-  pub known-match_count : o ≡ match.Known found → ids ≡ found.items → length (map (tree_at T) ids) ≡ length q.params.items
-  known-match_count e f =
-      ap (λ (ns : List TermId). length (map (tree_at T) ns)) f ∙ known-count L q gs T found.items (subst (SaysMatch L q.params.items (header_of q) gs T) e says).0
+pub says-counts : (L : Level) (q : ImplRow) (gs : List Tree) (T : List Tree) (o : HeaderMatch) → SaysMatch L q.params.items (header_of q) gs T o → MatchCounts (length q.params.items) o
+unfolding Fits
+says-counts L q gs T (match.Fits s) h = known-terms L q gs T s.items h.0
+says-counts L q gs T (match.Known s) h = known-terms L q gs T s.items h.0
+says-counts L q gs T match.Clashes h = tt
+says-counts L q gs T match.Unknown h = tt
 
--- a context in which variables were made after others of its terms grew
-pub grown-made : (a b z : State) → b ≡ record a { terms = b.terms } → Keeps a.terms b.terms → MakesVariables b z → GoesBack a z
-grown-made a b z e k h = goes_back-through a b z (goes_back-grown a b e k) (goes_back-when_made b z h.0 h.1)
+pub counted-says : (L : Level) (q : ImplRow) (gs : List Tree) (T : List Tree) (o p : HeaderMatch) → (MatchCounts (length q.params.items) o → p ≡ o) → SaysMatch L q.params.items (header_of q) gs T o →
+    SaysMatch L q.params.items (header_of q) gs T p
+counted-says L q gs T o p same h = subst (SaysMatch L q.params.items (header_of q) gs T) (sym (same (says-counts L q gs T o h))) h
 
+-- a context in which variables were made after others
 pub made-through : (a b z : State) → GoesBack a b → MakesVariables b z → GoesBack a z
 made-through a b z g h = goes_back-through a b z g (goes_back-when_made b z h.0 h.1)
 
--- a mode that is owed an answer when variables were made is one that the run stands for
-pub owed-made : (a b z : State) (m : TypingMode) → b ≡ record a { terms = b.terms } → MakesVariables b z → IsOwed z m → StandsFor a.typing_mode m
-owed-made a b z m e h owed = owed-grown a b m e (subst (λ (s : State). IsOwed s m) h.1 owed)
+-- what is owed when variables were made was owed before that
+pub owed-made : (b z : State) (m : TypingMode) → MakesVariables b z → IsOwed z m → IsOwed b m
+owed-made b z m h owed = subst (λ (s : State). IsOwed s m) h.1 owed

@@ -24,6 +24,10 @@ with_goals gs s = record s { goals = s.goals ++ gs }
 abbrev pub Enters : {A : Type 0} → A → List A → List A → Type 0
 Enters x old new = (Contains old x × (new ≡ old)) ⊎ ((Contains old x → ⊥) × (new ≡ old ++ x ∷ []))
 
+-- it enters, or nothing does
+abbrev pub EntersAtMost : {A : Type 0} → A → List A → List A → Type 0
+EntersAtMost x old new = (new ≡ old) ⊎ Enters x old new
+
 -- an access is recorded, and nothing else changes
 abbrev pub RecordsAccess : OpaqueAccess → State → State → Type 0
 RecordsAccess x old new = Enters x old.accesses new.accesses × (new ≡ record old { accesses = new.accesses })

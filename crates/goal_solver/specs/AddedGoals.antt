@@ -97,9 +97,9 @@ IsPendingAnswer s m (Err f) = Unit {0}
 abbrev pub ArePendingUndecided : State → TypingMode → Type 0
 ArePendingUndecided s m = (AllPendingHold s m → ⊥) × (SomePendingRefuted s m → ⊥)
 
--- only terms, inference state, the places of the goals that were taken out and the recorded accesses change
+-- only terms, inference state, the places of the goals that were taken out and what is recorded change
 abbrev pub ChangesTaken : State → State → Type 0
-ChangesTaken old new = new ≡ record old { terms = new.terms; inference = new.inference; taken = new.taken; accesses = new.accesses }
+ChangesTaken old new = new ≡ record old { terms = new.terms; inference = new.inference; taken = new.taken; accesses = new.accesses; delayed_faults = new.delayed_faults }
 
 -- one where two places are the same, and else nothing
 unfoldable pub same_place : ℕ → ℕ → ℕ

@@ -27,6 +27,7 @@ pub mod Responses
 pub mod HeadForms
 pub mod HiddenTypes
 pub mod Lists
+pub mod RunAnswers
 pub mod RunRules
 pub mod OpenRuns
 pub mod Refusals
@@ -37,6 +38,7 @@ pub mod OpenGoals
 pub mod OpenProjections
 pub mod Recording
 pub mod Promises
+pub mod Evaluations
 pub mod AskedTraits
 pub mod Comparisons
 pub mod HostGoals

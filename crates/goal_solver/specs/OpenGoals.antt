@@ -1,5 +1,5 @@
 -- How a trait goal with inference variables is answered: by its candidates, class by class.
-use Rattle.std.specs.Prelude.{◌≡◌, ◌⊎◌, ℕ, Bool, true, false, ◌||◌, List, [], ◌∷◌, Option, Some, None, Result, Ok, Err, IfOk}
+use Rattle.std.specs.Prelude.{◌≡◌, ◌⊎◌, ℕ, Bool, true, false, ◌||◌, List, [], ◌∷◌, Option, Some, None, Result, Ok, Err}
 use Rattle.goal_terms.specs.NodeTests.{general_variable_at}
 use Rattle.goal_terms.specs.Tree.{Tree, node_of}
 use Rattle.goal_terms.specs.TreeOf.{tree_of_ty}
@@ -22,25 +22,15 @@ use Rattle.goal_tables.specs.declared.sites.TermFault.TheVariants.{UnknownItem, 
 use Rattle.goal_kinds.specs.declared.faults.Fault.{Fault}
 use Rattle.goal_kinds.specs.declared.faults.Fault.TheVariants as fault
 use Rattle.goal_kinds.specs.declared.rules.Rule.{Rule}
-use Rattle.goal_solver.specs.Answers.{IsOwed, level_over, IsMaybe}
-use Rattle.goal_solver.specs.Binding.{bound_term}
+use Rattle.goal_solver.specs.Answers.{IsMaybe}
 use Rattle.goal_solver.specs.Collecting.{KindWords, trait_words, CollectsFor}
-use Rattle.goal_solver.specs.GoingBack.{restored}
-use Rattle.goal_solver.specs.HeadForms.{IsClosedForm, IsFormAnswer, IsFormOpen, IsAnswered}
+use Rattle.goal_solver.specs.HiddenTypes.{AsksForm}
 use Rattle.goal_solver.specs.MergedRules.{MergesRules}
 use Rattle.goal_solver.specs.OpenRuns.{refusal_in}
-use Rattle.goal_solver.specs.Pending.{is_alias}
 use Rattle.goal_solver.specs.State.{State}
 use Rattle.goal_solver.specs.TranslatedArgs.{IsSameEnvironment}
 use Rattle.goal_solver.specs.declared.assembly.merged_rules.Merged.{Merged}
 use Rattle.goal_solver.specs.declared.assembly.merged_rules.Merged.TheVariants as merged
-
--- the head form of a term is asked for, as `structurally_normalize_term` answers it
-pub record AsksForm (env : List Clause) (t : Tree) (old new : State) (r : Result (Option Term) Fault) : Type 0 where
-  pub sound : (m : TypingMode) → IsOwed new m → IsFormAnswer (level_over old m env) (bound_term old t) r
-  pub decided : (m : TypingMode) → IsOwed new m → IsClosedForm (bound_term old t) env → r ≡ Ok None → IsFormOpen (level_over old m env) (bound_term old t)
-  pub itself : is_alias (node_of (bound_term old t)) ≡ false → IfOk r (IsAnswered (bound_term old t))
-  pub back : new ≡ restored old new
 
 -- what is answered for a head form is no type, or a general variable
 abbrev pub IsNoForm : Option Term → Type 0

@@ -2,7 +2,7 @@
 use Rattle.std.specs.Prelude.{◌≡◌, ◌⊎◌, ℕ, suc, Bool, true, false, ◌&&◌, is_none, List, [], ◌∷◌, ◌++◌, length, drop, Option, Some, None, Result, Ok, Err}
 use Rattle.goal_terms.specs.NodeTests.{general_variable_at}
 use Rattle.goal_terms.specs.Tree.{Tree, node_of}
-use Rattle.goal_terms.specs.TreeOf.{tree_of_alias, tree_of_const, tree_of_term, tree_of_ty}
+use Rattle.goal_terms.specs.TreeOf.{tree_of_alias, tree_of_term}
 use Rattle.goal_terms.specs.declared.answers.Certainty.{Certainty}
 use Rattle.goal_terms.specs.declared.answers.Certainty.TheVariants as certainty
 use Rattle.goal_terms.specs.declared.answers.Response.{Response}
@@ -15,14 +15,12 @@ use Rattle.goal_terms.specs.declared.predicates.NormalizesTo.{NormalizesTo}
 use Rattle.goal_terms.specs.declared.predicates.TraitPredicate.{TraitPredicate}
 use Rattle.goal_terms.specs.declared.terms.AliasTerm.{AliasTerm}
 use Rattle.goal_terms.specs.declared.terms.GenericArg.{GenericArg}
-use Rattle.goal_terms.specs.declared.terms.GenericArg.TheVariants as argument
 use Rattle.goal_terms.specs.declared.terms.Term.{Term}
 use Rattle.goal_tables.specs.Clauses.{lies_in_equation}
 use Rattle.goal_tables.specs.declared.rows.Tables.{Tables}
 use Rattle.goal_kinds.specs.CandidateRules.{first_type}
 use Rattle.goal_kinds.specs.Premises.{TraitTree}
-use Rattle.goal_kinds.specs.ProjectionEntries.{may_match_term}
-use Rattle.goal_kinds.specs.ProjectionKind.{ProjectionCandidateGives, ProjectionCandidateRefuted, IsImplForItem, projected_trait, lang_of_alias, is_for_alias, IsAliasWithSelf}
+use Rattle.goal_kinds.specs.ProjectionKind.{ProjectionCandidateGives, ProjectionCandidateRefuted, IsImplForItem, projected_trait, lang_of_alias, is_for_alias, IsAliasWithSelf, may_match_term}
 use Rattle.goal_kinds.specs.declared.goal_kind.MergeRule.TheVariants as merge
 use Rattle.goal_kinds.specs.declared.faults.Fault.{Fault}
 use Rattle.goal_kinds.specs.declared.faults.Fault.TheVariants as fault
@@ -34,7 +32,8 @@ use Rattle.goal_solver.specs.Answers.{IsOwed, level_over, erased_args, AreClosed
 use Rattle.goal_solver.specs.Collecting.{KindWords, kind_words, CollectsFor}
 use Rattle.goal_solver.specs.GoingBack.{restored}
 use Rattle.goal_solver.specs.MergedRules.{MergesRules}
-use Rattle.goal_solver.specs.OpenGoals.{AsksForm, Considers, IsLeft, IsFormless, IsRefusedIn, WhenAnswered, MergesTrait, at_depth, has_kind_fault}
+use Rattle.goal_solver.specs.HiddenTypes.{AsksForm, tree_in}
+use Rattle.goal_solver.specs.OpenGoals.{Considers, IsLeft, IsFormless, IsRefusedIn, WhenAnswered, MergesTrait, at_depth, has_kind_fault}
 use Rattle.goal_solver.specs.OpenRuns.{RunsOpen}
 use Rattle.goal_solver.specs.Refusals.{IsRefusedOpen}
 use Rattle.goal_solver.specs.State.{State}
@@ -83,12 +82,6 @@ CollectsAll Collects (c ∷ cs) rs = (ps : List Rule) × (qs : List Rule) × Col
 -- they are run and merged
 abbrev pub MergesGroup : (TypingMode → TraitGoalProvenVia → List Rule → Type 0) → List Clause → List TraitGoalProvenVia → State → Merged → State → Type 0
 MergesGroup Collects env cs s m u = (rules : List Rule) × CollectsAll (Collects s.typing_mode) cs rules × MergesRules env rules s m u
-
--- the type or the constant that an argument is
-abbrev pub tree_in : GenericArg → Option Tree
-tree_in (argument.Ty t) = Some (tree_of_ty t)
-tree_in (argument.Const c) = Some (tree_of_const c)
-tree_in (argument.Lifetime r) = None
 
 -- whether a head form is there, and no general variable
 abbrev pub is_formed : Option Term → Bool

@@ -11,6 +11,7 @@ use Rattle.goal_terms.specs.declared.answers.Certainty.TheVariants as certainty
 use Rattle.goal_terms.specs.declared.answers.GoalSource.{GoalSource}
 use Rattle.goal_terms.specs.declared.answers.GoalSource.TheVariants as source
 use Rattle.goal_terms.specs.declared.answers.OpaqueAccess.{OpaqueAccess}
+use Rattle.goal_terms.specs.declared.answers.OpaqueTypeKey.{OpaqueTypeKey}
 use Rattle.goal_terms.specs.declared.answers.Response.{Response}
 use Rattle.goal_terms.specs.declared.ids.OpaqueId.{OpaqueId}
 use Rattle.goal_terms.specs.declared.modes.TypingMode.{TypingMode}
@@ -22,6 +23,9 @@ use Rattle.goal_terms.specs.declared.predicates.Goal.{Goal}
 use Rattle.goal_terms.specs.declared.predicates.Predicate.{Predicate}
 use Rattle.goal_terms.specs.declared.predicates.Predicate.TheVariants as predicate
 use Rattle.goal_terms.specs.declared.terms.GenericArg.{GenericArg}
+use Rattle.goal_terms.specs.declared.terms.Term.{Term}
+use Rattle.goal_terms.specs.declared.terms.Term.TheVariants as expected
+use Rattle.goal_terms.specs.declared.terms.Ty.{Ty}
 use Rattle.goal_tables.specs.Rows.{impl_of, inherent_impl_of}
 use Rattle.goal_tables.specs.declared.rows.ImplRow.{ImplRow}
 use Rattle.goal_tables.specs.declared.rows.Tables.{Tables}
@@ -29,6 +33,8 @@ use Rattle.goal_kinds.specs.Rules.{MatchedHeader, clauses_in, value_in}
 use Rattle.goal_kinds.specs.Settings.{is_headline}
 use Rattle.goal_kinds.specs.declared.faults.Fault.{Fault}
 use Rattle.goal_kinds.specs.declared.faults.Fault.TheVariants as fault
+use Rattle.goal_kinds.specs.declared.rules.FirstUse.{FirstUse}
+use Rattle.goal_kinds.specs.declared.rules.FirstUse.TheVariants as first
 use Rattle.goal_kinds.specs.declared.rules.RowClauses.{RowClauses}
 use Rattle.goal_kinds.specs.declared.rules.RowClauses.TheVariants as clauses
 use Rattle.goal_kinds.specs.declared.rules.RuleArguments.{RuleArguments}
@@ -45,7 +51,7 @@ use Rattle.goal_solver.specs.Answers.{IsOwed}
 use Rattle.goal_solver.specs.Binding.{AddsNormalization}
 use Rattle.goal_solver.specs.Equating.{IsEquated}
 use Rattle.goal_solver.specs.GoingBack.{GoesBack, restored, begun}
-use Rattle.goal_solver.specs.HiddenTypes.{bounds_in}
+use Rattle.goal_solver.specs.HiddenTypes.{NormalizesArgs, EntersHidden, bounds_in, checked_in}
 use Rattle.goal_solver.specs.Pending.{is_alias}
 use Rattle.goal_solver.specs.Relating.{ChangesRecords, LeavesOpen, SaysYes}
 use Rattle.goal_solver.specs.Responses.{ListsSinceMark, both_certain}
@@ -162,10 +168,6 @@ source_of (clauses.Inherent i) = source.Misc
 abbrev pub clauses_with : List Tree → List Clause → List PredicateTree
 clauses_with ts cs = map (λ (k : Clause). folded_predicate (instantiating ts) 0 (tree_of_kind k.kind)) cs
 
--- the bounds of an opaque type are added as goals, under its arguments and with a type in its place
-abbrev pub AddsBounds : OpaqueId → List Tree → List Clause → Tree → State → State → Type 0
-AddsBounds i ts env v old new = AddsGoals source.AliasWellFormed env (clauses_with (ts ++ v ∷ []) (bounds_in old.tables i)) old new
-
 -- goals for the clauses of a row under earlier arguments are added
 abbrev pub AddsRow : GoalSource → List Clause → Option (List Clause) → Option (List Tree) → State → Certainty → State → Type 0
 AddsRow from env (Some cs) (Some ts) s c u = AddsGoals from env (clauses_with ts cs) s u × (c ≡ certainty.Yes)
@@ -191,6 +193,32 @@ GivesTerm env named v (term.Normalized e) s c u = GivesForm env v (tree_of_term 
 GivesTerm env named v (term.Value w n) s c u = GivesValue env v (value_in s.tables w) (slice_get named n) s c u
 GivesTerm env named v (term.ChosenBy k a b) s c u = StaysUndecided s c u
 
+-- the first use of an opaque type that is being defined takes its hidden type: the expected term as it is, or the type that type checking found, under the arguments as they are given
+abbrev pub TakesFirst : List Clause → Tree → FirstUse → Option Tree → List Tree → State → Certainty → State → Type 0
+TakesFirst env v first.Expected o ts s c u = (u ≡ s) × (c ≡ certainty.Yes)
+TakesFirst env v first.TypeChecked (Some t) ts s c u = Equates env (v ∷ []) (instance ts t ∷ []) s u c
+TakesFirst env v first.TypeChecked None ts s c u = StaysUndecided s c u
+
+-- a later one makes the expected term equal to the type that was entered
+abbrev pub MeetsHidden : List Clause → Tree → FirstUse → OpaqueTypeKey → Option Ty → State → Certainty → State → Type 0
+MeetsHidden env v f k (Some earlier) s c u = Equates env (v ∷ []) (tree_of_ty earlier ∷ []) s u c
+MeetsHidden env v f k None s c u = TakesFirst env v f (checked_in s.tables k.def_id) (trees_of k.args.items) s c u
+
+-- the bounds of an opaque type are added as goals, with a type in its place
+abbrev pub AddsBounds : OpaqueId → List Tree → List Clause → Tree → State → State → Type 0
+AddsBounds i ts env v old new = AddsGoals source.AliasWellFormed env (clauses_with (ts ++ v ∷ []) (bounds_in old.tables i)) old new
+
+-- an expected type is the hidden type of an opaque type under its normalized arguments: it is entered and made equal to what else is known of it, and the bounds are added
+abbrev pub DefinesUnder : List Clause → Tree → OpaqueTypeKey → FirstUse → Option (List Tree) → State → Certainty → State → Type 0
+DefinesUnder env v k f None s c u = StaysUndecided s c u
+DefinesUnder env v k f (Some ts) s c u =
+    (earlier : Option Ty) × (y : State) × (z : State) × EntersHidden k.def_id ts v s y earlier × MeetsHidden env v f k earlier y c z × AddsBounds k.def_id ts env v z u
+
+-- its arguments are normalized first; where one is undecided nothing is entered, and a constant is no hidden type
+abbrev pub Defines : List Clause → Term → OpaqueTypeKey → FirstUse → State → Certainty → State → Type 0
+Defines env (expected.Const e) k f s c u = StaysUndecided s c u
+Defines env (expected.Ty t) k f s c u = (o : Option (List Tree)) × (z : State) × NormalizesArgs env k.args.items s o z × DefinesUnder env (tree_of_ty t) k f o z c u
+
 -- that the mode is read is recorded; outside the headline modes the list may stay undecided in place of this
 abbrev pub ReadsMode : OpaqueAccess → State → Certainty → State → Type 0
 ReadsMode a s c u =
@@ -214,6 +242,7 @@ Steps env (entry.Clause g k) s p u q = Joins p q (λ c. AddsGoals g env (tree_of
 Steps env (entry.RowClauses w n) s p u q = Joins p q (λ c. AddsRow (source_of w) env (clauses_in s.tables w) (slice_get p.named n) s c u)
 Steps env (entry.RowConditions b i n) s p u q = (u ≡ s) × (q ≡ after_entry p certainty.Maybe)
 Steps env (entry.Term v e) s p u q = Joins p q (λ c. GivesTerm env p.named (tree_of_term v) e s c u)
+Steps env (entry.HiddenType v k f) s p u q = Joins p q (λ c. Defines env v k f s c u)
 Steps env (entry.Access a) s p u q = Joins p q (λ c. ReadsMode a s c u)
 Steps env (entry.DelayedFault f) s p u q = RecordsFault f s u × (q ≡ p)
 Steps env entry.Evaluation s p u q = (c : Certainty) × Evaluates s u c × (q ≡ p)

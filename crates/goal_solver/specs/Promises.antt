@@ -1,5 +1,5 @@
 -- What the calls that answer goals promise of their answers.
-use Rattle.std.specs.Prelude.{◌≡◌, ◌≤◌, ◌<◌, ◌||◌, ℕ, suc, Bool, true, false, List, [], ◌∷◌, Option, Some, None, Result, Ok, Err, IfOk, IfSome, length}
+use Rattle.std.specs.Prelude.{◌≡◌, ◌≤◌, ◌<◌, ◌||◌, ◌&&◌, nat_lt, is_some, ℕ, suc, Bool, true, false, List, [], ◌∷◌, Option, Some, None, Result, Ok, Err, IfOk, IfSome, length}
 use Rattle.goal_terms.specs.Erased.{erased}
 use Rattle.goal_terms.specs.NodeTests.{is_any_infer}
 use Rattle.goal_terms.specs.PredicateTrees.{PredicateTree, holds, equals, holds_const}
@@ -28,14 +28,18 @@ use Rattle.goal_kinds.specs.Levels.{level}
 use Rattle.goal_kinds.specs.Premises.{TraitTree}
 use Rattle.goal_kinds.specs.declared.faults.Fault.{Fault}
 use Rattle.goal_kinds.specs.declared.faults.Fault.TheVariants as fault
+use Rattle.goal_kinds.specs.RuleModes.{first_use_of}
+use Rattle.goal_kinds.specs.RuleWords.{DefinesHidden}
 use Rattle.goal_kinds.specs.declared.goal_kind.MergeRule.{MergeRule}
 use Rattle.goal_kinds.specs.declared.goal_kind.MergeRule.TheVariants as merge
+use Rattle.goal_kinds.specs.declared.rules.FirstUse.{FirstUse}
+use Rattle.goal_kinds.specs.declared.rules.RuleEntry.{RuleEntry}
 use Rattle.goal_solver.specs.Answers.{IsOwed, level_over, erased_args, AreClosed, is_closed_alias, IsClosedEquation, IsMaybe, IsAliasOpen, IsQuiet, expected_variable}
 use Rattle.goal_solver.specs.Assembled.{level_above, level_through, HoldsThrough}
 use Rattle.goal_solver.specs.Binding.{IsApplicable}
 use Rattle.goal_solver.specs.Goals.{IsAcceptedNormalization}
 use Rattle.goal_solver.specs.OpenGoals.{MergesTrait, WhenAnswered, at_depth}
-use Rattle.goal_solver.specs.OpenProjections.{MergesProjection}
+use Rattle.goal_solver.specs.OpenProjections.{MergesProjection, AnswersRun}
 use Rattle.goal_solver.specs.Outcomes.{StandsFor}
 use Rattle.goal_solver.specs.State.{State, kinds_of}
 
@@ -169,11 +173,11 @@ pub record GivesTermAlone (s : State) (e : Term) (r : Response) : Type 0 where
   pub quiet : IsQuiet (length (kinds_of s)) r
   pub values : ListsTerm e r.certainty r.var_values.items
 
--- a closed goal of an alias's term is answered: exactly, if `check_goal` accepts it; what is decided lasts; and nothing is changed but the term's variable
+-- a closed goal of an alias's term is answered: exactly, if `check_goal` accepts it; what is decided lasts; and nothing is changed but the term's variable, if it is no opaque type that is being defined
 pub record AnswersAlias (before after : State) (env : List Clause) (p : NormalizesTo) (r : Result Response Fault) : Type 0 where
   pub exact : IsAcceptedNormalization before p env → WhereOwed before after env (λ L. IfSome (term_answered r) (IsAnswer L (term_asked p)))
   pub lasts : FromHereOn before after env (λ L. IfSome (decided_in (term_answered r)) (IsAnswer L (term_asked p)))
-  pub quiet : IfOk r (GivesTermAlone before p.term)
+  pub quiet : first_use_of before.tables before.typing_mode p.alias.kind ≡ None → IfOk r (GivesTermAlone before p.term)
   pub no_class : IfOk r NamesNoClass
 
 -- no two answers that decide a question disagree, at whatever depths
@@ -202,6 +206,24 @@ MergesOpenTrait before after g r = (n : ℕ) → before.remaining_depth ≡ suc 
 abbrev pub MergesOpenProjection : State → State → Goal NormalizesTo → Result Response Fault → Type 0
 MergesOpenProjection before after g r =
     (n k : ℕ) → expected_variable g.predicate.term ≡ Some k → before.remaining_depth ≡ suc n → WhenAnswered r (MergesProjection g (at_depth n before) r (at_depth n after))
+
+-- the list of an opaque type that is being defined is run, and what comes of it is answered
+abbrev pub RunsHidden : Goal NormalizesTo → FirstUse → State → Result Response Fault → State → Type 0
+RunsHidden g f s r u = (es : List RuleEntry) × DefinesHidden (tree_of_term g.predicate.term) g.predicate.alias f es × AnswersRun g.param_env.items es s r u
+
+-- so an opaque type that the mode defines is answered, at one less of the depth
+abbrev pub DefinesAlias : State → State → Goal NormalizesTo → Result Response Fault → Type 0
+DefinesAlias before after g r =
+    (n k : ℕ) (f : FirstUse) → first_use_of before.tables before.typing_mode g.predicate.alias.kind ≡ Some f → expected_variable g.predicate.term ≡ Some k → before.remaining_depth ≡ suc n →
+    WhenAnswered r (RunsHidden g f (at_depth n before) r (at_depth n after))
+
+-- whether a goal is one of such a type, without other variables than the expected one, and there is a depth for it
+abbrev pub is_defined : State → Goal NormalizesTo → Bool
+is_defined s g =
+    nat_lt 0 s.remaining_depth
+    && is_some (expected_variable g.predicate.term)
+    && is_closed_alias g.predicate.alias g.param_env.items
+    && is_some (first_use_of s.tables s.typing_mode g.predicate.alias.kind)
 
 -- a context with one more of the depth left: what the candidates of a goal make it is its answer there
 abbrev pub one_deeper : State → State

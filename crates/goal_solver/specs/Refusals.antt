@@ -2,17 +2,23 @@
 use Rattle.std.specs.Prelude.{◌≡◌, ◌≢◌, ◌⊎◌, ◌<◌, ℕ, false, List, [], ◌∷◌, ◌++◌, length, map, Option, Some, None, slice_get, Result, Err, IfErr}
 use Rattle.goal_terms.specs.Folding.{instance}
 use Rattle.goal_terms.specs.Tree.{Tree, node_of}
-use Rattle.goal_terms.specs.TreeOf.{trees_of, tree_of_term}
+use Rattle.goal_terms.specs.TreeOf.{trees_of, tree_of_ty, tree_of_term}
 use Rattle.goal_terms.specs.declared.answers.GoalSource.{GoalSource}
+use Rattle.goal_terms.specs.declared.answers.OpaqueTypeKey.{OpaqueTypeKey}
 use Rattle.goal_terms.specs.declared.modes.TypingMode.{TypingMode}
 use Rattle.goal_terms.specs.declared.modes.TypingMode.TheVariants as mode
 use Rattle.goal_terms.specs.declared.predicates.Clause.{Clause}
 use Rattle.goal_terms.specs.declared.predicates.Goal.{Goal}
 use Rattle.goal_terms.specs.declared.predicates.Predicate.{Predicate}
+use Rattle.goal_terms.specs.declared.terms.Term.{Term}
+use Rattle.goal_terms.specs.declared.terms.Term.TheVariants as expected
+use Rattle.goal_terms.specs.declared.terms.Ty.{Ty}
 use Rattle.goal_tables.specs.Rows.{impl_of}
 use Rattle.goal_kinds.specs.Rules.{MatchedHeader, value_in}
 use Rattle.goal_kinds.specs.declared.faults.Fault.{Fault}
 use Rattle.goal_kinds.specs.declared.faults.Fault.TheVariants as fault
+use Rattle.goal_kinds.specs.declared.rules.FirstUse.{FirstUse}
+use Rattle.goal_kinds.specs.declared.rules.FirstUse.TheVariants as first
 use Rattle.goal_kinds.specs.declared.rules.RuleArguments.{RuleArguments}
 use Rattle.goal_kinds.specs.declared.rules.RuleArguments.TheVariants as arguments
 use Rattle.goal_kinds.specs.declared.rules.RuleEntry.{RuleEntry}
@@ -24,6 +30,7 @@ use Rattle.goal_solver.specs.AddedGoals.{IsClosedGoal, IsRefutedIn, IsPending, c
 use Rattle.goal_solver.specs.Answers.{IsOwed}
 use Rattle.goal_solver.specs.Equating.{IsEquated}
 use Rattle.goal_solver.specs.GoingBack.{GoesBack, restored, begun}
+use Rattle.goal_solver.specs.HiddenTypes.{NormalizesArgs, RefusesArgs, EntersHidden, checked_in}
 use Rattle.goal_solver.specs.OpenRuns.{OpenProgress, open_start, open_header, other_header, refusal_in, RunsThrough}
 use Rattle.goal_solver.specs.Pending.{is_alias}
 use Rattle.goal_solver.specs.State.{State, kinds_of}
@@ -93,7 +100,27 @@ RefusesTerm env named v (term.Normalized e) s u = RefusesForm env v (tree_of_ter
 RefusesTerm env named v (term.Value w n) s u = RefusesValue env v (value_in s.tables w) (slice_get named n) s u
 RefusesTerm env named v (term.ChosenBy k a b) s u = ⊥
 
--- the step of an entry is refused, and what is left then: only a header, an equation, a term, an evaluation and a rule that doesn't stand can be
+-- the hidden type of an opaque type is refused: it can't be made equal to the type that was entered, or to the type that type checking found
+abbrev pub RefusesFirst : List Clause → Tree → FirstUse → Option Tree → List Tree → State → State → Type 0
+RefusesFirst env v first.Expected o ts s u = ⊥
+RefusesFirst env v first.TypeChecked (Some t) ts s u = RefusesEqual env (v ∷ []) (instance ts t ∷ []) s u
+RefusesFirst env v first.TypeChecked None ts s u = ⊥
+
+abbrev pub RefusesMeeting : List Clause → Tree → FirstUse → OpaqueTypeKey → Option Ty → State → State → Type 0
+RefusesMeeting env v f k (Some earlier) s u = RefusesEqual env (v ∷ []) (tree_of_ty earlier ∷ []) s u
+RefusesMeeting env v f k None s u = RefusesFirst env v f (checked_in s.tables k.def_id) (trees_of k.args.items) s u
+
+-- under its normalized arguments
+abbrev pub RefusesUnder : List Clause → Tree → OpaqueTypeKey → FirstUse → List Tree → State → State → Type 0
+RefusesUnder env v k f ts s u = (earlier : Option Ty) × (y : State) × EntersHidden k.def_id ts v s y earlier × RefusesMeeting env v f k earlier y u
+
+-- or it is refuted that one of these arguments has a head form
+abbrev pub RefusesHidden : List Clause → Term → OpaqueTypeKey → FirstUse → State → State → Type 0
+RefusesHidden env (expected.Const e) k f s u = ⊥
+RefusesHidden env (expected.Ty t) k f s u =
+    RefusesArgs env k.args.items s u ⊎ ((ts : List Tree) × (z : State) × NormalizesArgs env k.args.items s (Some ts) z × RefusesUnder env (tree_of_ty t) k f ts z u)
+
+-- the step of an entry is refused, and what is left then: only a header, an equation, a term, a hidden type, an evaluation and a rule that doesn't stand can be
 unfoldable pub StepRefused : List Clause → RuleEntry → State → OpenProgress → State → Type 0
 StepRefused env (entry.Arguments a) s p u = RefusesNames env p.named a s u
 StepRefused env (entry.Equation ts us) s p u = RefusesEqual env (trees_of ts.items) (trees_of us.items) s u
@@ -101,6 +128,7 @@ StepRefused env (entry.Clause g k) s p u = ⊥
 StepRefused env (entry.RowClauses w n) s p u = ⊥
 StepRefused env (entry.RowConditions b i n) s p u = ⊥
 StepRefused env (entry.Term v e) s p u = RefusesTerm env p.named (tree_of_term v) e s u
+StepRefused env (entry.HiddenType v k f) s p u = RefusesHidden env v k f s u
 StepRefused env (entry.Access a) s p u = ⊥
 StepRefused env (entry.DelayedFault f) s p u = ⊥
 StepRefused env entry.Evaluation s p u = RefusesPending s u

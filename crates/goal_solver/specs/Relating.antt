@@ -22,7 +22,8 @@ use Rattle.goal_kinds.specs.Level.{Level}
 use Rattle.goal_kinds.specs.Levels.{level}
 use Rattle.goal_kinds.specs.Settings.{is_headline}
 use Rattle.goal_kinds.specs.Words.{Pairs, SomePair}
-use Rattle.goal_solver.specs.Outcomes.{Says, StandsFor}
+use Rattle.goal_solver.specs.Answers.{IsOwed}
+use Rattle.goal_solver.specs.Outcomes.{Says}
 use Rattle.goal_solver.specs.State.{State, kinds_of}
 use Rattle.goal_kinds.specs.declared.faults.Fault.{Fault}
 use Rattle.goal_kinds.specs.declared.faults.Fault.TheVariants as fault
@@ -64,7 +65,7 @@ SaysEqual L ts us o = Says (Pairs L.equal ts us) (SomePair L.unequal ts us) o
 -- what an outcome of equating says of replacements: after `Holds` those that agree make the lists equal, after `Refuted` none made them identical;
 -- what agrees afterwards agreed before, and where they can be made identical this is still so
 pub record IsRelated (old new : State) (env : List Clause) (ts us : List Tree) (n : ℕ) (o : Outcome) : Type 0 where
-  pub equal : o ≡ outcome.Holds → (m : TypingMode) → StandsFor old.typing_mode m → (ρ : Variable → Tree) → AgreesWith new ρ →
+  pub equal : o ≡ outcome.Holds → (m : TypingMode) → IsOwed new m → (ρ : Variable → Tree) → AgreesWith new ρ →
       Pairs (level (setting_of old.tables m env) n).equal (all_replaced ρ ts) (all_replaced ρ us)
   pub never : o ≡ outcome.Refuted → (ρ : Variable → Tree) → OfKinds ρ → AgreesWith old ρ → Identifies ρ ts us → ⊥
   pub agreed : (ρ : Variable → Tree) → AgreesWith new ρ → AgreesWith old ρ
@@ -72,15 +73,15 @@ pub record IsRelated (old new : State) (env : List Clause) (ts us : List Tree) (
   pub identified : o ≡ outcome.Holds → AreDefinite old ts → AreDefinite old us → (ρ : Variable → Tree) → AgreesWith new ρ → Identifies ρ ts us
   pub plain : lists_are_plain (kinds_of old) (all_bound old ts) (all_bound old us) ≡ true → o ≢ outcome.Undecided
   pub same : all_bound old ts ≡ all_bound old us → (o ≡ outcome.Holds) × (new.inference ≡ old.inference)
-  pub closed : AreClosedSides env ts us → (m : TypingMode) → IsFinalIn old.typing_mode m → SaysEqual (level (setting_of old.tables m env) n) ts us o × (new.inference ≡ old.inference)
+  pub closed : AreClosedSides env ts us → (m : TypingMode) → IsOwed new m → SaysEqual (level (setting_of old.tables m env) n) ts us o × (new.inference ≡ old.inference)
 
 -- only terms and inference state change
 abbrev pub ChangesInference : State → State → Type 0
 ChangesInference old new = new ≡ record old { terms = new.terms; inference = new.inference }
 
--- and the recorded accesses
+-- and what is recorded
 abbrev pub ChangesRecords : State → State → Type 0
-ChangesRecords old new = new ≡ record old { terms = new.terms; inference = new.inference; accesses = new.accesses }
+ChangesRecords old new = new ≡ record old { terms = new.terms; inference = new.inference; accesses = new.accesses; delayed_faults = new.delayed_faults }
 
 -- the answer to whether two lists are equal in pairs is justified
 abbrev pub IsEqualAnswer : Level → List Tree → List Tree → Result Certainty Fault → Type 0

@@ -14,6 +14,7 @@ use Rattle.goal_terms.specs.declared.modes.TypingMode.{TypingMode}
 use Rattle.goal_terms.specs.declared.predicates.Clause.{Clause}
 use Rattle.goal_tables.specs.Predicates.{some_in_args, some_in_clause_kind, some_in_env}
 use Rattle.goal_tables.specs.declared.rows.Tables.{Tables}
+use Rattle.goal_kinds.specs.Causes.{IsFaultCaused}
 use Rattle.goal_kinds.specs.Answers.{setting_of}
 use Rattle.goal_kinds.specs.Entries.{Arguments, of_header, Entry}
 use Rattle.goal_kinds.specs.InternedEntries.{header_trees}
@@ -58,7 +59,7 @@ some_in_term p (term.Normalized e) = some_node p (tree_of_term e)
 some_in_term p (term.Value v n) = false
 some_in_term p (term.ChosenBy k a b) = some_in_clause_kind p k || some_node p (tree_of_term a) || some_node p (tree_of_term b)
 
--- whether something in an entry passes, expected terms aside
+-- whether something in an entry passes, expected terms aside; the hidden type of an opaque type always counts as such
 abbrev pub some_in_entry : (Node → Bool) → RuleEntry → Bool
 some_in_entry p (entry.Arguments a) = some_in_arguments p a
 some_in_entry p (entry.Equation ts us) = some_in_args p ts.items || some_in_args p us.items
@@ -66,6 +67,7 @@ some_in_entry p (entry.Clause g k) = some_in_clause_kind p k
 some_in_entry p (entry.RowClauses c n) = false
 some_in_entry p (entry.RowConditions b i n) = false
 some_in_entry p (entry.Term v e) = some_in_term p e
+some_in_entry p (entry.HiddenType v k f) = true
 some_in_entry p (entry.Access a) = false
 some_in_entry p (entry.DelayedFault f) = false
 some_in_entry p entry.Evaluation = false
@@ -73,7 +75,7 @@ some_in_entry p entry.Ambiguous = false
 some_in_entry p entry.Undecided = false
 some_in_entry p entry.Refused = false
 
--- a rule and an environment hold no inference variable, expected terms aside
+-- a rule and an environment hold no inference variable, expected terms aside, and no opaque type is being defined by the rule
 abbrev pub IsClosedRule : List RuleEntry → List Clause → Type 0
 IsClosedRule es env = (list_any (some_in_entry is_any_infer) es || some_in_env is_any_infer env) ≡ false
 
@@ -85,6 +87,7 @@ asked_by (entry.Equation ts us) = []
 asked_by (entry.Clause g k) = []
 asked_by (entry.RowClauses c n) = []
 asked_by (entry.RowConditions b i n) = []
+asked_by (entry.HiddenType v k f) = []
 asked_by (entry.Access a) = []
 asked_by (entry.DelayedFault f) = []
 asked_by entry.Evaluation = []
@@ -140,6 +143,7 @@ to_record (entry.Clause g k) = recorded.Nothing
 to_record (entry.RowClauses c n) = recorded.Nothing
 to_record (entry.RowConditions b i n) = recorded.Nothing
 to_record (entry.Term v e) = recorded.Nothing
+to_record (entry.HiddenType v k f) = recorded.Nothing
 to_record entry.Evaluation = recorded.Nothing
 to_record entry.Ambiguous = recorded.Nothing
 to_record entry.Undecided = recorded.Nothing
@@ -163,9 +167,9 @@ AreRecorded s es = All (IsRecorded s) es
 abbrev pub IsRecordedAnswer : State → List RuleEntry → Response → Type 0
 IsRecordedAnswer s es x = x.certainty ≡ certainty.Yes → AreRecorded s es
 
--- each delayed fault that has come since is one of the list's
-abbrev pub AreListed : List RuleEntry → State → State → Type 0
-AreListed es before after = (f : DelayedFault) → Contains after.delayed_faults f → Contains before.delayed_faults f ⊎ Contains es (entry.DelayedFault f)
+-- each delayed fault that has come since is one of the list's, or has its cause in the tables
+unfoldable pub AreListed : List RuleEntry → State → State → Type 0
+AreListed es before after = (f : DelayedFault) → Contains after.delayed_faults f → Contains before.delayed_faults f ⊎ (Contains es (entry.DelayedFault f) ⊎ IsFaultCaused before.tables f)
 
 -- the response of a candidate
 abbrev pub response_of : Result Candidate Fault → Result Response Fault

@@ -11,7 +11,7 @@ use Rattle.goal_infer.specs.Unification.{IsClosed}
 use Rattle.goal_kinds.specs.Answers.{setting_of}
 use Rattle.goal_kinds.specs.Levels.{level}
 use Rattle.goal_kinds.specs.Words.{Pairs}
-use Rattle.goal_solver.specs.Outcomes.{RunsFor, Says, StandsFor, level_in}
+use Rattle.goal_solver.specs.Outcomes.{RunsFor, Says, level_in}
 use Rattle.goal_solver.specs.Relating.{Identifies, all_replaced, all_bound, AreClosedSides, SaysEqual}
 use Rattle.goal_solver.specs.State.{State, kinds_of}
 use Rattle.goal_solver.specs.declared.eval.outcomes.Setting as over
@@ -37,11 +37,11 @@ abbrev pub HoldsWithMemory : Result Outcome Stop → Type 0
 HoldsWithMemory (Ok o) = o ≡ outcome.Holds
 HoldsWithMemory (Err s) = s ≡ stop.OutOfMemory
 
--- what two lists come to over a context: as above, for the modes that its own stands for; closed ones below an environment without variables are compared
-pub record AreSettledIn (s : State) (env : List Clause) (n : ℕ) (ts us : List Tree) (o : Outcome) : Type 0 where
-  pub holds : o ≡ outcome.Holds → (m : TypingMode) → StandsFor s.typing_mode m → (ρ : Variable → Tree) → Pairs (level (setting_of s.tables m env) n).equal (all_replaced ρ ts) (all_replaced ρ us)
+-- what two lists come to over a context: as above, for the modes that are owed it; closed ones below an environment without variables are compared
+pub record AreSettledIn (s : State) (Owed : TypingMode → Type 0) (env : List Clause) (n : ℕ) (ts us : List Tree) (o : Outcome) : Type 0 where
+  pub holds : o ≡ outcome.Holds → (m : TypingMode) → Owed m → (ρ : Variable → Tree) → Pairs (level (setting_of s.tables m env) n).equal (all_replaced ρ ts) (all_replaced ρ us)
   pub refuted : o ≡ outcome.Refuted → (ρ : Variable → Tree) → Identifies ρ ts us → ⊥
-  pub closed : AreClosedSides env ts us → (m : TypingMode) → StandsFor s.typing_mode m → SaysEqual (level (setting_of s.tables m env) n) ts us o
+  pub closed : AreClosedSides env ts us → (m : TypingMode) → Owed m → SaysEqual (level (setting_of s.tables m env) n) ts us o
 
 -- in coherence nothing is refuted for good
 abbrev pub outcome_in : TypingMode → Outcome → Outcome

@@ -1,7 +1,8 @@
 -- The arguments that a definition of a goal's item takes.
-use Rattle.std.specs.Prelude.{◌≡◌, ◌==◌, ◌||◌, ◌⊎◌, false, List, ◌++◌, length, map, drop, Result, Ok, Err, Vec, if◌then◌else◌}
+use Rattle.std.specs.Prelude.{◌≡◌, ◌==◌, ◌||◌, ◌⊎◌, ℕ, false, IfOk, List, ◌++◌, length, map, drop, Result, Ok, Err, Vec, if◌then◌else◌}
 use Rattle.std.specs.Global.{Global}
 use Rattle.std.specs.List.{AllZip, list_any}
+use Rattle.goal_terms.specs.Erased.{erased}
 use Rattle.goal_terms.specs.Folding.{instance, instantiating}
 use Rattle.goal_terms.specs.NodeTests.{is_any_infer, some_node}
 use Rattle.goal_terms.specs.PredicateTrees.{PredicateTree, tree_of_trait_predicate, tree_of_projection, tree_of_host_effect, tree_of_whole_clause, folded_clause}
@@ -14,6 +15,7 @@ use Rattle.goal_terms.specs.declared.answers.GoalSource.TheVariants as source
 use Rattle.goal_terms.specs.declared.answers.VarKind.{VarKind}
 use Rattle.goal_terms.specs.declared.heads.Variable.{Variable}
 use Rattle.goal_terms.specs.declared.ids.ImplId.{ImplId}
+use Rattle.goal_terms.specs.declared.modes.TypingMode.{TypingMode}
 use Rattle.goal_terms.specs.declared.predicates.Clause.{Clause}
 use Rattle.goal_terms.specs.declared.predicates.Goal.{Goal}
 use Rattle.goal_terms.specs.declared.predicates.NormalizesTo.{NormalizesTo}
@@ -26,6 +28,7 @@ use Rattle.goal_tables.specs.Rows.{impl_of}
 use Rattle.goal_tables.specs.declared.rows.Container.{Container}
 use Rattle.goal_tables.specs.declared.rows.Container.TheVariants as container
 use Rattle.goal_tables.specs.declared.rows.ImplRow.{ImplRow}
+use Rattle.goal_infer.specs.Replacement.{OfKinds}
 use Rattle.goal_kinds.specs.Headers.{under, AllKnown, Fits, Clashes}
 use Rattle.goal_kinds.specs.ImplTerms.{Taken, from_projection, from_impl, from_other}
 use Rattle.goal_kinds.specs.Level.{Level}
@@ -34,12 +37,13 @@ use Rattle.goal_kinds.specs.Words.{Pairs}
 use Rattle.goal_kinds.specs.declared.faults.Fault.{Fault}
 use Rattle.goal_kinds.specs.declared.faults.Fault.TheVariants as fault
 use Rattle.goal_solver.specs.Added.{with_goals}
-use Rattle.goal_solver.specs.Answers.{erased_args}
+use Rattle.goal_solver.specs.Answers.{IsOwed, level_over, erased_args}
 use Rattle.goal_solver.specs.Equating.{IsEquated}
-use Rattle.goal_solver.specs.Relating.{all_bound, all_replaced}
+use Rattle.goal_solver.specs.Relating.{AgreesWith, Identifies, SaysYes, Refuses, LeavesOpen, all_bound, all_replaced}
 use Rattle.goal_solver.specs.State.{State, kinds_of}
+use Rattle.goal_solver.specs.declared.eval.outcomes.HeaderMatch.{HeaderMatch}
+use Rattle.goal_solver.specs.declared.eval.outcomes.HeaderMatch.TheVariants as match
 use Rattle.goal_solver.specs.Variables.{with_variables, kind_for, fresh_args}
-use Rattle.goal_solver.specs.Variables.{with_variables}
 
 -- whose arguments a definition takes that an impl uses, by where it stands
 abbrev pub taken_by : State → ImplId → Container → Taken
@@ -82,6 +86,13 @@ IsTranslation L q gs own (Err f) = Unit {0}
 -- an impl's header neither fits given terms nor clashes with them
 abbrev pub IsHeaderOpen : Level → ImplRow → List Tree → Type 0
 IsHeaderOpen L q gs = ((s : List Tree) → Fits L q.params.items (header_of q) gs s → ⊥) × (Clashes L q.params.items (header_of q) gs → ⊥)
+
+-- a match whose parameters are known has so many terms
+abbrev pub MatchCounts : ℕ → HeaderMatch → Type 0
+MatchCounts n (match.Fits s) = length s.items ≡ n
+MatchCounts n (match.Known s) = length s.items ≡ n
+MatchCounts n match.Clashes = Unit {0}
+MatchCounts n match.Unknown = Unit {0}
 
 -- an impl's header under the answered arguments before the own ones is equal to given terms, with trees put for the variables
 abbrev pub IsEqualUnder : Level → ImplRow → (Variable → Tree) → List Tree → List Tree → Result (Vec GenericArg Global × Certainty) Fault → Type 0
@@ -150,4 +161,41 @@ MakesVariables old new = (ks : List VarKind) × (new ≡ with_variables ks old)
 
 -- only terms, inference state, added goals and recorded accesses change
 abbrev pub ChangesGoals : State → State → Type 0
-ChangesGoals old new = new ≡ record old { terms = new.terms; inference = new.inference; goals = new.goals; accesses = new.accesses }
+ChangesGoals old new = new ≡ record old { terms = new.terms; inference = new.inference; goals = new.goals; accesses = new.accesses; delayed_faults = new.delayed_faults }
+
+-- another impl, in which a definition stands, is asked for its arguments for a trait reference, with own ones behind them
+pub record OtherAsked : Type 0 where
+  pub row : ImplRow
+  pub environment : List Clause
+  pub trait_ref : TraitRef
+  pub own : List Tree
+
+abbrev pub asked_of : TraitRef → Goal NormalizesTo → ImplRow → OtherAsked
+asked_of r g q = record { row = q; environment = g.param_env.items; trait_ref = r; own = own_after r g }
+
+-- neither the trait reference, bindings followed, nor the environment hold an inference variable
+abbrev pub IsClosedFor : State → OtherAsked → Type 0
+IsClosedFor s o = AreClosedIn o.environment (bound_ref s o.trait_ref)
+
+-- then the arguments are read off where the header's parameters stand, and no variable is bound
+pub record ReadsOff (old new : State) (o : OtherAsked) (r : Result (Vec GenericArg Global × Certainty) Fault) : Type 0 where
+  pub sound : (m : TypingMode) → IsOwed new m → IsTranslation (level_over old m o.environment) o.row (bound_ref old o.trait_ref) (map erased o.own) r
+  pub decided : (m : TypingMode) → IsOwed new m → LeavesOpen (certainty_in r) → IsHeaderOpen (level_over old m o.environment) o.row (bound_ref old o.trait_ref)
+  pub fresh : (m : TypingMode) → IsOwed new m →
+      ((s : List Tree) → AllKnown (level_over old m o.environment) o.row.params.items (header_of o.row) (bound_ref old o.trait_ref) s → ⊥) →
+      IfOk r (λ x. IsFresh old new o.row o.own (trees_of x.0.items))
+  pub binds_nothing : IfOk r (λ x. BindsNothing old new o.row o.own (trees_of x.0.items))
+
+-- else the header under fresh variables is made equal to the trait reference, and a refusal says that no replacement does so
+pub record MakesEqual (old new : State) (o : OtherAsked) (r : Result (Vec GenericArg Global × Certainty) Fault) : Type 0 where
+  pub made_equal : IsMadeEqual old new o.environment o.row (trees_of o.trait_ref.args.items) o.own r
+  pub equal : (m : TypingMode) → IsOwed new m → SaysYes (certainty_in r) → (ρ : Variable → Tree) → AgreesWith new ρ →
+      IsEqualUnder (level_over old m o.environment) o.row ρ (erased_args o.trait_ref.args.items) o.own r
+  pub never : Refuses (certainty_in r) → (ρ : Variable → Tree) → OfKinds ρ → AgreesWith old ρ →
+      Identifies ρ (erased_args o.trait_ref.args.items) (map (under (fresh_args o.row.params.items (length (kinds_of old)))) (header_of o.row)) → ⊥
+
+-- either way the impl's where clauses under its arguments are added as goals
+pub record Translates (old new : State) (o : OtherAsked) (r : Result (Vec GenericArg Global × Certainty) Fault) : Type 0 where
+  pub closed : IsClosedFor old o → ReadsOff old new o r
+  pub variables : (IsClosedFor old o → ⊥) → MakesEqual old new o r
+  pub added : IfOk r (λ x. IsAdded old new o.row o.environment o.own (trees_of x.0.items))

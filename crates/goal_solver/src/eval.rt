@@ -17,6 +17,7 @@ pub mod lists;
 pub(crate) mod mode_tests;
 pub(crate) mod open_terms;
 pub mod outcomes;
+pub mod predicate_views;
 pub mod premises;
 pub(crate) mod reruns;
 pub mod run_rule;

@@ -6,18 +6,19 @@ ghost use Rattle.goal_terms.specs.declared.modes.TypingMode.{TypingMode};
 ghost use Rattle.goal_terms.specs.declared.terms.Term.{Term as term};
 ghost use Rattle.goal_kinds.specs.Answers.{IsAnswer, maybe};
 ghost use Rattle.goal_kinds.specs.Interned.{erased_at};
-ghost use Rattle.goal_solver.specs.Accesses.{RecordsCaused};
+ghost use Rattle.goal_solver.specs.Accesses.{RecordsCaused, RecordsCausedFaults};
 ghost use Rattle.goal_solver.specs.Answers.{IsOwed, level_over, erased_args, is_closed_alias, IsAliasAnswer, IsAliasOpen, GivesTo, expected_variable, IsMaybe, AnswersQuietly, IsFaultOf};
 ghost use Rattle.goal_solver.specs.Binding.{IsApplicable};
 ghost use Rattle.goal_solver.specs.Goals.{IsAcceptedNormalization};
 ghost use Rattle.goal_solver.specs.GoingBack.{GoesBack, restored};
 ghost use Rattle.goal_solver.specs.OpenGoals.{WhenAnswered, at_depth};
 ghost use Rattle.goal_solver.specs.OpenProjections.{MergesProjection};
-ghost use Rattle.goal_solver.specs.Promises.{AnswersAlias, IsClosedNormalization, LeavesUndecided, ListsTerm, MergesOpenProjection, NoTwoDisagree, term_asked};
+ghost use Rattle.goal_solver.specs.Promises.{AnswersAlias, DefinesAlias, IsClosedNormalization, LeavesUndecided, ListsTerm, MergesOpenProjection, NoTwoDisagree, is_defined, term_asked};
 ghost use Rattle.goal_solver.specs.Recording.{is_ambiguous};
 ghost use Rattle.goal_solver.specs.State.{kinds_of};
 
 pub mod alias_terms;
+pub(crate) mod hidden_types;
 pub(crate) mod open;
 pub(crate) mod projection_args;
 pub mod projection_candidates;
@@ -44,6 +45,10 @@ impl EvalCtxt<'_> {
     /// In the erased mode an access is recorded where a rule reads the mode, and an opaque type stays as it is. In
     /// coherence, and where opaque types are being defined, the goal goes by what its candidates say in that mode;
     /// that of an opaque type is `Maybe` in coherence.
+    ///
+    /// An opaque type that the mode defines is answered at one less of the depth by running the list of
+    /// [`goal_kinds::rules::aliases::alias_rule`]: its hidden type under its normalized arguments is the expected
+    /// variable, and the response lists the hidden type that is entered.
     ///
     /// A projection with other inference variables is answered at one less of the depth. Its trait goal is answered
     /// first, as [`EvalCtxt::compute_trait_goal`] does it: a refusal is the answer, and where it is `Maybe` so is
@@ -72,9 +77,14 @@ impl EvalCtxt<'_> {
         ensures unchanged { self.new ≡ restored self.old self.new }
         ensures goes_back { GoesBack self.old self.new }
         ensures fault { IsFaultOf self.old self.new result }
-        ensures caused { IsClosedNormalization goal.now → RecordsCaused self.old self.new }
+        ensures caused { IsClosedNormalization goal.now → is_defined self.old goal.now ≡ false → RecordsCaused self.old self.new }
+        ensures faults { IsClosedNormalization goal.now → is_defined self.old goal.now ≡ false → RecordsCausedFaults self.old self.new }
+        ensures defines { IsClosedNormalization goal.now → DefinesAlias self.old self.new goal.now result }
         ensures applies { IsAcceptedNormalization self.old goal.now.predicate goal.now.param_env.items → IfOk result (IsApplicable self.new) }
     {
+        if self.defines(goal) {
+            return self.define_below(goal);
+        }
         self.normalizes_to_response(goal)
     }
 
@@ -86,6 +96,7 @@ impl EvalCtxt<'_> {
         ensures goes_back { GoesBack self.old self.new }
         ensures fault { IsFaultOf self.old self.new result }
         ensures caused { is_closed_alias goal.now.predicate.alias goal.now.param_env.items ≡ true → RecordsCaused self.old self.new }
+        ensures faults { is_closed_alias goal.now.predicate.alias goal.now.param_env.items ≡ true → RecordsCausedFaults self.old self.new }
         ensures quiet { is_closed_alias goal.now.predicate.alias goal.now.param_env.items ≡ true → AnswersQuietly (length (kinds_of self.old)) result }
         ensures lists { is_closed_alias goal.now.predicate.alias goal.now.param_env.items ≡ true → IfOk result (λ r. r.certainty ≡ certainty.Maybe → r.var_values.items ≡ []) }
         ensures gives { is_closed_alias goal.now.predicate.alias goal.now.param_env.items ≡ true → IfOk result (λ r. r.certainty ≡ certainty.Yes → ListsTerm goal.now.predicate.term certainty.Yes r.var_values.items) }

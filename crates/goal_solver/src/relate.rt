@@ -1,23 +1,13 @@
 //! Equating terms in a context.
-ghost use Rattle.std.specs.Prelude.{◌≡◌, ◌⊎◌, ◌∷◌, [], map, true, OnErr, IfOk, IfErr, IsOk};
-ghost use Rattle.goal_terms.specs.Erased.{erased};
+ghost use Rattle.std.specs.Prelude.{◌≡◌, ◌∷◌, [], map, OnErr};
 ghost use Rattle.goal_terms.specs.TableMeaning.{tree_at};
-ghost use Rattle.goal_terms.specs.Tree.{Tree};
-ghost use Rattle.goal_terms.specs.TreeOf.{tree_of_term, tree_of_arg};
-ghost use Rattle.goal_terms.specs.declared.heads.Variable.{Variable};
-ghost use Rattle.goal_terms.specs.declared.modes.TypingMode.{TypingMode};
-ghost use Rattle.goal_infer.specs.ListUnification.{lists_are_plain};
-ghost use Rattle.goal_infer.specs.Replacement.{OfKinds};
-ghost use Rattle.goal_kinds.specs.Interned.{AreIn, erased_all};
-ghost use Rattle.goal_kinds.specs.Settings.{is_headline};
-ghost use Rattle.goal_kinds.specs.Words.{Pairs};
-ghost use Rattle.goal_solver.specs.Answers.{IsOwed, level_over, erased_args};
+ghost use Rattle.goal_terms.specs.TreeOf.{tree_of_term, trees_of};
+ghost use Rattle.goal_kinds.specs.Interned.{AreIn};
+ghost use Rattle.goal_solver.specs.Accesses.{RecordsCausedFaults};
 ghost use Rattle.goal_solver.specs.Equating.{IsEquated, certainty_of};
 ghost use Rattle.goal_solver.specs.GoingBack.{GoesBack, restored};
-ghost use Rattle.goal_solver.specs.Relating.{IsRelated, ChangesInference, ChangesRecords, AgreesWith, Identifies, all_replaced, all_bound, AreDefinite, AreClosedSides};
-ghost use Rattle.goal_solver.specs.Relating.{IsEqualAnswer, AreUndecided, SaysYes, Refuses, LeavesOpen, IsFaultFor, all_equated, AreIdentical};
-ghost use Rattle.goal_solver.specs.Settled.{IsPlainOrSame};
-ghost use Rattle.goal_solver.specs.State.{kinds_of};
+ghost use Rattle.goal_solver.specs.Relating.{ChangesRecords};
+ghost use Rattle.goal_solver.specs.Relating.{IsFaultFor};
 
 pub mod equality;
 pub mod header_args;
@@ -60,18 +50,10 @@ impl EvalCtxt<'_> {
         left: &Term,
         right: &Term,
     ) -> Result<Certainty, Fault>
-        ensures sound { (m : TypingMode) → IsOwed self.new m → AreClosedSides environment.now (erased (tree_of_term left.now) ∷ []) (erased (tree_of_term right.now) ∷ []) → IsEqualAnswer (level_over self.old m environment.now) (erased (tree_of_term left.now) ∷ []) (erased (tree_of_term right.now) ∷ []) result }
-        ensures decided { (m : TypingMode) → IsOwed self.new m → AreClosedSides environment.now (erased (tree_of_term left.now) ∷ []) (erased (tree_of_term right.now) ∷ []) → LeavesOpen result → AreUndecided (level_over self.old m environment.now) (erased (tree_of_term left.now) ∷ []) (erased (tree_of_term right.now) ∷ []) }
-        ensures equal { (m : TypingMode) → IsOwed self.new m → SaysYes result → (ρ : Variable → Tree) → AgreesWith self.new ρ → Pairs (level_over self.old m environment.now).equal (all_replaced ρ (erased (tree_of_term left.now) ∷ [])) (all_replaced ρ (erased (tree_of_term right.now) ∷ [])) }
-        ensures never { Refuses result → (ρ : Variable → Tree) → OfKinds ρ → AgreesWith self.old ρ → Identifies ρ (erased (tree_of_term left.now) ∷ []) (erased (tree_of_term right.now) ∷ []) → ⊥ }
-        ensures agreed { (ρ : Variable → Tree) → AgreesWith self.new ρ → AgreesWith self.old ρ }
-        ensures most_general { IsOk result → (ρ : Variable → Tree) → AgreesWith self.old ρ → Identifies ρ (erased (tree_of_term left.now) ∷ []) (erased (tree_of_term right.now) ∷ []) → AgreesWith self.new ρ }
-        ensures identified { SaysYes result → AreDefinite self.old (erased (tree_of_term left.now) ∷ []) → AreDefinite self.old (erased (tree_of_term right.now) ∷ []) → (ρ : Variable → Tree) → AgreesWith self.new ρ → Identifies ρ (erased (tree_of_term left.now) ∷ []) (erased (tree_of_term right.now) ∷ []) }
-        ensures plain { lists_are_plain (kinds_of self.old) (all_bound self.old (erased (tree_of_term left.now) ∷ [])) (all_bound self.old (erased (tree_of_term right.now) ∷ [])) ≡ true → LeavesOpen result → ⊥ }
-        ensures regions { AreIdentical (tree_of_term left.now ∷ []) (tree_of_term right.now ∷ []) → IsOk result → self.new.inference ≡ all_equated (tree_of_term left.now ∷ []) (tree_of_term right.now ∷ []) self.old.inference }
-        ensures same { AreIdentical (tree_of_term left.now ∷ []) (tree_of_term right.now ∷ []) → Refuses result ⊎ LeavesOpen result → ⊥ }
+        ensures equated { IsEquated self.old self.new environment.now (tree_of_term left.now ∷ []) (tree_of_term right.now ∷ []) result }
         ensures alone { ChangesRecords self.old self.new }
         ensures unchanged { OnErr result (self.new ≡ restored self.old self.new) }
+        ensures faults { RecordsCausedFaults self.old self.new }
         ensures goes_back { GoesBack self.old self.new }
         ensures fault { IsFaultFor self.old self.new result }
     {
@@ -91,18 +73,10 @@ impl EvalCtxt<'_> {
         left: &[GenericArg],
         right: &[GenericArg],
     ) -> Result<Certainty, Fault>
-        ensures sound { (m : TypingMode) → IsOwed self.new m → AreClosedSides environment.now (erased_args left.now) (erased_args right.now) → IsEqualAnswer (level_over self.old m environment.now) (erased_args left.now) (erased_args right.now) result }
-        ensures decided { (m : TypingMode) → IsOwed self.new m → AreClosedSides environment.now (erased_args left.now) (erased_args right.now) → LeavesOpen result → AreUndecided (level_over self.old m environment.now) (erased_args left.now) (erased_args right.now) }
-        ensures equal { (m : TypingMode) → IsOwed self.new m → SaysYes result → (ρ : Variable → Tree) → AgreesWith self.new ρ → Pairs (level_over self.old m environment.now).equal (all_replaced ρ (erased_args left.now)) (all_replaced ρ (erased_args right.now)) }
-        ensures never { Refuses result → (ρ : Variable → Tree) → OfKinds ρ → AgreesWith self.old ρ → Identifies ρ (erased_args left.now) (erased_args right.now) → ⊥ }
-        ensures agreed { (ρ : Variable → Tree) → AgreesWith self.new ρ → AgreesWith self.old ρ }
-        ensures most_general { IsOk result → (ρ : Variable → Tree) → AgreesWith self.old ρ → Identifies ρ (erased_args left.now) (erased_args right.now) → AgreesWith self.new ρ }
-        ensures identified { SaysYes result → AreDefinite self.old (erased_args left.now) → AreDefinite self.old (erased_args right.now) → (ρ : Variable → Tree) → AgreesWith self.new ρ → Identifies ρ (erased_args left.now) (erased_args right.now) }
-        ensures plain { lists_are_plain (kinds_of self.old) (all_bound self.old (erased_args left.now)) (all_bound self.old (erased_args right.now)) ≡ true → LeavesOpen result → ⊥ }
-        ensures regions { AreIdentical (map tree_of_arg left.now) (map tree_of_arg right.now) → IsOk result → self.new.inference ≡ all_equated (map tree_of_arg left.now) (map tree_of_arg right.now) self.old.inference }
-        ensures same { AreIdentical (map tree_of_arg left.now) (map tree_of_arg right.now) → Refuses result ⊎ LeavesOpen result → ⊥ }
+        ensures equated { IsEquated self.old self.new environment.now (trees_of left.now) (trees_of right.now) result }
         ensures alone { ChangesRecords self.old self.new }
         ensures unchanged { OnErr result (self.new ≡ restored self.old self.new) }
+        ensures faults { RecordsCausedFaults self.old self.new }
         ensures goes_back { GoesBack self.old self.new }
         ensures fault { IsFaultFor self.old self.new result }
     {
@@ -129,6 +103,7 @@ impl EvalCtxt<'_> {
         ensures equated { IsEquated self.old self.new environment.now (map (tree_at self.old.terms) left.now) (map (tree_at self.old.terms) right.now) result }
         ensures alone { ChangesRecords self.old self.new }
         ensures unchanged { OnErr result (self.new ≡ restored self.old self.new) }
+        ensures faults { RecordsCausedFaults self.old self.new }
         ensures goes_back { GoesBack self.old self.new }
         ensures fault { IsFaultFor self.old self.new result }
     {

@@ -4,7 +4,7 @@ ghost use Rattle.goal_terms.specs.declared.answers.Certainty.TheVariants as cert
 ghost use Rattle.goal_terms.specs.declared.modes.TypingMode.{TypingMode};
 ghost use Rattle.goal_kinds.specs.Answers.{setting_of};
 ghost use Rattle.goal_kinds.specs.Levels.{level};
-ghost use Rattle.goal_solver.specs.Accesses.{RecordsCaused};
+ghost use Rattle.goal_solver.specs.Accesses.{RecordsCaused, RecordsCausedFaults};
 ghost use Rattle.goal_solver.specs.Answers.{IsOwed, level_over, erased_args, AreClosed, IsTraitAnswer, IsOpen, IsMaybe, AnswersQuietly, IsFaultOf};
 ghost use Rattle.goal_solver.specs.Binding.{IsApplicable};
 ghost use Rattle.goal_solver.specs.GoingBack.{GoesBack, restored};
@@ -52,6 +52,7 @@ impl EvalCtxt<'_> {
         ensures goes_back { GoesBack self.old self.new }
         ensures fault { IsFaultOf self.old self.new result }
         ensures caused { IsClosedTrait goal.now → RecordsCaused self.old self.new }
+        ensures faults { IsClosedTrait goal.now → RecordsCausedFaults self.old self.new }
         ensures applies { IfOk result (IsApplicable self.new) }
     {
         self.trait_goal_response(goal)
@@ -68,6 +69,7 @@ impl EvalCtxt<'_> {
         ensures goes_back { GoesBack self.old self.new }
         ensures fault { IsFaultOf self.old self.new result }
         ensures caused { AreClosed goal.now.predicate.trait_ref.args.items goal.now.param_env.items → RecordsCaused self.old self.new }
+        ensures faults { AreClosed goal.now.predicate.trait_ref.args.items goal.now.param_env.items → RecordsCausedFaults self.old self.new }
         ensures quiet { AreClosed goal.now.predicate.trait_ref.args.items goal.now.param_env.items → AnswersQuietly (length (kinds_of self.old)) result }
         ensures lists { AreClosed goal.now.predicate.trait_ref.args.items goal.now.param_env.items → IfOk result (λ r. r.var_values.items ≡ []) }
         ensures class { AreClosed goal.now.predicate.trait_ref.args.items goal.now.param_env.items → IfOk result (λ r. r.certainty ≡ certainty.Maybe → r.proven_via ≡ None) }
@@ -102,6 +104,7 @@ impl EvalCtxt<'_> {
         ensures goes_back { GoesBack self.old self.new }
         ensures fault { IsFaultOf self.old self.new result }
         ensures caused { RecordsCaused self.old self.new }
+        ensures faults { RecordsCausedFaults self.old self.new }
         ensures quiet { AnswersQuietly (length (kinds_of self.old)) result }
         ensures lists { IfOk result (λ r. r.var_values.items ≡ []) }
         ensures class { IfOk result (λ r. r.certainty ≡ certainty.Maybe → r.proven_via ≡ None) }

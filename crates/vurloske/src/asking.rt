@@ -4,7 +4,6 @@ ghost use Rattle.vurloske.specs.Asked.{IsForKind};
 
 use crate::answers::{Answer, Refusal, answer_of};
 use crate::endings::Ending;
-use crate::program::Program;
 use crate::scenes::{Progress, Scene};
 use goal_solver::context::EvalCtxt;
 use goal_solver::eval::goals::check_goal;
@@ -21,7 +20,7 @@ use vurloske_items::goals::Asked;
 
 /// Asks a goal in a new context, whose variables are of these kinds. What the context recorded is kept.
 pub fn ask(
-    program: &Program<'_>,
+    tables: &CheckedTables,
     scene: &mut Scene,
     progress: &mut Progress,
     variables: &[VarKind],
@@ -30,26 +29,26 @@ pub fn ask(
     progress.records.clear();
     let typing_mode = scene.mode.typing_mode.clone()?;
     let stop_on_rerun = scene.mode.stop_on_rerun;
-    let context = EvalCtxt::new(program.tables, typing_mode, progress.limit, stop_on_rerun);
+    let context = EvalCtxt::new(tables, typing_mode, progress.limit, stop_on_rerun);
     let mut context = match context {
         Ok(context) => context,
         Err(fault) => return Ok(Answer::Refused(Refusal::Depth(fault))),
     };
-    let answer = ask_in(program.tables, &mut context, scene, variables, asked);
+    let clauses = &mut scene.environment.clauses;
+    let answer = ask_in(tables, &mut context, clauses, variables, asked);
     progress.records.keep(&context)?;
     answer
 }
 
-/// Asks a goal in a context that has no variables yet.
+/// Asks a goal under clauses, in a context that has no variables yet.
 fn ask_in(
     tables: &CheckedTables,
     context: &mut EvalCtxt<'_>,
-    scene: &mut Scene,
+    clauses: &mut Vec<Clause>,
     variables: &[VarKind],
     asked: Asked,
 ) -> Result<Answer, Ending> {
     make_variables(context, variables)?;
-    let clauses = &mut scene.environment.clauses;
     match asked {
         Asked::Trait(predicate) => ask_under(tables, context, clauses, predicate, None),
         Asked::HostEffect(predicate) => ask_under(tables, context, clauses, predicate, None),

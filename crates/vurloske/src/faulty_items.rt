@@ -1,9 +1,10 @@
 //! Where the item stands for whose row tables are refused.
 use goal_tables::faults::TableFault;
-use goal_tables::rows::{ImplPolarity, ImplRow, Tables};
+use goal_tables::rows::{ImplPolarity, ImplRow, InherentRow, TraitRow};
 use goal_terms::ids::{ImplId, InherentId, TraitId};
 use std::alloc::Global;
 use vurloske_items::definitions::Definitions;
+use vurloske_items::definitions::places::Places;
 use vurloske_items::rows::lower_items;
 use vurloske_syntax::ast::{Ast, Position};
 
@@ -15,73 +16,83 @@ pub fn faulty_item(
     fault: TableFault,
 ) -> Option<Position> {
     let tables = lower_items(alloc, ast, definitions).ok()?;
+    let places = &definitions.places;
     match fault {
-        TableFault::AutoTrait => trait_place(ast, definitions, auto_trait(&tables)?),
+        TableFault::AutoTrait => trait_place(ast, places, auto_trait(&tables.traits)?),
         TableFault::TraitAliasWithItems => {
-            trait_place(ast, definitions, alias_with_items(&tables)?)
+            trait_place(ast, places, alias_with_items(&tables.traits)?)
         }
         TableFault::ReservationWithItems => {
-            impl_place(ast, definitions, reservation_with_items(&tables)?)
+            let id = reservation_with_items(&tables.impls, &tables.traits)?;
+            impl_place(ast, places, id)
         }
         TableFault::InherentConstWithoutValue => {
-            inherent_place(ast, definitions, const_without_value(&tables)?)
+            inherent_place(ast, places, const_without_value(&tables.inherent_items)?)
         }
         _ => None,
     }
 }
 
-fn auto_trait(tables: &Tables) -> Option<TraitId> {
-    let row = tables.traits.iter().find(|row| row.is_auto)?;
-    Some(row.id)
-}
-
-fn alias_with_items(tables: &Tables) -> Option<TraitId> {
-    let row = tables
-        .traits
-        .iter()
-        .find(|row| row.is_alias && !row.items.is_empty())?;
-    Some(row.id)
-}
-
-fn reservation_with_items(tables: &Tables) -> Option<ImplId> {
-    for row in &tables.impls {
-        if is_reservation(row) && has_items(tables, row.trait_id) {
+fn auto_trait(rows: &[TraitRow]) -> Option<TraitId> {
+    for row in rows {
+        if row.is_auto {
             return Some(row.id);
         }
     }
     None
 }
 
-fn is_reservation(row: &ImplRow) -> bool {
-    matches!(row.polarity, ImplPolarity::Reservation)
+fn alias_with_items(rows: &[TraitRow]) -> Option<TraitId> {
+    for row in rows {
+        if row.is_alias && !row.items.is_empty() {
+            return Some(row.id);
+        }
+    }
+    None
 }
 
-fn has_items(tables: &Tables, id: TraitId) -> bool {
-    tables
-        .traits
-        .iter()
-        .any(|row| row.id == id && !row.items.is_empty())
+fn reservation_with_items(impls: &[ImplRow], traits: &[TraitRow]) -> Option<ImplId> {
+    for row in impls {
+        if is_reservation(row.polarity) && has_items(traits, row.trait_id) {
+            return Some(row.id);
+        }
+    }
+    None
 }
 
-fn const_without_value(tables: &Tables) -> Option<InherentId> {
-    let row = tables
-        .inherent_items
-        .iter()
-        .find(|row| row.is_const && row.value.is_none())?;
-    Some(row.id)
+fn is_reservation(polarity: ImplPolarity) -> bool {
+    matches!(polarity, ImplPolarity::Reservation)
 }
 
-fn trait_place(ast: &Ast, definitions: &Definitions, id: TraitId) -> Option<Position> {
-    let place = definitions.traits.get(id.0 as usize)?;
+fn has_items(rows: &[TraitRow], id: TraitId) -> bool {
+    for row in rows {
+        if row.id == id && !row.items.is_empty() {
+            return true;
+        }
+    }
+    false
+}
+
+fn const_without_value(rows: &[InherentRow]) -> Option<InherentId> {
+    for row in rows {
+        if row.is_const && row.value.is_none() {
+            return Some(row.id);
+        }
+    }
+    None
+}
+
+fn trait_place(ast: &Ast, places: &Places, id: TraitId) -> Option<Position> {
+    let place = places.traits.get(id.0 as usize)?;
     Some(ast.items.get(*place)?.at)
 }
 
-fn impl_place(ast: &Ast, definitions: &Definitions, id: ImplId) -> Option<Position> {
-    let place = definitions.impls.get(id.0 as usize)?;
+fn impl_place(ast: &Ast, places: &Places, id: ImplId) -> Option<Position> {
+    let place = places.impls.get(id.0 as usize)?;
     Some(ast.items.get(*place)?.at)
 }
 
-fn inherent_place(ast: &Ast, definitions: &Definitions, id: InherentId) -> Option<Position> {
-    let entry = definitions.inherent_items.get(id.0 as usize)?;
+fn inherent_place(ast: &Ast, places: &Places, id: InherentId) -> Option<Position> {
+    let entry = places.inherent_items.get(id.0 as usize)?;
     Some(ast.assoc_items.get(entry.place)?.ident.at)
 }

@@ -1,16 +1,15 @@
 //! What is printed.
 use crate::answers::{Answer, ShownAnswer};
 use crate::endings::Ending;
-use crate::program::Program;
 use std::{fmt, io};
 use vurloske_items::names::ItemNames;
 use vurloske_items::prelude::PRELUDE;
 use vurloske_syntax::ast::Goal;
 use vurloske_syntax::mistake::piece;
 
-/// Prints the line of a goal.
+/// Prints the line of a goal of a text.
 pub fn print_answer<W: io::Write>(
-    program: &Program<'_>,
+    text: &str,
     out: &mut W,
     names: &ItemNames<'_>,
     goal: &Goal,
@@ -20,11 +19,11 @@ pub fn print_answer<W: io::Write>(
     let shown = ShownAnswer { answer, names };
     let written = match answer {
         Answer::Yes(Some(_)) => {
-            let subject = Spaced(piece(program.text, goal.subject));
+            let subject = Spaced(piece(text, goal.subject));
             writeln!(out, "{line}: {subject} = {shown}")
         }
         _ => {
-            let text = Spaced(piece(program.text, goal.text));
+            let text = Spaced(piece(text, goal.text));
             writeln!(out, "{line}: {text} => {shown}")
         }
     };

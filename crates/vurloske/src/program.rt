@@ -30,8 +30,8 @@ impl Program<'_> {
     pub fn names<'n>(&'n self, environment: &'n Environment) -> ItemNames<'n> {
         ItemNames {
             ast: self.ast,
-            definitions: self.definitions,
-            environment,
+            places: &self.definitions.places,
+            params: &environment.params,
         }
     }
 }
@@ -41,7 +41,7 @@ pub fn answer_text<W: io::Write>(alloc: Global, text: &str, out: &mut W) -> Resu
     let mut ast = parse(alloc, text)?;
     if wants_prelude(&ast) {
         check_names(&ast)?;
-        parse_onto(&mut ast, alloc, PRELUDE)?;
+        ast = parse_onto(ast, alloc, PRELUDE)?;
     }
     answer_ast(alloc, text, &ast, out)
 }
@@ -59,8 +59,11 @@ fn answer_ast<W: io::Write>(
 ) -> Result<(), Ending> {
     let expected = expected_tables(ast)?;
     let definitions = Definitions::new(alloc, ast)?;
-    match (checked_tables(alloc, ast, &definitions)?, expected) {
-        (Ok(tables), None) => {
+    match checked_tables(alloc, ast, &definitions)? {
+        Ok(tables) => {
+            if let Some(expected) = expected {
+                return expected.missed(alloc, ast);
+            }
             let program = Program {
                 alloc,
                 text,
@@ -70,15 +73,16 @@ fn answer_ast<W: io::Write>(
             };
             answer_statements(&program, out)
         }
-        (Ok(_), Some(expected)) => expected.missed(alloc, ast),
-        (Err(fault), None) => {
-            let place = faulty_item(alloc, ast, &definitions, fault);
-            Err(Ending::Tables(place, fault))
-        }
-        (Err(fault), Some(expected)) => {
-            expected.check(alloc, ast, fault)?;
-            writeln!(out, "tables refused {fault:?}").map_err(|_| Ending::Output)
-        }
+        Err(fault) => match expected {
+            Some(expected) => {
+                expected.check(alloc, ast, fault)?;
+                writeln!(out, "tables refused {fault:?}").map_err(|_| Ending::Output)
+            }
+            None => {
+                let place = faulty_item(alloc, ast, &definitions, fault);
+                Err(Ending::Tables(place, fault))
+            }
+        },
     }
 }
 

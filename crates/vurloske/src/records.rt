@@ -8,7 +8,7 @@ use goal_terms::answers::{DelayedFault, OpaqueAccess};
 use goal_terms::ids::{DefId, ItemId};
 use goal_terms::names::TermNames;
 use std::alloc::{AllocError, Global};
-use std::io;
+use std::{fmt, io};
 use vurloske_items::names::ItemNames;
 
 /// What the last goal's context recorded, in the order of first entry.
@@ -63,7 +63,11 @@ impl Records {
         out: &mut W,
         names: &ItemNames<'_>,
     ) -> Result<(), Ending> {
-        write_accesses(out, names, self.accesses.as_slice()).map_err(|_| Ending::Output)
+        let shown = ShownAccesses {
+            accesses: &self.accesses,
+            names,
+        };
+        writeln!(out, "accesses: {shown}").map_err(|_| Ending::Output)
     }
 
     /// Prints the faults of the items that were met: `faults: MissingItem(A of Tr)`.
@@ -73,68 +77,90 @@ impl Records {
         tables: &CheckedTables,
         names: &ItemNames<'_>,
     ) -> Result<(), Ending> {
-        write_faults(out, tables, names, self.faults.as_slice()).map_err(|_| Ending::Output)
+        let shown = ShownFaults {
+            faults: &self.faults,
+            tables,
+            names,
+        };
+        writeln!(out, "faults: {shown}").map_err(|_| Ending::Output)
     }
 }
 
-fn write_accesses<W: io::Write>(
-    out: &mut W,
-    names: &ItemNames<'_>,
-    accesses: &[OpaqueAccess],
-) -> io::Result<()> {
-    write!(out, "accesses: ")?;
-    if accesses.is_empty() {
-        write!(out, "none")?;
-    }
-    for (place, access) in accesses.iter().enumerate() {
-        write_separator(out, place)?;
-        match *access {
-            OpaqueAccess::IfDefining(id) => {
-                let name = names.opaque_name(id);
-                write!(out, "IfDefining({name})")?;
-            }
-            OpaqueAccess::IfPostAnalysis => write!(out, "IfPostAnalysis")?,
-            OpaqueAccess::Always => write!(out, "Always")?,
+/// Accesses in order, or `none`.
+#[derive(Clone, Copy)]
+struct ShownAccesses<'a> {
+    accesses: &'a [OpaqueAccess],
+    names: &'a ItemNames<'a>,
+}
+
+impl fmt::Display for ShownAccesses<'_> {
+    fn fmt<W: fmt::Write>(&self, f: &mut fmt::Formatter<W>) -> fmt::Result {
+        if self.accesses.is_empty() {
+            return f.write_str("none");
         }
-    }
-    writeln!(out)
-}
-
-fn write_faults<W: io::Write>(
-    out: &mut W,
-    tables: &CheckedTables,
-    names: &ItemNames<'_>,
-    faults: &[DelayedFault],
-) -> io::Result<()> {
-    write!(out, "faults: ")?;
-    if faults.is_empty() {
-        write!(out, "none")?;
-    }
-    for (place, fault) in faults.iter().enumerate() {
-        write_separator(out, place)?;
-        write_fault(out, tables, names, *fault)?;
-    }
-    writeln!(out)
-}
-
-fn write_fault<W: io::Write>(
-    out: &mut W,
-    tables: &CheckedTables,
-    names: &ItemNames<'_>,
-    fault: DelayedFault,
-) -> io::Result<()> {
-    match fault {
-        DelayedFault::MissingItem(id) => match item_defined_by(tables, id) {
-            Some(item) => {
-                let name = names.item_name(item);
-                let of = names.trait_name_of(item);
-                write!(out, "MissingItem({name} of {of})")
+        for (place, access) in self.accesses.iter().enumerate() {
+            f.write_str(separator(place))?;
+            match *access {
+                OpaqueAccess::IfDefining(id) => {
+                    let name = self.names.opaque_name(id);
+                    write!(f, "IfDefining({name})")?;
+                }
+                OpaqueAccess::IfPostAnalysis => f.write_str("IfPostAnalysis")?,
+                OpaqueAccess::Always => f.write_str("Always")?,
             }
-            None => write!(out, "MissingItem"),
-        },
-        DelayedFault::AutoTrait(id) => {
-            let name = names.trait_name(id);
-            write!(out, "AutoTrait({name})")
+        }
+        Ok(())
+    }
+}
+
+/// Faults in order, or `none`.
+#[derive(Clone, Copy)]
+struct ShownFaults<'a> {
+    faults: &'a [DelayedFault],
+    tables: &'a CheckedTables,
+    names: &'a ItemNames<'a>,
+}
+
+impl fmt::Display for ShownFaults<'_> {
+    fn fmt<W: fmt::Write>(&self, f: &mut fmt::Formatter<W>) -> fmt::Result {
+        if self.faults.is_empty() {
+            return f.write_str("none");
+        }
+        for (place, fault) in self.faults.iter().enumerate() {
+            f.write_str(separator(place))?;
+            let shown = ShownFault {
+                fault: *fault,
+                tables: self.tables,
+                names: self.names,
+            };
+            write!(f, "{shown}")?;
+        }
+        Ok(())
+    }
+}
+
+#[derive(Clone, Copy)]
+struct ShownFault<'a> {
+    fault: DelayedFault,
+    tables: &'a CheckedTables,
+    names: &'a ItemNames<'a>,
+}
+
+impl fmt::Display for ShownFault<'_> {
+    fn fmt<W: fmt::Write>(&self, f: &mut fmt::Formatter<W>) -> fmt::Result {
+        match self.fault {
+            DelayedFault::MissingItem(id) => match item_defined_by(self.tables, id) {
+                Some(item) => {
+                    let name = self.names.item_name(item);
+                    let of = self.names.trait_name_of(item);
+                    write!(f, "MissingItem({name} of {of})")
+                }
+                None => f.write_str("MissingItem"),
+            },
+            DelayedFault::AutoTrait(id) => {
+                let name = self.names.trait_name(id);
+                write!(f, "AutoTrait({name})")
+            }
         }
     }
 }
@@ -145,11 +171,7 @@ fn item_defined_by(tables: &CheckedTables, id: DefId) -> Option<ItemId> {
     Some(row.item)
 }
 
-/// Writes what comes before the record at a place.
-fn write_separator<W: io::Write>(out: &mut W, place: usize) -> io::Result<()> {
-    if place == 0 {
-        Ok(())
-    } else {
-        write!(out, ", ")
-    }
+/// What comes before the record at a place.
+fn separator(place: usize) -> &'static str {
+    if place == 0 { "" } else { ", " }
 }

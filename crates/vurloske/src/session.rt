@@ -149,7 +149,7 @@ fn answer_goal<W: io::Write>(
     let expectation = expectation_of(program.ast, goal.attrs)?;
     let (answer, expected) = answer_to(program, scene, progress, goal, expectation)?;
     let names = program.names(&scene.environment);
-    print_answer(program, out, &names, goal, at.line, &answer)?;
+    print_answer(program.text, out, &names, goal, at.line, &answer)?;
     match expectation {
         None => Ok(()),
         Some(expectation) => expectation.check(program.alloc, &names, &answer, &expected),
@@ -176,6 +176,6 @@ fn answer_to(
         goal,
         expectation.and_then(|expectation| expectation.term()),
     )?;
-    let answer = ask(program, scene, progress, &variables, asked)?;
+    let answer = ask(program.tables, scene, progress, &variables, asked)?;
     Ok((answer, expected))
 }

@@ -1,5 +1,6 @@
 //! What attributes say of items.
 use crate::faults::{ItemFault, wrong_name};
+use crate::terms::Lowering;
 use vurloske_syntax::ast::{Ast, Attr, AttrArg, AttrValue, Ident, Run, TermId, TermKind};
 use vurloske_syntax::phrase::Phrase;
 
@@ -61,10 +62,16 @@ pub(crate) fn number_in_attr(ast: &Ast, attr: &Attr) -> Result<u32, ItemFault> {
     Err(wrong_name(attr.ident, Phrase::ATTRIBUTE_WITH_ONE_NUMBER))
 }
 
-/// The one term of the attribute of a name, where there is this attribute.
-pub(crate) fn term_of_attr(ast: &Ast, attrs: Run, name: &str) -> Result<Option<TermId>, ItemFault> {
-    match ast.attr_named(attrs, name) {
-        Some(attr) => Ok(Some(term_in_attr(ast, &attr)?)),
-        None => Ok(None),
+impl Lowering<'_> {
+    /// The one term of the attribute of a name, where there is this attribute.
+    pub(crate) fn term_of_attr(&mut self, attrs: Run, name: &str) -> Option<TermId> {
+        let attr = self.ast.attr_named(attrs, name)?;
+        match term_in_attr(self.ast, &attr) {
+            Ok(term) => Some(term),
+            Err(fault) => {
+                self.scope.fault.fail(fault);
+                None
+            }
+        }
     }
 }

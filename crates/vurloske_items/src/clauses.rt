@@ -1,17 +1,19 @@
 //! Bounds and where clauses as clauses.
+use crate::definitions::Definitions;
+use crate::elaboration::dyn_clauses;
 use crate::faults::{ItemFault, wrong, wrong_name};
 use crate::scope::{Binder, ParamName};
-use crate::terms::parts::wanted_of;
+use crate::terms::parts::{position, wanted_of};
 use crate::terms::{DEPTH, Lowering};
 use goal_terms::answers::ParamKind;
 use goal_terms::predicates::{
     BoundConstness, Clause, ClauseKind, HostEffectPredicate, ProjectionPredicate, TraitPredicate,
     TraitRef,
 };
-use goal_terms::terms::Ty;
+use goal_terms::terms::{DynClause, Ty};
 use std::alloc::Global;
 use vurloske_syntax::ast::{
-    self, Bound, Constness, Generics, Ident, Position, Run, TermId, WhereClause, WhereKind,
+    self, Ast, Bound, Constness, Generics, Ident, Position, Run, TermId, WhereClause, WhereKind,
 };
 use vurloske_syntax::phrase::Phrase;
 
@@ -161,107 +163,88 @@ impl Conditions {
 }
 
 impl Lowering<'_> {
-    /// Adds what parameters' bounds and where clauses say.
-    pub fn generics(
+    /// Adds what a bound says of its trait and of the trait's items, under the innermost binder.
+    pub(crate) fn push_bound(
         &mut self,
-        generics: Generics,
         conditions: &mut Conditions,
-    ) -> Result<(), ItemFault> {
-        let ast = self.ast;
-        for param in ast.params(generics.params) {
-            self.param_bounds(param, conditions)?;
-        }
-        self.where_clauses(generics.where_clauses, conditions)
+        trait_ref: TraitRef,
+        bound: &Bound,
+        equations: Vec<ProjectionPredicate>,
+    ) {
+        let bound_regions = self.scope.bound_regions(self.ast);
+        let pushed = conditions.push_bound(trait_ref, bound.constness, bound_regions, bound.at);
+        self.scope.fault.check(pushed);
+        let pushed = conditions.push_equations(equations, bound_regions);
+        self.scope.fault.check(pushed);
     }
 
-    fn param_bounds(
-        &mut self,
-        param: &ast::Param,
-        conditions: &mut Conditions,
-    ) -> Result<(), ItemFault> {
+    /// Adds what parameters' bounds and where clauses say.
+    pub fn generics(&mut self, generics: Generics, conditions: &mut Conditions) {
+        let ast = self.ast;
+        for param in ast.params(generics.params) {
+            self.param_bounds(param, conditions);
+        }
+        self.where_clauses(generics.where_clauses, conditions);
+    }
+
+    fn param_bounds(&mut self, param: &ast::Param, conditions: &mut Conditions) {
         match self.scope.param(ParamName::Named(param.ident.name)) {
             Some(found) if found.kind == ParamKind::Ty => {
-                self.bounds(&Ty::Param(found.number), param.bounds, conditions)
+                self.bounds(&Ty::Param(found.number), param.bounds, conditions);
             }
-            _ => Ok(()),
+            _ => {}
         }
     }
 
     /// Adds what bounds of a type say: a run of `Ast::bounds`.
-    pub fn bounds(
-        &mut self,
-        self_ty: &Ty,
-        bounds: Run,
-        conditions: &mut Conditions,
-    ) -> Result<(), ItemFault> {
+    pub fn bounds(&mut self, self_ty: &Ty, bounds: Run, conditions: &mut Conditions) {
         let ast = self.ast;
         for bound in ast.bounds(bounds) {
-            self.scope.enter(Binder::new(bound.binder))?;
-            self.bound_within(self_ty.clone()?, *bound, conditions, DEPTH)?;
+            self.scope.enter(Binder::new(bound.binder));
+            match self_ty.clone() {
+                Ok(self_ty) => self.bound_within(self_ty, *bound, conditions, DEPTH),
+                Err(_) => self.scope.fault.fail(ItemFault::OutOfMemory),
+            }
             self.scope.leave();
         }
-        Ok(())
     }
 
     /// Adds what where clauses say: a run of `Ast::where_clauses`.
-    pub fn where_clauses(
-        &mut self,
-        clauses: Run,
-        conditions: &mut Conditions,
-    ) -> Result<(), ItemFault> {
+    pub fn where_clauses(&mut self, clauses: Run, conditions: &mut Conditions) {
         let ast = self.ast;
         for clause in ast.where_clauses(clauses) {
-            self.where_clause(clause, conditions)?;
+            self.where_clause(clause, conditions);
         }
-        Ok(())
     }
 
     /// Adds what the where clauses say that speak of `Self`.
-    pub fn self_clauses(
-        &mut self,
-        clauses: Run,
-        conditions: &mut Conditions,
-    ) -> Result<(), ItemFault> {
+    pub fn self_clauses(&mut self, clauses: Run, conditions: &mut Conditions) {
         let ast = self.ast;
         for clause in ast.where_clauses(clauses) {
             if let WhereKind::Bounds(subject, _) = clause.kind {
-                let name = self.plain_name(subject);
-                if name.is_some() && name == self.definitions.self_name {
-                    self.where_clause(clause, conditions)?;
+                if names_self(ast, self.definitions, subject) {
+                    self.where_clause(clause, conditions);
                 }
             }
         }
-        Ok(())
     }
 
-    fn where_clause(
-        &mut self,
-        clause: &WhereClause,
-        conditions: &mut Conditions,
-    ) -> Result<(), ItemFault> {
+    fn where_clause(&mut self, clause: &WhereClause, conditions: &mut Conditions) {
         match clause.kind {
             WhereKind::Bounds(subject, bounds) => {
-                self.subject_bounds(clause.binder, subject, bounds, conditions)
+                self.subject_bounds(clause.binder, subject, bounds, conditions);
             }
             WhereKind::Equal(alias, term) => {
-                self.scope.enter(Binder::new(clause.binder))?;
-                let equation = self.equality(alias, term)?;
-                let bound_regions = self.scope.bound_regions(self.ast);
-                self.scope.leave();
-                conditions.predicates.push(Clause {
-                    bound_regions,
-                    kind: ClauseKind::Projection(equation),
-                })?;
-                Ok(())
+                self.push_equality(clause.binder, alias, term, conditions);
             }
             WhereKind::DeclareTy(id) => self.declare_ty(id),
             WhereKind::DeclareConst(ident) => {
                 let name = ParamName::Named(ident.name);
-                self.declare_new(name, ParamKind::Const, ident)
+                self.declare_new(name, ParamKind::Const, ident);
             }
             WhereKind::DeclareLifetime(ident) => {
                 let name = ParamName::Lifetime(ident.name);
-                self.declare_new(name, ParamKind::Lifetime, ident)
+                self.scope.declare(name, ParamKind::Lifetime, ident.at);
             }
         }
     }
@@ -273,51 +256,55 @@ impl Lowering<'_> {
         subject: TermId,
         bounds: Run,
         conditions: &mut Conditions,
-    ) -> Result<(), ItemFault> {
+    ) {
         let ast = self.ast;
         for bound in ast.bounds(bounds) {
-            self.subject_bound(binder, subject, *bound, conditions)?;
+            self.scope.enter(Binder {
+                outer: binder,
+                inner: bound.binder,
+            });
+            let self_ty = self.ty(subject);
+            self.bound_within(self_ty, *bound, conditions, DEPTH);
+            self.scope.leave();
         }
-        Ok(())
     }
 
-    fn subject_bound(
+    /// `for<'a> <T as Tr<'a>>::A == u8`
+    fn push_equality(
         &mut self,
         binder: Run,
-        subject: TermId,
-        bound: Bound,
+        alias: TermId,
+        term: TermId,
         conditions: &mut Conditions,
-    ) -> Result<(), ItemFault> {
-        self.scope.enter(Binder {
-            outer: binder,
-            inner: bound.binder,
-        })?;
-        let self_ty = self.ty(subject)?;
-        self.bound_within(self_ty, bound, conditions, DEPTH)?;
+    ) {
+        self.scope.enter(Binder::new(binder));
+        let equation = self.equality(alias, term);
+        let bound_regions = self.scope.bound_regions(self.ast);
         self.scope.leave();
-        Ok(())
+        self.scope.fault.keep(
+            conditions.predicates.push(Clause {
+                bound_regions,
+                kind: ClauseKind::Projection(equation),
+            }),
+        );
     }
 
     /// `<T as Tr>::A == u8`. A mistake where the first is no alias.
-    pub fn equality(
-        &mut self,
-        alias: TermId,
-        term: TermId,
-    ) -> Result<ProjectionPredicate, ItemFault> {
-        let projection_term = self.alias(alias)?;
-        let term = self.term(term, wanted_of(projection_term.kind))?;
-        Ok(ProjectionPredicate {
+    pub fn equality(&mut self, alias: TermId, term: TermId) -> ProjectionPredicate {
+        let projection_term = self.alias(alias);
+        let term = self.term(term, wanted_of(projection_term.kind));
+        ProjectionPredicate {
             projection_term,
             term,
-        })
+        }
     }
 
     /// `T`, by itself in the head of a block.
-    fn declare_ty(&mut self, id: TermId) -> Result<(), ItemFault> {
+    fn declare_ty(&mut self, id: TermId) {
         match self.ast.plain_name(id) {
             Some(ident) => self.declare_new(ParamName::Named(ident.name), ParamKind::Ty, ident),
-            None => Err(wrong(
-                self.at(id),
+            None => self.scope.fault.fail(wrong(
+                position(self.ast, id),
                 Phrase::NAME_OF_A_PARAMETER,
                 Phrase::ANOTHER_TERM,
             )),
@@ -325,17 +312,33 @@ impl Lowering<'_> {
     }
 
     /// Declares a parameter whose name no item has.
-    fn declare_new(
-        &mut self,
-        name: ParamName,
-        kind: ParamKind,
-        ident: Ident,
-    ) -> Result<(), ItemFault> {
-        match name {
-            ParamName::Named(symbol) if self.definitions.named(symbol).is_some() => {
-                Err(wrong_name(ident, Phrase::NO_ITEM_NAME))
-            }
-            _ => self.scope.declare(name, kind, ident.at),
+    fn declare_new(&mut self, name: ParamName, kind: ParamKind, ident: Ident) {
+        if self.definitions.named(ident.name).is_some() {
+            self.scope
+                .fault
+                .fail(wrong_name(ident, Phrase::NO_ITEM_NAME));
         }
+        self.scope.declare(name, kind, ident.at);
+    }
+
+    /// The clauses of a `dyn` type, with what they say through supertraits. A mistake where a supertrait
+    /// names the self type.
+    pub(crate) fn dyn_clauses(&mut self, conditions: Conditions, at: Position) -> Vec<DynClause> {
+        let written = conditions.into_predicates();
+        if !self.scope.fault.is_there() {
+            match dyn_clauses(self.alloc, self.definitions, written, at) {
+                Ok(clauses) => return clauses,
+                Err(fault) => self.scope.fault.fail(fault),
+            }
+        }
+        Vec::new(self.alloc)
+    }
+}
+
+/// Whether a term is `Self`.
+fn names_self(ast: &Ast, definitions: &Definitions, id: TermId) -> bool {
+    match ast.plain_name(id) {
+        Some(ident) => definitions.is_self(ident.name),
+        None => false,
     }
 }

@@ -5,7 +5,7 @@ ghost use Rattle.std.specs.Option.{option_and_then, option_map_or};
 ghost use Rattle.vurloske_items.specs.Names.{item_key, only_owned, trait_defined};
 
 mod collect;
-mod nodes;
+pub mod places;
 mod supertraits;
 
 use crate::builtins::Builtin;
@@ -17,6 +17,7 @@ use goal_terms::ids::{
 };
 use goal_terms::predicates::Clause;
 use indexmap::IndexMap;
+use places::Places;
 use std::alloc::Global;
 use vurloske_syntax::ast::{Ast, Generics, Symbol, TermId};
 
@@ -41,28 +42,6 @@ pub struct Named {
     pub generics: Generics,
 }
 
-/// Where an item of a trait stands.
-#[derive(Clone, Copy)]
-pub struct ItemEntry {
-    pub name: Symbol,
-    pub trait_id: TraitId,
-    pub is_const: bool,
-    /// Its place in `Ast::assoc_items`.
-    pub place: usize,
-}
-
-/// Where an item of an inherent impl stands.
-#[derive(Clone, Copy)]
-pub struct InherentEntry {
-    pub name: Symbol,
-    pub impl_id: InherentImplId,
-    /// What the impl is for.
-    pub self_ty: TermId,
-    pub is_const: bool,
-    /// Its place in `Ast::assoc_items`.
-    pub place: usize,
-}
-
 /// An item of a trait by its name.
 #[derive(Clone, Copy, PartialEq, Eq, Hash)]
 struct ItemKey {
@@ -77,22 +56,12 @@ enum Owners {
     Several,
 }
 
-/// What the names of a text are. The lists of places are by id, and lead into `Ast::items`.
+/// What the names of a text are.
 pub struct Definitions {
+    pub places: Places,
     named: IndexMap<Symbol, Named>,
-    pub traits: Vec<usize>,
-    pub impls: Vec<usize>,
-    pub inherent_impls: Vec<usize>,
-    pub free_aliases: Vec<usize>,
-    pub opaque_types: Vec<usize>,
-    pub adts: Vec<usize>,
-    pub functions: Vec<usize>,
-    pub closures: Vec<usize>,
-    pub foreign_types: Vec<usize>,
-    pub items: Vec<ItemEntry>,
     item_ids: IndexMap<ItemKey, ItemId>,
     owners: IndexMap<Symbol, Owners>,
-    pub inherent_items: Vec<InherentEntry>,
     inherent_ids: IndexMap<Symbol, Vec<InherentId>>,
     impl_names: IndexMap<Symbol, ImplId>,
     pub lang_items: Vec<LangRow>,
@@ -109,20 +78,10 @@ pub struct Definitions {
 impl Drop for Definitions {
     fn drop(self) {
         let Definitions {
+            places: _,
             named: _,
-            traits: _,
-            impls: _,
-            inherent_impls: _,
-            free_aliases: _,
-            opaque_types: _,
-            adts: _,
-            functions: _,
-            closures: _,
-            foreign_types: _,
-            items: _,
             item_ids: _,
             owners: _,
-            inherent_items: _,
             inherent_ids: _,
             impl_names: _,
             lang_items: _,
@@ -148,20 +107,10 @@ impl Definitions {
 
     fn empty(alloc: Global) -> Definitions {
         Definitions {
+            places: Places::empty(alloc),
             named: IndexMap::new(alloc),
-            traits: Vec::new(alloc),
-            impls: Vec::new(alloc),
-            inherent_impls: Vec::new(alloc),
-            free_aliases: Vec::new(alloc),
-            opaque_types: Vec::new(alloc),
-            adts: Vec::new(alloc),
-            functions: Vec::new(alloc),
-            closures: Vec::new(alloc),
-            foreign_types: Vec::new(alloc),
-            items: Vec::new(alloc),
             item_ids: IndexMap::new(alloc),
             owners: IndexMap::new(alloc),
-            inherent_items: Vec::new(alloc),
             inherent_ids: IndexMap::new(alloc),
             impl_names: IndexMap::new(alloc),
             lang_items: Vec::new(alloc),
@@ -170,6 +119,11 @@ impl Definitions {
             inherited: IndexMap::new(alloc),
             self_name: None,
         }
+    }
+
+    /// Whether a name is `Self`.
+    pub fn is_self(&self, name: Symbol) -> bool {
+        self.self_name == Some(name)
     }
 
     /// What a name is.

@@ -10,6 +10,7 @@ use goal_terms::predicates::{BoundConstness, Clause, ClauseKind, HostEffectPredi
 use goal_terms::terms::{AliasTermKind, DynClause, GenericArg, Region, Term};
 use goal_terms::view::TermRef;
 use std::alloc::Global;
+use std::mem;
 use vurloske_syntax::ast::Position;
 use vurloske_syntax::phrase::Phrase;
 
@@ -26,7 +27,7 @@ pub fn elaborate(
     ensures { BeginsWith clauses.new.items clauses.old.items }
 {
     let mut done = 0;
-    for _generation in 0..definitions.traits.len().saturating_add(1) {
+    for _generation in 0..definitions.places.traits.len().saturating_add(1) {
         let known = clauses.len();
         if done == known {
             return Ok(());
@@ -170,14 +171,19 @@ fn instance(
     let kind = if clause.bound_regions == 0 || bound_regions == 0 {
         instantiate(alloc, &clause.kind, args.as_slice())?
     } else {
-        let regions = numbered_on(alloc, clause.bound_regions, bound_regions)?;
-        let renumbered = enter_binder(alloc, &clause.kind, regions.as_slice())?;
+        let renumbered = renumbered(alloc, clause, bound_regions)?;
         instantiate(alloc, &renumbered, args.as_slice())?
     };
     Ok(Clause {
         bound_regions: clause.bound_regions.saturating_add(bound_regions),
         kind,
     })
+}
+
+/// What a clause says, its own lifetimes numbered on behind so many others.
+fn renumbered(alloc: Global, clause: &Clause, before: u32) -> Result<ClauseKind, ItemFault> {
+    let regions = numbered_on(alloc, clause.bound_regions, before)?;
+    Ok(enter_binder(alloc, &clause.kind, regions.as_slice())?)
 }
 
 fn numbered_on(alloc: Global, count: u32, before: u32) -> Result<Vec<(u32, Region)>, ItemFault> {
@@ -193,21 +199,27 @@ fn numbered_on(alloc: Global, count: u32, before: u32) -> Result<Vec<(u32, Regio
 pub fn elaborate_const(
     alloc: Global,
     definitions: &Definitions,
-    bounds: Vec<TraitRef>,
+    bounds: &mut Vec<TraitRef>,
     at: Position,
-) -> Result<Vec<TraitRef>, ItemFault> {
+) -> Result<(), ItemFault> {
     let mut clauses = Vec::new(alloc);
-    for trait_ref in bounds {
-        clauses.push(Clause {
-            bound_regions: 0,
-            kind: ClauseKind::HostEffect(HostEffectPredicate {
-                trait_ref,
-                constness: BoundConstness::Maybe,
-            }),
-        })?;
+    for trait_ref in mem::replace(bounds, Vec::new(alloc)) {
+        clauses.push(maybe_const(trait_ref))?;
     }
     elaborate(alloc, definitions, &mut clauses, at)?;
-    host_effects(alloc, clauses)
+    *bounds = host_effects(alloc, clauses)?;
+    Ok(())
+}
+
+/// That a trait holds `[const]`.
+fn maybe_const(trait_ref: TraitRef) -> Clause {
+    Clause {
+        bound_regions: 0,
+        kind: ClauseKind::HostEffect(HostEffectPredicate {
+            trait_ref,
+            constness: BoundConstness::Maybe,
+        }),
+    }
 }
 
 /// The trait references of host effects that bind no lifetimes.
@@ -248,8 +260,17 @@ pub(crate) fn dyn_clauses(
 ) -> Result<Vec<DynClause>, ItemFault> {
     let mut clauses = written;
     elaborate(alloc, definitions, &mut clauses, at)?;
+    without_self(alloc, clauses.as_slice(), at)
+}
+
+/// Clauses with the self type left out. A mistake where one names it further.
+fn without_self(
+    alloc: Global,
+    clauses: &[Clause],
+    at: Position,
+) -> Result<Vec<DynClause>, ItemFault> {
     let mut all = Vec::new(alloc);
-    for clause in clauses.as_slice() {
+    for clause in clauses {
         if let Some(new) = dyn_clause(alloc, clause)? {
             if names_self(&new) {
                 return Err(wrong(at, Phrase::BOUNDS_WITHOUT_SELF, Phrase::ONE_THAT_DOES));

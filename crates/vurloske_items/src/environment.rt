@@ -5,12 +5,11 @@ use crate::clauses::{Conditions, MaybeConst};
 use crate::definitions::Definitions;
 use crate::elaboration::elaborate;
 use crate::faults::ItemFault;
-use crate::scope::{ParamName, Params, Scope};
+use crate::scope::{Params, Scope};
 use crate::terms::Lowering;
-use goal_terms::answers::ParamKind;
 use goal_terms::predicates::Clause;
 use std::alloc::Global;
-use vurloske_syntax::ast::{Ast, Position, Run, Symbol};
+use vurloske_syntax::ast::{Ast, Position, Run};
 
 /// Parameters and clauses that hold in a block, the outermost block's first.
 pub struct Environment {
@@ -61,8 +60,9 @@ impl Environment {
             Scope::of_head(alloc, &self.params),
         );
         let mut conditions = Conditions::new(alloc, MaybeConst::Clause);
-        lowering.note_where(head)?;
-        lowering.where_clauses(head, &mut conditions)?;
+        lowering.note_where(head);
+        lowering.where_clauses(head, &mut conditions);
+        lowering.scope.fault.result()?;
         extended.params.append(&lowering.scope.params)?;
         extended.add_written(conditions)?;
         elaborate(alloc, definitions, &mut extended.clauses, at)?;
@@ -86,19 +86,6 @@ impl Environment {
         }
         self.written = self.clauses.len();
         Ok(())
-    }
-
-    /// The kinds of the parameters, in order of their numbers.
-    pub fn param_kinds(&self, alloc: Global) -> Result<Vec<ParamKind>, ItemFault> {
-        self.params.kinds(alloc)
-    }
-
-    /// The name of a parameter.
-    pub fn param_name(&self, number: u32) -> Option<Symbol> {
-        match self.params.name(number)? {
-            ParamName::Named(name) | ParamName::Lifetime(name) => Some(name),
-            ParamName::SelfTy | ParamName::Alias => None,
-        }
     }
 }
 

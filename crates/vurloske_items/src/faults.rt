@@ -27,6 +27,49 @@ impl<T: Drop> From<AllocFailed<T>> for ItemFault {
     }
 }
 
+/// The fault that was met first, if one was.
+#[derive(Clone, Copy)]
+pub(crate) struct FirstFault(Option<ItemFault>);
+
+impl FirstFault {
+    /// Before there was a fault.
+    pub(crate) const NONE: FirstFault = FirstFault(None);
+
+    /// Whether there was a fault.
+    pub(crate) fn is_there(&self) -> bool {
+        self.0.is_some()
+    }
+
+    /// The fault as an error.
+    pub(crate) fn result(&self) -> Result<(), ItemFault> {
+        match self.0 {
+            Some(fault) => Err(fault),
+            None => Ok(()),
+        }
+    }
+
+    /// Keeps a fault, if it is the first one.
+    pub(crate) fn fail(&mut self, fault: ItemFault) {
+        if self.0.is_none() {
+            self.0 = Some(fault);
+        }
+    }
+
+    /// Keeps the fault of something that was done, if there is one.
+    pub(crate) fn check(&mut self, done: Result<(), ItemFault>) {
+        if let Err(fault) = done {
+            self.fail(fault);
+        }
+    }
+
+    /// Keeps that there was no memory for a part, if it is so.
+    pub(crate) fn keep<T: Drop>(&mut self, pushed: Result<(), AllocFailed<T>>) {
+        if pushed.is_err() {
+            self.fail(ItemFault::OutOfMemory);
+        }
+    }
+}
+
 /// That something else than this name was expected.
 pub fn wrong_name(ident: Ident, expected: Phrase) -> ItemFault
     ensures { result ≡ ItemFault.Mistake (record { at = ident.at; expected = Expected.Phrase expected; found = Found.Name }) }

@@ -3,15 +3,15 @@ use crate::definitions::Definitions;
 use crate::environment::Environment;
 use crate::faults::{ItemFault, wrong, wrong_name};
 use crate::scope::Scope;
-use crate::terms::parts::wanted_of;
+use crate::terms::parts::{has_equations, wanted_of};
 use crate::terms::{Lowering, Wanted};
 use goal_terms::answers::VarKind;
 use goal_terms::predicates::{
-    BoundConstness, HostEffectPredicate, ProjectionPredicate, TraitPredicate,
+    BoundConstness, HostEffectPredicate, ProjectionPredicate, TraitPredicate, TraitRef,
 };
 use goal_terms::terms::{AliasTerm, Term};
 use std::alloc::Global;
-use vurloske_syntax::ast::{Arg, Args, Ast, Bound, Constness, Goal, GoalKind, Segment, TermId};
+use vurloske_syntax::ast::{Ast, Bound, Constness, Goal, GoalKind, TermId};
 use vurloske_syntax::phrase::Phrase;
 
 /// What a goal asks.
@@ -46,14 +46,11 @@ pub fn lower_goal(
 ) -> Result<AskedGoal, ItemFault> {
     let scope = Scope::of_goal(alloc, &environment.params);
     let mut lowering = Lowering::new(alloc, ast, definitions, scope);
-    let asked = lowering.asked(goal.kind)?;
-    let expected = lowering.expected(expected, wanted_answer(&asked))?;
-    let variables = lowering.scope.variables.kinds(alloc)?;
-    Ok(AskedGoal {
-        variables,
-        asked,
-        expected,
-    })
+    let asked = lowering.asked_goal(goal.kind, expected);
+    match lowering.scope.fault.result() {
+        Ok(()) => Ok(asked),
+        Err(fault) => Err(fault),
+    }
 }
 
 /// What the answer of a goal is.
@@ -65,53 +62,53 @@ fn wanted_answer(asked: &Asked) -> Wanted {
 }
 
 impl Lowering<'_> {
-    fn asked(&mut self, kind: GoalKind) -> Result<Asked, ItemFault> {
+    fn asked_goal(&mut self, kind: GoalKind, expected: Option<TermId>) -> AskedGoal {
+        let asked = self.asked(kind);
+        let expected = self.expected(expected, wanted_answer(&asked));
+        AskedGoal {
+            variables: self.scope.variable_kinds(self.alloc),
+            asked,
+            expected,
+        }
+    }
+
+    fn asked(&mut self, kind: GoalKind) -> Asked {
         match kind {
             GoalKind::Holds(self_ty, bound) => self.asked_bound(self_ty, bound),
-            GoalKind::Normalizes(alias) => Ok(Asked::Term(self.alias(alias)?)),
-            GoalKind::Equal(alias, term) => Ok(Asked::Equal(self.equality(alias, term)?)),
+            GoalKind::Normalizes(alias) => Asked::Term(self.alias(alias)),
+            GoalKind::Equal(alias, term) => Asked::Equal(self.equality(alias, term)),
         }
     }
 
-    fn asked_bound(&mut self, self_ty: TermId, bound: Bound) -> Result<Asked, ItemFault> {
+    fn asked_bound(&mut self, self_ty: TermId, bound: Bound) -> Asked {
         if bound.binder.len > 0 || bound.is_relaxed {
-            return Err(wrong(bound.at, Phrase::TRAIT, Phrase::ANOTHER_BOUND));
+            self.scope
+                .fault
+                .fail(wrong(bound.at, Phrase::TRAIT, Phrase::ANOTHER_BOUND));
         }
-        self.without_equations(bound.trait_)?;
-        let self_ty = self.ty(self_ty)?;
-        let trait_ref = self.trait_ref(self_ty, bound.trait_)?;
-        let constness = match bound.constness {
-            Constness::Plain => return Ok(Asked::Trait(TraitPredicate { trait_ref })),
-            Constness::Const => BoundConstness::Const,
-            Constness::Maybe => BoundConstness::Maybe,
-        };
-        Ok(Asked::HostEffect(HostEffectPredicate {
-            trait_ref,
-            constness,
-        }))
-    }
-
-    /// A mistake where a trait's arguments say what its items are.
-    fn without_equations(&self, trait_: Segment) -> Result<(), ItemFault> {
-        let has_equation = match trait_.args {
-            Args::Absent | Args::Paren(_, None) => false,
-            Args::Paren(_, Some(_)) => true,
-            Args::Angle(run) => {
-                let args = self.ast.args(run);
-                args.iter().any(|arg| matches!(arg, Arg::Binding(_, _)))
-            }
-        };
-        if has_equation {
-            Err(wrong_name(trait_.ident, Phrase::TRAIT_WITHOUT_ITEMS))
-        } else {
-            Ok(())
+        if has_equations(self.ast, bound.trait_.args) {
+            self.scope.fault.fail(wrong_name(bound.trait_.ident, Phrase::TRAIT_WITHOUT_ITEMS));
+        }
+        let self_ty = self.ty(self_ty);
+        let trait_ref = self.trait_ref(self_ty, bound.trait_);
+        match bound.constness {
+            Constness::Plain => Asked::Trait(TraitPredicate { trait_ref }),
+            Constness::Const => host_effect(trait_ref, BoundConstness::Const),
+            Constness::Maybe => host_effect(trait_ref, BoundConstness::Maybe),
         }
     }
 
-    fn expected(&mut self, id: Option<TermId>, wanted: Wanted) -> Result<Option<Term>, ItemFault> {
+    fn expected(&mut self, id: Option<TermId>, wanted: Wanted) -> Option<Term> {
         match id {
-            Some(id) => Ok(Some(self.term(id, wanted)?)),
-            None => Ok(None),
+            Some(id) => Some(self.term(id, wanted)),
+            None => None,
         }
     }
+}
+
+fn host_effect(trait_ref: TraitRef, constness: BoundConstness) -> Asked {
+    Asked::HostEffect(HostEffectPredicate {
+        trait_ref,
+        constness,
+    })
 }

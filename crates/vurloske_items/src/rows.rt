@@ -104,29 +104,9 @@ impl<'a> Text<'a> {
         self.push_closure_rows(&mut tables.closures)
     }
 
-    /// The attributes of the item at a place.
-    fn attrs_at(self, places: &[usize], number: u32) -> Run {
-        match places.get(number as usize) {
-            Some(place) => match self.ast.items.get(*place) {
-                Some(item) => item.attrs,
-                None => Run::EMPTY,
-            },
-            None => Run::EMPTY,
-        }
-    }
-
     /// In the scope of an item that declares parameters by itself.
-    fn lowering_of(self, generics: Generics) -> Result<Lowering<'a>, ItemFault> {
+    fn lowering_of(self, generics: Generics) -> Lowering<'a> {
         Lowering::of_generics(self.alloc, self.ast, self.definitions, generics)
-    }
-
-    /// The kinds of parameters.
-    fn kinds(self, params: Run) -> Result<Vec<ParamKind>, ItemFault> {
-        let mut kinds = Vec::new(self.alloc);
-        for param in self.ast.params(params) {
-            kinds.push(kind_of(param.kind))?;
-        }
-        Ok(kinds)
     }
 
     /// The trait that a name is.
@@ -138,6 +118,18 @@ impl<'a> Text<'a> {
     }
 }
 
+impl Lowering<'_> {
+    /// The kinds of an item's own parameters.
+    fn own_kinds(&mut self, params: Run) -> Vec<ParamKind> {
+        let ast = self.ast;
+        let mut kinds = Vec::new(self.alloc);
+        for param in ast.params(params) {
+            self.scope.fault.keep(kinds.push(kind_of(param.kind)));
+        }
+        kinds
+    }
+}
+
 fn kind_of(written: ast::ParamKind) -> ParamKind {
     match written {
         ast::ParamKind::Lifetime => ParamKind::Lifetime,
@@ -146,7 +138,7 @@ fn kind_of(written: ast::ParamKind) -> ParamKind {
     }
 }
 
-/// How many ids a list of places has.
-fn count(places: &[usize]) -> u32 {
-    u32::try_from(places.len()).unwrap_or(u32::MAX)
+/// How many ids a list of so many items has.
+fn count(len: usize) -> u32 {
+    u32::try_from(len).unwrap_or(u32::MAX)
 }

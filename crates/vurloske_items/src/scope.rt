@@ -1,13 +1,13 @@
 //! The parameters, lifetimes and variables that a term may name.
 use crate::definitions::Definitions;
-use crate::faults::{ItemFault, wrong};
+use crate::faults::{FirstFault, ItemFault, wrong};
 use goal_terms::answers::{ParamKind, VarKind};
 use goal_terms::ids::TraitId;
 use goal_terms::terms::{Const, GenericArg, Region, Ty};
 use indexmap::IndexMap;
-use std::alloc::Global;
+use std::alloc::{AllocError, Global};
 use vurloske_syntax::ast::{
-    Ast, Ident, Lifetime, LifetimeKind, Position, Run, Segment, Symbol, TermId,
+    Ast, Bound, Ident, Lifetime, LifetimeKind, Position, Run, Segment, Symbol, TermId,
 };
 use vurloske_syntax::phrase::Phrase;
 
@@ -102,7 +102,7 @@ impl Params {
     }
 
     /// The kinds, in order of the numbers.
-    pub fn kinds(&self, alloc: Global) -> Result<Vec<ParamKind>, ItemFault> {
+    pub fn kinds(&self, alloc: Global) -> Result<Vec<ParamKind>, AllocError> {
         let mut kinds = Vec::new(alloc);
         for kind in self.kinds.values() {
             kinds.push(*kind)?;
@@ -110,14 +110,22 @@ impl Params {
         Ok(kinds)
     }
 
+    /// The name that a text gives the parameter of a number.
+    pub fn given_name(&self, number: u32) -> Option<Symbol> {
+        match self.name(number)? {
+            ParamName::Named(name) | ParamName::Lifetime(name) => Some(name),
+            ParamName::SelfTy | ParamName::Alias => None,
+        }
+    }
+
     /// The name of the parameter of a number.
-    pub fn name(&self, number: u32) -> Option<ParamName> {
+    fn name(&self, number: u32) -> Option<ParamName> {
         let (name, _) = self.kinds.get_index(number as usize)?;
         Some(*name)
     }
 
     /// Adds all that stands in others behind what is here.
-    pub fn append(&mut self, others: &Params) -> Result<(), ItemFault> {
+    pub fn append(&mut self, others: &Params) -> Result<(), AllocError> {
         for (name, kind) in others.kinds.iter() {
             self.kinds.insert(*name, *kind)?;
         }
@@ -211,26 +219,26 @@ impl Variables {
     }
 
     /// The kinds, in order of the numbers.
-    pub fn kinds(&self, alloc: Global) -> Result<Vec<VarKind>, ItemFault> {
+    pub fn kinds(&self, alloc: Global) -> Result<Vec<VarKind>, AllocError> {
         let mut kinds = Vec::new(alloc);
         kinds.extend_from_slice(self.kinds.as_slice())?;
         Ok(kinds)
     }
 
     /// The number of a fresh variable.
-    pub fn fresh(&mut self, kind: VarKind) -> Result<u32, ItemFault> {
+    pub fn fresh(&mut self, kind: VarKind) -> Result<u32, AllocError> {
         if self.inference == Inference::Refused {
             return Ok(0);
         }
         let Ok(number) = u32::try_from(self.kinds.len()) else {
-            return Err(ItemFault::OutOfMemory);
+            return Err(AllocError);
         };
         self.kinds.push(kind)?;
         Ok(number)
     }
 
     /// The number of a variable that has a name. It is fresh where the name is new for its kind.
-    pub fn named(&mut self, name: Symbol, kind: VarKind) -> Result<u32, ItemFault> {
+    pub fn named(&mut self, name: Symbol, kind: VarKind) -> Result<u32, AllocError> {
         let key = VarName { name, kind };
         if let Some(number) = self.numbers.get(&key) {
             return Ok(*number);
@@ -267,17 +275,21 @@ impl Binder {
     /// Which of its lifetimes has a name.
     fn number(self, ast: &Ast, name: Symbol) -> Option<u32> {
         let outer = ast.idents(self.outer);
-        if let Some(place) = outer.iter().position(|ident| ident.name == name) {
-            return u32::try_from(place).ok();
-        }
-        let inner = ast.idents(self.inner);
-        let place = inner.iter().position(|ident| ident.name == name)?;
-        u32::try_from(outer.len().saturating_add(place)).ok()
+        let place = match place_of(outer, name) {
+            Some(place) => place,
+            None => place_of(ast.idents(self.inner), name)?.saturating_add(outer.len()),
+        };
+        u32::try_from(place).ok()
     }
 }
 
+/// The place of the first lifetime that has a name.
+fn place_of(lifetimes: &[Ident], name: Symbol) -> Option<usize> {
+    lifetimes.iter().position(|ident| ident.name == name)
+}
+
 /// The parameters, lifetimes and variables that a term may name. An environment's own parameters
-/// stand before those that are declared here.
+/// stand before those that are declared here. The first fault of those who name them is kept.
 pub struct Scope<'a> {
     outer: Option<&'a Params>,
     pub params: Params,
@@ -286,6 +298,7 @@ pub struct Scope<'a> {
     binders: Vec<Binder>,
     pub variables: Variables,
     pub unknown_names: UnknownNames,
+    pub(crate) fault: FirstFault,
 }
 
 impl Drop for Scope<'_> {
@@ -297,6 +310,7 @@ impl Drop for Scope<'_> {
             binders: _,
             variables: _,
             unknown_names: _,
+            fault: _,
         } = self;
     }
 }
@@ -311,6 +325,7 @@ impl<'a> Scope<'a> {
             binders: Vec::new(alloc),
             variables: Variables::new(alloc, Inference::Refused),
             unknown_names: UnknownNames::Mistakes,
+            fault: FirstFault::NONE,
         }
     }
 
@@ -323,6 +338,7 @@ impl<'a> Scope<'a> {
             binders: Vec::new(alloc),
             variables: Variables::new(alloc, Inference::Refused),
             unknown_names: UnknownNames::TypeParams,
+            fault: FirstFault::NONE,
         }
     }
 
@@ -335,6 +351,7 @@ impl<'a> Scope<'a> {
             binders: Vec::new(alloc),
             variables: Variables::new(alloc, Inference::Asked),
             unknown_names: UnknownNames::Mistakes,
+            fault: FirstFault::NONE,
         }
     }
 
@@ -355,23 +372,54 @@ impl<'a> Scope<'a> {
     }
 
     /// Declares a parameter. A mistake where its name is taken.
-    pub fn declare(
-        &mut self,
-        name: ParamName,
-        kind: ParamKind,
-        at: Position,
-    ) -> Result<(), ItemFault> {
+    pub fn declare(&mut self, name: ParamName, kind: ParamKind, at: Position) {
         if self.param(name).is_some() {
-            return Err(wrong(at, Phrase::NEW_NAME, Phrase::DECLARED_ALREADY));
+            self.fault
+                .fail(wrong(at, Phrase::NEW_NAME, Phrase::DECLARED_ALREADY));
+        } else if self.params.kinds.insert(name, kind).is_err() {
+            self.fault.fail(ItemFault::OutOfMemory);
         }
-        self.params.kinds.insert(name, kind)?;
-        Ok(())
+    }
+
+    /// The kinds of the parameters that are declared here, in order of their numbers.
+    pub fn param_kinds(&mut self, alloc: Global) -> Vec<ParamKind> {
+        match self.params.kinds(alloc) {
+            Ok(kinds) => kinds,
+            Err(_) => {
+                self.fault.fail(ItemFault::OutOfMemory);
+                Vec::new(alloc)
+            }
+        }
     }
 
     /// Keeps a bound of a parameter.
-    pub fn note_bound(&mut self, subject: Symbol, trait_: Segment) -> Result<(), ItemFault> {
-        self.params.bounds.push(ParamBound { subject, trait_ })?;
-        Ok(())
+    pub fn note_bound(&mut self, subject: Symbol, trait_: Segment) {
+        let noted = self.params.bounds.push(ParamBound { subject, trait_ });
+        self.fault.keep(noted);
+    }
+
+    /// Keeps bounds of a name, but for those that bind lifetimes.
+    pub fn note_bounds(&mut self, subject: Symbol, bounds: &[Bound]) {
+        for bound in bounds {
+            if bound.binder.len == 0 && !bound.is_relaxed {
+                self.note_bound(subject, bound.trait_);
+            }
+        }
+    }
+
+    /// The number of a variable, which is fresh unless it has a name that was met.
+    pub fn variable(&mut self, name: Option<Symbol>, kind: VarKind) -> u32 {
+        let number = match name {
+            Some(name) => self.variables.named(name, kind),
+            None => self.variables.fresh(kind),
+        };
+        match number {
+            Ok(number) => number,
+            Err(_) => {
+                self.fault.fail(ItemFault::OutOfMemory);
+                0
+            }
+        }
     }
 
     /// The first bound of a subject whose trait has an item of a name, by itself or through a supertrait.
@@ -389,10 +437,21 @@ impl<'a> Scope<'a> {
         self.params.bound_with(definitions, subject, item)
     }
 
+    /// The kinds of the variables, in order of their numbers.
+    pub fn variable_kinds(&mut self, alloc: Global) -> Vec<VarKind> {
+        match self.variables.kinds(alloc) {
+            Ok(kinds) => kinds,
+            Err(_) => {
+                self.fault.fail(ItemFault::OutOfMemory);
+                Vec::new(alloc)
+            }
+        }
+    }
+
     /// Enters a binder.
-    pub fn enter(&mut self, binder: Binder) -> Result<(), ItemFault> {
-        self.binders.push(binder)?;
-        Ok(())
+    pub fn enter(&mut self, binder: Binder) {
+        let entered = self.binders.push(binder);
+        self.fault.keep(entered);
     }
 
     /// Leaves the innermost binder.
@@ -408,34 +467,34 @@ impl<'a> Scope<'a> {
         }
     }
 
-    /// A lifetime.
-    pub fn region(&mut self, ast: &Ast, lifetime: Lifetime) -> Result<Region, ItemFault> {
+    /// A lifetime. A mistake where nothing has its name.
+    pub fn region(&mut self, ast: &Ast, lifetime: Lifetime) -> Region {
         match lifetime.kind {
-            LifetimeKind::Static => Ok(Region::Static),
-            LifetimeKind::Erased => Ok(Region::Erased),
-            LifetimeKind::Named(name) => self.named_region(
-                ast,
-                Ident {
-                    name,
-                    at: lifetime.at,
-                },
-            ),
+            LifetimeKind::Static => Region::Static,
+            LifetimeKind::Erased => Region::Erased,
             LifetimeKind::InferNamed(name) => {
-                Ok(Region::Var(self.variables.named(name, VarKind::Region)?))
+                Region::Var(self.variable(Some(name), VarKind::Region))
             }
+            LifetimeKind::Named(name) => match self.named_region(ast, name) {
+                Some(region) => region,
+                None => {
+                    let found = Phrase::ANOTHER_ONE;
+                    self.fault
+                        .fail(wrong(lifetime.at, Phrase::LIFETIME_IN_SCOPE, found));
+                    Region::Erased
+                }
+            },
         }
     }
 
-    fn named_region(&self, ast: &Ast, ident: Ident) -> Result<Region, ItemFault> {
+    fn named_region(&self, ast: &Ast, name: Symbol) -> Option<Region> {
         for (level, binder) in self.binders.iter().rev().enumerate() {
-            if let Some(number) = binder.number(ast, ident.name) {
+            if let Some(number) = binder.number(ast, name) {
                 let level = u32::try_from(level).unwrap_or(u32::MAX);
-                return Ok(Region::Bound(level, number));
+                return Some(Region::Bound(level, number));
             }
         }
-        match self.param(ParamName::Lifetime(ident.name)) {
-            Some(param) => Ok(Region::Param(param.number)),
-            None => Err(wrong(ident.at, Phrase::LIFETIME_IN_SCOPE, Phrase::ANOTHER_ONE)),
-        }
+        let param = self.param(ParamName::Lifetime(name))?;
+        Some(Region::Param(param.number))
     }
 }

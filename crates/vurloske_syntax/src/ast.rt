@@ -53,6 +53,14 @@ pub struct Ident {
     pub at: Position,
 }
 
+impl Ident {
+    /// Stands for a name that was not read.
+    pub(crate) const MISSING: Ident = Ident {
+        name: Symbol(u32::MAX),
+        at: Position { line: 0, column: 0 },
+    };
+}
+
 /// Neighbours in one of the lists of an `Ast`.
 #[derive(Clone, Copy)]
 pub struct Run {
@@ -63,6 +71,11 @@ pub struct Run {
 /// A type or a constant, by its place in the list of terms.
 #[derive(Clone, Copy)]
 pub struct TermId(pub usize);
+
+impl TermId {
+    /// Stands for a term that was not read.
+    pub(crate) const MISSING: TermId = TermId(usize::MAX);
+}
 
 /// A type or a constant: which of the two a path is, its names decide.
 #[derive(Clone, Copy)]
@@ -495,6 +508,33 @@ impl Run {
     }
 }
 
+/// The number of a name in a list.
+fn symbol_of(names: &IndexSet<String>, name: &str) -> Option<Symbol>
+    ensures { IfSome result (λ s. option_map string_bytes (slice_get names.now.keys s.0) ≡ Some name.now) }
+{
+    let index = names.get_index_of(name)?;
+    Some(Symbol(u32::try_from(index).ok()?))
+}
+
+/// The number of a name in a list, to which it is added where it is new.
+pub(crate) fn intern(
+    names: &mut IndexSet<String>,
+    alloc: Global,
+    name: &str,
+) -> Result<Symbol, AllocError>
+    ensures { IfOk result (λ s. option_map string_bytes (slice_get names.new.keys s.0) ≡ Some name.now) }
+{
+    if let Some(symbol) = symbol_of(names, name) {
+        return Ok(symbol);
+    }
+    let name = String::from_str(alloc, name)?;
+    let (index, _) = names.insert_full(name)?;
+    match u32::try_from(index) {
+        Ok(number) => Ok(Symbol(number)),
+        Err(_) => Err(AllocError),
+    }
+}
+
 impl Ast {
     ghost use Rattle.vurloske_syntax.specs.Lists.{part_of};
     ghost use Rattle.vurloske_syntax.specs.Names.{path_in, plain_name_in};
@@ -564,23 +604,7 @@ impl Ast {
     pub fn symbol(&self, name: &str) -> Option<Symbol>
         ensures { IfSome result (λ s. option_map string_bytes (slice_get self.now.names.keys s.0) ≡ Some name.now) }
     {
-        let index = self.names.get_index_of(name)?;
-        Some(Symbol(u32::try_from(index).ok()?))
-    }
-
-    /// The number of a name, which is added where it is new.
-    pub(crate) fn intern(&mut self, alloc: Global, name: &str) -> Result<Symbol, AllocError>
-        ensures { IfOk result (λ s. option_map string_bytes (slice_get self.new.names.keys s.0) ≡ Some name.now) }
-    {
-        if let Some(symbol) = self.symbol(name) {
-            return Ok(symbol);
-        }
-        let name = String::from_str(alloc, name)?;
-        let (index, _) = self.names.insert_full(name)?;
-        match u32::try_from(index) {
-            Ok(number) => Ok(Symbol(number)),
-            Err(_) => Err(AllocError),
-        }
+        symbol_of(&self.names, name)
     }
 
     /// Adds a term, whose parts are there already.

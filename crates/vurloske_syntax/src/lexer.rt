@@ -2,35 +2,44 @@
 ghost use Rattle.std.specs.Prelude.{◌≤◌, ◌≡◌, length, IfOk};
 ghost use Rattle.vurloske_syntax.specs.Cuts.{offset_of, Advances, Cuts, InOrder, IsWithin};
 
-use crate::ast::{Ast, LifetimeKind, Span};
-use crate::mistake::{Mistake, SyntaxFault, is_name_byte};
+use crate::ast::{LifetimeKind, Span, intern};
+use crate::mistake::{SyntaxFault, is_name_byte};
 use crate::phrase::Phrase;
 use crate::scanner::{Mark, Scanner};
 use crate::token::{Keyword, Sign, Token, TokenKind};
+use indexmap::IndexSet;
 use std::alloc::{AllocError, Global};
 use std::str::from_utf8;
 
-/// The tokens of a text in order. Its names are added to those of the `Ast`.
+/// The tokens of a text in order, whose names are added to a list.
 ///
 /// A mistake comes where no token begins, where a number does not fit 128 bits or has an unknown
 /// suffix, and where a text between quotes or a comment does not end.
-pub fn lex(ast: &mut Ast, alloc: Global, text: &str) -> Result<Vec<Token>, SyntaxFault>
+pub fn lex(
+    names: &mut IndexSet<String>,
+    alloc: Global,
+    text: &str,
+) -> Result<Vec<Token>, SyntaxFault>
     ensures { IfOk result (λ tokens. InOrder 0 tokens.items (length text.now)) }
 {
     let mut tokens = Vec::new(alloc);
     let mut scanner = Scanner::new(text);
     for _ in 0..text.len() {
-        scanner.skip_blanks().map_err(SyntaxFault::Mistake)?;
+        scanner.skip_blanks()?;
         if scanner.rest().is_empty() {
             break;
         }
-        tokens.push(next_token(&mut scanner, ast, alloc)?)?;
+        tokens.push(next_token(&mut scanner, names, alloc)?)?;
     }
     Ok(tokens)
 }
 
 /// The token that begins here.
-fn next_token(scanner: &mut Scanner<'_>, ast: &mut Ast, alloc: Global) -> Result<Token, SyntaxFault>
+fn next_token(
+    scanner: &mut Scanner<'_>,
+    names: &mut IndexSet<String>,
+    alloc: Global,
+) -> Result<Token, SyntaxFault>
     requires some { 1 ≤ length scanner.old.rest.now }
     ensures cuts { IfOk result (λ _. Cuts scanner.old scanner.new) }
     ensures start { IfOk result (λ t. t.span.start ≡ offset_of scanner.old) }
@@ -38,7 +47,7 @@ fn next_token(scanner: &mut Scanner<'_>, ast: &mut Ast, alloc: Global) -> Result
 {
     let mark = scanner.mark();
     scanner.skip(1);
-    let kind = token_kind(scanner, mark, ast, alloc)?;
+    let kind = token_kind(scanner, mark, names, alloc)?;
     let span = Span {
         start: mark.offset,
         end: scanner.offset(),
@@ -54,17 +63,17 @@ fn next_token(scanner: &mut Scanner<'_>, ast: &mut Ast, alloc: Global) -> Result
 fn token_kind<'t>(
     scanner: &mut Scanner<'t>,
     mark: Mark<'t>,
-    ast: &mut Ast,
+    names: &mut IndexSet<String>,
     alloc: Global,
 ) -> Result<TokenKind, SyntaxFault>
     ensures { Advances scanner.old scanner.new }
 {
     match mark.rest {
-        [b'\'', ..] => lifetime(scanner, mark, ast, alloc),
-        [b'"', ..] => quoted(scanner, mark, ast, alloc),
-        [b'0'..=b'9', ..] => number(scanner, mark).map_err(SyntaxFault::Mistake),
-        [first, ..] if is_name_byte(*first) => Ok(word(scanner, mark, ast, alloc)?),
-        _ => sign(scanner, mark).map_err(SyntaxFault::Mistake),
+        [b'\'', ..] => lifetime(scanner, mark, names, alloc),
+        [b'"', ..] => quoted(scanner, mark, names, alloc),
+        [b'0'..=b'9', ..] => number(scanner, mark),
+        [first, ..] if is_name_byte(*first) => Ok(word(scanner, mark, names, alloc)?),
+        _ => sign(scanner, mark),
     }
 }
 
@@ -72,7 +81,7 @@ fn token_kind<'t>(
 fn word<'t>(
     scanner: &mut Scanner<'t>,
     mark: Mark<'t>,
-    ast: &mut Ast,
+    names: &mut IndexSet<String>,
     alloc: Global,
 ) -> Result<TokenKind, AllocError>
     ensures { Advances scanner.old scanner.new }
@@ -84,7 +93,7 @@ fn word<'t>(
     }
     match Keyword::of(written) {
         Some(keyword) => Ok(TokenKind::Keyword(keyword)),
-        None => Ok(TokenKind::Name(ast.intern(alloc, written)?)),
+        None => Ok(TokenKind::Name(intern(names, alloc, written)?)),
     }
 }
 
@@ -92,53 +101,55 @@ fn word<'t>(
 fn lifetime<'t>(
     scanner: &mut Scanner<'t>,
     mark: Mark<'t>,
-    ast: &mut Ast,
+    names: &mut IndexSet<String>,
     alloc: Global,
 ) -> Result<TokenKind, SyntaxFault>
     ensures { Advances scanner.old scanner.new }
 {
-    let is_variable = scanner.rest().first() == Some(&b'?');
-    if is_variable {
-        scanner.skip(1);
-    }
+    let is_variable = scanner.eat(b'?');
     let name = scanner.take_name();
-    if name.is_empty() || scanner.rest().first() == Some(&b'\'') {
-        let mistake = scanner.mistake_since(mark, Phrase::LIFETIME);
-        return Err(SyntaxFault::Mistake(mistake));
+    if name.is_empty() || scanner.sees(b'\'') {
+        return Err(scanner.mistake_since(mark, Phrase::LIFETIME));
     }
-    let kind = match name {
-        _ if is_variable => LifetimeKind::InferNamed(ast.intern(alloc, name)?),
-        "static" => LifetimeKind::Static,
-        "_" => LifetimeKind::Erased,
-        _ => LifetimeKind::Named(ast.intern(alloc, name)?),
-    };
+    let kind = lifetime_kind(names, alloc, name, is_variable)?;
     Ok(TokenKind::Lifetime(kind))
+}
+
+/// The lifetime of a name, or a variable.
+fn lifetime_kind(
+    names: &mut IndexSet<String>,
+    alloc: Global,
+    name: &str,
+    is_variable: bool,
+) -> Result<LifetimeKind, AllocError> {
+    if is_variable {
+        return Ok(LifetimeKind::InferNamed(intern(names, alloc, name)?));
+    }
+    match name {
+        "static" => Ok(LifetimeKind::Static),
+        "_" => Ok(LifetimeKind::Erased),
+        _ => Ok(LifetimeKind::Named(intern(names, alloc, name)?)),
+    }
 }
 
 /// `"text"`, which ends on its line.
 fn quoted<'t>(
     scanner: &mut Scanner<'t>,
     mark: Mark<'t>,
-    ast: &mut Ast,
+    names: &mut IndexSet<String>,
     alloc: Global,
 ) -> Result<TokenKind, SyntaxFault>
     ensures { Advances scanner.old scanner.new }
 {
-    let rest = scanner.rest();
-    let end = rest.iter().position(|b| matches!(*b, b'"' | b'\n'));
-    let text = rest.get(..end.unwrap_or(rest.len())).unwrap_or(&[]);
-    scanner.skip(text.len());
-    if scanner.rest().first() != Some(&b'"') {
-        let mistake = scanner.mistake_since(mark, Phrase::TEXT_ON_ONE_LINE);
-        return Err(SyntaxFault::Mistake(mistake));
+    let text = scanner.take_quoted();
+    if !scanner.eat(b'"') {
+        return Err(scanner.mistake_since(mark, Phrase::TEXT_ON_ONE_LINE));
     }
-    scanner.skip(1);
-    let symbol = ast.intern(alloc, from_utf8(text).unwrap_or(""))?;
-    Ok(TokenKind::Text(symbol))
+    Ok(TokenKind::Text(intern(names, alloc, text)?))
 }
 
 /// `3`, `1_000`, `0xff`, `3usize`
-fn number<'t>(scanner: &mut Scanner<'t>, mark: Mark<'t>) -> Result<TokenKind, Mistake>
+fn number<'t>(scanner: &mut Scanner<'t>, mark: Mark<'t>) -> Result<TokenKind, SyntaxFault>
     ensures { Advances scanner.old scanner.new }
 {
     scanner.take_name();
@@ -180,24 +191,19 @@ fn with_digit(value: u128, radix: u32, digit: u32) -> Option<u128> {
 
 /// Whether it may stand behind the digits of an integer.
 fn is_suffix(bytes: &[u8]) -> bool {
-    matches!(
-        bytes,
-        b"" | b"u8"
-            | b"u16"
-            | b"u32"
-            | b"u64"
-            | b"u128"
-            | b"usize"
-            | b"i8"
-            | b"i16"
-            | b"i32"
-            | b"i64"
-            | b"i128"
-            | b"isize"
-    )
+    match bytes {
+        [] => true,
+        [b'i' | b'u', width @ ..] => is_width(width),
+        _ => false,
+    }
 }
 
-fn sign<'t>(scanner: &mut Scanner<'t>, mark: Mark<'t>) -> Result<TokenKind, Mistake>
+/// Whether an integer type's name has it behind the first letter.
+fn is_width(bytes: &[u8]) -> bool {
+    matches!(bytes, b"8" | b"16" | b"32" | b"64" | b"128" | b"size")
+}
+
+fn sign<'t>(scanner: &mut Scanner<'t>, mark: Mark<'t>) -> Result<TokenKind, SyntaxFault>
     ensures { Advances scanner.old scanner.new }
 {
     if let [first, second, ..] = mark.rest {
@@ -211,15 +217,6 @@ fn sign<'t>(scanner: &mut Scanner<'t>, mark: Mark<'t>) -> Result<TokenKind, Mist
             return Ok(TokenKind::Sign(sign));
         }
     }
-    Err(foreign(scanner, mark))
-}
-
-/// The mistake of a character with which no token begins.
-fn foreign<'t>(scanner: &mut Scanner<'t>, mark: Mark<'t>) -> Mistake
-    ensures { Advances scanner.old scanner.new }
-{
-    let rest = scanner.rest();
-    let further = rest.iter().position(|b| !matches!(*b, 0x80..=0xbf));
-    scanner.skip(further.unwrap_or(rest.len()));
-    scanner.mistake_since(mark, Phrase::WORD_OR_A_SIGN)
+    scanner.skip_character();
+    Err(scanner.mistake_since(mark, Phrase::WORD_OR_A_SIGN))
 }

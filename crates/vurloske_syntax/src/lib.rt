@@ -2,11 +2,11 @@
 #![tactic(auto)]
 
 pub mod ast;
-mod cursor;
 pub mod lexer;
 pub mod mistake;
 mod parser;
 pub mod phrase;
+mod reader;
 mod scanner;
 pub mod token;
 

@@ -14,10 +14,12 @@ mod statements;
 mod terms;
 
 use crate::ast::Ast;
-use crate::cursor::Cursor;
-use crate::lexer::lex;
 use crate::mistake::SyntaxFault;
-use statements::{parse_file, parse_further};
+use crate::reader::Reader;
+use attributes::parse_inner_attrs;
+use nesting::MAX_NESTING;
+use scraps::append;
+use statements::parse_contents;
 use std::alloc::Global;
 
 /// Reads a text: its items, its goals and the blocks in which they stand. What stands in no block
@@ -28,17 +30,23 @@ use std::alloc::Global;
 pub fn parse(alloc: Global, text: &str) -> Result<Ast, SyntaxFault>
     ensures { IfOk result (λ ast. ast.file.first + ast.file.len ≡ vec_len ast.statements) }
 {
-    let mut ast = Ast::new(alloc);
-    let tokens = lex(&mut ast, alloc, text)?;
-    let mut cursor = Cursor::new(alloc, &tokens, text);
-    parse_file(&mut cursor, &mut ast)?;
+    let mut reader = Reader::new(Ast::new(alloc), alloc, text)?;
+    let attrs = parse_inner_attrs(&mut reader, MAX_NESTING);
+    let statements = parse_contents(&mut reader);
+    let mut ast = reader.finish()?;
+    ast.inner_attrs = attrs;
+    ast.no_core = ast.has_attr(attrs, "no_core");
+    ast.file = append(&mut ast.statements, &statements)?;
     Ok(ast)
 }
 
 /// Adds what a further text says, as a prelude. What stands in no block, and what is said at the
 /// head, stay the first text's.
-pub fn parse_onto(ast: &mut Ast, alloc: Global, text: &str) -> Result<(), SyntaxFault> {
-    let tokens = lex(ast, alloc, text)?;
-    let mut cursor = Cursor::new(alloc, &tokens, text);
-    parse_further(&mut cursor, ast)
+pub fn parse_onto(ast: Ast, alloc: Global, text: &str) -> Result<Ast, SyntaxFault> {
+    let mut reader = Reader::new(ast, alloc, text)?;
+    parse_inner_attrs(&mut reader, MAX_NESTING);
+    let statements = parse_contents(&mut reader);
+    let mut ast = reader.finish()?;
+    append(&mut ast.statements, &statements)?;
+    Ok(ast)
 }

@@ -2,7 +2,7 @@
 ghost use Rattle.std.specs.Prelude.{◌≡◌, length, drop};
 
 use crate::ast::{Position, Span};
-use crate::mistake::{Found, Mistake, name_prefix};
+use crate::mistake::{Found, Mistake, SyntaxFault, name_prefix};
 use crate::phrase::{Expected, Phrase};
 use std::str::from_utf8;
 
@@ -97,8 +97,45 @@ impl<'t> Scanner<'t> {
         from_utf8(name).unwrap_or("")
     }
 
+    /// Goes on up to a `"` or the line's end, and gives what is cut.
+    pub(crate) fn take_quoted(&mut self) -> &'t str
+        ensures { Advances self.old self.new }
+    {
+        let len = self.rest.iter().position(|b| matches!(*b, b'"' | b'\n'));
+        let text = self
+            .rest
+            .get(..len.unwrap_or(self.rest.len()))
+            .unwrap_or(&[]);
+        self.skip(text.len());
+        from_utf8(text).unwrap_or("")
+    }
+
+    /// Goes on behind the bytes that end a character.
+    pub(crate) fn skip_character(&mut self)
+        ensures { Advances self.old self.new }
+    {
+        let len = self.rest.iter().position(|b| !matches!(*b, 0x80..=0xbf));
+        self.skip(len.unwrap_or(self.rest.len()));
+    }
+
+    /// Whether a byte is next.
+    pub(crate) fn sees(&self, byte: u8) -> bool {
+        self.rest.first() == Some(&byte)
+    }
+
+    /// Goes on behind a byte if it is next.
+    pub(crate) fn eat(&mut self, byte: u8) -> bool
+        ensures { Advances self.old self.new }
+    {
+        let found = self.sees(byte);
+        if found {
+            self.skip(1);
+        }
+        found
+    }
+
     /// Goes on behind blanks and comments. A comment that does not end is a mistake.
-    pub(crate) fn skip_blanks(&mut self) -> Result<(), Mistake>
+    pub(crate) fn skip_blanks(&mut self) -> Result<(), SyntaxFault>
         ensures { Advances self.old self.new }
     {
         for _ in 0..self.rest.len() {
@@ -130,7 +167,7 @@ impl<'t> Scanner<'t> {
     }
 
     /// Goes on behind a comment that may have others in it.
-    fn skip_comment(&mut self) -> Result<(), Mistake>
+    fn skip_comment(&mut self) -> Result<(), SyntaxFault>
         ensures { Advances self.old self.new }
     {
         let mut open = 0usize;
@@ -155,24 +192,24 @@ impl<'t> Scanner<'t> {
     }
 
     /// The text ends before what was expected.
-    fn end_mistake(&self, expected: Phrase) -> Mistake {
-        Mistake {
+    fn end_mistake(&self, expected: Phrase) -> SyntaxFault {
+        SyntaxFault::Mistake(Mistake {
             at: self.position(),
             expected: Expected::Phrase(expected),
             found: Found::End,
-        }
+        })
     }
 
     /// Something else than expected stands between an earlier place and this one.
-    pub(crate) fn mistake_since(&self, mark: Mark<'t>, expected: Phrase) -> Mistake {
+    pub(crate) fn mistake_since(&self, mark: Mark<'t>, expected: Phrase) -> SyntaxFault {
         let span = Span {
             start: mark.offset,
             end: self.offset(),
         };
-        Mistake {
+        SyntaxFault::Mistake(Mistake {
             at: mark.at,
             expected: Expected::Phrase(expected),
             found: Found::Text(span),
-        }
+        })
     }
 }

@@ -1,22 +1,29 @@
 //! The lists of free, inherent and opaque aliases, and of projection goals, over numbers of a term table.
-ghost use Rattle.std.specs.Prelude.{◌≡◌, List, IfOk};
+ghost use Rattle.std.specs.Prelude.{◌≡◌, List, Some, IfOk};
+ghost use Rattle.std.specs.List.{All};
+ghost use Rattle.std.specs.Option.{option_map};
 ghost use Rattle.goal_terms.specs.Tree.{Tree, alias, forest};
+ghost use Rattle.goal_terms.specs.TreeOf.{tree_of_term};
 ghost use Rattle.goal_terms.specs.declared.predicates.Clause.{Clause};
-ghost use Rattle.goal_tables.specs.Rows.{free_of, inherent_of, opaque_of};
-ghost use Rattle.goal_kinds.specs.AliasLists.{row_value, entries_of_row, free_list, inherent_list, inherent_alias_list, hidden_list, opaque_list, opaque_alias_list, alias_list};
+ghost use Rattle.goal_tables.specs.Rows.{free_of, inherent_of, inherent_impl_of, opaque_of};
+ghost use Rattle.goal_tables.specs.declared.rows.Tables.{Tables};
+ghost use Rattle.goal_kinds.specs.AliasLists.{row_value, entries_of_row, free_list, inherent_list, inherent_alias_list, hidden_list, defined_list, opaque_list, opaque_alias_list, alias_list};
 ghost use Rattle.goal_kinds.specs.Interned.{IsIn, AreIn, erased_at, erased_all};
 ghost use Rattle.goal_kinds.specs.InternedEntries.{EntryIn, EntriesIn, entry_at, entries_at, setting_at};
+ghost use Rattle.goal_kinds.specs.NamedRows.{NamesItsRows, IsDefined, DefinesKind};
 ghost use Rattle.goal_kinds.specs.ProjectionLists.{standing, equation_list};
+ghost use Rattle.goal_kinds.specs.RuleModes.{first_use, first_use_of};
+ghost use Rattle.goal_kinds.specs.Rules.{value_in};
 
 use crate::builtin::terms::split_self;
 use crate::lists::parts::{
-    equal_terms, followed_by, given_arguments, of_header, standing, undecided,
+    copied, equal_terms, followed_by, given_arguments, of_header, standing, undecided,
 };
 use crate::lists::{
     HeaderTerms, InternedEntry, InternedTerm, ListSetting, RowHeader, RowValueTerm,
 };
 use crate::rules::aliases::{OpaqueUse, use_of};
-use crate::rules::{RowClauses, RowValue, RuleHeader};
+use crate::rules::{FirstUse, RowClauses, RowValue, RuleHeader};
 use goal_tables::rows::{FreeRow, InherentImplRow, InherentRow, OpaqueRow};
 use goal_terms::ids::{FreeId, InherentId, OpaqueId};
 use goal_terms::modes::TypingMode;
@@ -28,6 +35,7 @@ use std::alloc::Global;
 fn row_value<'t>(row: RowValue, value: &'t Option<Term>, number: usize) -> InternedEntry<'t>
     ensures within { (T : List Tree) → EntryIn T result }
     ensures entry { (T : List Tree) → entry_at T result ≡ row_value value.now number }
+    ensures named { (t : Tables) → value_in t row ≡ option_map tree_of_term value.now → NamesItsRows t result }
 {
     match value {
         None => InternedEntry::Undecided,
@@ -47,6 +55,7 @@ fn free_list<'t>(
 ) -> Result<Vec<InternedEntry<'t>>, OutOfMemory>
     ensures within { (T : List Tree) → AreIn T args.now → IfOk result (λ es. EntriesIn T es.items) }
     ensures entries { (T : List Tree) → IfOk result (λ es. entries_at T es.items ≡ free_list (erased_all T args.now) row.now) }
+    ensures named { (t : Tables) → free_of t row.now.id ≡ Some row.now → IfOk result (λ es. All (NamesItsRows t) es.items) }
 {
     let named = given_arguments(alloc, args)?;
     let clauses = InternedEntry::RowClauses(RowClauses::Free(row.id), row.predicates.as_slice(), 0);
@@ -66,6 +75,7 @@ fn inherent_list<'t>(
 ) -> Result<Vec<InternedEntry<'t>>, OutOfMemory>
     ensures within { (T : List Tree) → IsIn T self_ty → AreIn T own.now → IfOk result (λ es. EntriesIn T es.items) }
     ensures entries { (T : List Tree) → IfOk result (λ es. entries_at T es.items ≡ inherent_list (erased_at T self_ty) (erased_all T own.now) row.now of.now) }
+    ensures named { (t : Tables) → inherent_of t row.now.id ≡ Some row.now → inherent_impl_of t of.now.id ≡ Some of.now → IfOk result (λ es. All (NamesItsRows t) es.items) }
 {
     let header = RowHeader {
         params: of.params.as_slice(),
@@ -89,6 +99,7 @@ fn inherent_alias_list<'t>(
 ) -> Result<Vec<InternedEntry<'t>>, OutOfMemory>
     ensures within { (T : List Tree) → AreIn T args.now → IfOk result (λ es. EntriesIn T es.items) }
     ensures entries { (T : List Tree) (env : List Clause) → IfOk result (λ es. entries_at T es.items ≡ inherent_alias_list (setting_at setting.entry env) (inherent_of setting.entry.rows.now id) (erased_all T args.now)) }
+    ensures named { IfOk result (λ es. All (NamesItsRows setting.entry.rows.now) es.items) }
 {
     let Some((self_ty, own)) = split_self(args) else {
         return undecided(alloc);
@@ -111,6 +122,7 @@ fn free_alias_list<'t>(
 ) -> Result<Vec<InternedEntry<'t>>, OutOfMemory>
     ensures within { (T : List Tree) → AreIn T args.now → IfOk result (λ es. EntriesIn T es.items) }
     ensures entries { (T : List Tree) → IfOk result (λ es. entries_at T es.items ≡ entries_of_row (free_of setting.entry.rows.now id) (free_list (erased_all T args.now))) }
+    ensures named { IfOk result (λ es. All (NamesItsRows setting.entry.rows.now) es.items) }
 {
     let Some(row) = setting.rows.free_row(id) else {
         return undecided(alloc);
@@ -126,6 +138,7 @@ fn hidden_list<'t>(
 ) -> Result<Vec<InternedEntry<'t>>, OutOfMemory>
     ensures within { (T : List Tree) → AreIn T args.now → IfOk result (λ es. EntriesIn T es.items) }
     ensures entries { (T : List Tree) → IfOk result (λ es. entries_at T es.items ≡ hidden_list (erased_all T args.now) row.now) }
+    ensures named { (t : Tables) → opaque_of t row.now.id ≡ Some row.now → IfOk result (λ es. All (NamesItsRows t) es.items) }
 {
     let named = given_arguments(alloc, args)?;
     let of = RowValueTerm::Ty(&row.hidden);
@@ -133,18 +146,38 @@ fn hidden_list<'t>(
     Ok(vec![in alloc; named, hidden]?)
 }
 
-/// The list of an opaque type, by the typing mode: its hidden type, or itself; ambiguous in coherence,
-/// undecided where it is being defined, and recorded in the erased mode. Want of memory is the only
+/// The hidden type of an opaque type that is being defined, by its arguments. Want of memory is the only
+/// refusal.
+fn defined_list<'t>(
+    alloc: Global,
+    id: OpaqueId,
+    args: &[TermId],
+    first: FirstUse,
+) -> Result<Vec<InternedEntry<'t>>, OutOfMemory>
+    ensures within { (T : List Tree) → AreIn T args.now → IfOk result (λ es. EntriesIn T es.items) }
+    ensures entries { (T : List Tree) → IfOk result (λ es. entries_at T es.items ≡ defined_list id (erased_all T args.now) first) }
+    ensures named { (t : Tables) → IfOk result (λ es. All (NamesItsRows t) es.items) }
+    ensures defined { IfOk result (λ es. IsDefined id args.now first es.items) }
+{
+    let ids = copied(alloc, args)?;
+    Ok(vec![in alloc; InternedEntry::HiddenType(id, ids, first)]?)
+}
+
+/// The list of an opaque type, by the typing mode: its hidden type, or itself; ambiguous in coherence, the
+/// storage's entry where it is being defined, and recorded in the erased mode. Want of memory is the only
 /// refusal.
 fn opaque_list<'t>(
     mode: &TypingMode,
     alloc: Global,
+    id: OpaqueId,
     args: &[TermId],
     rigid_alias: TermId,
     row: &'t OpaqueRow,
 ) -> Result<Vec<InternedEntry<'t>>, OutOfMemory>
     ensures within { (T : List Tree) → AreIn T args.now → IsIn T rigid_alias → IfOk result (λ es. EntriesIn T es.items) }
-    ensures entries { (T : List Tree) → IfOk result (λ es. entries_at T es.items ≡ opaque_list mode.now row.now (hidden_list (erased_all T args.now) row.now) (standing (erased_at T rigid_alias))) }
+    ensures entries { (T : List Tree) → IfOk result (λ es. entries_at T es.items ≡ opaque_list mode.now row.now (defined_list id (erased_all T args.now)) (hidden_list (erased_all T args.now) row.now) (standing (erased_at T rigid_alias))) }
+    ensures named { (t : Tables) → opaque_of t row.now.id ≡ Some row.now → IfOk result (λ es. All (NamesItsRows t) es.items) }
+    ensures defined { (f : FirstUse) → first_use mode.now row.now ≡ Some f → IfOk result (λ es. IsDefined id args.now f es.items) }
 {
     if let TypingMode::Coherence = mode {
         return Ok(vec![in alloc; InternedEntry::Ambiguous]?);
@@ -156,6 +189,7 @@ fn opaque_list<'t>(
             let term = InternedEntry::Expected(InternedTerm::AsItStands(rigid_alias));
             Ok(vec![in alloc; InternedEntry::Access(access), term]?)
         }
+        OpaqueUse::Defining(first) => defined_list(alloc, id, args, first),
         OpaqueUse::Undecided => undecided(alloc),
     }
 }
@@ -170,11 +204,13 @@ fn opaque_alias_list<'t>(
 ) -> Result<Vec<InternedEntry<'t>>, OutOfMemory>
     ensures within { (T : List Tree) → AreIn T args.now → IsIn T rigid_alias → IfOk result (λ es. EntriesIn T es.items) }
     ensures entries { (T : List Tree) (env : List Clause) → erased_at T rigid_alias ≡ alias (AliasTermKind.OpaqueTy id) (forest (erased_all T args.now)) → IfOk result (λ es. entries_at T es.items ≡ entries_of_row (opaque_of setting.entry.rows.now id) (opaque_alias_list (setting_at setting.entry env) id (erased_all T args.now))) }
+    ensures named { IfOk result (λ es. All (NamesItsRows setting.entry.rows.now) es.items) }
+    ensures defined { (f : FirstUse) → first_use_of setting.entry.rows.now setting.entry.mode.now (AliasTermKind.OpaqueTy id) ≡ Some f → IfOk result (λ es. IsDefined id args.now f es.items) }
 {
     let Some(row) = setting.rows.opaque_row(id) else {
         return undecided(alloc);
     };
-    opaque_list(setting.mode, alloc, args, rigid_alias, row)
+    opaque_list(setting.mode, alloc, id, args, rigid_alias, row)
 }
 
 /// The list of an alias that is no projection, for its arguments and its own number in a table: nothing
@@ -188,6 +224,8 @@ pub fn alias_list<'t>(
 ) -> Result<Vec<InternedEntry<'t>>, OutOfMemory>
     ensures within { (T : List Tree) → AreIn T args.now → IsIn T rigid_alias → IfOk result (λ es. EntriesIn T es.items) }
     ensures entries { (T : List Tree) (env : List Clause) → erased_at T rigid_alias ≡ alias kind (forest (erased_all T args.now)) → IfOk result (λ es. entries_at T es.items ≡ alias_list (setting_at setting.entry env) kind (erased_all T args.now)) }
+    ensures named { IfOk result (λ es. All (NamesItsRows setting.entry.rows.now) es.items) }
+    ensures defined { (f : FirstUse) → first_use_of setting.entry.rows.now setting.entry.mode.now kind ≡ Some f → IfOk result (λ es. DefinesKind kind args.now f es.items) }
 {
     match kind {
         AliasTermKind::InherentTy(id) => inherent_alias_list(setting, alloc, id, args),
@@ -209,6 +247,7 @@ pub fn equation_list<'t>(
 ) -> Result<Vec<InternedEntry<'t>>, OutOfMemory>
     ensures within { (T : List Tree) → IsIn T alias → IsIn T term → IfOk result (λ es. EntriesIn T es.items) }
     ensures entries { (T : List Tree) → IfOk result (λ es. entries_at T es.items ≡ equation_list (erased_at T alias) (erased_at T term)) }
+    ensures named { (t : Tables) → IfOk result (λ es. All (NamesItsRows t) es.items) }
 {
     let equal = equal_terms(alloc, &[alias], &[term])?;
     Ok(vec![in alloc; equal]?)

@@ -46,6 +46,7 @@ pub(crate) fn undecided<'t>(alloc: Global) -> Result<Vec<InternedEntry<'t>>, Out
 pub(crate) fn standing<'t>(alloc: Global, id: TermId) -> Result<Vec<InternedEntry<'t>>, OutOfMemory>
     ensures within { (T : List Tree) → IsIn T id → IfOk result (λ es. EntriesIn T es.items) }
     ensures entries { (T : List Tree) → IfOk result (λ es. entries_at T es.items ≡ standing (erased_at T id)) }
+    ensures named { (t : Tables) → IfOk result (λ es. All (NamesItsRows t) es.items) }
 {
     let term = InternedTerm::AsItStands(id);
     Ok(vec![in alloc; InternedEntry::Expected(term)]?)
@@ -73,6 +74,7 @@ pub(crate) fn given_arguments<'t>(
 ) -> Result<InternedEntry<'t>, OutOfMemory>
     ensures within { (T : List Tree) → AreIn T args.now → IfOk result (EntryIn T) }
     ensures entry { (T : List Tree) → IfOk result (λ e. entry_at T e ≡ arguments (given_arguments (erased_all T args.now))) }
+    ensures named { (t : Tables) → IfOk result (NamesItsRows t) }
 {
     let made = copied(alloc, args)?;
     Ok(InternedEntry::Arguments(InternedArguments::Given(made)))
@@ -86,6 +88,7 @@ pub(crate) fn followed_by<'t>(
 ) -> Result<InternedEntry<'t>, OutOfMemory>
     ensures within { (T : List Tree) → AreIn T own.now → IfOk result (EntryIn T) }
     ensures entry { (T : List Tree) → IfOk result (λ e. entry_at T e ≡ arguments (followed_by number (erased_all T own.now))) }
+    ensures named { (t : Tables) → IfOk result (NamesItsRows t) }
 {
     let made = copied(alloc, own)?;
     Ok(InternedEntry::Arguments(InternedArguments::FollowedBy(number, made)))

@@ -1,5 +1,6 @@
 //! The lists of the candidates for the terms of projections, over numbers of a term table.
-ghost use Rattle.std.specs.Prelude.{◌≡◌, ◌∷◌, List, drop, take, IfOk};
+ghost use Rattle.std.specs.Prelude.{◌≡◌, ◌∷◌, List, Some, drop, take, IfOk};
+ghost use Rattle.std.specs.List.{All};
 ghost use Rattle.goal_terms.specs.TableMeaning.{Keeps};
 ghost use Rattle.goal_terms.specs.Tree.{Tree};
 ghost use Rattle.goal_terms.specs.declared.predicates.Clause.{Clause};
@@ -8,9 +9,11 @@ ghost use Rattle.goal_kinds.specs.Entries.{arguments, given_arguments, row_claus
 ghost use Rattle.goal_kinds.specs.ImplTerms.{error_term, taken, trait_args};
 ghost use Rattle.goal_kinds.specs.Interned.{IsIn, AreIn, PredicateIn, CandidateIn, ListedIn, erased_at, erased_all, predicate_at, candidate_at, listed_at};
 ghost use Rattle.goal_kinds.specs.InternedEntries.{EntryIn, EntriesIn, ListIn, entry_at, entries_at, list_at, setting_at, projection_at, ProjectionIn};
+ghost use Rattle.goal_kinds.specs.NamedRows.{CandidateIsOf, ListNamesItsRows, NamesItsRows, ProjectionIsOf};
 ghost use Rattle.goal_kinds.specs.ProjectionLists.{definition_value, other_impl_entries, taken_entries, rigid_entries, standing, missing_entries, value_entries, default_entries, definition_entries, source_entries, said_entries, projection_impl_list, projection_assumption_list, equation_clause_list, listed_list, projection_list};
 ghost use Rattle.goal_kinds.specs.TraitLists.{impl_match};
-ghost use Rattle.goal_tables.specs.Rows.{definition_of};
+ghost use Rattle.goal_tables.specs.Rows.{definition_of, impl_of};
+ghost use Rattle.goal_tables.specs.declared.rows.Tables.{Tables};
 
 use crate::builtin::made_terms::intern_leaf;
 use crate::builtin::terms::term_rule;
@@ -61,6 +64,7 @@ fn behind(ids: &[TermId], count: usize) -> &[TermId]
 fn definition_value<'t>(definition: &'t DefRow, number: usize) -> InternedEntry<'t>
     ensures within { (T : List Tree) → EntryIn T result }
     ensures entry { (T : List Tree) → entry_at T result ≡ definition_value definition.now.value number }
+    ensures named { (t : Tables) → definition_of t definition.now.id ≡ Some definition.now → NamesItsRows t result }
 {
     match &definition.value {
         DefValue::Missing => InternedEntry::Undecided,
@@ -84,6 +88,7 @@ fn other_impl_entries<'t>(
 ) -> Result<Vec<InternedEntry<'t>>, OutOfMemory>
     ensures within { (T : List Tree) → ProjectionIn T asked.now → IfOk result (λ es. EntriesIn T es.items) }
     ensures entries { (T : List Tree) → IfOk result (λ es. entries_at T es.items ≡ other_impl_entries row.now (projection_at T asked.now) definition.now.value other.now) }
+    ensures named { (t : Tables) → impl_of t row.now.id ≡ Some row.now → impl_of t other.now.id ≡ Some other.now → definition_of t definition.now.id ≡ Some definition.now → IfOk result (λ es. All (NamesItsRows t) es.items) }
 {
     let header = RowHeader {
         params: other.params.as_slice(),
@@ -110,6 +115,7 @@ fn taken_entries<'t>(
 ) -> Result<Vec<InternedEntry<'t>>, OutOfMemory>
     ensures within { (T : List Tree) → ProjectionIn T asked.now → IfOk result (λ es. EntriesIn T es.items) }
     ensures entries { (T : List Tree) (env : List Clause) → IfOk result (λ es. entries_at T es.items ≡ taken_entries row.now (projection_at T asked.now) definition.now.value (taken (setting_at setting.entry env) row.now definition.now.container)) }
+    ensures named { impl_of setting.entry.rows.now row.now.id ≡ Some row.now → definition_of setting.entry.rows.now definition.now.id ≡ Some definition.now → IfOk result (λ es. All (NamesItsRows setting.entry.rows.now) es.items) }
 {
     match definition.container {
         Container::Trait(_) => Ok(vec![in alloc; definition_value(definition, 1)]?),
@@ -135,6 +141,7 @@ fn rigid_entries<'t>(
 ) -> Result<Vec<InternedEntry<'t>>, OutOfMemory>
     ensures within { (T : List Tree) → IsIn T rigid_alias → IfOk result (λ es. EntriesIn T es.items) }
     ensures entries { (T : List Tree) → IfOk result (λ es. entries_at T es.items ≡ rigid_entries mode.now (erased_at T rigid_alias)) }
+    ensures named { (t : Tables) → IfOk result (λ es. All (NamesItsRows t) es.items) }
 {
     match mode {
         TypingMode::Coherence => Ok(vec![in alloc; InternedEntry::Ambiguous]?),
@@ -170,6 +177,7 @@ fn missing_entries<'t>(
     ensures kept { Keeps terms.old terms.new }
     ensures within { IfOk result (λ es. EntriesIn terms.new es.items) }
     ensures entries { IfOk result (λ es. entries_at terms.new es.items ≡ missing_entries mode.now row.now (projection_at terms.old asked.now) (erased_at terms.old asked.now.rigid_alias) definition.now) }
+    ensures named { (t : Tables) → IfOk result (λ es. All (NamesItsRows t) es.items) }
 {
     let alloc = terms.allocator();
     if row.guaranteed_unsized {
@@ -194,6 +202,7 @@ fn value_entries<'t>(
     ensures kept { Keeps terms.old terms.new }
     ensures within { IfOk result (λ es. EntriesIn terms.new es.items) }
     ensures entries { (env : List Clause) → IfOk result (λ es. entries_at terms.new es.items ≡ value_entries (setting_at setting.entry env) row.now (projection_at terms.old asked.now) (erased_at terms.old asked.now.rigid_alias) definition.now definition.now.value) }
+    ensures named { impl_of setting.entry.rows.now row.now.id ≡ Some row.now → definition_of setting.entry.rows.now definition.now.id ≡ Some definition.now → IfOk result (λ es. All (NamesItsRows setting.entry.rows.now) es.items) }
 {
     match &definition.value {
         DefValue::Missing => missing_entries(setting.mode, terms, row, asked, definition),
@@ -215,6 +224,7 @@ fn definition_entries<'t>(
     ensures kept { Keeps terms.old terms.new }
     ensures within { IfOk result (λ es. EntriesIn terms.new es.items) }
     ensures entries { (env : List Clause) → IfOk result (λ es. entries_at terms.new es.items ≡ definition_entries (setting_at setting.entry env) row.now (projection_at terms.old asked.now) (erased_at terms.old asked.now.rigid_alias) (definition_of setting.entry.rows.now id)) }
+    ensures named { impl_of setting.entry.rows.now row.now.id ≡ Some row.now → IfOk result (λ es. All (NamesItsRows setting.entry.rows.now) es.items) }
 {
     let Some(definition) = setting.rows.definition_row(id) else {
         return undecided(terms.allocator());
@@ -236,6 +246,7 @@ fn default_entries<'t>(
     ensures kept { Keeps terms.old terms.new }
     ensures within { IfOk result (λ es. EntriesIn terms.new es.items) }
     ensures entries { (env : List Clause) → IfOk result (λ es. entries_at terms.new es.items ≡ default_entries setting.entry.mode.now (definition_entries (setting_at setting.entry env) row.now (projection_at terms.old asked.now) (erased_at terms.old asked.now.rigid_alias) (definition_of setting.entry.rows.now id)) (erased_at terms.old asked.now.rigid_alias)) }
+    ensures named { impl_of setting.entry.rows.now row.now.id ≡ Some row.now → IfOk result (λ es. All (NamesItsRows setting.entry.rows.now) es.items) }
 {
     let alloc = terms.allocator();
     match setting.mode {
@@ -261,6 +272,7 @@ fn source_entries<'t>(
     ensures kept { Keeps terms.old terms.new }
     ensures within { IfOk result (λ es. EntriesIn terms.new es.items) }
     ensures entries { (env : List Clause) → IfOk result (λ es. entries_at terms.new es.items ≡ source_entries (setting_at setting.entry env) row.now (projection_at terms.old asked.now) (erased_at terms.old asked.now.rigid_alias) source) }
+    ensures named { impl_of setting.entry.rows.now row.now.id ≡ Some row.now → IfOk result (λ es. All (NamesItsRows setting.entry.rows.now) es.items) }
 {
     match source {
         Source::Broken(number) => {
@@ -290,6 +302,7 @@ fn said_entries<'t>(
     ensures kept { Keeps terms.old terms.new }
     ensures within { IfOk result (λ es. EntriesIn terms.new es.items) }
     ensures entries { (env : List Clause) → IfOk result (λ es. entries_at terms.new es.items ≡ said_entries (setting_at setting.entry env) row.now (projection_at terms.old asked.now) (erased_at terms.old asked.now.rigid_alias)) }
+    ensures named { impl_of setting.entry.rows.now row.now.id ≡ Some row.now → IfOk result (λ es. All (NamesItsRows setting.entry.rows.now) es.items) }
 {
     let Some(found) = setting.rows.source_row(row.id, asked.item.id) else {
         return undecided(terms.allocator());
@@ -307,6 +320,7 @@ fn impl_entries<'t>(
 ) -> Result<Vec<InternedEntry<'t>>, OutOfMemory>
     ensures within { (T : List Tree) → ProjectionIn T asked.now → EntriesIn T said.entry.items → IfOk result (λ es. EntriesIn T es.items) }
     ensures entries { (T : List Tree) → IfOk result (λ es. entries_at T es.items ≡ impl_match row.now (trait_args (projection_at T asked.now)) (evaluation ∷ arguments (given_arguments (erased_all T asked.now.args.now)) ∷ row_clauses asked.now.item.now.own_predicates.items 1 ∷ entries_at T said.entry.items)) }
+    ensures named { (t : Tables) → impl_of t row.now.id ≡ Some row.now → ProjectionIsOf t asked.now → All (NamesItsRows t) said.entry.items → IfOk result (λ es. All (NamesItsRows t) es.items) }
 {
     let mut entries = impl_match(alloc, row, first_of(asked.args, asked.trait_params))?;
     let named = given_arguments(alloc, asked.args)?;
@@ -331,6 +345,7 @@ fn impl_list<'t>(
     ensures kept { Keeps terms.old terms.new }
     ensures within { IfOk result (ListIn terms.new) }
     ensures list { (env : List Clause) → IfOk result (λ o. list_at terms.new o ≡ projection_impl_list (setting_at setting.entry env) (projection_at terms.old asked.now) (erased_at terms.old asked.now.rigid_alias) row.now) }
+    ensures named { impl_of setting.entry.rows.now row.now.id ≡ Some row.now → ProjectionIsOf setting.entry.rows.now asked.now → IfOk result (ListNamesItsRows setting.entry.rows.now) }
 {
     let alloc = terms.allocator();
     let said = said_entries(setting, terms, row, asked)?;
@@ -351,6 +366,7 @@ fn assumption_list<'t>(
     requires clause { PredicateIn terms.now clause.now }
     ensures within { IfOk result (ListIn terms.now) }
     ensures list { IfOk result (λ o. list_at terms.now o ≡ projection_assumption_list (projection_at terms.now asked.now) (predicate_at terms.now clause.now)) }
+    ensures named { (t : Tables) → ProjectionIsOf t asked.now → IfOk result (ListNamesItsRows t) }
 {
     match clause {
         InternedPredicate::Projection(alias, term) => equation_list(terms, asked, *alias, *term),
@@ -371,6 +387,7 @@ fn equation_list<'t>(
     requires term { IsIn terms.now term }
     ensures within { IfOk result (ListIn terms.now) }
     ensures list { IfOk result (λ o. list_at terms.now o ≡ equation_clause_list (projection_at terms.now asked.now) (erased_at terms.now alias) (erased_at terms.now term)) }
+    ensures named { (t : Tables) → ProjectionIsOf t asked.now → IfOk result (ListNamesItsRows t) }
 {
     let Node::Alias(kind) = terms.node(alias) else {
         return Ok(None);
@@ -400,6 +417,7 @@ fn listed_list<'t>(
     ensures kept { Keeps terms.old terms.new }
     ensures within { IfOk result (ListIn terms.new) }
     ensures list { IfOk result (λ o. list_at terms.new o ≡ listed_list (projection_at terms.old asked.now) (erased_at terms.old asked.now.rigid_alias) (listed_at terms.old listed)) }
+    ensures named { (t : Tables) → IfOk result (ListNamesItsRows t) }
 {
     let alloc = terms.allocator();
     match listed {
@@ -441,6 +459,7 @@ fn rule_list<'t>(
     ensures kept { Keeps terms.old terms.new }
     ensures within { IfOk result (ListIn terms.new) }
     ensures list { IfOk result (λ o. list_at terms.new o ≡ listed_list (projection_at terms.old asked.now) (erased_at terms.old asked.now.rigid_alias) (term_rule setting.entry.rows.now asked.now.item.now.id (erased_all terms.old asked.now.args.now))) }
+    ensures named { (t : Tables) → IfOk result (ListNamesItsRows t) }
 {
     let listed = term_rule(setting.rows, terms, asked.item.id, asked.args)?;
     listed_list(terms, asked, listed)
@@ -460,6 +479,7 @@ pub fn projection_list<'t>(
     ensures kept { Keeps terms.old terms.new }
     ensures within { IfOk result (ListIn terms.new) }
     ensures list { (env : List Clause) → IfOk result (λ o. list_at terms.new o ≡ projection_list (setting_at setting.entry env) (projection_at terms.old asked.now) (erased_at terms.old asked.now.rigid_alias) (candidate_at terms.old candidate.now)) }
+    ensures named { CandidateIsOf setting.entry.rows.now candidate.now → ProjectionIsOf setting.entry.rows.now asked.now → IfOk result (ListNamesItsRows setting.entry.rows.now) }
 {
     match candidate {
         InternedCandidate::Assumption(clause) => assumption_list(terms, asked, clause),

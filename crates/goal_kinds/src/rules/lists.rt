@@ -1,10 +1,9 @@
 //! Lists of entries that rules of several kinds of goals have.
-ghost use Rattle.std.specs.Prelude.{◌≡◌, ◌∷◌, ◌++◌, [], true, false, Err, IfOk, IsOkUnless};
+ghost use Rattle.std.specs.Prelude.{◌≡◌, ◌∷◌, ◌++◌, [], IfOk};
 ghost use Rattle.goal_terms.specs.declared.answers.DelayedFault.TheVariants.{AutoTrait};
 ghost use Rattle.goal_kinds.specs.CandidateRules.{entries_for};
 ghost use Rattle.goal_kinds.specs.declared.rules.RuleEntry.TheVariants as entry;
 
-use crate::faults::Fault;
 use crate::rules::{Rule, RuleEntry};
 use goal_terms::answers::{BuiltinImplSource, CandidateSource, DelayedFault, GoalSource};
 use goal_terms::ids::TraitId;
@@ -36,37 +35,6 @@ pub(crate) fn auto_trait_rule(alloc: Global, id: TraitId) -> Result<Rule, OutOfM
         source: CandidateSource::BuiltinImpl(BuiltinImplSource::Misc),
         entries: vec![in alloc; fault, RuleEntry::Refused]?,
     })
-}
-
-/// A built-in rule that nothing decides yet. Want of memory is the only refusal.
-pub(crate) fn undecided_builtin(alloc: Global) -> Result<Rule, Fault>
-    ensures entries { IfOk result (λ r. r.entries.items ≡ entry.Undecided ∷ []) }
-    ensures memory { IsOkUnless result Fault.OutOfMemory }
-{
-    let entries = undecided_entries(alloc)?;
-    Ok(Rule {
-        source: CandidateSource::BuiltinImpl(BuiltinImplSource::Misc),
-        entries,
-    })
-}
-
-/// Such a rule where it is for a goal, and else the fault `NotForThisKind`, which takes no memory.
-pub(crate) fn undecided_where(is_for: bool, alloc: Global) -> Result<Rule, Fault>
-    ensures other { is_for ≡ false → result ≡ Err Fault.NotForThisKind }
-    ensures memory { is_for ≡ true → IsOkUnless result Fault.OutOfMemory }
-    ensures entries { IfOk result (λ r. r.entries.items ≡ entry.Undecided ∷ []) }
-{
-    if is_for {
-        undecided_builtin(alloc)
-    } else {
-        Err(Fault::NotForThisKind)
-    }
-}
-
-fn undecided_entries(alloc: Global) -> Result<Vec<RuleEntry>, OutOfMemory>
-    ensures { IfOk result (λ es. es.items ≡ entry.Undecided ∷ []) }
-{
-    Ok(vec![in alloc; RuleEntry::Undecided]?)
 }
 
 /// Adds a rule. Want of memory is the only refusal.

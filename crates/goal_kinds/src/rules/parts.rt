@@ -1,58 +1,19 @@
-//! The terms that the entries of rules have.
-ghost use Rattle.std.specs.Prelude.{◌≡◌, ◌∷◌, ◌++◌, [], map, take, drop, IfOk};
-ghost use Rattle.goal_terms.specs.Erased.{erased};
-ghost use Rattle.goal_terms.specs.TreeOf.{trees_of, tree_of_term, tree_of_alias, tree_of_ty};
+//! What the rules of several kinds of goals are made with.
+ghost use Rattle.std.specs.Prelude.{◌≡◌, ◌++◌, map, take, IfOk};
+ghost use Rattle.goal_terms.specs.TableMeaning.{Keeps, tree_at};
+ghost use Rattle.goal_terms.specs.Tree.{alias, forest};
+ghost use Rattle.goal_terms.specs.TreeOf.{trees_of, tree_of_term};
 ghost use Rattle.goal_kinds.specs.CandidateRules.{after};
-ghost use Rattle.goal_kinds.specs.ImplTerms.{error_term};
+ghost use Rattle.goal_kinds.specs.Interned.{AreIn, IsIn, erased_all, erased_at};
 ghost use Rattle.goal_kinds.specs.Rules.{given};
 
+use crate::lists::parts::copied;
 use crate::rules::RuleEntry;
 use goal_terms::answers::Certainty;
-use goal_terms::term_nodes::OutOfMemory;
-use goal_terms::terms::{AliasTerm, Const, GenericArg, Term, Ty};
-use std::alloc::Global;
-
-/// A copy of arguments. Want of memory is the only refusal.
-pub(crate) fn copied_args(
-    alloc: Global,
-    args: &[GenericArg],
-) -> Result<Vec<GenericArg>, OutOfMemory>
-    ensures { IfOk result (λ made. given made ≡ map erased (trees_of args.now)) }
-{
-    let mut made = Vec::with_capacity(alloc, args.len())?;
-    for i in 0..args.len() {
-        let copy = args[i].clone()?;
-        made.push(copy)?;
-    }
-    Ok(made)
-}
-
-/// A copy of a list of arguments. Want of memory is the only refusal.
-pub(crate) fn copied_list(args: &Vec<GenericArg>) -> Result<Vec<GenericArg>, OutOfMemory>
-    ensures { IfOk result (λ made. given made ≡ given args.now) }
-{
-    copied_args(*args.allocator(), args.as_slice())
-}
-
-/// A copy of the first arguments of a list, of a number of them. Want of memory is the only refusal.
-pub(crate) fn copied_first(
-    args: &Vec<GenericArg>,
-    count: usize,
-) -> Result<Vec<GenericArg>, OutOfMemory>
-    ensures { IfOk result (λ made. given made ≡ take count (given args.now)) }
-{
-    copied_args(*args.allocator(), first_of(args.as_slice(), count))
-}
-
-/// A copy of the arguments behind a number of them. Want of memory is the only refusal.
-pub(crate) fn copied_after(
-    args: &Vec<GenericArg>,
-    count: usize,
-) -> Result<Vec<GenericArg>, OutOfMemory>
-    ensures { IfOk result (λ made. given made ≡ drop count (given args.now)) }
-{
-    copied_args(*args.allocator(), behind(args.as_slice(), count))
-}
+use goal_terms::term_nodes::{OutOfMemory, TermId};
+use goal_terms::term_table::TermTable;
+use goal_terms::terms::{AliasTerm, GenericArg, Term};
+use goal_terms::view::TermRef;
 
 /// The first arguments, of a number of them.
 pub(crate) fn first_of(args: &[GenericArg], count: usize) -> &[GenericArg]
@@ -64,29 +25,6 @@ pub(crate) fn first_of(args: &[GenericArg], count: usize) -> &[GenericArg]
     &args[..count]
 }
 
-/// The arguments behind a number of them.
-fn behind(args: &[GenericArg], count: usize) -> &[GenericArg]
-    ensures { result.now ≡ drop count args.now }
-{
-    if count >= args.len() {
-        return &[];
-    }
-    &args[count..]
-}
-
-/// An alias, as the type or the constant that it stands for. Want of memory is the only refusal.
-#[tactic(auto, using(goal_terms::proofs::TreeLemmas::tree_equations))]
-pub(crate) fn alias_term(alias: &AliasTerm) -> Result<Term, OutOfMemory>
-    ensures { IfOk result (λ made. tree_of_term made ≡ tree_of_alias alias.now) }
-{
-    let copy = alias.clone()?;
-    if alias.kind.is_type() {
-        Ok(Term::Ty(Ty::Alias(copy)))
-    } else {
-        Ok(Term::Const(Const::Alias(copy)))
-    }
-}
-
 /// A copy of a term. Want of memory is the only refusal.
 pub(crate) fn copied_term(term: &Term) -> Result<Term, OutOfMemory>
     ensures { IfOk result (λ made. tree_of_term made ≡ tree_of_term term.now) }
@@ -94,16 +32,28 @@ pub(crate) fn copied_term(term: &Term) -> Result<Term, OutOfMemory>
     Ok(term.clone()?)
 }
 
-/// A term, as the only argument of a list. Want of memory is the only refusal.
-#[tactic(auto, using(goal_terms::proofs::TreeLemmas::tree_equations))]
-pub(crate) fn one_term(alloc: Global, term: Term) -> Result<Vec<GenericArg>, OutOfMemory>
-    ensures { IfOk result (λ made. given made ≡ erased (tree_of_term term) ∷ []) }
+/// An alias by its number, and by those of its arguments.
+#[derive(Drop)]
+pub(crate) struct InternedAlias {
+    pub(crate) id: TermId,
+    pub(crate) args: Vec<TermId>,
+}
+
+/// An alias as it stands. The table gets it. Want of memory or of numbers is the only refusal.
+pub(crate) fn alias_given(
+    terms: &mut TermTable,
+    asked: &AliasTerm,
+) -> Result<InternedAlias, OutOfMemory>
+    ensures kept { Keeps terms.old terms.new }
+    ensures id_in { IfOk result (λ made. IsIn terms.new made.id) }
+    ensures args_in { IfOk result (λ made. AreIn terms.new made.args.items) }
+    ensures itself { IfOk result (λ made. erased_at terms.new made.id ≡ alias asked.now.kind (forest (given asked.now.args))) }
+    ensures exact { IfOk result (λ made. map (tree_at terms.new) made.args.items ≡ trees_of asked.now.args.items) }
+    ensures trees { IfOk result (λ made. erased_all terms.new made.args.items ≡ given asked.now.args) }
 {
-    let arg = match term {
-        Term::Ty(ty) => GenericArg::Ty(ty),
-        Term::Const(constant) => GenericArg::Const(constant),
-    };
-    Ok(vec![in alloc; arg]?)
+    let id = terms.intern_part(TermRef::Alias(asked))?;
+    let args = copied(terms.allocator(), terms.parts(id))?;
+    Ok(InternedAlias { id, args })
 }
 
 /// Entries, and behind them one that decides nothing where the certainty is `Maybe`. Want of memory is the
@@ -119,16 +69,4 @@ pub(crate) fn with_certainty(
         all.push(RuleEntry::Undecided)?;
     }
     Ok(all)
-}
-
-/// The error of a number, as a type or a constant.
-#[tactic(auto, using(goal_terms::proofs::TreeLemmas::tree_equations))]
-pub(crate) fn error_of_number(is_const: bool, number: u32) -> Term
-    ensures { tree_of_term result ≡ error_term is_const number }
-{
-    if is_const {
-        Term::Const(Const::Error(number))
-    } else {
-        Term::Ty(Ty::Error(number))
-    }
 }

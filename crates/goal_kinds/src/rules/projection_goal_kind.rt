@@ -1,18 +1,24 @@
 //! Normalizations of projections as a kind of goals with candidates.
-ghost use Rattle.std.specs.Prelude.{◌≡◌, ◌||◌, Err, Ok, IfOk, MatchOption};
+ghost use Rattle.std.specs.Prelude.{◌≡◌, ◌||◌, true, false, List, None, Err, IfOk, IfErr};
 ghost use Rattle.goal_terms.specs.TreeOf.{tree_of_ty};
-ghost use Rattle.goal_kinds.specs.ProjectionKind.{lang_of_alias, is_lang, IsAliasWithSelf as is_goal_with_self};
+ghost use Rattle.goal_terms.specs.declared.predicates.Clause.{Clause as clause};
+ghost use Rattle.goal_kinds.specs.CandidateRules.{IsRefusal};
+ghost use Rattle.goal_kinds.specs.Candidates.{built_in};
+ghost use Rattle.goal_kinds.specs.InternedEntries.{setting_at};
+ghost use Rattle.goal_kinds.specs.ProjectionKind.{asked_projection_list, lang_of_alias, is_lang, IsAliasWithSelf as is_goal_with_self};
+ghost use Rattle.goal_kinds.specs.RuleLists.{IsListed};
 ghost use Rattle.goal_tables.specs.declared.lang.LangItem.TheVariants as lang_items;
 
 use crate::faults::Fault;
 use crate::goal_kind::{GoalKind, MergeRule, TraitView};
+use crate::lists::ListSetting;
 use crate::rules::Rule;
 use crate::rules::assoc_items::{asked_item, projected};
-use crate::rules::impl_terms::impl_term_rule;
-use crate::rules::lists::undecided_where;
 use crate::rules::parts::{copied_term, first_of};
-use crate::rules::projections::{match_projection, may_match_projection};
-use crate::rules::trait_goal_kind::first_type;
+use crate::rules::projections::{
+    built_in_term_rule, impl_term_rule, match_projection, may_match_projection,
+};
+use crate::rules::trait_goal_kind::{first_type, setting_of};
 use goal_tables::checked::CheckedTables;
 use goal_tables::lang::{LangItem, LangTarget};
 use goal_terms::answers::{CandidateSource, Certainty};
@@ -64,14 +70,30 @@ fn with_self(asked: &NormalizesTo, self_ty: Ty) -> Result<NormalizesTo, OutOfMem
     })
 }
 
+/// The built-in rule of an item, where its function is for the goal's. It isn't for others, which takes no
+/// memory.
+fn named_rule(
+    setting: ListSetting<'_, '_>,
+    asked: &NormalizesTo,
+    is_for: bool,
+) -> Result<Rule, Fault>
+    ensures other { is_for ≡ false → result ≡ Err Fault.NotForThisKind }
+    ensures listed { (env : List clause) → IfOk result (λ r. IsListed setting.entry.rows.now r (asked_projection_list asked.now.alias (setting_at setting.entry env) built_in)) }
+    ensures refused { (env : List clause) → is_for ≡ true → IfErr result (IsRefusal (asked_projection_list asked.now.alias (setting_at setting.entry env) built_in ≡ None)) }
+{
+    if is_for {
+        built_in_term_rule(setting, asked)
+    } else {
+        Err(Fault::NotForThisKind)
+    }
+}
+
 impl GoalKind for NormalizesTo {
     ghost use Rattle.std.specs.Prelude.{◌≡◌, true, false, [], None, Some};
     ghost use Rattle.goal_terms.specs.TreeOf.{tree_of_term};
     ghost use Rattle.goal_kinds.specs.CandidateRules.{first_type};
-    ghost use Rattle.goal_kinds.specs.ProjectionEntries.{may_match_term};
-    ghost use Rattle.goal_kinds.specs.ProjectionKind.{ProjectionCandidateGives, ProjectionCandidateRefuted, projected_trait, IsAliasWithSelf, lang_of_alias, is_for_alias};
+    ghost use Rattle.goal_kinds.specs.ProjectionKind.{asked_projection_list, ProjectionCandidateGives, ProjectionCandidateRefuted, projected_trait, IsAliasWithSelf, IsImplForItem, lang_of_alias, is_for_alias, may_match_term};
     ghost use Rattle.goal_kinds.specs.declared.goal_kind.MergeRule.TheVariants as merging_by;
-    ghost use Rattle.goal_kinds.specs.ProjectionKind.{IsImplForItem};
 
     ghost merging = { merging_by.Projections };
 
@@ -95,7 +117,7 @@ impl GoalKind for NormalizesTo {
 
     ghost candidate_refuted = { λ p S n c. ProjectionCandidateRefuted p.alias S n c };
 
-    ghost candidate_list = { λ p S c. None };
+    ghost candidate_list = { λ p S c. Some (asked_projection_list p.alias S c) };
 
     ghost is_for = { λ p t k. is_for_alias k (lang_of_alias t p.alias.kind) };
 
@@ -140,14 +162,14 @@ impl GoalKind for NormalizesTo {
 
     fn match_assumption(
         tables: &CheckedTables,
-        _mode: &TypingMode,
+        mode: &TypingMode,
         goal: &Goal<Self>,
         source: CandidateSource,
         assumption: &Clause,
         then: Certainty,
     ) -> Result<Rule, Fault> {
-        let asked = &goal.predicate;
-        match_projection(tables, &asked.alias, &asked.term, source, assumption, then)
+        let setting = setting_of(tables, mode);
+        match_projection(setting, &goal.predicate, source, assumption, then)
     }
 
     fn consider_impl_candidate(
@@ -157,9 +179,8 @@ impl GoalKind for NormalizesTo {
         impl_id: ImplId,
         then: Certainty,
     ) -> Result<Rule, Fault> {
-        let _ = tables.rows();
-        let asked = &goal.predicate;
-        impl_term_rule(tables, mode, &asked.alias, &asked.term, impl_id, then)
+        let setting = setting_of(tables, mode);
+        impl_term_rule(setting, &goal.predicate, impl_id, then)
     }
 
     fn consider_error_guaranteed_candidate(
@@ -213,11 +234,12 @@ impl GoalKind for NormalizesTo {
 
     fn consider_builtin_fn_trait_candidates(
         tables: &CheckedTables,
-        _mode: &TypingMode,
+        mode: &TypingMode,
         goal: &Goal<Self>,
     ) -> Result<Rule, Fault> {
-        let is_for = is_lang_item(tables, &goal.predicate.alias, LangItem::Output);
-        undecided_where(is_for, *goal.param_env.allocator())
+        let asked = &goal.predicate;
+        let is_for = is_lang_item(tables, &asked.alias, LangItem::Output);
+        named_rule(setting_of(tables, mode), asked, is_for)
     }
 
     fn consider_builtin_tuple_candidate(
@@ -230,20 +252,22 @@ impl GoalKind for NormalizesTo {
 
     fn consider_builtin_pointee_candidate(
         tables: &CheckedTables,
-        _mode: &TypingMode,
+        mode: &TypingMode,
         goal: &Goal<Self>,
     ) -> Result<Rule, Fault> {
-        let is_for = is_lang_item(tables, &goal.predicate.alias, LangItem::Metadata);
-        undecided_where(is_for, *goal.param_env.allocator())
+        let asked = &goal.predicate;
+        let is_for = is_lang_item(tables, &asked.alias, LangItem::Metadata);
+        named_rule(setting_of(tables, mode), asked, is_for)
     }
 
     fn consider_builtin_discriminant_kind_candidate(
         tables: &CheckedTables,
-        _mode: &TypingMode,
+        mode: &TypingMode,
         goal: &Goal<Self>,
     ) -> Result<Rule, Fault> {
-        let is_for = is_lang_item(tables, &goal.predicate.alias, LangItem::Discriminant);
-        undecided_where(is_for, *goal.param_env.allocator())
+        let asked = &goal.predicate;
+        let is_for = is_lang_item(tables, &asked.alias, LangItem::Discriminant);
+        named_rule(setting_of(tables, mode), asked, is_for)
     }
 
     fn consider_builtin_destruct_candidate(
@@ -256,11 +280,12 @@ impl GoalKind for NormalizesTo {
 
     fn consider_builtin_field_candidate(
         tables: &CheckedTables,
-        _mode: &TypingMode,
+        mode: &TypingMode,
         goal: &Goal<Self>,
     ) -> Result<Rule, Fault> {
-        let is_for = is_of_field(tables, &goal.predicate.alias);
-        undecided_where(is_for, *goal.param_env.allocator())
+        let asked = &goal.predicate;
+        let is_for = is_of_field(tables, &asked.alias);
+        named_rule(setting_of(tables, mode), asked, is_for)
     }
 
     fn more_height_keeps_candidates() {}

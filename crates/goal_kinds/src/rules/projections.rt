@@ -1,60 +1,65 @@
-//! The rules of projection goals, and of clauses that give the terms of projections.
-ghost use Rattle.std.specs.Prelude.{◌≡◌, ◌↔◌, ◌∷◌, [], ℕ, suc, true, IfOk, IfSome, IsOkUnless};
+//! The rules of candidates for the terms of projections, and of projection goals.
+ghost use Rattle.std.specs.Prelude.{◌≡◌, ◌↔◌, ℕ, suc, List, None, Some, Err, true, false, IfOk, IfErr, IsOkUnless};
 ghost use Rattle.goal_terms.specs.Erased.{erased};
-ghost use Rattle.goal_terms.specs.PredicateTrees.{tree_of_kind};
-ghost use Rattle.goal_terms.specs.Tree.{Tree};
 ghost use Rattle.goal_terms.specs.TreeOf.{tree_of_alias, tree_of_term};
-ghost use Rattle.goal_kinds.specs.Answers.{erased_predicate};
-ghost use Rattle.goal_kinds.specs.CandidateRules.{only_given};
+ghost use Rattle.goal_terms.specs.declared.predicates.Clause.{Clause as clause};
+ghost use Rattle.goal_tables.specs.Rows.{impl_of};
+ghost use Rattle.goal_tables.specs.declared.rows.ImplRow.{ImplRow as impl_row};
+ghost use Rattle.goal_tables.specs.declared.rows.Tables.{Tables};
+ghost use Rattle.goal_kinds.specs.CandidateRules.{IsRefusal, only_given, said_by};
+ghost use Rattle.goal_kinds.specs.Candidates.{by_impl, built_in};
+ghost use Rattle.goal_kinds.specs.Interned.{CandidateIn, candidate_at};
+ghost use Rattle.goal_kinds.specs.InternedEntries.{ListIn, list_at, setting_at};
 ghost use Rattle.goal_kinds.specs.Levels.{level};
-ghost use Rattle.goal_kinds.specs.ProjectionEntries.{IsEquation, IsProjectionMatch, may_match_term};
-ghost use Rattle.goal_kinds.specs.Projections.{AssumptionGives, AssumptionTermRefuted};
+ghost use Rattle.goal_kinds.specs.NamedRows.{CandidateIsOf, CandidateIsSorted, ListNamesItsRows};
+ghost use Rattle.goal_kinds.specs.ProjectionKind.{asked_projection_list, may_match_term, refuses_term};
+ghost use Rattle.goal_kinds.specs.ProjectionLists.{equation_list};
+ghost use Rattle.goal_kinds.specs.RuleLists.{IsListed, list_then};
 ghost use Rattle.goal_kinds.specs.Rules.{RuleHolds, RuleRefuted};
-ghost use Rattle.goal_kinds.specs.RuleWords.{RuleMeans, TermsAreFor, projection_in};
+ghost use Rattle.goal_kinds.specs.RuleWords.{TermsAreFor, projection_in};
 ghost use Rattle.goal_kinds.specs.Settings.{Setting};
-ghost use Rattle.goal_kinds.specs.Words.{OfRow};
-ghost use Rattle.goal_kinds.specs.declared.rules.RuleEntry.TheVariants as entry;
 
-use crate::fast_reject::args_may_unify_rigid;
+use crate::candidates::environment::predicate_given;
+use crate::candidates::interned::InternedCandidate;
+use crate::fast_reject::{args_may_unify_infer, args_may_unify_rigid};
 use crate::faults::Fault;
-use crate::rules::assoc_items::{asked_item, projects};
-use crate::rules::parts::{alias_term, copied_list, copied_term, one_term, with_certainty};
-use crate::rules::{RowClauses, Rule, RuleArguments, RuleEntry, RuleTerm};
+use crate::lists::aliases::equation_list;
+use crate::lists::projections::projection_list;
+use crate::lists::{AskedProjection, InternedEntry, ListSetting};
+use crate::rules::Rule;
+use crate::rules::assoc_items::asked_item;
+use crate::rules::parts::{alias_given, first_of};
+use crate::rules::rebuilt::rule_of_list;
+use crate::rules::traits::only_bars;
 use goal_tables::checked::CheckedTables;
-use goal_tables::lookup::IndexedTables;
 use goal_terms::answers::{BuiltinImplSource, CandidateSource, Certainty};
-use goal_terms::ids::ItemId;
-use goal_terms::predicates::{Clause, ClauseKind, Goal, ProjectionPredicate};
+use goal_terms::ids::ImplId;
+use goal_terms::predicates::{Clause, ClauseKind, Goal, NormalizesTo, ProjectionPredicate};
 use goal_terms::term_nodes::OutOfMemory;
-use goal_terms::terms::{AliasTerm, Term};
+use goal_terms::term_table::TermTable;
+use goal_terms::terms::AliasTerm;
 
-/// The rule of a projection goal: its alias and its term are equal. It holds and is refuted at each
-/// height where the goal is one height above. Want of memory is the only refusal.
+/// The rule of a projection goal: its alias and its term are equal, which names no row (`list`). It holds and
+/// is refuted at each height where the goal is one height above. Want of memory or of numbers is the only
+/// refusal.
 pub fn projection_rule(
     _tables: &CheckedTables,
     goal: &Goal<ProjectionPredicate>,
 ) -> Result<Rule, Fault>
+    ensures list { (t : Tables) → IfOk result (λ r. IsListed t r (Some (equation_list (erased (tree_of_alias goal.now.predicate.projection_term)) (erased (tree_of_term goal.now.predicate.term))))) }
     ensures holds { (S : Setting) (n : ℕ) → IfOk result (λ r. RuleHolds S (level S n) r ↔ (level S (suc n)).equation_holds (erased (tree_of_alias goal.now.predicate.projection_term)) (erased (tree_of_term goal.now.predicate.term))) }
     ensures refuted { (S : Setting) (n : ℕ) → IfOk result (λ r. RuleRefuted S (level S n) r ↔ (level S (suc n)).equation_refuted (erased (tree_of_alias goal.now.predicate.projection_term)) (erased (tree_of_term goal.now.predicate.term))) }
     ensures expected { IfOk result (λ r. TermsAreFor (λ t. t ≡ tree_of_term goal.now.predicate.term) r.entries.items) }
     ensures source { IfOk result (λ r. r.source ≡ CandidateSource.BuiltinImpl BuiltinImplSource.Misc) }
     ensures memory { IsOkUnless result Fault.OutOfMemory }
 {
-    let entries = equation_entries(&goal.predicate)?;
-    Ok(Rule {
-        source: CandidateSource::BuiltinImpl(BuiltinImplSource::Misc),
-        entries,
-    })
-}
-
-/// The equation of an alias and a term.
-fn equation_entries(asked: &ProjectionPredicate) -> Result<Vec<RuleEntry>, OutOfMemory>
-    ensures { IfOk result (λ es. IsEquation (erased (tree_of_alias asked.now.projection_term)) (erased (tree_of_term asked.now.term)) es.items) }
-{
-    let alloc = *asked.projection_term.args.allocator();
-    let left = one_term(alloc, alias_term(&asked.projection_term)?)?;
-    let right = one_term(alloc, copied_term(&asked.term)?)?;
-    Ok(vec![in alloc; RuleEntry::Equation(left, right)]?)
+    let asked = &goal.predicate;
+    let mut terms = TermTable::new(*asked.projection_term.args.allocator());
+    let alias = alias_given(&mut terms, &asked.projection_term)?;
+    let term = terms.intern(&asked.term)?;
+    let list = Some(equation_list(terms.allocator(), alias.id, term)?);
+    let source = CandidateSource::BuiltinImpl(BuiltinImplSource::Misc);
+    rule_of_list(&terms, source, Some(&asked.term), &list, Certainty::Yes)
 }
 
 /// Whether a clause may give the term of a projection: it is a projection of the same item, and its
@@ -71,88 +76,137 @@ pub fn may_match_projection(asked: &AliasTerm, assumption: &Clause) -> bool
     }
 }
 
-/// The rule of a clause for a projection: a projection of the same item asks that the arguments are
-/// equal and that the item's own where clauses hold, and gives the head form of its term. It gives the
-/// terms that the clause gives, none where the certainty is `Maybe`, and is refuted where the clause
-/// gives none. The rule doesn't stand for another clause, and where the alias is no projection of an
-/// item that has rows. Want of memory is the only refusal.
-pub fn match_projection(
-    tables: &CheckedTables,
+/// The list of a candidate for the projection that an alias asks for, or none where its rule is refused.
+/// Where the alias is no projection of an item that has rows, no rule stands. The table gets the terms.
+/// Want of memory or of numbers is the only refusal.
+fn asked_list<'t>(
+    setting: ListSetting<'t, '_>,
+    terms: &mut TermTable,
     asked: &AliasTerm,
-    expected: &Term,
+    candidate: &InternedCandidate<'t>,
+) -> Result<Option<Vec<InternedEntry<'t>>>, OutOfMemory>
+    requires { CandidateIn terms.old candidate.now }
+    ensures within { IfOk result (ListIn terms.new) }
+    ensures list { (env : List clause) → IfOk result (λ o. list_at terms.new o ≡ asked_projection_list asked.now (setting_at setting.entry env) (candidate_at terms.old candidate.now)) }
+    ensures named { CandidateIsOf setting.entry.rows.now candidate.now → IfOk result (ListNamesItsRows setting.entry.rows.now) }
+{
+    let Some(item) = asked_item(setting.rows, asked) else {
+        return Ok(Some(vec![in terms.allocator(); InternedEntry::Refused]?));
+    };
+    let alias = alias_given(terms, asked)?;
+    let projection = AskedProjection {
+        item: item.row,
+        trait_params: item.trait_params,
+        args: alias.args.as_slice(),
+        rigid_alias: alias.id,
+    };
+    projection_list(setting, terms, &projection, candidate)
+}
+
+/// The rule of a candidate for the term of a projection: the list of the candidate, with nothing decided
+/// behind it where the certainty is `Maybe`. A list that is refused is the refusal `NoSolution`; want of
+/// memory or of numbers is the only other one.
+fn candidate_rule(
+    setting: ListSetting<'_, '_>,
+    terms: &mut TermTable,
+    asked: &NormalizesTo,
+    source: CandidateSource,
+    candidate: &InternedCandidate<'_>,
+    then: Certainty,
+) -> Result<Rule, Fault>
+    requires within { CandidateIn terms.old candidate.now }
+    requires row { CandidateIsOf setting.rows.now candidate.now }
+    requires sorted { CandidateIsSorted (candidate_at terms.old candidate.now) }
+    ensures source { IfOk result (λ r. r.source ≡ source) }
+    ensures listed { (env : List clause) → IfOk result (λ r. IsListed setting.entry.rows.now r (list_then then (asked_projection_list asked.now.alias (setting_at setting.entry env) (candidate_at terms.old candidate.now)))) }
+    ensures refused { (env : List clause) → IfErr result (IsRefusal (asked_projection_list asked.now.alias (setting_at setting.entry env) (candidate_at terms.old candidate.now) ≡ None)) }
+    ensures expected { IfOk result (λ r. TermsAreFor (λ t. t ≡ tree_of_term asked.now.term) r.entries.items) }
+{
+    let list = asked_list(setting, terms, &asked.alias, candidate)?;
+    rule_of_list(terms, source, Some(&asked.term), &list, then)
+}
+
+/// The rule of a clause for a projection: a projection of the same item asks that the arguments are
+/// equal and that the item's own where clauses hold, and gives the head form of its term. The rule doesn't
+/// stand where the alias is no projection of an item that has rows, and else a clause of another item is
+/// refused.
+pub fn match_projection(
+    setting: ListSetting<'_, '_>,
+    asked: &NormalizesTo,
     source: CandidateSource,
     assumption: &Clause,
     then: Certainty,
 ) -> Result<Rule, Fault>
     ensures source { IfOk result (λ r. r.source ≡ source) }
-    ensures says { (S : Setting) (n : ℕ) → S.tables ≡ tables.now → IfOk result (λ r. RuleMeans S (level S n) r (λ u. (then ≡ Certainty.Yes) × OfRow (projection_in S.tables asked.now) (λ p. AssumptionGives (level S n) p (erased_predicate (tree_of_kind assumption.now.kind)) u)) (IfSome (projection_in S.tables asked.now) (λ p. AssumptionTermRefuted (level S n) p (erased_predicate (tree_of_kind assumption.now.kind))))) }
+    ensures listed { (env : List clause) → IfOk result (λ r. IsListed setting.entry.rows.now r (list_then then (asked_projection_list asked.now.alias (setting_at setting.entry env) (said_by assumption.now.kind)))) }
     ensures given { IfOk result (λ r. only_given r.entries.items ≡ true) }
-    ensures expected { IfOk result (λ r. TermsAreFor (λ t. t ≡ tree_of_term expected.now) r.entries.items) }
-    ensures memory { IsOkUnless result Fault.OutOfMemory }
+    ensures expected { IfOk result (λ r. TermsAreFor (λ t. t ≡ tree_of_term asked.now.term) r.entries.items) }
+    ensures refused { (env : List clause) → IfErr result (IsRefusal (asked_projection_list asked.now.alias (setting_at setting.entry env) (said_by assumption.now.kind) ≡ None)) }
+    ensures accepted { may_match_term asked.now.alias assumption.now.kind ≡ true → IsOkUnless result Fault.OutOfMemory }
 {
-    match &assumption.kind {
-        ClauseKind::Trait(_) => Ok(refused(source, asked)?),
-        ClauseKind::Projection(said) => {
-            Ok(match_equation(tables.rows(), asked, expected, source, said, then)?)
-        }
-        ClauseKind::HostEffect(_) => Ok(refused(source, asked)?),
-    }
+    let mut terms = TermTable::new(*asked.alias.args.allocator());
+    let predicate = predicate_given(&mut terms, &assumption.kind)?;
+    let candidate = InternedCandidate::Assumption(predicate);
+    candidate_rule(setting, &mut terms, asked, source, &candidate, then)
 }
 
-/// The rule of a projection clause.
-fn match_equation(
-    rows: &IndexedTables,
-    asked: &AliasTerm,
-    expected: &Term,
-    source: CandidateSource,
-    said: &ProjectionPredicate,
+/// The rule of an impl for a projection: its header fits the trait's arguments, its where clauses and the
+/// item's own where clauses hold, and what its source row says of the item gives the term. A broken source
+/// gives the error of its number. A default that the mode doesn't take leaves the alias as it stands, as
+/// does a missing value in an impl whose self type is known to be unsized; another missing value gives the
+/// error of its definition, and its fault is recorded. In coherence defaults and such impls are ambiguous,
+/// and a reservation impl decides nothing; in the erased mode a default records an access and decides
+/// nothing. Refused are an impl without a row, one whose header is rejected by [`args_may_unify_infer`], a
+/// negative impl, a reservation outside of coherence, and any impl where the alias is no projection of an
+/// item that has rows.
+pub fn impl_term_rule(
+    setting: ListSetting<'_, '_>,
+    asked: &NormalizesTo,
+    id: ImplId,
     then: Certainty,
-) -> Result<Rule, OutOfMemory>
-    ensures source { IfOk result (λ r. r.source ≡ source) }
-    ensures says { (S : Setting) (n : ℕ) → S.tables ≡ rows.now → IfOk result (λ r. RuleMeans S (level S n) r (λ u. (then ≡ Certainty.Yes) × OfRow (projection_in S.tables asked.now) (λ p. AssumptionGives (level S n) p (erased_predicate (tree_of_kind (ClauseKind.Projection said.now))) u)) (IfSome (projection_in S.tables asked.now) (λ p. AssumptionTermRefuted (level S n) p (erased_predicate (tree_of_kind (ClauseKind.Projection said.now)))))) }
-    ensures given { IfOk result (λ r. only_given r.entries.items ≡ true) }
-    ensures expected { IfOk result (λ r. TermsAreFor (λ t. t ≡ tree_of_term expected.now) r.entries.items) }
+) -> Result<Rule, Fault>
+    ensures source { IfOk result (λ r. r.source ≡ CandidateSource.Impl id) }
+    ensures listed { (env : List clause) (row : impl_row) → impl_of setting.entry.rows.now id ≡ Some row → IfOk result (λ r. IsListed setting.entry.rows.now r (list_then then (asked_projection_list asked.now.alias (setting_at setting.entry env) (by_impl row)))) }
+    ensures expected { IfOk result (λ r. TermsAreFor (λ t. t ≡ tree_of_term asked.now.term) r.entries.items) }
+    ensures refused { refuses_term setting.entry.mode.now asked.now.alias (projection_in setting.entry.rows.now asked.now.alias) (impl_of setting.entry.rows.now id) ≡ true → result ≡ Err Fault.NoSolution }
+    ensures accepted { refuses_term setting.entry.mode.now asked.now.alias (projection_in setting.entry.rows.now asked.now.alias) (impl_of setting.entry.rows.now id) ≡ false → IsOkUnless result Fault.OutOfMemory }
 {
-    let Some(item) = asked_item(rows, asked) else {
-        return refused(source, asked);
+    let Some(row) = setting.rows.impl_row(id) else {
+        return Err(Fault::NoSolution);
     };
-    if !projects(said.projection_term.kind, item.row.id) {
-        return refused(source, asked);
+    let Some(item) = asked_item(setting.rows, &asked.alias) else {
+        return Err(Fault::NoSolution);
+    };
+    let args = first_of(asked.alias.args.as_slice(), item.trait_params);
+    if !args_may_unify_infer(args, row.trait_args.as_slice()) {
+        return Err(Fault::NoSolution);
     }
-    let entries = match_entries(asked, expected, said, item.id, then)?;
-    Ok(Rule { source, entries })
+    if !row.polarity.is_positive() && !only_bars(setting.mode, row) {
+        return Err(Fault::NoSolution);
+    }
+    let mut terms = TermTable::new(*asked.alias.args.allocator());
+    let source = CandidateSource::Impl(id);
+    let candidate = InternedCandidate::Impl(row);
+    candidate_rule(setting, &mut terms, asked, source, &candidate, then)
 }
 
-/// A rule that doesn't stand.
-fn refused(source: CandidateSource, asked: &AliasTerm) -> Result<Rule, OutOfMemory>
-    ensures source { IfOk result (λ r. r.source ≡ source) }
-    ensures entries { IfOk result (λ r. r.entries.items ≡ entry.Refused ∷ []) }
+/// The rule of what is built in for a projection: its premises hold, and its term is given. A type that no
+/// rule names is refused.
+pub fn built_in_term_rule(setting: ListSetting<'_, '_>, asked: &NormalizesTo) -> Result<Rule, Fault>
+    ensures source { IfOk result (λ r. r.source ≡ CandidateSource.BuiltinImpl BuiltinImplSource.Misc) }
+    ensures listed { (env : List clause) → IfOk result (λ r. IsListed setting.entry.rows.now r (asked_projection_list asked.now.alias (setting_at setting.entry env) built_in)) }
+    ensures refused { (env : List clause) → IfErr result (IsRefusal (asked_projection_list asked.now.alias (setting_at setting.entry env) built_in ≡ None)) }
+    ensures expected { IfOk result (λ r. TermsAreFor (λ t. t ≡ tree_of_term asked.now.term) r.entries.items) }
 {
-    let entries = vec![in *asked.args.allocator(); RuleEntry::Refused]?;
-    Ok(Rule { source, entries })
-}
-
-/// What a projection of the same item asks for.
-fn match_entries(
-    asked: &AliasTerm,
-    expected: &Term,
-    said: &ProjectionPredicate,
-    item: ItemId,
-    then: Certainty,
-) -> Result<Vec<RuleEntry>, OutOfMemory>
-    ensures { IfOk result (λ es. IsProjectionMatch asked.now expected.now said.now item then es.items) }
-{
-    let alloc = *asked.args.allocator();
-    let left = copied_list(&said.projection_term.args)?;
-    let right = copied_list(&asked.args)?;
-    let args = copied_list(&asked.args)?;
-    let term = copied_term(&said.term)?;
-    let expected = copied_term(expected)?;
-    let entries = vec![in alloc;
-        RuleEntry::Equation(left, right),
-        RuleEntry::Arguments(RuleArguments::Given(args)),
-        RuleEntry::RowClauses(RowClauses::Item(item), 0),
-        RuleEntry::Term(expected, RuleTerm::Normalized(term)),
-    ]?;
-    with_certainty(entries, then)
+    let mut terms = TermTable::new(*asked.alias.args.allocator());
+    let source = CandidateSource::BuiltinImpl(BuiltinImplSource::Misc);
+    let candidate = InternedCandidate::BuiltIn;
+    candidate_rule(
+        setting,
+        &mut terms,
+        asked,
+        source,
+        &candidate,
+        Certainty::Yes,
+    )
 }

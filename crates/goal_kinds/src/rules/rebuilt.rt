@@ -1,6 +1,6 @@
 //! Lists over numbers of a term table, with owned terms in place of the numbers, and ids in place of rows.
 ghost use Rattle.std.specs.Prelude.{◌≡◌, None, Some, map, IfOk, IfErr, option_copied};
-ghost use Rattle.std.specs.List.{All};
+ghost use Rattle.std.specs.List.{All, AllZip};
 ghost use Rattle.goal_terms.specs.Erased.{erased};
 ghost use Rattle.goal_terms.specs.PredicateTrees.{tree_of_kind};
 ghost use Rattle.goal_terms.specs.Sorts.{IsTerm};
@@ -12,7 +12,7 @@ ghost use Rattle.goal_kinds.specs.CandidateRules.{asked_trait, IsRefusal};
 ghost use Rattle.goal_kinds.specs.Entries.{ExpectsNone, AsksNoTerm, ListAsksNoTerm};
 ghost use Rattle.goal_kinds.specs.Interned.{IsIn, AreIn, TraitIn, PredicateIn, erased_at, erased_all, trait_at, predicate_at};
 ghost use Rattle.goal_kinds.specs.InternedEntries.{ArgumentsIn, TermIn, EntryIn, EntriesIn, ListIn, arguments_at, term_at, entry_at, entries_at, list_at};
-ghost use Rattle.goal_kinds.specs.NamedRows.{ArgumentsNameRows, TermNamesRow, NamesItsRows, IsAlias, IsSortedPredicate, IsSortedTerm, IsSorted, IsExpected, ListIsSorted, ListNamesItsRows};
+ghost use Rattle.goal_kinds.specs.NamedRows.{ArgumentsNameRows, TermNamesRow, NamesItsRows, IsAlias, IsSortedPredicate, IsSortedTerm, IsSorted, IsExpected, KeepsKey, KeepsKeys, ListIsSorted, ListNamesItsRows};
 ghost use Rattle.goal_kinds.specs.RuleLists.{arguments_of, expected_of, entry_of, list_then, IsListed};
 ghost use Rattle.goal_kinds.specs.Rules.{given};
 ghost use Rattle.goal_kinds.specs.Words.{Each};
@@ -23,7 +23,7 @@ use crate::faults::Fault;
 use crate::lists::{InternedArguments, InternedEntry, InternedTerm};
 use crate::rules::parts::{copied_term, with_certainty};
 use crate::rules::{Rule, RuleArguments, RuleEntry, RuleTerm};
-use goal_terms::answers::{CandidateSource, Certainty};
+use goal_terms::answers::{CandidateSource, Certainty, OpaqueTypeKey};
 use goal_terms::heads::{Head, Node};
 use goal_terms::predicates::{
     ClauseKind, HostEffectPredicate, ProjectionPredicate, TraitPredicate, TraitRef,
@@ -205,6 +205,7 @@ fn rebuilt_entry(
     requires asked { expected ≡ None → ExpectsNone (entry_at terms.now entry.now) }
     ensures entry { (t : Tables) → NamesItsRows t entry.now → IfOk result (λ e. entry_of t e ≡ Some (entry_at terms.now entry.now)) }
     ensures expected { IfOk result (TermIsFor (IsExpected (option_copied expected.entry))) }
+    ensures key { IfOk result (KeepsKey terms.now entry.now) }
 {
     match entry {
         InternedEntry::Arguments(arguments) => {
@@ -236,6 +237,18 @@ fn rebuilt_entry(
             let term = rebuilt_expected(terms, term)?;
             Ok(RuleEntry::Term(expected, term))
         }
+        InternedEntry::HiddenType(def_id, ids, first) => {
+            let Some(expected) = expected else {
+                unreachable!();
+            };
+            let expected = copied_term(expected)?;
+            let args = rebuilt_args(terms, ids)?;
+            let key = OpaqueTypeKey {
+                def_id: *def_id,
+                args,
+            };
+            Ok(RuleEntry::HiddenType(expected, key, *first))
+        }
         InternedEntry::Access(access) => Ok(RuleEntry::Access(*access)),
         InternedEntry::DelayedFault(fault) => Ok(RuleEntry::DelayedFault(*fault)),
         InternedEntry::Evaluation => Ok(RuleEntry::Evaluation),
@@ -256,6 +269,7 @@ pub(crate) fn rebuilt_entries(
     requires asked { expected ≡ None → AsksNoTerm (entries_at terms.now entries.now) }
     ensures entries { (t : Tables) → All (NamesItsRows t) entries.now → IfOk result (λ es. map (entry_of t) es.items ≡ map Some (entries_at terms.now entries.now)) }
     ensures expected { IfOk result (λ es. TermsAreFor (IsExpected (option_copied expected.entry)) es.items) }
+    ensures keys { IfOk result (λ es. AllZip (KeepsKey terms.now) entries.now es.items) }
 {
     let mut made = Vec::with_capacity(terms.allocator(), entries.len())?;
     for i in 0..entries.len() {
@@ -281,6 +295,7 @@ pub(crate) fn rule_of_list(
     ensures listed { (t : Tables) → ListNamesItsRows t list.now → IfOk result (λ r. IsListed t r (list_then then (list_at terms.now list.now))) }
     ensures refused { IfErr result (IsRefusal (list_at terms.now list.now ≡ None)) }
     ensures expected { IfOk result (λ r. TermsAreFor (IsExpected (option_copied expected.entry)) r.entries.items) }
+    ensures keys { IfOk result (λ r. KeepsKeys terms.now then list.now r.entries.items) }
 {
     let Some(entries) = list else {
         return Err(Fault::NoSolution);

@@ -2,10 +2,11 @@ use Rattle.goal_kinds.specs.Level.{HasHeadForm, HeadFormRefuted}
 use Rattle.goal_kinds.proofs.InternedLemmas.{are_in-grown, all_same-grown, same-grown, in-grown}
 use Rattle.goal_solver.proofs.TraitOutcomeLemmas.{candidate-in, undecided-refuted, environment-decides, bounds-decide, rest-decides, none-decides, trait-ground, trait-bare, trait-unformed, trait-formless, trait-formed, replaced-in, replaced-formed}
 use Rattle.goal_kinds.specs.Fitting.{trees_at}
+use Rattle.goal_kinds.specs.Causes.{IsCausedEntry}
 use Rattle.goal_kinds.specs.Interned.{AreIn, erased_at, erased_all, predicate_at, premise_at, candidate_at, IsIn, trait_at, CandidateIn}
 use Rattle.goal_solver.proofs.PremiseOutcomes.{PremisesSay, SaysClause, const-predicate, equation-predicate, equation-premise, predicate-premise, premise-at, premises-end, premises-refuted, premises-start, premises-step, trait-predicate, conditions-step, conditions-refuted, conditions-end, condition-at, condition_at, equation-ground, equation-result}
 use Rattle.goal_solver.specs.Joined.{both}
-use Rattle.goal_solver.proofs.EffectLemmas.{sound-met, ends-ambiguous}
+use Rattle.goal_solver.proofs.EffectLemmas.{sound-met}
 use Rattle.goal_solver.proofs.CacheLemmas.{caching, cache-grown, sound-grown, known-trait, keep-trait, known-const, keep-const, known-alias, known-within, keep-alias, sound-of, sound-parts}
 use Rattle.goal_solver.specs.Effects.{AreSound}
 use Rattle.goal_terms.specs.Erased.{erased}
@@ -13,7 +14,6 @@ use Rattle.goal_solver.specs.Outcomes.{setting_in, level_in, SaysWhich, SaysThro
 use Rattle.goal_terms.proofs.InternLemmas.{keeps-chain, keeps-refl}
 use Rattle.std.proofs.Common.{◌-◌, arith, ap, map, subst, sym, ◌+◌, ◌∙◌, true, false, refl, ◌∷◌, ◌++◌, length, rules, get_or, ◌<◌, ◌≡◌, ⊎_elim, Some}
 use Rattle.std.proofs.lemmas.List.Elements.{All-push, All-nil, All-get_or, All-same, All-take}
-use Rattle.goal_terms.specs.declared.answers.OpaqueAccess.TheVariants as access
 use Rattle.goal_terms.specs.Sorts.{IsArgument}
 use Rattle.goal_terms.specs.TreeOf.{trees_of}
 use Rattle.goal_terms.specs.TableMeaning.{tree_at, Keeps}
@@ -48,7 +48,7 @@ use Rattle.std.specs.Option.{option_copied}
 use Rattle.goal_kinds.specs.InternedEntries.{list_at, arguments_at, term_at, entry_at, ArgumentsIn, header_trees, TermIn, value_tree}
 use Rattle.goal_solver.specs.Lists.{IsListFor, LeadsOn, progress_at, SaysRow, numbered_at, premises_of, NamedIn, named_at}
 use Rattle.goal_solver.proofs.ListAnswerLemmas.{none-says, list-says, caused-at, runs-next, runs-refuted, runs-undecided, runs-end, entry-in}
-use Rattle.goal_solver.proofs.ListRunLemmas.{end-in, asking-leads, giving-leads, giving-in, naming-leads, naming-in, terms-ask, clause-asks, row-asks, conditions-ask, access-asks, fault-asks, evaluation-asks, ambiguous-asks, undecided-asks, refused-asks}
+use Rattle.goal_solver.proofs.ListRunLemmas.{end-in, asking-leads, giving-leads, giving-in, naming-leads, naming-in, terms-ask, clause-asks, row-asks, conditions-ask, access-asks, fault-asks, evaluation-asks, ambiguous-asks, undecided-asks, refused-asks, hidden-asks}
 use Rattle.std.specs.Prelude.{IfSome, slice_get}
 use Rattle.std.proofs.lemmas.Result.{IfOk-weaker}
 use Rattle.goal_solver.proofs.ListEntryLemmas.{given-named, header-named, other-unnamed, other-named, followed-unnamed, followed-named, row-unnamed, row-found, standing-found, head_form-found, value-unnamed, value-found, value-argument, chosen-found, followed-in, pairs-says}
@@ -1020,6 +1020,11 @@ eval::lists::entries::run_entry-returns-in-Ambiguous-clause-says t c = λ m s.
     (λ is. asking-leads (level_in c.args.setting.now m c.args.depth) c.args.terms.now c.args.terms.now (keeps-refl c.args.terms.now) c.args.run.now c.ask-in-Ambiguous.new.self c.requires.run (entry_at c.args.terms.now c.args.entry.now) _ (ap (entry_at c.args.terms.now) is) _ _ (undecided-asks (level_in c.args.setting.now m c.args.depth) (named_at c.args.terms.now c.args.run.now.named.items)) outcome.Undecided
     ((λ x. x), (λ x. x)) c.ask-in-Ambiguous.ensures.run c.ask-in-Ambiguous.result c.ask-in-Ambiguous.ensures.reached) c.in-Ambiguous.is
 
+pub eval::lists::entries::run_entry-returns-in-HiddenType-clause-says : goal.eval::lists::entries::run_entry-returns-in-HiddenType-clause-says
+eval::lists::entries::run_entry-returns-in-HiddenType-clause-says t c = λ m s.
+    asking-leads (level_in c.args.setting.now m c.args.depth) c.args.terms.now c.args.terms.now (keeps-refl c.args.terms.now) c.args.run.now c.ask-in-HiddenType.new.self c.requires.run (entry_at c.args.terms.now c.args.entry.now) _ (ap (entry_at c.args.terms.now) c.in-HiddenType.is) _ _ (hidden-asks (level_in c.args.setting.now m c.args.depth) (named_at c.args.terms.now c.args.run.now.named.items) _ _ _) outcome.Undecided
+    ((λ x. x), (λ x. x)) c.ask-in-HiddenType.ensures.run c.ask-in-HiddenType.result c.ask-in-HiddenType.ensures.reached
+
 pub eval::lists::entries::arguments_match-returns-in_ok-args-in-Given-clause-says : goal.eval::lists::entries::arguments_match-returns-in_ok-args-in-Given-clause-says
 eval::lists::entries::arguments_match-returns-in_ok-args-in-Given-clause-says t c = λ m s.
     given-named (level_in c.args.setting.now m c.args.depth) (named_at c.args.terms.now c.args.named.now) c.args.terms.now (arguments_at c.args.terms.now c.args.arguments.now)
@@ -1336,7 +1341,7 @@ normalizes_to::projection_candidates::candidate_term-returns-clause-says t c = �
     let p = projection_at c.args.terms.now c.args.projection.now in
     let itself = erased_at c.args.terms.now c.args.projection.now.rigid_alias in
     let candidate = candidate_at c.args.terms.now c.args.candidate.now in
-    candidate-says (setting_in c.args.setting.now m) s.0 c.args.depth p itself candidate c.run_list.new.terms c.in_ok-outcome.outcome c.term-found.result c.term-found.ensures
+    candidate-says (setting_in c.args.setting.now m) s.0 c.args.depth p itself candidate c.run_list.new.terms c.in_ok-outcome.outcome c.term.result c.term.ensures
     (c.in_ok-outcome.ensures.says m s (projection_list (setting_in c.args.setting.now m) p itself candidate) (c.in_ok-list.ensures.list m s))
 
 pub eval::lists::run_entries-run_entry-requires : goal.eval::lists::run_entries-run_entry-requires
@@ -1379,15 +1384,13 @@ eval::lists::entries::run_entry-returns-in-Access-clause-effects t c = c.reads_m
 
 pub eval::lists::entries::run_entry-returns-in_ok-meet_fault-in-DelayedFault-clause-effects : goal.eval::lists::entries::run_entry-returns-in_ok-meet_fault-in-DelayedFault-clause-effects
 eval::lists::entries::run_entry-returns-in_ok-meet_fault-in-DelayedFault-clause-effects t c =
-    sound-met c.args.setting.now c.args.terms.now c.args.effects.now c.meet_fault.new.self c.meet_fault.ensures.accesses c.meet_fault.ensures.cache c.requires.effects
+    sound-met c.args.setting.now c.args.terms.now c.args.effects.now c.meet_fault.new.self c.in-DelayedFault.fault
+    (subst (IsCausedEntry c.args.setting.now.rows.now) c.in-DelayedFault.is c.requires.caused) c.meet_fault.ensures.listed c.meet_fault.ensures.accesses c.meet_fault.ensures.cache c.requires.effects
 
 pub eval::lists::entries::run_entry-returns-in_err-meet_fault-in-DelayedFault-clause-effects : goal.eval::lists::entries::run_entry-returns-in_err-meet_fault-in-DelayedFault-clause-effects
 eval::lists::entries::run_entry-returns-in_err-meet_fault-in-DelayedFault-clause-effects t c =
-    sound-met c.args.setting.now c.args.terms.now c.args.effects.now c.meet_fault.new.self c.meet_fault.ensures.accesses c.meet_fault.ensures.cache c.requires.effects
-
-pub normalizes_to::projection_candidates::candidate_term-returns-then-stays_ambiguous-clause-stops : goal.normalizes_to::projection_candidates::candidate_term-returns-then-stays_ambiguous-clause-stops
-normalizes_to::projection_candidates::candidate_term-returns-then-stays_ambiguous-clause-stops t c =
-    ends-ambiguous c.args.setting.now.rows.now c.args.setting.now.typing_mode.now access.Always (c.stays_ambiguous.ensures c.if-stays_ambiguous.true)
+    sound-met c.args.setting.now c.args.terms.now c.args.effects.now c.meet_fault.new.self c.in-DelayedFault.fault
+    (subst (IsCausedEntry c.args.setting.now.rows.now) c.in-DelayedFault.is c.requires.caused) c.meet_fault.ensures.listed c.meet_fault.ensures.accesses c.meet_fault.ensures.cache c.requires.effects
 
 pub trait_goals::evaluation::evaluate_trait_goal-returns-in-Some-clause-says : goal.trait_goals::evaluation::evaluate_trait_goal-returns-in-Some-clause-says
 trait_goals::evaluation::evaluate_trait_goal-returns-in-Some-clause-says t c m s =
@@ -1408,6 +1411,7 @@ trait_goals::evaluation::evaluate_trait_goal-returns-clause-effects t c =
           (all_same-grown c.args.terms.now T c.intern_trait_ref.ensures.kept c.args.args.now c.requires.args) (c.in_ok-outcome.ensures.says m s))
           c.keep_trait.ensures.entered c.keep_trait.ensures.unchanged;
       causes = (sound-parts _ _ _ c.fresh_trait_outcome.ensures.effects).causes;
+      faults = (sound-parts _ _ _ c.fresh_trait_outcome.ensures.effects).faults;
     })
 
 pub trait_goals::evaluation::evaluate_trait_goal-returns-clause-says : goal.trait_goals::evaluation::evaluate_trait_goal-returns-clause-says
@@ -1434,6 +1438,7 @@ effect_goals::evaluation::evaluate_host_effect_goal-returns-clause-effects t c =
           (all_same-grown c.args.terms.now T c.intern_trait_ref.ensures.kept c.args.args.now c.requires.args) (c.in_ok-outcome.ensures.says m s))
           c.keep_const.ensures.entered c.keep_const.ensures.unchanged;
       causes = (sound-parts _ _ _ c.fresh_host_effect_outcome.ensures.effects).causes;
+      faults = (sound-parts _ _ _ c.fresh_host_effect_outcome.ensures.effects).faults;
     })
 
 pub effect_goals::evaluation::evaluate_host_effect_goal-returns-clause-says : goal.effect_goals::evaluation::evaluate_host_effect_goal-returns-clause-says
@@ -1465,6 +1470,7 @@ normalizes_to::alias_terms::alias_term-returns-clause-effects t c =
           (all_same-grown c.args.terms.now T c.intern_alias.ensures.kept c.args.args.now c.requires.args) (c.in_ok-found.ensures.says m s))
           c.keep_alias.ensures.entered c.keep_alias.ensures.unchanged;
       causes = (sound-parts _ _ _ c.fresh_alias_term.ensures.effects).causes;
+      faults = (sound-parts _ _ _ c.fresh_alias_term.ensures.effects).faults;
     })
 
 pub normalizes_to::alias_terms::alias_term-returns-clause-says : goal.normalizes_to::alias_terms::alias_term-returns-clause-says

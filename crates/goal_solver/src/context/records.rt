@@ -3,7 +3,9 @@ ghost use Rattle.std.specs.Prelude.{◌≡◌, ◌⊎◌, ◌↔◌, IsTrue, OnO
 ghost use Rattle.std.specs.List.{All, Contains};
 ghost use Rattle.goal_terms.specs.declared.answers.DelayedFault.{DelayedFault as Delayed};
 ghost use Rattle.goal_terms.specs.declared.answers.OpaqueAccess.{OpaqueAccess as Access};
-ghost use Rattle.goal_solver.specs.Added.{Enters, RecordsAccess, RecordsFault};
+ghost use Rattle.goal_kinds.specs.Causes.{IsFaultCaused};
+ghost use Rattle.goal_solver.specs.Accesses.{RecordsCausedFaults};
+ghost use Rattle.goal_solver.specs.Added.{Enters, EntersAtMost, RecordsAccess, RecordsFault};
 ghost use Rattle.goal_solver.specs.GoingBack.{GoesBack};
 ghost use Rattle.goal_solver.specs.Stored.{IsSet};
 
@@ -49,6 +51,7 @@ impl EvalCtxt<'_> {
     /// Records what an evaluation met, in its order. Only memory is refused; then some of it may be recorded.
     pub(crate) fn record_effects(&mut self, effects: &Effects) -> Result<(), Stop>
         ensures listed { (a : Access) → Contains self.new.accesses a → Contains self.old.accesses a ⊎ Contains effects.now.accesses.items a }
+        ensures faults { All (IsFaultCaused self.old.tables) effects.now.delayed_faults.items → RecordsCausedFaults self.old self.new }
         ensures unchanged { self.new ≡ record self.old { accesses = self.new.accesses; delayed_faults = self.new.delayed_faults } }
         ensures goes_back { GoesBack self.old self.new }
         ensures only_memory { IsOkUnless result Stop.OutOfMemory }
@@ -101,6 +104,7 @@ impl EvalCtxt<'_> {
     /// Records a delayed fault that a run or an evaluation met, as `record_fault` does.
     pub(crate) fn meet_fault(&mut self, fault: DelayedFault) -> Result<(), Stop>
         ensures recorded { OnOk result (Contains self.new.delayed_faults fault) }
+        ensures entered { EntersAtMost fault self.old.delayed_faults self.new.delayed_faults }
         ensures listed { (f : Delayed) → Contains self.new.delayed_faults f → Contains self.old.delayed_faults f ⊎ (fault ≡ f) }
         ensures unchanged { self.new ≡ record self.old { delayed_faults = self.new.delayed_faults } }
         ensures goes_back { GoesBack self.old self.new }
@@ -116,6 +120,7 @@ impl EvalCtxt<'_> {
     /// them may be recorded.
     fn record_faults(&mut self, delayed_faults: &[DelayedFault]) -> Result<(), Stop>
         ensures recorded { OnOk result (All (Contains self.new.delayed_faults) delayed_faults.now) }
+        ensures faults { All (IsFaultCaused self.old.tables) delayed_faults.now → RecordsCausedFaults self.old self.new }
         ensures unchanged { self.new ≡ record self.old { delayed_faults = self.new.delayed_faults } }
         ensures goes_back { GoesBack self.old self.new }
         ensures only_memory { IsOkUnless result Stop.OutOfMemory }

@@ -6,6 +6,7 @@ ghost use Rattle.goal_terms.specs.TableMeaning.{Keeps};
 ghost use Rattle.goal_terms.specs.TreeOf.{tree_of_term, tree_of_ty, tree_of_arg};
 ghost use Rattle.goal_terms.specs.declared.answers.Certainty.{Certainty as certain};
 ghost use Rattle.goal_infer.specs.Resolution.{resolution, IsSolved};
+ghost use Rattle.goal_solver.specs.Accesses.{RecordsCausedFaults};
 ghost use Rattle.goal_solver.specs.Added.{has_goals};
 ghost use Rattle.goal_solver.specs.GoingBack.{GoesBack, restored};
 ghost use Rattle.goal_solver.specs.OpenRuns.{Evaluates};
@@ -41,7 +42,7 @@ impl EvalCtxt<'_> {
         ensures listed { IfOk result (λ r. ListsSinceMark self.new r.certainty r) }
         ensures evaluated { IfOk result (λ r. (c : certain) × Evaluates self.old self.new c × (r.certainty ≡ both_certain certainty c)) }
         ensures refused { WhenRefused result (RefusesPending self.old self.new) }
-        ensures faults { self.new.delayed_faults ≡ self.old.delayed_faults }
+        ensures faults { RecordsCausedFaults self.old self.new }
         ensures yes { IfOk result (λ r. r.certainty ≡ Certainty.Yes → (certainty ≡ Certainty.Yes) × (has_goals self.new ≡ false)) }
         ensures unchanged { OnErr result (self.new ≡ restored self.old self.new) }
         ensures goes_back { GoesBack self.old self.new }

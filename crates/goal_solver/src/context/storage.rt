@@ -3,6 +3,7 @@ ghost use Rattle.std.specs.Prelude.{◌≡◌, ◌↔◌, ◌++◌, ◌∷◌, [
 ghost use Rattle.goal_terms.specs.TreeOf.{tree_of_arg, tree_of_ty, trees_of};
 ghost use Rattle.goal_terms.specs.declared.answers.OpaqueTypeKey.{OpaqueTypeKey as Key};
 ghost use Rattle.goal_terms.specs.declared.terms.Ty.{Ty as Hidden};
+ghost use Rattle.goal_solver.specs.Accesses.{RecordsCausedFaults};
 ghost use Rattle.goal_solver.specs.Added.{EntersType, IsEarlierType};
 ghost use Rattle.goal_solver.specs.GoingBack.{GoesBack, restored};
 ghost use Rattle.goal_solver.specs.HiddenTypes.{bounds_in};
@@ -57,7 +58,7 @@ impl EvalCtxt<'_> {
     ) -> Result<(), Fault>
         ensures added { OnOk result (AddsBounds id (trees_of args.now) environment.now (tree_of_ty hidden.now) self.old self.new) }
         ensures unchanged { OnErr result (self.new ≡ restored self.old self.new) }
-        ensures faults { self.new.delayed_faults ≡ self.old.delayed_faults }
+        ensures faults { RecordsCausedFaults self.old self.new }
         ensures goes_back { GoesBack self.old self.new }
         ensures only_memory { IsOkUnless result Fault.OutOfMemory }
     {
@@ -79,7 +80,7 @@ impl EvalCtxt<'_> {
         hidden: &Ty,
     ) -> Result<(), Fault>
         ensures added { OnOk result (AddsBounds id (trees_of args.now) environment.now (tree_of_ty hidden.now) self.old self.new) }
-        ensures faults { self.new.delayed_faults ≡ self.old.delayed_faults }
+        ensures faults { RecordsCausedFaults self.old self.new }
         ensures goes_back { GoesBack self.old self.new }
         ensures only_memory { IsOkUnless result Fault.OutOfMemory }
     {

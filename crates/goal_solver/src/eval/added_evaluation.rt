@@ -3,6 +3,7 @@ ghost use Rattle.std.specs.Prelude.{◌≡◌, ◌≢◌, ◌↔◌, ◌<◌, �
 ghost use Rattle.std.specs.List.{Contains};
 ghost use Rattle.goal_terms.specs.declared.modes.TypingMode.{TypingMode as modes};
 ghost use Rattle.goal_kinds.specs.Settings.{is_headline};
+ghost use Rattle.goal_solver.specs.Accesses.{RecordsCausedFaults};
 ghost use Rattle.goal_solver.specs.Added.{has_goals};
 ghost use Rattle.goal_solver.specs.AddedGoals.{IsClosedGoal, IsGoalAnswer, IsVerdict, IsPendingAnswer, ArePendingClosed, ArePendingUndecided, ChangesTaken};
 ghost use Rattle.goal_solver.specs.AddedGoals.{AreSplit, AreClosedAt, LeavesUndecided, IsListed, JoinsUnless, IsRefusalAt, IsAnswerAt};
@@ -39,6 +40,7 @@ impl EvalCtxt<'_> {
         ensures taken { SaysYes result → has_goals self.new ≡ false }
         ensures alone { ChangesTaken self.old self.new }
         ensures unchanged { OnErr result (self.new ≡ restored self.old self.new) }
+        ensures faults { RecordsCausedFaults self.old self.new }
         ensures goes_back { GoesBack self.old self.new }
         ensures fault { IsFaultFor self.old self.new result }
     {
@@ -60,6 +62,7 @@ impl EvalCtxt<'_> {
         ensures closed { ArePendingClosed self.old → OnOk result (self.new.inference ≡ self.old.inference) }
         ensures taken { SaysYes result → has_goals self.new ≡ false }
         ensures alone { ChangesTaken self.old self.new }
+        ensures faults { RecordsCausedFaults self.old self.new }
         ensures goes_back { GoesBack self.old self.new }
         ensures fault { IsFaultFor self.old self.new result }
     {
@@ -100,6 +103,7 @@ impl EvalCtxt<'_> {
         ensures split { (rest : List ℕ) × AreSplit (length goals.now) taken.new.items rest × (SaysYes result → rest ≡ []) }
         ensures taken { BeginsWith taken.new.items taken.old.items }
         ensures alone { ChangesRecords self.old self.new }
+        ensures faults { RecordsCausedFaults self.old self.new }
         ensures goes_back { GoesBack self.old self.new }
         ensures fault { IsFaultFor self.old self.new result }
     {
@@ -142,6 +146,7 @@ impl EvalCtxt<'_> {
         ensures split { (rest : List ℕ) × AreSplit (length goals.now) taken.new.items rest × IfOk result (λ left. rest ≡ left.items) }
         ensures taken { BeginsWith taken.new.items taken.old.items }
         ensures alone { ChangesRecords self.old self.new }
+        ensures faults { RecordsCausedFaults self.old self.new }
         ensures goes_back { GoesBack self.old self.new }
         ensures fault { IsFaultFor self.old self.new result }
     {
@@ -161,6 +166,7 @@ impl EvalCtxt<'_> {
         ensures refused { WhenRefused result (RefusesGoal self.old self.new goal.now) }
         ensures closed { IsClosedGoal goal.now.predicate goal.now.param_env.items → self.new.inference ≡ self.old.inference }
         ensures alone { ChangesRecords self.old self.new }
+        ensures faults { RecordsCausedFaults self.old self.new }
         ensures goes_back { GoesBack self.old self.new }
         ensures fault { IsFaultFor self.old self.new result }
     {

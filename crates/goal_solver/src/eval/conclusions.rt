@@ -3,18 +3,23 @@ ghost use Rattle.std.specs.Prelude.{◌≡◌, ◌≢◌, ◌⊎◌, true, false
 ghost use Rattle.goal_terms.specs.declared.answers.Certainty.TheVariants as certainty;
 ghost use Rattle.goal_terms.specs.declared.modes.TypingMode.{TypingMode as modes};
 ghost use Rattle.goal_kinds.specs.Settings.{is_headline};
-ghost use Rattle.goal_solver.specs.Accesses.{RecordsCaused, EndsFor};
-ghost use Rattle.goal_solver.specs.Answers.{IsOwed, IsFaultOf, AnswersQuietly, ListsNothing, IsConclusion};
+ghost use Rattle.goal_solver.specs.Accesses.{RecordsCaused, EndsFor, RecordsCausedFaults};
+ghost use Rattle.goal_solver.specs.Answers.{IsOwed, level_over, IsPredicateAnswer, IsUndecided, IsMaybe, IsFaultOf, AnswersQuietly, ListsNothing, IsConclusion};
+ghost use Rattle.goal_solver.specs.Binding.{IsApplicable};
+ghost use Rattle.goal_solver.specs.Evaluations.{predicate_seen};
 ghost use Rattle.goal_solver.specs.GoingBack.{GoesBack, restored};
+ghost use Rattle.goal_solver.specs.Promises.{LeavesUndecided};
 ghost use Rattle.goal_solver.specs.Relating.{SaysYes, Refuses, IsFaultFor};
 ghost use Rattle.goal_solver.specs.State.{kinds_of};
 ghost use Rattle.std.specs.Prelude.{length};
 
 use crate::context::EvalCtxt;
 use crate::eval::outcomes::{Outcome, Stop};
+use crate::eval::predicate_views::PredicateView;
 use crate::faults::Fault;
 use goal_terms::answers::{Certainty, Response};
 use goal_terms::modes::TypingMode;
+use goal_terms::predicates::Clause;
 
 impl EvalCtxt<'_> {
     /// What a call answers where its evaluation was stopped. Where a rule reads a mode, the erased mode
@@ -67,6 +72,7 @@ impl EvalCtxt<'_> {
         ensures yes { IfOk result (λ r. r.certainty ≡ certainty.Yes → outcome ≡ Ok Outcome.Holds) }
         ensures no { result ≡ Err Fault.NoSolution → outcome ≡ Ok Outcome.Refuted }
         ensures caused { IfErr outcome (EndsFor self.old) → RecordsCaused self.old self.new }
+        ensures faults { self.new.delayed_faults ≡ self.old.delayed_faults }
         ensures unchanged { self.new ≡ restored self.old self.new }
         ensures goes_back { GoesBack self.old self.new }
         ensures fault { IsFaultOf self.old self.new result }
@@ -80,6 +86,39 @@ impl EvalCtxt<'_> {
             Ok(Outcome::Undecided) => Ok(self.respond(Certainty::Maybe, None)),
             Err(stop) => self.stopped(stop),
         }
+    }
+
+    /// What is answered to a goal that a trait holds as a const trait, or that an alias and a term are equal. One in
+    /// which an inference variable stands is open.
+    pub(crate) fn answer_predicate(
+        &mut self,
+        asked: PredicateView<'_>,
+        environment: &[Clause],
+        is_open: bool,
+    ) -> Result<Response, Fault>
+        ensures sound { (m : modes) → IsOwed self.new m → IsPredicateAnswer (level_over self.old m environment.now) (predicate_seen asked.entry) result }
+        ensures decided { (m : modes) → IsOwed self.new m → is_open ≡ false → IsMaybe result → IsUndecided (level_over self.old m environment.now) (predicate_seen asked.entry) }
+        ensures unchanged { self.new ≡ restored self.old self.new }
+        ensures goes_back { GoesBack self.old self.new }
+        ensures fault { IsFaultOf self.old self.new result }
+        ensures caused { RecordsCaused self.old self.new }
+        ensures faults { RecordsCausedFaults self.old self.new }
+        ensures quiet { AnswersQuietly (length (kinds_of self.old)) result }
+        ensures lists { IfOk result (λ r. r.var_values.items ≡ []) }
+        ensures no_class { IfOk result (λ r. r.proven_via ≡ None) }
+        ensures variables { is_open ≡ true → LeavesUndecided self.old result }
+        ensures at_once { self.old.remaining_depth ≡ 0 → LeavesUndecided self.old result }
+        ensures applies { IfOk result (IsApplicable self.new) }
+    {
+        self.is_well_formed();
+        if self.remaining_depth() == 0 {
+            return Ok(self.respond(Certainty::Maybe, None));
+        }
+        if is_open {
+            return Ok(self.respond(Certainty::Maybe, None));
+        }
+        let outcome = self.predicate_goal_outcome(asked, environment);
+        self.conclude(outcome)
     }
 
     /// Whether the typing mode is the erased one.

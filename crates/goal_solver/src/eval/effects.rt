@@ -1,6 +1,7 @@
 //! What an evaluation leaves beside its verdict, and keeps while it lasts.
 ghost use Rattle.std.specs.Prelude.{◌≡◌, ◌⊎◌};
 ghost use Rattle.std.specs.List.{Contains};
+ghost use Rattle.goal_terms.specs.declared.answers.DelayedFault.{DelayedFault as Delayed};
 ghost use Rattle.goal_terms.specs.declared.answers.OpaqueAccess.{OpaqueAccess as Access};
 ghost use Rattle.goal_solver.specs.Effects.{AreNone};
 
@@ -34,6 +35,7 @@ impl Effects {
     /// Enters an access. Only memory is refused.
     pub(crate) fn read_mode(&mut self, access: OpaqueAccess) -> Result<(), OutOfMemory>
         ensures listed { (a : Access) → Contains self.new.accesses.items a → Contains self.old.accesses.items a ⊎ (access ≡ a) }
+        ensures faults { self.new.delayed_faults ≡ self.old.delayed_faults }
         ensures cache { self.new.cache ≡ self.old.cache }
     {
         enter_access(&mut self.accesses, access)
@@ -41,6 +43,7 @@ impl Effects {
 
     /// Enters a delayed fault. Only memory is refused.
     pub(crate) fn meet_fault(&mut self, fault: DelayedFault) -> Result<(), OutOfMemory>
+        ensures listed { (f : Delayed) → Contains self.new.delayed_faults.items f → Contains self.old.delayed_faults.items f ⊎ (fault ≡ f) }
         ensures accesses { self.new.accesses ≡ self.old.accesses }
         ensures cache { self.new.cache ≡ self.old.cache }
     {

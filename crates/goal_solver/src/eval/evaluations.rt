@@ -1,34 +1,30 @@
 //! Goals, handed to the evaluation by the numbers of their terms.
-ghost use Rattle.std.specs.Prelude.{◌≡◌, ◌⊎◌, true, IfOk, IfErr};
-ghost use Rattle.goal_terms.specs.Erased.{erased};
+ghost use Rattle.std.specs.Prelude.{◌≡◌, ◌⊎◌, IfOk, IfErr};
 ghost use Rattle.goal_terms.specs.TableMeaning.{Keeps};
-ghost use Rattle.goal_terms.specs.TreeOf.{tree_of_alias, tree_of_term};
 ghost use Rattle.goal_terms.specs.declared.modes.TypingMode.{TypingMode};
 ghost use Rattle.goal_kinds.specs.Answers.{setting_of};
 ghost use Rattle.goal_kinds.specs.Levels.{level};
-ghost use Rattle.goal_kinds.specs.Settings.{is_headline};
-ghost use Rattle.goal_solver.specs.Accesses.{RecordsCaused, EndsFor};
+ghost use Rattle.goal_solver.specs.Accesses.{RecordsCaused, EndsFor, RecordsCausedFaults};
 ghost use Rattle.goal_solver.specs.Answers.{IsOwed, level_over, erased_args};
-ghost use Rattle.goal_kinds.specs.Interned.{IsIn, erased_at};
+ghost use Rattle.goal_kinds.specs.Interned.{AreIn, PredicateIn, erased_all, predicate_at};
+ghost use Rattle.goal_solver.specs.Evaluations.{RunSays, SaysOf, SaysTermAt, StopsForMemory, predicate_seen};
 ghost use Rattle.goal_solver.specs.GoingBack.{GoesBack, restored};
 ghost use Rattle.goal_solver.specs.Recording.{FitsKind};
-ghost use Rattle.goal_solver.specs.Outcomes.{RunsAs, RunsFor, StandsFor, level_in, Says, SaysThrough, SaysWhich, FoundIn};
-ghost use Rattle.goal_solver.specs.Effects.{AreSound, IsStop};
+ghost use Rattle.goal_solver.specs.Outcomes.{RunsAs, StandsFor, SaysThrough, FoundIn};
 
 use crate::context::EvalCtxt;
-use crate::effect_goals::evaluation::evaluate_host_effect_goal;
 use crate::eval::effects::Effects;
-use crate::eval::interning::{intern_args, intern_equation};
+use crate::eval::interning::intern_args;
 use crate::eval::outcomes::{Found, OnAccess, Outcome, Setting, Stop, TraitOutcome};
-use crate::eval::premises::premise_outcome;
+use crate::eval::predicate_views::{PredicateView, intern_predicate};
+use crate::eval::premises::predicate_outcome;
 use crate::normalizes_to::alias_terms::alias_term;
 use crate::trait_goals::evaluation::evaluate_trait_goal;
-use goal_kinds::candidates::interned::{InternedPredicate, InternedPremise};
+use goal_kinds::candidates::interned::InternedPredicate;
 use goal_terms::ids::TraitId;
-use goal_terms::predicates::{Clause, Goal, HostEffectPredicate, ProjectionPredicate};
+use goal_terms::predicates::Clause;
 use goal_terms::term_nodes::TermId;
-use goal_terms::term_table::TermTable;
-use goal_terms::terms::{AliasTerm, GenericArg};
+use goal_terms::terms::{AliasTerm, AliasTermKind, GenericArg};
 
 impl EvalCtxt<'_> {
     /// What a trait goal comes to at a depth. Nothing changes but that there may be more terms, accesses and
@@ -45,8 +41,9 @@ impl EvalCtxt<'_> {
         ensures goes_back { GoesBack self.old self.new }
         ensures says { (m : TypingMode) → IsOwed self.new m → IfOk result (SaysThrough (λ c. (level (setting_of self.old.tables m environment.now) depth).through c trait_id (erased_args args.now)) ((level (setting_of self.old.tables m environment.now) depth).trait_refuted trait_id (erased_args args.now))) }
         ensures caused { RecordsCaused self.old self.new }
+        ensures faults { RecordsCausedFaults self.old self.new }
         ensures ends { IfErr result (EndsFor self.old) }
-        ensures stops { is_headline self.old.typing_mode ≡ true → IfErr result (λ s. s ≡ Stop.OutOfMemory) }
+        ensures stops { StopsForMemory self.old result }
     {
         let on_access = self.first_access();
         let first = self.trait_run(on_access, trait_id, args, environment, depth);
@@ -70,8 +67,9 @@ impl EvalCtxt<'_> {
         ensures goes_back { GoesBack self.old self.new }
         ensures says { (m : TypingMode) → RunsAs on_access self.old.typing_mode m → IfOk result (SaysThrough (λ c. (level (setting_of self.old.tables m environment.now) depth).through c trait_id (erased_args args.now)) ((level (setting_of self.old.tables m environment.now) depth).trait_refuted trait_id (erased_args args.now))) }
         ensures caused { RecordsCaused self.old self.new }
+        ensures faults { RecordsCausedFaults self.old self.new }
         ensures ends { IfErr result (EndsFor self.old) }
-        ensures stops { is_headline self.old.typing_mode ≡ true → IfErr result (λ s. s ≡ Stop.OutOfMemory) }
+        ensures stops { StopsForMemory self.old result }
     {
         let mut effects = Effects::new(self.allocator());
         let alloc = self.allocator();
@@ -94,118 +92,77 @@ impl EvalCtxt<'_> {
         outcome
     }
 
-    /// What a const trait goal comes to at the remaining depth. Nothing changes but that there may be more
-    /// terms, accesses and delayed faults.
-    pub(crate) fn host_effect_goal_outcome(
+    /// Whether a predicate that stands in a goal without inference variables holds at the remaining depth. Nothing
+    /// changes but that there may be more terms, accesses and delayed faults.
+    pub(crate) fn predicate_goal_outcome(
         &mut self,
-        goal: &Goal<HostEffectPredicate>,
+        asked: PredicateView<'_>,
+        environment: &[Clause],
     ) -> Result<Outcome, Stop>
         ensures kept { Keeps self.old.terms self.new.terms }
         ensures unchanged { self.new ≡ restored self.old self.new }
+        ensures faults { RecordsCausedFaults self.old self.new }
         ensures goes_back { GoesBack self.old self.new }
-        ensures says { (m : TypingMode) → IsOwed self.new m → IfOk result (Says ((level_over self.old m goal.now.param_env.items).const_holds goal.now.predicate.constness goal.now.predicate.trait_ref.def_id (erased_args goal.now.predicate.trait_ref.args.items)) ((level_over self.old m goal.now.param_env.items).const_refuted goal.now.predicate.constness goal.now.predicate.trait_ref.def_id (erased_args goal.now.predicate.trait_ref.args.items))) }
+        ensures says { SaysOf self.old self.new environment.now (predicate_seen asked.entry) result }
         ensures caused { RecordsCaused self.old self.new }
         ensures ends { IfErr result (EndsFor self.old) }
-        ensures stops { is_headline self.old.typing_mode ≡ true → IfErr result (λ s. s ≡ Stop.OutOfMemory) }
+        ensures stops { StopsForMemory self.old result }
+    {
+        let predicate = self.interned_predicate(asked)?;
+        self.evaluate_predicate(&predicate, environment)
+    }
+
+    /// Whether a predicate without inference variables holds at the remaining depth, by the numbers of its terms.
+    /// Nothing changes but that there may be more terms, accesses and delayed faults.
+    pub(crate) fn evaluate_predicate(
+        &mut self,
+        predicate: &InternedPredicate,
+        environment: &[Clause],
+    ) -> Result<Outcome, Stop>
+        requires { PredicateIn self.old.terms predicate.now }
+        ensures kept { Keeps self.old.terms self.new.terms }
+        ensures unchanged { self.new ≡ restored self.old self.new }
+        ensures faults { RecordsCausedFaults self.old self.new }
+        ensures goes_back { GoesBack self.old self.new }
+        ensures says { SaysOf self.old self.new environment.now (predicate_at self.old.terms predicate.now) result }
+        ensures caused { RecordsCaused self.old self.new }
+        ensures ends { IfErr result (EndsFor self.old) }
+        ensures stops { StopsForMemory self.old result }
     {
         let on_access = self.first_access();
-        let first = self.host_effect_run(on_access, goal);
+        let first = self.predicate_run(on_access, predicate, environment);
         if let Some(outcome) = self.first_answer(first)? {
             return Ok(outcome);
         }
-        self.host_effect_run(OnAccess::Record, goal)
+        self.predicate_run(OnAccess::Record, predicate, environment)
     }
 
-    /// One run of a const trait goal at the remaining depth.
-    fn host_effect_run(
+    /// One run of a predicate at the remaining depth.
+    fn predicate_run(
         &mut self,
         on_access: OnAccess,
-        goal: &Goal<HostEffectPredicate>,
+        predicate: &InternedPredicate,
+        environment: &[Clause],
     ) -> Result<Outcome, Stop>
+        requires { PredicateIn self.old.terms predicate.now }
         ensures kept { Keeps self.old.terms self.new.terms }
         ensures unchanged { self.new ≡ restored self.old self.new }
+        ensures faults { RecordsCausedFaults self.old self.new }
         ensures goes_back { GoesBack self.old self.new }
-        ensures says { (m : TypingMode) → RunsAs on_access self.old.typing_mode m → IfOk result (Says ((level_over self.old m goal.now.param_env.items).const_holds goal.now.predicate.constness goal.now.predicate.trait_ref.def_id (erased_args goal.now.predicate.trait_ref.args.items)) ((level_over self.old m goal.now.param_env.items).const_refuted goal.now.predicate.constness goal.now.predicate.trait_ref.def_id (erased_args goal.now.predicate.trait_ref.args.items))) }
+        ensures says { RunSays on_access self.old environment.now (predicate_at self.old.terms predicate.now) result }
         ensures caused { RecordsCaused self.old self.new }
         ensures ends { IfErr result (EndsFor self.old) }
-        ensures stops { is_headline self.old.typing_mode ≡ true → IfErr result (λ s. s ≡ Stop.OutOfMemory) }
+        ensures stops { StopsForMemory self.old result }
     {
-        let trait_ref = &goal.predicate.trait_ref;
         let mut effects = Effects::new(self.allocator());
-        let alloc = self.allocator();
-        let ids = intern_args(alloc, &mut self.terms, &trait_ref.args)?;
         let setting = Setting {
             rows: self.tables.rows(),
             typing_mode: &self.typing_mode,
             on_access,
-            environment: &goal.param_env,
+            environment,
         };
         let depth = self.remaining_depth;
-        let constness = goal.predicate.constness;
-        let outcome = evaluate_host_effect_goal(
-            &setting,
-            &mut self.terms,
-            &mut effects,
-            constness,
-            trait_ref.def_id,
-            &ids,
-            depth,
-        );
-        self.record_effects(&effects)?;
-        outcome
-    }
-
-    /// What the goal that an alias and a term are equal comes to at the remaining depth. Nothing changes but
-    /// that there may be more terms, accesses and delayed faults.
-    pub(crate) fn projection_goal_outcome(
-        &mut self,
-        goal: &Goal<ProjectionPredicate>,
-    ) -> Result<Outcome, Stop>
-        ensures kept { Keeps self.old.terms self.new.terms }
-        ensures unchanged { self.new ≡ restored self.old self.new }
-        ensures goes_back { GoesBack self.old self.new }
-        ensures says { (m : TypingMode) → IsOwed self.new m → IfOk result (Says ((level_over self.old m goal.now.param_env.items).equation_holds (erased (tree_of_alias goal.now.predicate.projection_term)) (erased (tree_of_term goal.now.predicate.term))) ((level_over self.old m goal.now.param_env.items).equation_refuted (erased (tree_of_alias goal.now.predicate.projection_term)) (erased (tree_of_term goal.now.predicate.term)))) }
-        ensures caused { RecordsCaused self.old self.new }
-        ensures ends { IfErr result (EndsFor self.old) }
-        ensures stops { is_headline self.old.typing_mode ≡ true → IfErr result (λ s. s ≡ Stop.OutOfMemory) }
-    {
-        let on_access = self.first_access();
-        let first = self.projection_run(on_access, goal);
-        if let Some(outcome) = self.first_answer(first)? {
-            return Ok(outcome);
-        }
-        self.projection_run(OnAccess::Record, goal)
-    }
-
-    /// One run of the goal that an alias and a term are equal.
-    fn projection_run(
-        &mut self,
-        on_access: OnAccess,
-        goal: &Goal<ProjectionPredicate>,
-    ) -> Result<Outcome, Stop>
-        ensures kept { Keeps self.old.terms self.new.terms }
-        ensures unchanged { self.new ≡ restored self.old self.new }
-        ensures goes_back { GoesBack self.old self.new }
-        ensures says { (m : TypingMode) → RunsAs on_access self.old.typing_mode m → IfOk result (Says ((level_over self.old m goal.now.param_env.items).equation_holds (erased (tree_of_alias goal.now.predicate.projection_term)) (erased (tree_of_term goal.now.predicate.term))) ((level_over self.old m goal.now.param_env.items).equation_refuted (erased (tree_of_alias goal.now.predicate.projection_term)) (erased (tree_of_term goal.now.predicate.term)))) }
-        ensures caused { RecordsCaused self.old self.new }
-        ensures ends { IfErr result (EndsFor self.old) }
-        ensures stops { is_headline self.old.typing_mode ≡ true → IfErr result (λ s. s ≡ Stop.OutOfMemory) }
-    {
-        let predicate = &goal.predicate;
-        let mut effects = Effects::new(self.allocator());
-        let (alias, term) = intern_equation(
-            &mut self.terms,
-            &predicate.projection_term,
-            &predicate.term,
-        )?;
-        let setting = Setting {
-            rows: self.tables.rows(),
-            typing_mode: &self.typing_mode,
-            on_access,
-            environment: &goal.param_env,
-        };
-        let depth = self.remaining_depth;
-        let outcome = equation_outcome(&setting, &mut self.terms, &mut effects, alias, term, depth);
+        let outcome = predicate_outcome(&setting, &mut self.terms, &mut effects, predicate, depth);
         self.record_effects(&effects)?;
         outcome
     }
@@ -215,66 +172,96 @@ impl EvalCtxt<'_> {
     pub(crate) fn alias_outcome(
         &mut self,
         alias: &AliasTerm,
-        environment: &Vec<Clause>,
+        environment: &[Clause],
     ) -> Result<Found, Stop>
         ensures kept { Keeps self.old.terms self.new.terms }
         ensures unchanged { self.new ≡ restored self.old self.new }
         ensures goes_back { GoesBack self.old self.new }
         ensures within { IfOk result (FoundIn self.new.terms) }
-        ensures says { (m : TypingMode) → IsOwed self.new m → IfOk result (SaysWhich ((level_over self.old m environment.now.items).gives alias.now.kind (erased_args alias.now.args.items)) ((level_over self.old m environment.now.items).gives_refuted alias.now.kind (erased_args alias.now.args.items)) self.new.terms) }
-        ensures fits { IfOk result (FitsKind alias.now.kind self.new.terms) ⊎ ((m : TypingMode) → StandsFor self.old.typing_mode m → IfOk result (SaysWhich ((level_over self.old m environment.now.items).gives alias.now.kind (erased_args alias.now.args.items)) ((level_over self.old m environment.now.items).gives_refuted alias.now.kind (erased_args alias.now.args.items)) self.new.terms)) }
+        ensures says { (m : TypingMode) → IsOwed self.new m → SaysTermAt (level_over self.old m environment.now) alias.now.kind (erased_args alias.now.args.items) self.new.terms result }
+        ensures fits { IfOk result (FitsKind alias.now.kind self.new.terms) ⊎ ((m : TypingMode) → StandsFor self.old.typing_mode m → SaysTermAt (level_over self.old m environment.now) alias.now.kind (erased_args alias.now.args.items) self.new.terms result) }
+        ensures caused { RecordsCaused self.old self.new }
+        ensures faults { RecordsCausedFaults self.old self.new }
+        ensures ends { IfErr result (EndsFor self.old) }
+        ensures stops { StopsForMemory self.old result }
+    {
+        let args = self.interned_args(&alias.args)?;
+        self.evaluate_alias(alias.kind, &args, environment)
+    }
+
+    /// Which term an alias without inference variables has at the remaining depth, by the numbers of its
+    /// arguments. Nothing changes but that there may be more terms, accesses and delayed faults. What a run that
+    /// records found can be given as the alias's term.
+    pub(crate) fn evaluate_alias(
+        &mut self,
+        kind: AliasTermKind,
+        args: &[TermId],
+        environment: &[Clause],
+    ) -> Result<Found, Stop>
+        requires { AreIn self.old.terms args.now }
+        ensures kept { Keeps self.old.terms self.new.terms }
+        ensures unchanged { self.new ≡ restored self.old self.new }
+        ensures faults { RecordsCausedFaults self.old self.new }
+        ensures goes_back { GoesBack self.old self.new }
+        ensures within { IfOk result (FoundIn self.new.terms) }
+        ensures says { (m : TypingMode) → IsOwed self.new m → SaysTermAt (level_over self.old m environment.now) kind (erased_all self.old.terms args.now) self.new.terms result }
+        ensures fits { IfOk result (FitsKind kind self.new.terms) ⊎ ((m : TypingMode) → StandsFor self.old.typing_mode m → SaysTermAt (level_over self.old m environment.now) kind (erased_all self.old.terms args.now) self.new.terms result) }
         ensures caused { RecordsCaused self.old self.new }
         ensures ends { IfErr result (EndsFor self.old) }
-        ensures stops { is_headline self.old.typing_mode ≡ true → IfErr result (λ s. s ≡ Stop.OutOfMemory) }
+        ensures stops { StopsForMemory self.old result }
     {
         if let OnAccess::Record = self.first_access() {
-            return self.alias_recorded(alias, environment);
+            return self.alias_recorded(kind, args, environment);
         }
-        let first = self.alias_run(OnAccess::Stop, alias, environment);
+        let first = self.alias_run(OnAccess::Stop, kind, args, environment);
         if let Some(found) = self.first_answer(first)? {
             return Ok(found);
         }
-        self.alias_recorded(alias, environment)
+        self.alias_recorded(kind, args, environment)
     }
 
     /// Which term a run that records finds for an alias, if an answer can give it.
     fn alias_recorded(
         &mut self,
-        alias: &AliasTerm,
-        environment: &Vec<Clause>,
+        kind: AliasTermKind,
+        args: &[TermId],
+        environment: &[Clause],
     ) -> Result<Found, Stop>
+        requires { AreIn self.old.terms args.now }
         ensures kept { Keeps self.old.terms self.new.terms }
         ensures unchanged { self.new ≡ restored self.old self.new }
+        ensures faults { RecordsCausedFaults self.old self.new }
         ensures goes_back { GoesBack self.old self.new }
         ensures within { IfOk result (FoundIn self.new.terms) }
-        ensures fits { IfOk result (FitsKind alias.now.kind self.new.terms) }
+        ensures fits { IfOk result (FitsKind kind self.new.terms) }
         ensures caused { RecordsCaused self.old self.new }
         ensures ends { IfErr result (EndsFor self.old) }
-        ensures stops { is_headline self.old.typing_mode ≡ true → IfErr result (λ s. s ≡ Stop.OutOfMemory) }
+        ensures stops { StopsForMemory self.old result }
     {
-        let found = self.alias_run(OnAccess::Record, alias, environment)?;
-        Ok(self.fitting(alias.kind, found))
+        let found = self.alias_run(OnAccess::Record, kind, args, environment)?;
+        Ok(self.fitting(kind, found))
     }
 
     /// One run of an alias's goal at the remaining depth.
     fn alias_run(
         &mut self,
         on_access: OnAccess,
-        alias: &AliasTerm,
-        environment: &Vec<Clause>,
+        kind: AliasTermKind,
+        args: &[TermId],
+        environment: &[Clause],
     ) -> Result<Found, Stop>
+        requires { AreIn self.old.terms args.now }
         ensures kept { Keeps self.old.terms self.new.terms }
         ensures unchanged { self.new ≡ restored self.old self.new }
+        ensures faults { RecordsCausedFaults self.old self.new }
         ensures goes_back { GoesBack self.old self.new }
         ensures within { IfOk result (FoundIn self.new.terms) }
-        ensures says { (m : TypingMode) → RunsAs on_access self.old.typing_mode m → IfOk result (SaysWhich ((level_over self.old m environment.now.items).gives alias.now.kind (erased_args alias.now.args.items)) ((level_over self.old m environment.now.items).gives_refuted alias.now.kind (erased_args alias.now.args.items)) self.new.terms) }
+        ensures says { (m : TypingMode) → RunsAs on_access self.old.typing_mode m → SaysTermAt (level_over self.old m environment.now) kind (erased_all self.old.terms args.now) self.new.terms result }
         ensures caused { RecordsCaused self.old self.new }
         ensures ends { IfErr result (EndsFor self.old) }
-        ensures stops { is_headline self.old.typing_mode ≡ true → IfErr result (λ s. s ≡ Stop.OutOfMemory) }
+        ensures stops { StopsForMemory self.old result }
     {
         let mut effects = Effects::new(self.allocator());
-        let alloc = self.allocator();
-        let ids = intern_args(alloc, &mut self.terms, &alias.args)?;
         let setting = Setting {
             rows: self.tables.rows(),
             typing_mode: &self.typing_mode,
@@ -282,36 +269,35 @@ impl EvalCtxt<'_> {
             environment,
         };
         let depth = self.remaining_depth;
-        let found = alias_term(
-            &setting,
-            &mut self.terms,
-            &mut effects,
-            alias.kind,
-            &ids,
-            depth,
-        );
+        let found = alias_term(&setting, &mut self.terms, &mut effects, kind, args, depth);
         self.record_effects(&effects)?;
         found
     }
-}
 
-/// Whether the goal that an alias and a term are equal holds at a depth.
-fn equation_outcome(
-    setting: &Setting<'_>,
-    terms: &mut TermTable,
-    effects: &mut Effects,
-    alias: TermId,
-    term: TermId,
-    depth: u32,
-) -> Result<Outcome, Stop>
-    requires effects { AreSound setting.now terms.old effects.old }
-    requires alias { IsIn terms.old alias }
-    requires term { IsIn terms.old term }
-    ensures effects { AreSound setting.now terms.new effects.new }
-    ensures kept { Keeps terms.old terms.new }
-    ensures stops { IfErr result (IsStop setting.now) }
-    ensures says { (m : TypingMode) → RunsFor setting.now m → IfOk result (Says ((level_in setting.now m depth).equation_holds (erased_at terms.old alias) (erased_at terms.old term)) ((level_in setting.now m depth).equation_refuted (erased_at terms.old alias) (erased_at terms.old term))) }
-{
-    let premise = InternedPremise::Predicate(InternedPredicate::Projection(alias, term));
-    premise_outcome(setting, terms, effects, &premise, depth)
+    /// The numbers of a predicate's terms. Nothing changes but that there may be more terms.
+    pub(crate) fn interned_predicate(
+        &mut self,
+        asked: PredicateView<'_>,
+    ) -> Result<InternedPredicate, Stop>
+        ensures kept { Keeps self.old.terms self.new.terms }
+        ensures unchanged { self.new ≡ record self.old { terms = self.new.terms } }
+        ensures within { IfOk result (PredicateIn self.new.terms) }
+        ensures trees { IfOk result (λ p. predicate_at self.new.terms p ≡ predicate_seen asked.entry) }
+        ensures stops { IfErr result (λ s. s ≡ Stop.OutOfMemory) }
+    {
+        let alloc = self.allocator();
+        Ok(intern_predicate(alloc, &mut self.terms, asked)?)
+    }
+
+    /// The numbers of arguments. Nothing changes but that there may be more terms.
+    pub(crate) fn interned_args(&mut self, args: &[GenericArg]) -> Result<Vec<TermId>, Stop>
+        ensures kept { Keeps self.old.terms self.new.terms }
+        ensures unchanged { self.new ≡ record self.old { terms = self.new.terms } }
+        ensures within { IfOk result (λ ids. AreIn self.new.terms ids.items) }
+        ensures trees { IfOk result (λ ids. erased_all self.new.terms ids.items ≡ erased_args args.now) }
+        ensures stops { IfErr result (λ s. s ≡ Stop.OutOfMemory) }
+    {
+        let alloc = self.allocator();
+        Ok(intern_args(alloc, &mut self.terms, args)?)
+    }
 }

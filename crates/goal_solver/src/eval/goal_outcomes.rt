@@ -1,73 +1,52 @@
 //! Whether a goal that was added holds.
-ghost use Rattle.std.specs.Prelude.{◌≡◌, ◌<◌, ◌||◌, length, true, false, IfOk, IfErr};
-ghost use Rattle.goal_terms.specs.Erased.{erased};
+ghost use Rattle.std.specs.Prelude.{◌≡◌, ◌<◌, ◌||◌, length, false, IfOk, IfErr};
 ghost use Rattle.goal_terms.specs.NodeTests.{is_any_infer};
 ghost use Rattle.goal_terms.specs.TableMeaning.{Keeps};
-ghost use Rattle.goal_terms.specs.TreeOf.{tree_of_alias, tree_of_term};
 ghost use Rattle.goal_terms.specs.declared.modes.TypingMode.{TypingMode as modes};
 ghost use Rattle.goal_tables.specs.Predicates.{some_in_env as some_env, some_in_predicate};
-ghost use Rattle.goal_kinds.specs.Interned.{IsIn, AreIn, PredicateIn, predicate_at, erased_at, erased_all};
-ghost use Rattle.goal_kinds.specs.Premises.{ClauseHolds, ClauseRefuted};
-ghost use Rattle.goal_kinds.specs.Settings.{is_headline};
+ghost use Rattle.goal_kinds.specs.Interned.{IsIn, AreIn, PredicateIn};
+ghost use Rattle.goal_solver.specs.Accesses.{RecordsCausedFaults};
 ghost use Rattle.goal_solver.specs.AddedGoals.{IsClosedGoal, GoalHolds, GoalRefuted};
-ghost use Rattle.goal_solver.specs.Answers.{level_over, erased_args};
+ghost use Rattle.goal_solver.specs.Answers.{IsOwed, level_over};
+ghost use Rattle.goal_solver.specs.Evaluations.{SaysOf, StopsForMemory, predicate_seen};
 ghost use Rattle.goal_solver.specs.GoingBack.{GoesBack};
-ghost use Rattle.goal_solver.specs.Outcomes.{StandsFor, Says, FoundIn};
-ghost use Rattle.goal_solver.specs.Relating.{ChangesInference};
+ghost use Rattle.goal_solver.specs.Outcomes.{Says};
+ghost use Rattle.goal_solver.specs.Relating.{ChangesRecords};
 
 use crate::context::EvalCtxt;
 use crate::eval::closed_goals::has_variable;
-use crate::eval::effects::Effects;
-use crate::eval::interning::{intern_args, intern_equation};
 use crate::eval::open_terms::any_variable;
-use crate::eval::outcomes::{Found, OnAccess, Outcome, Setting, Stop};
-use crate::eval::premises::premise_outcome;
-use crate::normalizes_to::alias_terms::alias_term;
+use crate::eval::outcomes::{Found, Outcome, Stop};
+use crate::eval::predicate_views::PredicateView;
 use goal_infer::followed::{follow, follow_all};
 use goal_infer::resolve::resolve;
 use goal_infer::unify::{Unified, unify};
-use goal_kinds::candidates::interned::{InternedPredicate, InternedPremise, InternedTrait};
+use goal_kinds::candidates::interned::{InternedPredicate, InternedTrait};
 use goal_tables::predicate_terms::some_in_env;
 use goal_terms::node_tests::{NodeTest, general_variable};
 use goal_terms::predicates::{Clause, Goal, NormalizesTo, Predicate};
 use goal_terms::term_nodes::TermId;
-use goal_terms::terms::{AliasTerm, AliasTermKind, GenericArg, Term};
+use goal_terms::terms::Term;
 
 impl EvalCtxt<'_> {
     /// Whether a goal holds at the remaining depth.
     pub(crate) fn goal_outcome(&mut self, goal: &Goal<Predicate>) -> Result<Outcome, Stop>
-        ensures says { (m : modes) → StandsFor self.old.typing_mode m → IsClosedGoal goal.now.predicate goal.now.param_env.items → IfOk result (Says (GoalHolds (level_over self.old m goal.now.param_env.items) goal.now.predicate) (GoalRefuted (level_over self.old m goal.now.param_env.items) goal.now.predicate)) }
+        ensures says { (m : modes) → IsOwed self.new m → IsClosedGoal goal.now.predicate goal.now.param_env.items → IfOk result (Says (GoalHolds (level_over self.old m goal.now.param_env.items) goal.now.predicate) (GoalRefuted (level_over self.old m goal.now.param_env.items) goal.now.predicate)) }
         ensures closed { IsClosedGoal goal.now.predicate goal.now.param_env.items → self.new.inference ≡ self.old.inference }
-        ensures alone { ChangesInference self.old self.new }
+        ensures alone { ChangesRecords self.old self.new }
+        ensures faults { RecordsCausedFaults self.old self.new }
         ensures goes_back { GoesBack self.old self.new }
-        ensures stops { is_headline self.old.typing_mode ≡ true → IfErr result (λ s. s ≡ Stop.OutOfMemory) }
+        ensures stops { StopsForMemory self.old result }
     {
         match &goal.predicate {
             Predicate::Trait(predicate) => {
-                let args = self.interned_args(predicate.trait_ref.args.as_slice())?;
-                let held = InternedTrait {
-                    def_id: predicate.trait_ref.def_id,
-                    args,
-                };
-                self.predicate_outcome(goal, InternedPredicate::Trait(held))
+                self.asked_outcome(goal, PredicateView::Trait(predicate))
             }
             Predicate::HostEffect(predicate) => {
-                let args = self.interned_args(predicate.trait_ref.args.as_slice())?;
-                let held = InternedTrait {
-                    def_id: predicate.trait_ref.def_id,
-                    args,
-                };
-                self.predicate_outcome(
-                    goal,
-                    InternedPredicate::HostEffect(predicate.constness, held),
-                )
+                self.asked_outcome(goal, PredicateView::HostEffect(predicate))
             }
             Predicate::Projection(predicate) => {
-                let (alias, term) = self.interned_equation(
-                    &predicate.projection_term,
-                    &predicate.term,
-                )?;
-                self.predicate_outcome(goal, InternedPredicate::Projection(alias, term))
+                self.asked_outcome(goal, PredicateView::Projection(predicate))
             }
             Predicate::NormalizesTo(predicate) => {
                 self.normalization_outcome(goal.param_env.as_slice(), predicate)
@@ -76,81 +55,26 @@ impl EvalCtxt<'_> {
         }
     }
 
-    /// The numbers of arguments. Nothing changes but that there may be more terms.
-    fn interned_args(&mut self, args: &[GenericArg]) -> Result<Vec<TermId>, Stop>
-        ensures kept { Keeps self.old.terms self.new.terms }
-        ensures unchanged { self.new ≡ record self.old { terms = self.new.terms } }
-        ensures within { IfOk result (λ ids. AreIn self.new.terms ids.items) }
-        ensures trees { IfOk result (λ ids. erased_all self.new.terms ids.items ≡ erased_args args.now) }
-        ensures stops { IfErr result (λ s. s ≡ Stop.OutOfMemory) }
-    {
-        let alloc = self.allocator();
-        Ok(intern_args(alloc, &mut self.terms, args)?)
-    }
-
-    /// The numbers of an alias and of a term. Nothing changes but that there may be more terms.
-    fn interned_equation(
-        &mut self,
-        alias: &AliasTerm,
-        term: &Term,
-    ) -> Result<(TermId, TermId), Stop>
-        ensures kept { Keeps self.old.terms self.new.terms }
-        ensures unchanged { self.new ≡ record self.old { terms = self.new.terms } }
-        ensures within { IfOk result (λ p. IsIn self.new.terms p.0 × IsIn self.new.terms p.1) }
-        ensures trees { IfOk result (λ p. (erased_at self.new.terms p.0 ≡ erased (tree_of_alias alias.now)) × (erased_at self.new.terms p.1 ≡ erased (tree_of_term term.now))) }
-        ensures stops { IfErr result (λ s. s ≡ Stop.OutOfMemory) }
-    {
-        Ok(intern_equation(&mut self.terms, alias, term)?)
-    }
-
-    /// Whether a goal's predicate, given by the numbers of its terms, holds at the remaining depth.
-    fn predicate_outcome(
+    /// Whether a goal's predicate holds at the remaining depth.
+    fn asked_outcome(
         &mut self,
         goal: &Goal<Predicate>,
-        predicate: InternedPredicate,
+        asked: PredicateView<'_>,
     ) -> Result<Outcome, Stop>
-        requires { PredicateIn self.old.terms predicate }
-        ensures says { (m : modes) → StandsFor self.old.typing_mode m → (some_in_predicate is_any_infer goal.now.predicate || some_env is_any_infer goal.now.param_env.items) ≡ false → IfOk result (Says (ClauseHolds (level_over self.old m goal.now.param_env.items) (predicate_at self.old.terms predicate)) (ClauseRefuted (level_over self.old m goal.now.param_env.items) (predicate_at self.old.terms predicate))) }
+        ensures says { (some_in_predicate is_any_infer goal.now.predicate || some_env is_any_infer goal.now.param_env.items) ≡ false → SaysOf self.old self.new goal.now.param_env.items (predicate_seen asked.entry) result }
         ensures closed { (some_in_predicate is_any_infer goal.now.predicate || some_env is_any_infer goal.now.param_env.items) ≡ false → self.new.inference ≡ self.old.inference }
-        ensures alone { ChangesInference self.old self.new }
+        ensures alone { ChangesRecords self.old self.new }
+        ensures faults { RecordsCausedFaults self.old self.new }
         ensures goes_back { GoesBack self.old self.new }
-        ensures stops { is_headline self.old.typing_mode ≡ true → IfErr result (λ s. s ≡ Stop.OutOfMemory) }
+        ensures stops { StopsForMemory self.old result }
     {
         let environment = goal.param_env.as_slice();
         if has_variable(goal) {
+            let predicate = self.interned_predicate(asked)?;
             self.open_outcome(environment, predicate)
         } else {
-            self.closed_outcome(environment, predicate)
+            self.predicate_goal_outcome(asked, environment)
         }
-    }
-
-    /// Whether a predicate holds at the remaining depth. Nothing changes but that there may be more terms.
-    fn closed_outcome(
-        &mut self,
-        environment: &[Clause],
-        predicate: InternedPredicate,
-    ) -> Result<Outcome, Stop>
-        requires { PredicateIn self.old.terms predicate }
-        ensures kept { Keeps self.old.terms self.new.terms }
-        ensures unchanged { self.new ≡ record self.old { terms = self.new.terms } }
-        ensures says { (m : modes) → StandsFor self.old.typing_mode m → IfOk result (Says (ClauseHolds (level_over self.old m environment.now) (predicate_at self.old.terms predicate)) (ClauseRefuted (level_over self.old m environment.now) (predicate_at self.old.terms predicate))) }
-        ensures stops { is_headline self.old.typing_mode ≡ true → IfErr result (λ s. s ≡ Stop.OutOfMemory) }
-    {
-        let mut effects = Effects::new(self.allocator());
-        let setting = Setting {
-            rows: self.tables.rows(),
-            typing_mode: &self.typing_mode,
-            on_access: OnAccess::Stop,
-            environment,
-        };
-        let premise = InternedPremise::Predicate(predicate);
-        premise_outcome(
-            &setting,
-            &mut self.terms,
-            &mut effects,
-            &premise,
-            self.remaining_depth,
-        )
     }
 
     /// Whether a predicate in which a variable stands holds at the remaining depth. It is asked with the bindings
@@ -162,9 +86,10 @@ impl EvalCtxt<'_> {
         predicate: InternedPredicate,
     ) -> Result<Outcome, Stop>
         requires { PredicateIn self.old.terms predicate }
-        ensures alone { ChangesInference self.old self.new }
+        ensures alone { ChangesRecords self.old self.new }
+        ensures faults { RecordsCausedFaults self.old self.new }
         ensures goes_back { GoesBack self.old self.new }
-        ensures stops { is_headline self.old.typing_mode ≡ true → IfErr result (λ s. s ≡ Stop.OutOfMemory) }
+        ensures stops { StopsForMemory self.old result }
     {
         if some_in_env(NodeTest::IsAnyInfer, environment) {
             return self.open_equation(environment, predicate);
@@ -173,7 +98,7 @@ impl EvalCtxt<'_> {
         if self.has_open(&followed) {
             return self.open_equation(environment, predicate);
         }
-        self.closed_outcome(environment, followed)
+        self.evaluate_predicate(&followed, environment)
     }
 
     /// Makes an alias and a term equal, at the depth below, where they are what a predicate in which a variable is
@@ -184,9 +109,10 @@ impl EvalCtxt<'_> {
         predicate: InternedPredicate,
     ) -> Result<Outcome, Stop>
         requires { PredicateIn self.old.terms predicate }
-        ensures alone { ChangesInference self.old self.new }
+        ensures alone { ChangesRecords self.old self.new }
+        ensures faults { RecordsCausedFaults self.old self.new }
         ensures goes_back { GoesBack self.old self.new }
-        ensures stops { is_headline self.old.typing_mode ≡ true → IfErr result (λ s. s ≡ Stop.OutOfMemory) }
+        ensures stops { StopsForMemory self.old result }
     {
         let depth = self.remaining_depth();
         match predicate {
@@ -274,9 +200,10 @@ impl EvalCtxt<'_> {
         environment: &[Clause],
         goal: &NormalizesTo,
     ) -> Result<Outcome, Stop>
-        ensures alone { ChangesInference self.old self.new }
+        ensures alone { ChangesRecords self.old self.new }
+        ensures faults { RecordsCausedFaults self.old self.new }
         ensures goes_back { GoesBack self.old self.new }
-        ensures stops { is_headline self.old.typing_mode ≡ true → IfErr result (λ s. s ≡ Stop.OutOfMemory) }
+        ensures stops { StopsForMemory self.old result }
     {
         let ids = self.interned_args(goal.alias.args.as_slice())?;
         let args = self.followed_args(ids.as_slice())?;
@@ -285,41 +212,11 @@ impl EvalCtxt<'_> {
         {
             return Ok(Outcome::Undecided);
         }
-        match self.found_term(environment, goal.alias.kind, args.as_slice())? {
+        match self.evaluate_alias(goal.alias.kind, args.as_slice(), environment)? {
             Found::Refuted => Ok(Outcome::Refuted),
             Found::Undecided => Ok(Outcome::Undecided),
             Found::Is(found) => self.expect_term(environment, &goal.term, found),
         }
-    }
-
-    /// Which term an alias has at the remaining depth. Nothing changes but that there may be more terms.
-    fn found_term(
-        &mut self,
-        environment: &[Clause],
-        kind: AliasTermKind,
-        args: &[TermId],
-    ) -> Result<Found, Stop>
-        requires { AreIn self.old.terms args.now }
-        ensures kept { Keeps self.old.terms self.new.terms }
-        ensures unchanged { self.new ≡ record self.old { terms = self.new.terms } }
-        ensures within { IfOk result (FoundIn self.new.terms) }
-        ensures stops { is_headline self.old.typing_mode ≡ true → IfErr result (λ s. s ≡ Stop.OutOfMemory) }
-    {
-        let mut effects = Effects::new(self.allocator());
-        let setting = Setting {
-            rows: self.tables.rows(),
-            typing_mode: &self.typing_mode,
-            on_access: OnAccess::Stop,
-            environment,
-        };
-        alias_term(
-            &setting,
-            &mut self.terms,
-            &mut effects,
-            kind,
-            args,
-            self.remaining_depth,
-        )
     }
 
     /// Makes an expected term the term that was found. An unbound general variable is bound to it as it stands,
@@ -331,9 +228,10 @@ impl EvalCtxt<'_> {
         found: TermId,
     ) -> Result<Outcome, Stop>
         requires { IsIn self.old.terms found }
-        ensures alone { ChangesInference self.old self.new }
+        ensures alone { ChangesRecords self.old self.new }
+        ensures faults { RecordsCausedFaults self.old self.new }
         ensures goes_back { GoesBack self.old self.new }
-        ensures stops { is_headline self.old.typing_mode ≡ true → IfErr result (λ s. s ≡ Stop.OutOfMemory) }
+        ensures stops { StopsForMemory self.old result }
     {
         let expected = self.interned_term(expected)?;
         let top = resolve(&self.terms, &self.inference, expected);

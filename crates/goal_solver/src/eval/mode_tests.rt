@@ -19,10 +19,3 @@ pub(crate) fn is_headline(mode: &TypingMode) -> bool
         TypingMode::PostBorrowckAnalysis { .. } | TypingMode::PostAnalysis => true,
     }
 }
-
-/// Whether a mode is coherence.
-pub(crate) fn is_coherence(mode: &TypingMode) -> bool
-    ensures { result ≡ true → mode.now ≡ TypingMode.Coherence }
-{
-    matches!(mode, TypingMode::Coherence)
-}

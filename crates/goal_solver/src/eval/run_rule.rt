@@ -1,23 +1,25 @@
 //! Running rules.
 ghost use Rattle.std.specs.Prelude.{◌≡◌, ◌⊎◌, ◌∷◌, [], true, length, Some, IfOk, IfErr, OnOk};
 ghost use Rattle.std.specs.List.{Contains};
-ghost use Rattle.goal_terms.specs.TableMeaning.{Keeps};
 ghost use Rattle.goal_terms.specs.declared.answers.DelayedFault.{DelayedFault as Delayed};
 ghost use Rattle.goal_terms.specs.declared.modes.TypingMode.{TypingMode};
 ghost use Rattle.goal_kinds.specs.RuleLists.{entries_of};
 ghost use Rattle.goal_kinds.specs.Settings.{is_headline as is_of_headline};
+ghost use Rattle.goal_solver.specs.Accesses.{RecordsCausedFaults};
 ghost use Rattle.goal_solver.specs.Answers.{IsOwed, level_over, IsMaybe, AnswersQuietly, IsFaultOf};
-ghost use Rattle.goal_solver.specs.Binding.{IsApplicable, CanBeListed};
+ghost use Rattle.goal_solver.specs.Binding.{IsApplicable};
 ghost use Rattle.goal_solver.specs.GoingBack.{GoesBack, restored};
 ghost use Rattle.goal_solver.specs.Added.{RecordsAccess};
 ghost use Rattle.goal_solver.specs.Lists.{ListTermIn, RunIn, SaysList};
 ghost use Rattle.goal_solver.specs.OpenRuns.{RunsOpen};
 ghost use Rattle.goal_solver.specs.Refusals.{WhenRefused, IsRefusedOpen};
-ghost use Rattle.goal_solver.specs.Outcomes.{RunsAs, StandsFor};
+ghost use Rattle.goal_solver.specs.Outcomes.{RunsAs};
+ghost use Rattle.goal_solver.specs.RunAnswers.{RunsClosed, RunsInTrial};
 ghost use Rattle.goal_solver.specs.RunRules.{setting_over, asked_of, IsAskedOnce, IsClosedRule, IsRuleAnswer, IsRuleOpen, IsRecorded, IsKept, AreRecorded, IsRecordedAnswer, AreRecordedWhere, AreListed, response_of, RuleRunsOn};
 ghost use Rattle.goal_solver.specs.State.{kinds_of};
 
 pub(crate) mod asked;
+pub(crate) mod hidden_types;
 pub(crate) mod interned;
 pub(crate) mod open;
 pub(crate) mod open_arguments;
@@ -48,31 +50,27 @@ impl EvalCtxt<'_> {
     /// were named before it being known. `Maybe`, in a headline mode, where one term at most is asked for, for a
     /// general variable: there is neither.
     ///
-    /// A list or an environment with inference variables is run in a trial, by one step for each entry, in order:
-    /// arguments of a header are fresh variables and the header is equated with what it is matched with, two
-    /// lists are equated, clauses and normalizations are added as goals. Then the goals are evaluated. `Yes`: each
-    /// step and the evaluation are sure. `NoSolution`: one of them is refused. `Maybe`: one is undecided, and none
-    /// refused. The response lists what was made, bound, equated and entered in the trial, and can be applied. That
-    /// of a closed list can be applied where the value that it may list can be given to its variable.
+    /// A list that defines an opaque type's hidden type, one with inference variables and one under an environment
+    /// with some is run in a trial, by one step for each entry, in order: arguments of a header are fresh variables
+    /// and the header is equated with what it is matched with, two lists are equated, clauses and normalizations
+    /// are added as goals, hidden types are entered. Then the goals are evaluated. `Yes`: each step and the
+    /// evaluation are sure. `NoSolution`: one of them is refused. `Maybe`: one is undecided, and none refused. The
+    /// response lists what was made, bound, equated and entered in the trial, and can be applied. That of a closed
+    /// list can be applied where the value that it may list can be given to its variable.
     ///
     /// An access or a delayed fault is recorded when its entry is reached: nothing before it is refuted, and of a
     /// closed list all arguments that were named before it are known. So after `Yes` all that the list says to
-    /// record is recorded, and no delayed fault comes that it doesn't name. Inference state, added goals and
-    /// storage are as before.
+    /// record is recorded. A delayed fault that comes is one that the list names, or has its cause in the tables:
+    /// what its entries ask for meets it. Inference state, added goals and storage are as before.
     pub fn run_rule(&mut self, environment: &[Clause], rule: &Rule) -> Result<Candidate, Fault>
-        ensures sound { (m : TypingMode) → IsOwed self.new m → IsClosedRule rule.now.entries.items environment.now → IsRuleAnswer (setting_over self.old m environment.now) (level_over self.old m environment.now) rule.now (response_of result) }
-        ensures decided { (m : TypingMode) → IsOwed self.new m → IsClosedRule rule.now.entries.items environment.now → IsAskedOnce (asked_of rule.now.entries.items) → IsMaybe (response_of result) → IsRuleOpen (setting_over self.old m environment.now) (level_over self.old m environment.now) rule.now }
+        ensures closed { IsClosedRule rule.now.entries.items environment.now → RunsClosed environment.now rule.now self.old self.new (response_of result) }
+        ensures open { (IsClosedRule rule.now.entries.items environment.now → ⊥) → RunsInTrial environment.now rule.now self.old self.new (response_of result) }
         ensures recorded { IfOk (response_of result) (IsRecordedAnswer self.new rule.now.entries.items) }
         ensures listed { AreListed rule.now.entries.items self.old self.new }
         ensures source { IfOk result (λ c. c.source ≡ rule.now.source) }
         ensures unchanged { self.new ≡ restored self.old self.new }
         ensures goes_back { GoesBack self.old self.new }
         ensures fault { IsFaultOf self.old self.new (response_of result) }
-        ensures quiet { IsClosedRule rule.now.entries.items environment.now → AnswersQuietly (length (kinds_of self.old)) (response_of result) }
-        ensures chain { (IsClosedRule rule.now.entries.items environment.now → ⊥) → IfOk (response_of result) (RunsOpen environment.now rule.now.entries.items self.old self.new) }
-        ensures applies { (IsClosedRule rule.now.entries.items environment.now → ⊥) → IfOk (response_of result) (IsApplicable self.new) }
-        ensures applies_closed { IsClosedRule rule.now.entries.items environment.now → IfOk (response_of result) (λ r. CanBeListed self.new r.var_values.items → IsApplicable self.new r) }
-        ensures refused { (IsClosedRule rule.now.entries.items environment.now → ⊥) → WhenRefused (response_of result) (IsRefusedOpen environment.now rule.now.entries.items self.old self.new) }
     {
         self.is_well_formed();
         let result = self.rule_response(environment, rule)?;
@@ -99,7 +97,7 @@ impl EvalCtxt<'_> {
         if has_variable(&rule.entries, environment) {
             return self.run_open(environment, &rule.entries);
         }
-        match self.run_entries(environment, &rule.entries) {
+        match self.entries_outcome(environment, &rule.entries) {
             Ok(ListOutcome::Holds(found)) => match (asked_variable(&rule.entries), found) {
                 (Asked::Nothing, _) => Ok(self.respond(Certainty::Yes, None)),
                 (Asked::Variable(expected), Some(id)) => self.respond_found(expected, id),
@@ -111,9 +109,9 @@ impl EvalCtxt<'_> {
         }
     }
 
-    /// What a list of entries comes to at the remaining depth. There may be more terms, accesses and delayed
-    /// faults; nothing else changes.
-    fn run_entries(
+    /// What a list of entries comes to at the remaining depth, by the runs of the typing mode. There may be more
+    /// terms, accesses and delayed faults; nothing else changes.
+    fn entries_outcome(
         &mut self,
         environment: &[Clause],
         entries: &[RuleEntry],
@@ -124,12 +122,36 @@ impl EvalCtxt<'_> {
         ensures unchanged { self.new ≡ restored self.old self.new }
         ensures goes_back { GoesBack self.old self.new }
         ensures stops { is_of_headline self.old.typing_mode ≡ true → IfErr result (λ s. s ≡ Stop.OutOfMemory) }
-        ensures says { (m : TypingMode) → StandsFor self.old.typing_mode m → IfOk result (SaysList (level_over self.old m environment.now) (Some (entries_of self.old.tables entries.now)) self.new.terms) }
+        ensures says { (m : TypingMode) → IsOwed self.new m → IfOk result (SaysList (level_over self.old m environment.now) (Some (entries_of self.old.tables entries.now)) self.new.terms) }
+    {
+        let on_access = self.first_access();
+        let first = self.run_entries(on_access, environment, entries);
+        if let Some(found) = self.first_answer(first)? {
+            return Ok(found);
+        }
+        self.run_entries(OnAccess::Record, environment, entries)
+    }
+
+    /// What one run of a list of entries comes to. There may be more terms, accesses and delayed faults; nothing
+    /// else changes.
+    fn run_entries(
+        &mut self,
+        on_access: OnAccess,
+        environment: &[Clause],
+        entries: &[RuleEntry],
+    ) -> Result<ListOutcome, Stop>
+        ensures within { IfOk result (ListTermIn self.new.terms) }
+        ensures recorded { IfOk result (AreRecordedWhere self.new entries.now) }
+        ensures listed { AreListed entries.now self.old self.new }
+        ensures unchanged { self.new ≡ restored self.old self.new }
+        ensures goes_back { GoesBack self.old self.new }
+        ensures stops { is_of_headline self.old.typing_mode ≡ true → IfErr result (λ s. s ≡ Stop.OutOfMemory) }
+        ensures says { (m : TypingMode) → RunsAs on_access self.old.typing_mode m → IfOk result (SaysList (level_over self.old m environment.now) (Some (entries_of self.old.tables entries.now)) self.new.terms) }
     {
         let mut run = ListRun::new(self.allocator());
         for entry in entries {
             self.record_entry(entry)?;
-            match self.reach(environment, &mut run, entry)? {
+            match self.reach(on_access, environment, &mut run, entry)? {
                 Reached::Next => {}
                 Reached::Refuted => return Ok(ListOutcome::Refuted),
                 Reached::Undecided => return Ok(ListOutcome::Undecided),
@@ -138,29 +160,34 @@ impl EvalCtxt<'_> {
         Ok(run.outcome())
     }
 
-    /// Where an entry leads at the remaining depth. Nothing changes but that there may be more terms.
+    /// Where an entry leads at the remaining depth. Nothing changes but that there may be more terms, accesses and
+    /// delayed faults, each of these with its cause in the tables.
     fn reach(
         &mut self,
+        on_access: OnAccess,
         environment: &[Clause],
         run: &mut ListRun,
         entry: &RuleEntry,
     ) -> Result<Reached, Stop>
         requires { RunIn self.old.terms run.old }
-        ensures kept { Keeps self.old.terms self.new.terms }
-        ensures unchanged { self.new ≡ record self.old { terms = self.new.terms } }
+        ensures unchanged { self.new ≡ restored self.old self.new }
+        ensures faults { RecordsCausedFaults self.old self.new }
+        ensures goes_back { GoesBack self.old self.new }
         ensures within { IfOk result (λ _. RunIn self.new.terms run.new) }
         ensures stops { is_of_headline self.old.typing_mode ≡ true → IfErr result (λ s. s ≡ Stop.OutOfMemory) }
-        ensures says { (m : TypingMode) → RunsAs OnAccess.Stop self.old.typing_mode m → IfOk result (RuleRunsOn self.old.tables (level_over self.old m environment.now) self.old.terms run.old entry.now self.new.terms run.new) }
+        ensures says { (m : TypingMode) → RunsAs on_access self.old.typing_mode m → IfOk result (RuleRunsOn self.old.tables (level_over self.old m environment.now) self.old.terms run.old entry.now self.new.terms run.new) }
     {
         let mut effects = Effects::new(self.allocator());
         let setting = Setting {
             rows: self.tables.rows(),
             typing_mode: &self.typing_mode,
-            on_access: OnAccess::Stop,
+            on_access,
             environment,
         };
         let depth = self.remaining_depth;
-        run_rule_entry(&setting, &mut self.terms, &mut effects, run, entry, depth)
+        let reached = run_rule_entry(&setting, &mut self.terms, &mut effects, run, entry, depth);
+        self.record_effects(&effects)?;
+        reached
     }
 
     /// Records what an entry says to record.

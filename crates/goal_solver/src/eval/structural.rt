@@ -9,6 +9,7 @@ ghost use Rattle.goal_infer.specs.Unification.{is_alias};
 ghost use Rattle.goal_kinds.specs.Interned.{IsIn, erased_at};
 ghost use Rattle.goal_kinds.specs.Level.{HasHeadForm, HeadFormRefuted};
 ghost use Rattle.goal_kinds.specs.Settings.{is_headline};
+ghost use Rattle.goal_solver.specs.Accesses.{RecordsCausedFaults};
 ghost use Rattle.goal_solver.specs.Answers.{IsOwed, level_over};
 ghost use Rattle.goal_solver.specs.GoingBack.{GoesBack, restored};
 ghost use Rattle.goal_solver.specs.HeadForms.{bound_term, IsClosedForm, IsFormAnswer, IsFormOpen, IsAnswered, IsFormFound, IsFormUnfound, IsFoundItself};
@@ -49,6 +50,7 @@ impl EvalCtxt<'_> {
         ensures itself { is_alias (node_of (bound_term self.old term.now)) ≡ false → IfOk result (IsAnswered (bound_term self.old term.now)) }
         ensures only_memory { is_alias (node_of (bound_term self.old term.now)) ≡ false → IfErr result (λ f. f ≡ Fault.OutOfMemory) }
         ensures unchanged { self.new ≡ restored self.old self.new }
+        ensures faults { RecordsCausedFaults self.old self.new }
         ensures goes_back { GoesBack self.old self.new }
         ensures fault { IsFaultFor self.old self.new result }
     {
@@ -68,6 +70,7 @@ impl EvalCtxt<'_> {
     fn form_outcome(&mut self, environment: &[Clause], term: &Term) -> Result<Found, Stop>
         ensures kept { Keeps self.old.terms self.new.terms }
         ensures unchanged { self.new ≡ restored self.old self.new }
+        ensures faults { RecordsCausedFaults self.old self.new }
         ensures goes_back { GoesBack self.old self.new }
         ensures within { IfOk result (FoundIn self.new.terms) }
         ensures sound { (m : modes) → IsOwed self.new m → IfOk result (IsFormFound (level_over self.old m environment.now) (bound_term self.old term.now) self.new.terms) }
@@ -123,6 +126,7 @@ impl EvalCtxt<'_> {
         requires { IsIn self.old.terms id }
         ensures kept { Keeps self.old.terms self.new.terms }
         ensures unchanged { self.new ≡ restored self.old self.new }
+        ensures faults { RecordsCausedFaults self.old self.new }
         ensures goes_back { GoesBack self.old self.new }
         ensures within { IfOk result (FoundIn self.new.terms) }
         ensures says { (m : modes) → IsOwed self.new m → IfOk result (SaysWhich (HasHeadForm (level_over self.old m environment.now) (erased_at self.old.terms id)) (HeadFormRefuted (level_over self.old m environment.now) (erased_at self.old.terms id)) self.new.terms) }
@@ -146,6 +150,7 @@ impl EvalCtxt<'_> {
         requires { IsIn self.old.terms id }
         ensures kept { Keeps self.old.terms self.new.terms }
         ensures unchanged { self.new ≡ restored self.old self.new }
+        ensures faults { RecordsCausedFaults self.old self.new }
         ensures goes_back { GoesBack self.old self.new }
         ensures within { IfOk result (FoundIn self.new.terms) }
         ensures says { (m : modes) → RunsAs on_access self.old.typing_mode m → IfOk result (SaysWhich (HasHeadForm (level_over self.old m environment.now) (erased_at self.old.terms id)) (HeadFormRefuted (level_over self.old m environment.now) (erased_at self.old.terms id)) self.new.terms) }

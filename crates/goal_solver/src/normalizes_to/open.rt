@@ -7,9 +7,10 @@ ghost use Rattle.goal_solver.specs.Answers.{is_closed_alias, expected_variable};
 ghost use Rattle.goal_solver.specs.Binding.{IsApplicable};
 ghost use Rattle.goal_solver.specs.Collecting.{kind_words, CollectsFor};
 ghost use Rattle.goal_solver.specs.GoingBack.{GoesBack, restored};
+ghost use Rattle.goal_solver.specs.HiddenTypes.{tree_in};
 ghost use Rattle.goal_solver.specs.MergedRules.{IfAnswered};
 ghost use Rattle.goal_solver.specs.OpenGoals.{WhenAnswered, has_kind_fault, at_depth};
-ghost use Rattle.goal_solver.specs.OpenProjections.{AsksItsTrait, proven_class, own_args, CollectsAll, MergesGroup, tree_in, is_formed, Forms, FormsAll, RefusesForm, LacksForm, WithForms, IsRigidList, IsRigid, ByBounds, ByRest, ByLater, ByGroups, MergesThrough, MergesProjection};
+ghost use Rattle.goal_solver.specs.OpenProjections.{AsksItsTrait, proven_class, own_args, CollectsAll, MergesGroup, is_formed, Forms, FormsAll, RefusesForm, LacksForm, WithForms, IsRigidList, IsRigid, ByBounds, ByRest, ByLater, ByGroups, MergesThrough, MergesProjection};
 ghost use Rattle.goal_solver.specs.Refusals.{WhenRefused};
 ghost use Rattle.goal_solver.specs.Relating.{IsFaultFor};
 
@@ -360,7 +361,7 @@ fn rules_of<G: GoalKind>(
 
 /// The type or the constant that an argument is.
 #[tactic(auto, using(goal_terms::proofs::TreeLemmas::tree_equations))]
-fn term_in(arg: &GenericArg) -> Result<Option<Term>, OutOfMemory>
+pub(crate) fn term_in(arg: &GenericArg) -> Result<Option<Term>, OutOfMemory>
     ensures { IfOk result (λ o. option_map tree_of_term o ≡ tree_in arg.now) }
 {
     match arg {

@@ -13,18 +13,15 @@ ghost use Rattle.goal_solver.specs.Effects.{AreSound, IsStop};
 
 use crate::eval::effects::Effects;
 use crate::eval::lists::run_list;
-use crate::eval::mode_tests::is_coherence;
 use crate::eval::outcomes::{Found, Projection, Setting, Stop};
 use goal_kinds::candidates::interned::InternedCandidate;
 use goal_kinds::lists::projections::projection_list;
 use goal_kinds::lists::{AskedProjection, InternedEntry};
-use goal_terms::answers::OpaqueAccess;
 use goal_terms::modes::TypingMode;
-use goal_terms::term_nodes::{OutOfMemory, TermId};
+use goal_terms::term_nodes::OutOfMemory;
 use goal_terms::term_table::TermTable;
 
-/// The term that a candidate gives a projection. In coherence an impl that leaves the alias as it is
-/// decides nothing.
+/// The term that a candidate gives a projection.
 #[tactic(auto, using(crate::proofs::CacheLemmas::caching))]
 #[cycle(closed)]
 pub(crate) fn candidate_term(
@@ -46,16 +43,7 @@ pub(crate) fn candidate_term(
 {
     let list = candidate_list(&*setting, terms, &*projection, &*candidate)?;
     let outcome = run_list(setting, terms, effects, &list, depth)?;
-    let found = outcome.term();
-    if stays_ambiguous(
-        setting.typing_mode,
-        candidate,
-        projection.rigid_alias,
-        found,
-    ) {
-        return Err(Stop::ReadsMode(OpaqueAccess::Always));
-    }
-    Ok(found)
+    Ok(outcome.term())
 }
 
 /// The list of a candidate for a projection's term, by which a run goes, or none where its rule is refused.
@@ -81,21 +69,4 @@ fn candidate_list<'t>(
     };
     let erased = TypingMode::ErasedNotCoherence;
     projection_list(setting.of_lists(&erased), terms, &asked, candidate)
-}
-
-/// Whether an impl leaves a projection's alias as it is in coherence, where that is ambiguous.
-fn stays_ambiguous(
-    mode: &TypingMode,
-    candidate: &InternedCandidate<'_>,
-    rigid_alias: TermId,
-    found: Found,
-) -> bool
-    ensures { result ≡ true → mode.now ≡ TypingMode.Coherence }
-{
-    match (candidate, found) {
-        (InternedCandidate::Impl(_), Found::Is(term)) => {
-            term == rigid_alias && is_coherence(mode)
-        }
-        _ => false,
-    }
 }

@@ -1,5 +1,5 @@
 //! The arguments that a definition of a goal's item takes.
-ghost use Rattle.std.specs.Prelude.{◌≡◌, ◌||◌, ◌++◌, List, [], true, false, length, map, drop, None, Some, Err, IfOk, IfErr, OnOk, OnErr};
+ghost use Rattle.std.specs.Prelude.{◌≡◌, ◌↔◌, ◌||◌, ◌++◌, List, [], true, false, length, map, drop, None, Some, Err, IfOk, IfErr, IsTrue, OnOk, OnErr};
 ghost use Rattle.std.specs.List.{list_any};
 ghost use Rattle.goal_terms.specs.Erased.{erased};
 ghost use Rattle.goal_terms.specs.NodeTests.{is_any_infer, some_node};
@@ -22,7 +22,7 @@ ghost use Rattle.goal_solver.specs.GoingBack.{GoesBack, restored};
 ghost use Rattle.goal_solver.specs.Outcomes.{RunsAs, SaysMatch, MatchIn};
 ghost use Rattle.goal_solver.specs.Relating.{AgreesWith, Identifies, SaysYes, Refuses, LeavesOpen, ChangesRecords, IsFaultFor, all_bound};
 ghost use Rattle.goal_solver.specs.State.{kinds_of};
-ghost use Rattle.goal_solver.specs.TranslatedArgs.{taken_by, own_after, bound_ref, AreClosedIn, certainty_in, AnswersJust, IsTranslation, IsHeaderOpen, IsFresh, BindsNothing, IsMadeEqual, IsEqualUnder, IsAdded, AddsClauses, MakesVariables, ChangesGoals};
+ghost use Rattle.goal_solver.specs.TranslatedArgs.{taken_by, own_after, bound_ref, AreClosedIn, certainty_in, AnswersJust, IsTranslation, IsHeaderOpen, IsFresh, BindsNothing, IsMadeEqual, IsEqualUnder, IsAdded, AddsClauses, MakesVariables, ChangesGoals, MatchCounts, Translates, asked_of};
 ghost use Rattle.goal_solver.specs.Variables.{fresh_args};
 
 use crate::context::EvalCtxt;
@@ -73,15 +73,8 @@ impl EvalCtxt<'_> {
         ensures in_trait { taken_by self.old impl_id container ≡ from_projection → AnswersJust (trees_of goal.now.predicate.alias.args.items) Certainty.Yes result × (self.new ≡ self.old) }
         ensures in_impl { taken_by self.old impl_id container ≡ from_impl → AnswersJust (trees_of impl_args.now ++ own_after impl_trait_ref.now goal.now) Certainty.Yes result × (self.new ≡ self.old) }
         ensures nowhere { taken_by self.old impl_id container ≡ from_other None → AnswersJust (own_after impl_trait_ref.now goal.now) Certainty.Maybe result × (self.new ≡ self.old) }
-        ensures sound { (m : modes) → IsOwed self.new m → (q : impls) → taken_by self.old impl_id container ≡ from_other (Some q) → AreClosedIn goal.now.param_env.items (bound_ref self.old impl_trait_ref.now) → IsTranslation (level_over self.old m goal.now.param_env.items) q (bound_ref self.old impl_trait_ref.now) (map erased (own_after impl_trait_ref.now goal.now)) result }
-        ensures decided { (m : modes) → IsOwed self.new m → (q : impls) → taken_by self.old impl_id container ≡ from_other (Some q) → AreClosedIn goal.now.param_env.items (bound_ref self.old impl_trait_ref.now) → LeavesOpen (certainty_in result) → IsHeaderOpen (level_over self.old m goal.now.param_env.items) q (bound_ref self.old impl_trait_ref.now) }
-        ensures fresh { (m : modes) → IsOwed self.new m → (q : impls) → taken_by self.old impl_id container ≡ from_other (Some q) → AreClosedIn goal.now.param_env.items (bound_ref self.old impl_trait_ref.now) → ((s : List Tree) → AllKnown (level_over self.old m goal.now.param_env.items) q.params.items (header_of q) (bound_ref self.old impl_trait_ref.now) s → ⊥) → IfOk result (λ r. IsFresh self.old self.new q (own_after impl_trait_ref.now goal.now) (trees_of r.0.items)) }
-        ensures binds_nothing { (q : impls) → taken_by self.old impl_id container ≡ from_other (Some q) → AreClosedIn goal.now.param_env.items (bound_ref self.old impl_trait_ref.now) → IfOk result (λ r. BindsNothing self.old self.new q (own_after impl_trait_ref.now goal.now) (trees_of r.0.items)) }
-        ensures made_equal { (q : impls) → taken_by self.old impl_id container ≡ from_other (Some q) → (AreClosedIn goal.now.param_env.items (bound_ref self.old impl_trait_ref.now) → ⊥) → IsMadeEqual self.old self.new goal.now.param_env.items q (trees_of impl_trait_ref.now.args.items) (own_after impl_trait_ref.now goal.now) result }
-        ensures equal { (m : modes) → IsOwed self.new m → (q : impls) → taken_by self.old impl_id container ≡ from_other (Some q) → (AreClosedIn goal.now.param_env.items (bound_ref self.old impl_trait_ref.now) → ⊥) → SaysYes (certainty_in result) → (ρ : Variable → Tree) → AgreesWith self.new ρ → IsEqualUnder (level_over self.old m goal.now.param_env.items) q ρ (erased_args impl_trait_ref.now.args.items) (own_after impl_trait_ref.now goal.now) result }
-        ensures never { (q : impls) → taken_by self.old impl_id container ≡ from_other (Some q) → (AreClosedIn goal.now.param_env.items (bound_ref self.old impl_trait_ref.now) → ⊥) → Refuses (certainty_in result) → (ρ : Variable → Tree) → OfKinds ρ → AgreesWith self.old ρ → Identifies ρ (erased_args impl_trait_ref.now.args.items) (map (under (fresh_args q.params.items (length (kinds_of self.old)))) (header_of q)) → ⊥ }
+        ensures other { (q : impls) → taken_by self.old impl_id container ≡ from_other (Some q) → Translates self.old self.new (asked_of impl_trait_ref.now goal.now q) result }
         ensures agreed { (ρ : Variable → Tree) → AgreesWith self.new ρ → AgreesWith self.old ρ }
-        ensures added { (q : impls) → taken_by self.old impl_id container ≡ from_other (Some q) → IfOk result (λ r. IsAdded self.old self.new q goal.now.param_env.items (own_after impl_trait_ref.now goal.now) (trees_of r.0.items)) }
         ensures alone { ChangesGoals self.old self.new }
         ensures unchanged { OnErr result (self.new ≡ restored self.old self.new) }
         ensures goes_back { GoesBack self.old self.new }
@@ -285,7 +278,7 @@ impl EvalCtxt<'_> {
     }
 
     /// What an impl's header comes to for given terms at the remaining depth. Nothing changes but that there may
-    /// be more terms.
+    /// be more terms, accesses and delayed faults.
     fn header_outcome(
         &mut self,
         environment: &[Clause],
@@ -294,20 +287,47 @@ impl EvalCtxt<'_> {
     ) -> Result<HeaderMatch, Stop>
         requires { AreIn self.old.terms given.now }
         ensures kept { Keeps self.old.terms self.new.terms }
-        ensures unchanged { self.new ≡ record self.old { terms = self.new.terms } }
+        ensures unchanged { self.new ≡ restored self.old self.new }
+        ensures goes_back { GoesBack self.old self.new }
+        ensures count { IfOk result (MatchCounts (length other.now.params.items)) }
         ensures within { IfOk result (MatchIn self.new.terms) }
-        ensures says { (m : modes) → RunsAs OnAccess.Stop self.old.typing_mode m → IfOk result (SaysMatch (level_over self.old m environment.now) other.now.params.items (header_of other.now) (erased_all self.old.terms given.now) self.new.terms) }
+        ensures says { (m : modes) → IsOwed self.new m → IfOk result (SaysMatch (level_over self.old m environment.now) other.now.params.items (header_of other.now) (erased_all self.old.terms given.now) self.new.terms) }
+        ensures stops { is_headline self.old.typing_mode ≡ true → IfErr result (λ s. s ≡ Stop.OutOfMemory) }
+    {
+        let on_access = self.first_access();
+        let first = self.header_run(on_access, environment, other, given);
+        if let Some(found) = self.first_answer(first)? {
+            return Ok(found);
+        }
+        self.header_run(OnAccess::Record, environment, other, given)
+    }
+
+    /// One run of an impl's header at the remaining depth.
+    fn header_run(
+        &mut self,
+        on_access: OnAccess,
+        environment: &[Clause],
+        other: &ImplRow,
+        given: &[TermId],
+    ) -> Result<HeaderMatch, Stop>
+        requires { AreIn self.old.terms given.now }
+        ensures kept { Keeps self.old.terms self.new.terms }
+        ensures unchanged { self.new ≡ restored self.old self.new }
+        ensures goes_back { GoesBack self.old self.new }
+        ensures count { IfOk result (MatchCounts (length other.now.params.items)) }
+        ensures within { IfOk result (MatchIn self.new.terms) }
+        ensures says { (m : modes) → RunsAs on_access self.old.typing_mode m → IfOk result (SaysMatch (level_over self.old m environment.now) other.now.params.items (header_of other.now) (erased_all self.old.terms given.now) self.new.terms) }
         ensures stops { is_headline self.old.typing_mode ≡ true → IfErr result (λ s. s ≡ Stop.OutOfMemory) }
     {
         let mut effects = Effects::new(self.allocator());
         let setting = Setting {
             rows: self.tables.rows(),
             typing_mode: &self.typing_mode,
-            on_access: OnAccess::Stop,
+            on_access,
             environment,
         };
         let depth = self.remaining_depth;
-        match_header(
+        let found = match_header(
             &setting,
             &mut self.terms,
             &mut effects,
@@ -315,7 +335,10 @@ impl EvalCtxt<'_> {
             &other.trait_args,
             given,
             depth,
-        )
+        );
+        self.record_effects(&effects)?;
+        let found = found?;
+        Ok(counted(found, other.params.len()))
     }
 
     /// The arguments of some numbers. Only memory is refused.
@@ -382,5 +405,28 @@ impl EvalCtxt<'_> {
         };
         let certainty = self.eq_args(environment, &trait_ref.args, &header)?;
         Ok((args, certainty))
+    }
+}
+
+/// A match, if it has as many terms as there are parameters; each match of a header has.
+fn counted(found: HeaderMatch, count: usize) -> HeaderMatch
+    ensures count { MatchCounts count result }
+    ensures same { MatchCounts count found → result ≡ found }
+    ensures within { (T : List Tree) → MatchIn T found → MatchIn T result }
+{
+    if has_terms(&found, count) {
+        found
+    } else {
+        HeaderMatch::Unknown
+    }
+}
+
+/// Whether the parameters of a match, if they are known, have so many terms.
+fn has_terms(found: &HeaderMatch, count: usize) -> bool
+    ensures { IsTrue result ↔ MatchCounts count found.now }
+{
+    match found {
+        HeaderMatch::Fits(args) | HeaderMatch::Known(args) => args.len() == count,
+        HeaderMatch::Clashes | HeaderMatch::Unknown => true,
     }
 }

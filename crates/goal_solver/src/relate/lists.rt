@@ -7,8 +7,11 @@ ghost use Rattle.goal_infer.specs.ListUnification.{MakesAllSame, AreDecidedWhere
 ghost use Rattle.goal_infer.specs.Unification.{Advances, IsUnified};
 ghost use Rattle.goal_kinds.specs.Interned.{AreIn, erased_all};
 ghost use Rattle.goal_kinds.specs.Settings.{is_headline};
-ghost use Rattle.goal_solver.specs.GoingBack.{GoesBack};
-ghost use Rattle.goal_solver.specs.Relating.{IsRelated, ChangesInference, AgreesWith, all_bound};
+ghost use Rattle.goal_solver.specs.Accesses.{RecordsCausedFaults};
+ghost use Rattle.goal_solver.specs.Answers.{IsOwed};
+ghost use Rattle.goal_solver.specs.GoingBack.{GoesBack, restored};
+ghost use Rattle.goal_solver.specs.Outcomes.{RunsAs};
+ghost use Rattle.goal_solver.specs.Relating.{IsRelated, ChangesRecords, AgreesWith, all_bound};
 ghost use Rattle.goal_solver.specs.Settled.{HoldsWithMemory, AreSettledIn, outcome_in, IsPlainOrSame};
 ghost use Rattle.goal_solver.specs.State.{kinds_of};
 
@@ -40,8 +43,9 @@ impl EvalCtxt<'_> {
         requires second { AreIn self.old.terms right.now }
         ensures related { IfOk result (IsRelated self.old self.new environment.now (erased_all self.old.terms left.now) (erased_all self.old.terms right.now) depth) }
         ensures agreed { (ρ : Variable → Tree) → AgreesWith self.new ρ → AgreesWith self.old ρ }
-        ensures alone { ChangesInference self.old self.new }
+        ensures alone { ChangesRecords self.old self.new }
         ensures kinds { kinds_of self.new ≡ kinds_of self.old }
+        ensures faults { RecordsCausedFaults self.old self.new }
         ensures goes_back { GoesBack self.old self.new }
         ensures stops { is_headline self.old.typing_mode ≡ true → IfErr result (λ s. s ≡ Stop.OutOfMemory) }
         ensures settles { IsPlainOrSame self.old (erased_all self.old.terms left.now) (erased_all self.old.terms right.now) → IfErr result (λ s. s ≡ Stop.OutOfMemory) }
@@ -70,7 +74,8 @@ impl EvalCtxt<'_> {
         unify_all(&self.terms, &mut self.inference, left, right)
     }
 
-    /// What two lists of terms come to in pairs, with the bindings of their variables followed.
+    /// What two lists of terms come to in pairs, with the bindings of their variables followed. There may be more
+    /// terms, accesses and delayed faults; nothing else changes.
     fn relate_followed(
         &mut self,
         environment: &[Clause],
@@ -81,8 +86,38 @@ impl EvalCtxt<'_> {
         requires first { AreIn self.old.terms left.now }
         requires second { AreIn self.old.terms right.now }
         ensures kept { Keeps self.old.terms self.new.terms }
-        ensures alone { self.new ≡ record self.old { terms = self.new.terms } }
-        ensures settled { IfOk result (AreSettledIn self.old environment.now depth (all_bound self.old (erased_all self.old.terms left.now)) (all_bound self.old (erased_all self.old.terms right.now))) }
+        ensures alone { self.new ≡ restored self.old self.new }
+        ensures faults { RecordsCausedFaults self.old self.new }
+        ensures goes_back { GoesBack self.old self.new }
+        ensures settled { IfOk result (AreSettledIn self.old (IsOwed self.new) environment.now depth (all_bound self.old (erased_all self.old.terms left.now)) (all_bound self.old (erased_all self.old.terms right.now))) }
+        ensures same { all_bound self.old (erased_all self.old.terms left.now) ≡ all_bound self.old (erased_all self.old.terms right.now) → HoldsWithMemory result }
+        ensures stops { is_headline self.old.typing_mode ≡ true → IfErr result (λ s. s ≡ Stop.OutOfMemory) }
+    {
+        self.holds_together();
+        let on_access = self.first_access();
+        let first = self.relate_run(on_access, environment, left, right, depth);
+        if let Some(outcome) = self.first_answer(first)? {
+            return Ok(outcome);
+        }
+        self.relate_run(OnAccess::Record, environment, left, right, depth)
+    }
+
+    /// One run over two lists of terms.
+    fn relate_run(
+        &mut self,
+        on_access: OnAccess,
+        environment: &[Clause],
+        left: &[TermId],
+        right: &[TermId],
+        depth: u32,
+    ) -> Result<Outcome, Stop>
+        requires first { AreIn self.old.terms left.now }
+        requires second { AreIn self.old.terms right.now }
+        ensures kept { Keeps self.old.terms self.new.terms }
+        ensures alone { self.new ≡ restored self.old self.new }
+        ensures faults { RecordsCausedFaults self.old self.new }
+        ensures goes_back { GoesBack self.old self.new }
+        ensures settled { IfOk result (AreSettledIn self.old (RunsAs on_access self.old.typing_mode) environment.now depth (all_bound self.old (erased_all self.old.terms left.now)) (all_bound self.old (erased_all self.old.terms right.now))) }
         ensures same { all_bound self.old (erased_all self.old.terms left.now) ≡ all_bound self.old (erased_all self.old.terms right.now) → HoldsWithMemory result }
         ensures stops { is_headline self.old.typing_mode ≡ true → IfErr result (λ s. s ≡ Stop.OutOfMemory) }
     {
@@ -93,10 +128,10 @@ impl EvalCtxt<'_> {
         let setting = Setting {
             rows: self.tables.rows(),
             typing_mode: &self.typing_mode,
-            on_access: OnAccess::Stop,
+            on_access,
             environment,
         };
-        relate_resolved_lists(
+        let outcome = relate_resolved_lists(
             &setting,
             &mut self.terms,
             &mut effects,
@@ -104,7 +139,9 @@ impl EvalCtxt<'_> {
             &rights,
             opens,
             depth,
-        )
+        );
+        self.record_effects(&effects)?;
+        outcome
     }
 
     /// What an outcome comes to in the context's typing mode: in coherence no refusal is final.

@@ -5,9 +5,11 @@ use crate::tests::runs::Run;
 use crate::tests::scenes::Mode;
 use crate::tests::sketches::{I32, STRUCT_P, STRUCT_Z, TR_A, TypeSketch, U8, V0, VEC_OF_U32};
 use crate::tests::steps::{AT_ONCE, Scene, Step, TWO_VARIABLES, assert_scene, assert_scenes};
-use goal_program::names::{TR, VEC};
-use goal_terms::answers::DelayedFault;
+use goal_program::names::{HID, TR, VEC, W};
+use goal_solver::faults::Fault;
+use goal_terms::answers::{DelayedFault, OpaqueAccess};
 use goal_terms::ids::{DefId, ImplId};
+use goal_terms::terms::AliasTermKind;
 use std::test::Fail;
 
 const VEC_OF_V0: TypeSketch = TypeSketch::Adt(VEC, &[V0]);
@@ -148,4 +150,55 @@ const OTHER_MODES: &[Scene] = &[
 #[test]
 fn coherence_and_closed_lists(rt: HostRuntime) -> Result<(), Fail> {
     assert_scenes(&rt, rt.alloc(), OTHER_MODES)
+}
+
+/// `<W as Tr>::A == u8`; the impl has no value for it.
+const MISSING: Entry = Entry::Equal(TypeSketch::Alias(TR_A, &[TypeSketch::Adt(W, &[])]), U8);
+
+/// The remote opaque type is `u8`, which it hides.
+const HIDDEN: Entry = Entry::Equal(TypeSketch::Alias(AliasTermKind::OpaqueTy(HID), &[]), U8);
+
+const MET: &[Scene] = &[
+    Scene {
+        limit: 4,
+        turns: &[&[
+            Step::Run(Run::List(&[MISSING], NO)),
+            Step::Run(Run::Recorded(1, &[])),
+            Step::Run(Run::List(&[HIDDEN], NO)),
+            Step::Run(Run::Recorded(1, &[])),
+        ]],
+        ..AT_ONCE
+    },
+    Scene {
+        mode: Mode::PostAnalysis,
+        limit: 4,
+        turns: &[&[
+            Step::Run(Run::List(&[HIDDEN], YES)),
+            Step::Run(Run::Recorded(0, &[])),
+        ]],
+        ..AT_ONCE
+    },
+    Scene {
+        mode: Mode::Erased,
+        limit: 4,
+        turns: &[&[
+            Step::Run(Run::List(&[HIDDEN], NO)),
+            Step::Run(Run::Recorded(0, &[OpaqueAccess::IfPostAnalysis])),
+        ]],
+        ..AT_ONCE
+    },
+    Scene {
+        mode: Mode::ErasedThatStops,
+        limit: 4,
+        turns: &[&[
+            Step::Run(Run::List(&[HIDDEN], Err(Fault::RerunNonErased))),
+            Step::Run(Run::Recorded(0, &[OpaqueAccess::IfPostAnalysis])),
+        ]],
+        ..AT_ONCE
+    },
+];
+
+#[test]
+fn what_entries_meet_is_recorded(rt: HostRuntime) -> Result<(), Fail> {
+    assert_scenes(&rt, rt.alloc(), MET)
 }

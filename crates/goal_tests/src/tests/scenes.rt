@@ -1,4 +1,6 @@
 //! Contexts over the tables of the program.
+ghost use Rattle.std.specs.Prelude.{◌≡◌};
+
 use crate::tests::changes::{Change, changed_tables};
 use goal_solver::context::EvalCtxt;
 use goal_solver::faults::Fault;
@@ -42,7 +44,9 @@ pub fn context_in<'t>(
 }
 
 /// Makes variables of kinds.
-fn make_variables(context: &mut EvalCtxt<'_>, kinds: &[VarKind]) -> Result<(), Fault> {
+pub fn make_variables(context: &mut EvalCtxt<'_>, kinds: &[VarKind]) -> Result<(), Fault>
+    ensures over { context.new.tables ≡ context.old.tables }
+{
     for kind in kinds {
         fresh(context, *kind)?;
     }
@@ -50,7 +54,9 @@ fn make_variables(context: &mut EvalCtxt<'_>, kinds: &[VarKind]) -> Result<(), F
 }
 
 /// A fresh variable of a kind.
-pub fn fresh(context: &mut EvalCtxt<'_>, kind: VarKind) -> Result<GenericArg, Fault> {
+pub fn fresh(context: &mut EvalCtxt<'_>, kind: VarKind) -> Result<GenericArg, Fault>
+    ensures over { context.new.tables ≡ context.old.tables }
+{
     match kind {
         VarKind::Ty => Ok(GenericArg::Ty(context.next_ty_infer()?)),
         VarKind::Int => Ok(GenericArg::Ty(context.next_int_infer()?)),

@@ -1,9 +1,8 @@
 //! Gathers the names of a text's items.
 use crate::attributes::name_in_attr;
 use crate::builtins::{Builtin, lang_item};
-use crate::definitions::{
-    Definition, Definitions, InherentEntry, ItemEntry, ItemKey, Named, Owners,
-};
+use crate::definitions::places::{InherentEntry, ItemEntry};
+use crate::definitions::{Definition, Definitions, ItemKey, Named, Owners};
 use crate::faults::{ItemFault, wrong_name};
 use goal_tables::lang::{LangItem, LangRow, LangTarget};
 use goal_terms::ids::{
@@ -12,8 +11,8 @@ use goal_terms::ids::{
 };
 use std::alloc::Global;
 use vurloske_syntax::ast::{
-    AssocItem, Ast, AttrValue, Free, FreeValue, Generics, Ident, Impl, Item, ItemKind, Run, Symbol,
-    Trait,
+    Adt, AssocItem, Ast, AttrValue, Closure, Fn, Free, FreeValue, Generics, Ident, Impl, Item,
+    ItemKind, Run, Symbol, Trait,
 };
 use vurloske_syntax::phrase::Phrase;
 
@@ -88,24 +87,38 @@ impl Definitions {
             ItemKind::Trait(node) => self.add_trait(ast, place, item.attrs, &node),
             ItemKind::Impl(node) => self.add_impl(alloc, ast, place, item.attrs, &node),
             ItemKind::Free(node) => self.add_free(place, &node),
-            ItemKind::Adt(node) => {
-                let id = AdtId(number_of(&mut self.adts, place)?);
-                self.add_lang(lang_of(ast, item.attrs)?, LangTarget::Adt(id))?;
-                self.add_name(node.ident, Definition::Adt(id), node.generics)
-            }
-            ItemKind::Fn(node) => {
-                let id = FnId(number_of(&mut self.functions, place)?);
-                self.add_name(node.ident, Definition::Fn(id), node.generics)
-            }
-            ItemKind::Closure(node) => {
-                let id = ClosureId(number_of(&mut self.closures, place)?);
-                self.add_name(node.ident, Definition::Closure(id), node.generics)
-            }
-            ItemKind::Foreign(ident) => {
-                let id = ForeignId(number_of(&mut self.foreign_types, place)?);
-                self.add_name(ident, Definition::Foreign(id), NO_GENERICS)
-            }
+            ItemKind::Adt(node) => self.add_adt(ast, place, item.attrs, &node),
+            ItemKind::Fn(node) => self.add_fn(place, &node),
+            ItemKind::Closure(node) => self.add_closure(place, &node),
+            ItemKind::Foreign(ident) => self.add_foreign(place, ident),
         }
+    }
+
+    fn add_adt(
+        &mut self,
+        ast: &Ast,
+        place: usize,
+        attrs: Run,
+        node: &Adt,
+    ) -> Result<(), ItemFault> {
+        let id = AdtId(number_of(&mut self.places.adts, place)?);
+        self.add_lang(lang_of(ast, attrs)?, LangTarget::Adt(id))?;
+        self.add_name(node.ident, Definition::Adt(id), node.generics)
+    }
+
+    fn add_fn(&mut self, place: usize, node: &Fn) -> Result<(), ItemFault> {
+        let id = FnId(number_of(&mut self.places.functions, place)?);
+        self.add_name(node.ident, Definition::Fn(id), node.generics)
+    }
+
+    fn add_closure(&mut self, place: usize, node: &Closure) -> Result<(), ItemFault> {
+        let id = ClosureId(number_of(&mut self.places.closures, place)?);
+        self.add_name(node.ident, Definition::Closure(id), node.generics)
+    }
+
+    fn add_foreign(&mut self, place: usize, ident: Ident) -> Result<(), ItemFault> {
+        let id = ForeignId(number_of(&mut self.places.foreign_types, place)?);
+        self.add_name(ident, Definition::Foreign(id), NO_GENERICS)
     }
 
     /// Says what a name is. A mistake where it is something already.
@@ -143,7 +156,7 @@ impl Definitions {
         attrs: Run,
         node: &Trait,
     ) -> Result<(), ItemFault> {
-        let id = TraitId(number_of(&mut self.traits, place)?);
+        let id = TraitId(number_of(&mut self.places.traits, place)?);
         self.add_lang(lang_of(ast, attrs)?, LangTarget::Trait(id))?;
         self.add_name(node.ident, Definition::Trait(id), node.generics)?;
         for (index, item) in ast.assoc_items(node.items).iter().enumerate() {
@@ -160,21 +173,28 @@ impl Definitions {
         place: usize,
         item: &AssocItem,
     ) -> Result<(), ItemFault> {
-        let id = ItemId(as_number(self.items.len())?);
-        let name = item.ident.name;
-        self.items.push(ItemEntry {
-            name,
+        let id = ItemId(as_number(self.places.items.len())?);
+        self.places.items.push(ItemEntry {
+            name: item.ident.name,
             trait_id,
             is_const: item.is_const,
             place,
         })?;
         self.add_lang(lang_of(ast, item.attrs)?, LangTarget::Item(id))?;
-        if self
-            .item_ids
-            .insert(ItemKey { trait_id, name }, id)?
-            .is_some()
-        {
-            return Err(wrong_name(item.ident, Phrase::NEW_TRAIT_ITEM_NAME));
+        self.add_item_name(trait_id, item.ident, id)
+    }
+
+    /// Says which item of a trait a name is. A mistake where it is another one.
+    fn add_item_name(
+        &mut self,
+        trait_id: TraitId,
+        ident: Ident,
+        id: ItemId,
+    ) -> Result<(), ItemFault> {
+        let name = ident.name;
+        let before = self.item_ids.insert(ItemKey { trait_id, name }, id)?;
+        if before.is_some() {
+            return Err(wrong_name(ident, Phrase::NEW_TRAIT_ITEM_NAME));
         }
         let owners = match self.owners.get(&name) {
             Some(_) => Owners::Several,
@@ -195,7 +215,7 @@ impl Definitions {
         if node.trait_.is_none() {
             return self.add_inherent_impl(alloc, ast, place, node);
         }
-        let id = ImplId(number_of(&mut self.impls, place)?);
+        let id = ImplId(number_of(&mut self.places.impls, place)?);
         if let Some(attr) = ast.attr_named(attrs, "name") {
             let ident = name_in_attr(ast, &attr)?;
             if self.impl_names.insert(ident.name, id)?.is_some() {
@@ -212,10 +232,10 @@ impl Definitions {
         place: usize,
         node: &Impl,
     ) -> Result<(), ItemFault> {
-        let impl_id = InherentImplId(number_of(&mut self.inherent_impls, place)?);
+        let impl_id = InherentImplId(number_of(&mut self.places.inherent_impls, place)?);
         for (index, item) in ast.assoc_items(node.items).iter().enumerate() {
-            let id = InherentId(as_number(self.inherent_items.len())?);
-            self.inherent_items.push(InherentEntry {
+            let id = InherentId(as_number(self.places.inherent_items.len())?);
+            self.places.inherent_items.push(InherentEntry {
                 name: item.ident.name,
                 impl_id,
                 self_ty: node.self_ty,
@@ -245,9 +265,9 @@ impl Definitions {
 
     fn add_free(&mut self, place: usize, node: &Free) -> Result<(), ItemFault> {
         let definition = if let FreeValue::Opaque(_) = node.value {
-            Definition::Opaque(OpaqueId(number_of(&mut self.opaque_types, place)?))
+            Definition::Opaque(OpaqueId(number_of(&mut self.places.opaque_types, place)?))
         } else {
-            let id = FreeId(number_of(&mut self.free_aliases, place)?);
+            let id = FreeId(number_of(&mut self.places.free_aliases, place)?);
             if node.is_const {
                 Definition::FreeConst(id)
             } else {

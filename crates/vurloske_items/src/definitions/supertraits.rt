@@ -18,10 +18,11 @@ fn supertraits_of(
     id: TraitId,
 ) -> Result<Vec<Clause>, ItemFault> {
     let mut conditions = Conditions::new(alloc, MaybeConst::Clause);
-    if let Some(node) = definitions.trait_node(ast, id) {
-        let mut lowering = Lowering::of_trait(alloc, ast, definitions, id)?;
-        lowering.bounds(&Ty::Param(0), node.bounds, &mut conditions)?;
-        lowering.self_clauses(node.generics.where_clauses, &mut conditions)?;
+    if let Some(node) = definitions.places.trait_node(ast, id) {
+        let mut lowering = Lowering::of_trait(alloc, ast, definitions, id);
+        lowering.bounds(&Ty::Param(0), node.bounds, &mut conditions);
+        lowering.self_clauses(node.generics.where_clauses, &mut conditions);
+        lowering.scope.fault.result()?;
     }
     Ok(conditions.into_predicates())
 }
@@ -30,7 +31,7 @@ impl Definitions {
     /// Adds what each trait says of its self type. Where that names an item of a supertrait's supertrait,
     /// traits that stand further up are known.
     pub(super) fn add_supertraits(&mut self, alloc: Global, ast: &Ast) -> Result<(), ItemFault> {
-        for number in 0..self.traits.len() {
+        for number in 0..self.places.traits.len() {
             let id = TraitId(u32::try_from(number).unwrap_or(u32::MAX));
             let clauses = supertraits_of(alloc, ast, self, id)?;
             self.supertraits.push(clauses)?;
@@ -40,7 +41,7 @@ impl Definitions {
 
     /// Adds for each trait the items of its supertraits, the nearest first.
     pub(super) fn add_inherited(&mut self, alloc: Global, ast: &Ast) -> Result<(), ItemFault> {
-        for number in 0..self.traits.len() {
+        for number in 0..self.places.traits.len() {
             let id = TraitId(u32::try_from(number).unwrap_or(u32::MAX));
             let above = self.traits_above(alloc, id)?;
             self.inherit(ast, id, above.as_slice())?;
@@ -52,7 +53,7 @@ impl Definitions {
     fn traits_above(&self, alloc: Global, id: TraitId) -> Result<Vec<TraitId>, ItemFault> {
         let mut above = Vec::new(alloc);
         above.push(id)?;
-        for place in 0..self.traits.len() {
+        for place in 0..self.places.traits.len() {
             let Some(id) = above.get(place).copied() else {
                 return Ok(above);
             };
@@ -64,7 +65,7 @@ impl Definitions {
     /// Gives a trait the items of others, the first of a name.
     fn inherit(&mut self, ast: &Ast, id: TraitId, above: &[TraitId]) -> Result<(), ItemFault> {
         for other in above {
-            if let Some(node) = self.trait_node(ast, *other) {
+            if let Some(node) = self.places.trait_node(ast, *other) {
                 self.inherit_items(id, *other, ast.assoc_items(node.items))?;
             }
         }

@@ -1,5 +1,6 @@
 //! The rows of structs, enums and unions.
-use crate::attributes::{args_in_attr, expect_attrs, term_of_attr};
+use crate::attributes::{args_in_attr, expect_attrs};
+use crate::definitions::places::attrs_at;
 use crate::faults::{ItemFault, wrong_name};
 use crate::rows::{Text, count};
 use crate::terms::Lowering;
@@ -9,164 +10,145 @@ use goal_terms::predicates::TraitRef;
 use goal_terms::scalars::UintTy;
 use goal_terms::terms::Ty;
 use vurloske_syntax::ast;
-use vurloske_syntax::ast::{Adt, Attr, AttrArg, Run, TermId};
+use vurloske_syntax::ast::{Adt, Ast, Attr, AttrArg, Run, TermId};
 use vurloske_syntax::phrase::Phrase;
+
+/// The attributes that a struct, an enum or a union may have.
+const ATTRS: [&str; 6] = [
+    "lang",
+    "tail",
+    "sized_constraint",
+    "discriminant",
+    "destruct",
+    "field",
+];
 
 impl Text<'_> {
     /// Adds the rows of the structs, enums and unions.
     pub(super) fn push_adt_rows(self, rows: &mut Vec<AdtRow>) -> Result<(), ItemFault> {
-        for number in 0..count(&self.definitions.adts) {
+        for number in 0..count(self.definitions.places.adts.len()) {
             let id = AdtId(number);
-            if let Some(node) = self.definitions.adt_node(self.ast, id) {
-                rows.push(self.adt_row(id, &node)?)?;
+            if let Some(node) = self.definitions.places.adt_node(self.ast, id) {
+                self.push_adt_row(id, &node, rows)?;
             }
         }
         Ok(())
     }
 
-    fn adt_row(self, id: AdtId, node: &Adt) -> Result<AdtRow, ItemFault> {
-        let mut row = AdtRow {
-            id,
-            params: Vec::new(self.alloc),
-            kind: adt_kind(node.kind),
-            tail: None,
-            sized_constraint: None,
-            discriminant: Ty::Uint(UintTy::U8),
-            destruct_conditions: Vec::new(self.alloc),
-            field_info: None,
-        };
-        self.fill_adt(node, &mut row)?;
-        Ok(row)
-    }
-
-    fn fill_adt(self, node: &Adt, row: &mut AdtRow) -> Result<(), ItemFault> {
-        let attrs = self.attrs_at(&self.definitions.adts, row.id.0);
-        let names = [
-            "lang",
-            "tail",
-            "sized_constraint",
-            "discriminant",
-            "destruct",
-            "field",
-        ];
-        expect_attrs(self.ast, attrs, &names)?;
-        let mut lowering = self.lowering_of(node.generics)?;
-        row.params = lowering.scope.params.kinds(self.alloc)?;
-        lowering.conditions(node.generics)?;
-        self.fill_layout(&mut lowering, node, attrs, row)?;
-        self.fill_rules(&mut lowering, attrs, row)
-    }
-
-    /// Says what is known of the fields: the last one's type, what has to be sized, and the types of
-    /// all, of which nothing is kept.
-    fn fill_layout(
-        self,
-        lowering: &mut Lowering<'_>,
-        node: &Adt,
-        attrs: Run,
-        row: &mut AdtRow,
-    ) -> Result<(), ItemFault> {
-        let last = self.check_fields(lowering, node)?;
-        let tail = term_of_attr(self.ast, attrs, "tail")?.or(last);
-        row.tail = lowering.optional_ty(tail)?;
-        row.sized_constraint = match term_of_attr(self.ast, attrs, "sized_constraint")? {
-            Some(id) => Some(lowering.ty(id)?),
-            None => unless_sized(lowering.optional_ty(last)?),
-        };
-        Ok(())
-    }
-
-    /// The type of a struct's last field. A mistake where a field has none.
-    fn check_fields(
-        self,
-        lowering: &mut Lowering<'_>,
-        node: &Adt,
-    ) -> Result<Option<TermId>, ItemFault> {
-        let fields = self.ast.operands(node.fields);
-        for field in fields {
-            lowering.ty(*field)?;
-        }
-        match node.kind {
-            ast::AdtKind::Struct => Ok(fields.last().copied()),
-            ast::AdtKind::Enum | ast::AdtKind::Union => Ok(None),
-        }
-    }
-
-    /// Says what attributes alone say: the discriminant, and what the rules of `Destruct` and `Field`
-    /// need.
-    fn fill_rules(
-        self,
-        lowering: &mut Lowering<'_>,
-        attrs: Run,
-        row: &mut AdtRow,
-    ) -> Result<(), ItemFault> {
-        if let Some(id) = term_of_attr(self.ast, attrs, "discriminant")? {
-            row.discriminant = lowering.ty(id)?;
-        }
-        if let Some(attr) = self.ast.attr_named(attrs, "destruct") {
-            self.push_destruct_conditions(lowering, &attr, &mut row.destruct_conditions)?;
-        }
-        if let Some(attr) = self.ast.attr_named(attrs, "field") {
-            row.field_info = Some(self.field_info(lowering, &attr)?);
-        }
-        Ok(())
-    }
-
-    /// `#[destruct(T: Destruct, U: Destruct)]`
-    fn push_destruct_conditions(
-        self,
-        lowering: &mut Lowering<'_>,
-        attr: &Attr,
-        conditions: &mut Vec<TraitRef>,
-    ) -> Result<(), ItemFault> {
-        for arg in args_in_attr(self.ast, attr) {
-            match arg {
-                AttrArg::Bounds(subject, bounds) => {
-                    self.push_trait_refs(lowering, *subject, *bounds, conditions)?;
-                }
-                _ => return Err(wrong_name(attr.ident, Phrase::ATTRIBUTE_WITH_BOUNDS_OF_TYPES)),
-            }
-        }
-        Ok(())
-    }
-
-    fn push_trait_refs(
-        self,
-        lowering: &mut Lowering<'_>,
-        subject: TermId,
-        bounds: Run,
-        trait_refs: &mut Vec<TraitRef>,
-    ) -> Result<(), ItemFault> {
-        for bound in self.ast.bounds(bounds) {
-            let self_ty = lowering.ty(subject)?;
-            trait_refs.push(lowering.trait_ref(self_ty, bound.trait_)?)?;
-        }
-        Ok(())
-    }
-
-    /// `#[field(base = T, ty = u16)]`
-    fn field_info(self, lowering: &mut Lowering<'_>, attr: &Attr) -> Result<FieldInfo, ItemFault> {
-        if let [AttrArg::Binding(first, base), AttrArg::Binding(second, ty)] = args_in_attr(
-            self.ast, attr,
-        ) {
-            if self.ast.name(first.name) == "base" && self.ast.name(second.name) == "ty" {
-                return Ok(FieldInfo {
-                    base: lowering.ty(*base)?,
-                    ty: lowering.ty(*ty)?,
-                });
-            }
-        }
-        Err(wrong_name(attr.ident, Phrase::FIELD))
+    fn push_adt_row(self, id: AdtId, node: &Adt, rows: &mut Vec<AdtRow>) -> Result<(), ItemFault> {
+        let attrs = attrs_at(self.ast, &self.definitions.places.adts, id.0);
+        expect_attrs(self.ast, attrs, &ATTRS)?;
+        let mut lowering = self.lowering_of(node.generics);
+        let row = lowering.adt_row(id, node, attrs);
+        lowering.scope.fault.keep(rows.push(row));
+        lowering.scope.fault.result()
     }
 }
 
 impl Lowering<'_> {
-    /// A type, where one is written.
-    fn optional_ty(&mut self, id: Option<TermId>) -> Result<Option<Ty>, ItemFault> {
-        match id {
-            Some(id) => Ok(Some(self.ty(id)?)),
-            None => Ok(None),
+    fn adt_row(&mut self, id: AdtId, node: &Adt, attrs: Run) -> AdtRow {
+        let params = self.scope.param_kinds(self.alloc);
+        self.conditions(node.generics);
+        let last = self.check_fields(node);
+        AdtRow {
+            id,
+            params,
+            kind: adt_kind(node.kind),
+            tail: self.tail(attrs, last),
+            sized_constraint: self.sized_constraint(attrs, last),
+            discriminant: self.discriminant(attrs),
+            destruct_conditions: self.destruct_conditions(attrs),
+            field_info: self.field_info(attrs),
         }
+    }
+
+    /// The type of a struct's last field. A mistake where a field has none.
+    fn check_fields(&mut self, node: &Adt) -> Option<TermId> {
+        let fields = self.ast.operands(node.fields);
+        for field in fields {
+            self.ty(*field);
+        }
+        match node.kind {
+            ast::AdtKind::Struct => fields.last().copied(),
+            ast::AdtKind::Enum | ast::AdtKind::Union => None,
+        }
+    }
+
+    /// `#[tail(str)]`, or the last field's type.
+    fn tail(&mut self, attrs: Run, last: Option<TermId>) -> Option<Ty> {
+        let tail = self.term_of_attr(attrs, "tail").or(last);
+        self.optional_ty(tail)
+    }
+
+    /// `#[sized_constraint(T)]`, or the last field's type if that has to be sized.
+    fn sized_constraint(&mut self, attrs: Run, last: Option<TermId>) -> Option<Ty> {
+        match self.term_of_attr(attrs, "sized_constraint") {
+            Some(id) => Some(self.ty(id)),
+            None => unless_sized(self.optional_ty(last)),
+        }
+    }
+
+    /// `#[discriminant(u16)]`, or `u8`.
+    fn discriminant(&mut self, attrs: Run) -> Ty {
+        match self.term_of_attr(attrs, "discriminant") {
+            Some(id) => self.ty(id),
+            None => Ty::Uint(UintTy::U8),
+        }
+    }
+
+    /// `#[destruct(T: Destruct, U: Destruct)]`
+    fn destruct_conditions(&mut self, attrs: Run) -> Vec<TraitRef> {
+        let ast = self.ast;
+        let mut conditions = Vec::new(self.alloc);
+        if let Some(attr) = ast.attr_named(attrs, "destruct") {
+            for arg in args_in_attr(ast, &attr) {
+                match arg {
+                    AttrArg::Bounds(subject, bounds) => {
+                        self.push_trait_refs(*subject, *bounds, &mut conditions);
+                    }
+                    _ => self.scope.fault.fail(wrong_name(
+                        attr.ident,
+                        Phrase::ATTRIBUTE_WITH_BOUNDS_OF_TYPES,
+                    )),
+                }
+            }
+        }
+        conditions
+    }
+
+    fn push_trait_refs(&mut self, subject: TermId, bounds: Run, all: &mut Vec<TraitRef>) {
+        let ast = self.ast;
+        for bound in ast.bounds(bounds) {
+            let self_ty = self.ty(subject);
+            let trait_ref = self.trait_ref(self_ty, bound.trait_);
+            self.scope.fault.keep(all.push(trait_ref));
+        }
+    }
+
+    /// `#[field(base = T, ty = u16)]`
+    fn field_info(&mut self, attrs: Run) -> Option<FieldInfo> {
+        let attr = self.ast.attr_named(attrs, "field")?;
+        match field_terms(self.ast, &attr) {
+            Some((base, ty)) => Some(FieldInfo {
+                base: self.ty(base),
+                ty: self.ty(ty),
+            }),
+            None => {
+                self.scope.fault.fail(wrong_name(attr.ident, Phrase::FIELD));
+                None
+            }
+        }
+    }
+}
+
+/// The terms of `base` and of `ty`.
+fn field_terms(ast: &Ast, attr: &Attr) -> Option<(TermId, TermId)> {
+    match args_in_attr(ast, attr) {
+        [AttrArg::Binding(first, base), AttrArg::Binding(second, ty)]
+            if ast.name(first.name) == "base" && ast.name(second.name) == "ty" => {
+            Some((*base, *ty))
+        }
+        _ => None,
     }
 }
 

@@ -1,52 +1,41 @@
 //! The rows of closures.
 use crate::attributes::{args_in_attr, expect_attrs};
+use crate::definitions::places::attrs_at;
 use crate::faults::{ItemFault, wrong_name};
-use crate::rows::functions::{empty_signature, signature};
+use crate::rows::functions::signature;
 use crate::rows::{Text, count};
 use crate::terms::Lowering;
 use goal_tables::rows::{ClosureKind, ClosureRow};
 use goal_terms::ids::ClosureId;
-use goal_terms::terms::Ty;
-use vurloske_syntax::ast::{Args, AttrArg, Closure, FnPtr, Ident, Run};
+use goal_terms::terms::{FnSig, Ty};
+use vurloske_syntax::ast::{Args, AttrArg, Closure, Ident, Run};
 use vurloske_syntax::phrase::Phrase;
 
 impl Text<'_> {
     /// Adds the rows of the closures.
     pub(super) fn push_closure_rows(self, rows: &mut Vec<ClosureRow>) -> Result<(), ItemFault> {
-        for number in 0..count(&self.definitions.closures) {
+        for number in 0..count(self.definitions.places.closures.len()) {
             let id = ClosureId(number);
-            if let Some(node) = self.definitions.closure_node(self.ast, id) {
-                rows.push(self.closure_row(id, &node)?)?;
+            if let Some(node) = self.definitions.places.closure_node(self.ast, id) {
+                self.push_closure_row(id, &node, rows)?;
             }
         }
         Ok(())
     }
 
-    fn closure_row(self, id: ClosureId, node: &Closure) -> Result<ClosureRow, ItemFault> {
+    fn push_closure_row(
+        self,
+        id: ClosureId,
+        node: &Closure,
+        rows: &mut Vec<ClosureRow>,
+    ) -> Result<(), ItemFault> {
         let kind = self.closure_kind(node.signature.ident)?;
-        let mut row = ClosureRow {
-            id,
-            params: Vec::new(self.alloc),
-            kind,
-            sig: empty_signature(self.alloc),
-            upvars: Vec::new(self.alloc),
-            is_const: node.is_const,
-            const_conditions: Vec::new(self.alloc),
-        };
-        self.fill_closure(node, &mut row)?;
-        Ok(row)
-    }
-
-    fn fill_closure(self, node: &Closure, row: &mut ClosureRow) -> Result<(), ItemFault> {
-        let attrs = self.attrs_at(&self.definitions.closures, row.id.0);
+        let attrs = attrs_at(self.ast, &self.definitions.places.closures, id.0);
         expect_attrs(self.ast, attrs, &["upvars"])?;
-        let mut lowering = self.lowering_of(node.generics)?;
-        row.params = lowering.scope.params.kinds(self.alloc)?;
-        row.sig = lowering.signature(closure_signature(node)?)?;
-        self.push_upvars(&mut lowering, attrs, &mut row.upvars)?;
-        let (_, const_conditions) = lowering.conditions(node.generics)?.into_parts();
-        row.const_conditions = const_conditions;
-        Ok(())
+        let mut lowering = self.lowering_of(node.generics);
+        let row = lowering.closure_row(id, kind, node, attrs);
+        lowering.scope.fault.keep(rows.push(row));
+        lowering.scope.fault.result()
     }
 
     /// How a closure may be called, by the name of the narrowest trait that it has.
@@ -58,33 +47,64 @@ impl Text<'_> {
             _ => Err(wrong_name(ident, Phrase::FN_TRAIT)),
         }
     }
-
-    /// `#[upvars(T, u8)]`
-    fn push_upvars(
-        self,
-        lowering: &mut Lowering<'_>,
-        attrs: Run,
-        upvars: &mut Vec<Ty>,
-    ) -> Result<(), ItemFault> {
-        let Some(attr) = self.ast.attr_named(attrs, "upvars") else {
-            return Ok(());
-        };
-        for arg in args_in_attr(self.ast, &attr) {
-            match arg {
-                AttrArg::Term(id) => upvars.push(lowering.ty(*id)?)?,
-                _ => return Err(wrong_name(attr.ident, Phrase::ATTRIBUTE_WITH_TYPES)),
-            }
-        }
-        Ok(())
-    }
 }
 
-/// `(u8) -> bool`
-fn closure_signature(node: &Closure) -> Result<FnPtr, ItemFault> {
-    match node.signature.args {
-        Args::Paren(inputs, output) => Ok(signature(false, inputs, output)),
-        Args::Absent | Args::Angle(_) => {
-            Err(wrong_name(node.signature.ident, Phrase::PARENS_BEHIND_TRAIT))
+impl Lowering<'_> {
+    fn closure_row(
+        &mut self,
+        id: ClosureId,
+        kind: ClosureKind,
+        node: &Closure,
+        attrs: Run,
+    ) -> ClosureRow {
+        let params = self.scope.param_kinds(self.alloc);
+        let sig = self.closure_signature(node);
+        let upvars = self.upvars(attrs);
+        let (_, const_conditions) = self.conditions(node.generics).into_parts();
+        ClosureRow {
+            id,
+            params,
+            kind,
+            sig,
+            upvars,
+            is_const: node.is_const,
+            const_conditions,
         }
+    }
+
+    /// `(u8) -> bool`
+    fn closure_signature(&mut self, node: &Closure) -> FnSig {
+        let written = match node.signature.args {
+            Args::Paren(inputs, output) => signature(false, inputs, output),
+            Args::Absent | Args::Angle(_) => {
+                self.scope.fault.fail(wrong_name(
+                    node.signature.ident,
+                    Phrase::PARENS_BEHIND_TRAIT,
+                ));
+                signature(false, Run::EMPTY, None)
+            }
+        };
+        self.signature(written)
+    }
+
+    /// `#[upvars(T, u8)]`
+    fn upvars(&mut self, attrs: Run) -> Vec<Ty> {
+        let ast = self.ast;
+        let mut upvars = Vec::new(self.alloc);
+        if let Some(attr) = ast.attr_named(attrs, "upvars") {
+            for arg in args_in_attr(ast, &attr) {
+                match arg {
+                    AttrArg::Term(id) => {
+                        let ty = self.ty(*id);
+                        self.scope.fault.keep(upvars.push(ty));
+                    }
+                    _ => self
+                        .scope
+                        .fault
+                        .fail(wrong_name(attr.ident, Phrase::ATTRIBUTE_WITH_TYPES)),
+                }
+            }
+        }
+        upvars
     }
 }

@@ -1,30 +1,28 @@
 //! What parameters, where clauses and bounds of an item say.
 use crate::clauses::{Conditions, MaybeConst};
+use crate::definitions::Definitions;
 use crate::elaboration::{elaborate, elaborate_const};
 use crate::faults::ItemFault;
 use crate::terms::Lowering;
 use goal_tables::rows::ConstBounds;
 use goal_terms::predicates::{Clause, TraitRef};
 use goal_terms::terms::{Term, Ty};
+use std::alloc::Global;
 use vurloske_syntax::ast::{Generics, Position, Run, TermId};
 
 impl Lowering<'_> {
     /// The predicates and the const conditions of parameters and where clauses.
-    pub(super) fn conditions(&mut self, generics: Generics) -> Result<Conditions, ItemFault> {
+    pub(super) fn conditions(&mut self, generics: Generics) -> Conditions {
         let mut conditions = Conditions::new(self.alloc, MaybeConst::Condition);
-        self.generics(generics, &mut conditions)?;
-        Ok(conditions)
+        self.generics(generics, &mut conditions);
+        conditions
     }
 
     /// What bounds of a type say.
-    pub(super) fn conditions_of_bounds(
-        &mut self,
-        self_ty: &Ty,
-        bounds: Run,
-    ) -> Result<Conditions, ItemFault> {
+    pub(super) fn conditions_of_bounds(&mut self, self_ty: &Ty, bounds: Run) -> Conditions {
         let mut conditions = Conditions::new(self.alloc, MaybeConst::Condition);
-        self.bounds(self_ty, bounds, &mut conditions)?;
-        Ok(conditions)
+        self.bounds(self_ty, bounds, &mut conditions);
+        conditions
     }
 
     /// The bounds of an alias and its implied const bounds, with what they say through supertraits.
@@ -33,35 +31,47 @@ impl Lowering<'_> {
         &mut self,
         bounds: Run,
         at: Position,
-    ) -> Result<(Vec<Clause>, Vec<TraitRef>), ItemFault> {
-        let alias = self.declare_alias(at)?;
-        let mut conditions = self.conditions_of_bounds(&alias, bounds)?;
-        elaborate(self.alloc, self.definitions, &mut conditions.predicates, at)?;
-        let (bounds, implied) = conditions.into_parts();
-        let implied = elaborate_const(self.alloc, self.definitions, implied, at)?;
-        Ok((bounds, implied))
+    ) -> (Vec<Clause>, Vec<TraitRef>) {
+        let alias = self.declare_alias(at);
+        let mut conditions = self.conditions_of_bounds(&alias, bounds);
+        self.elaborate(&mut conditions, at);
+        conditions.into_parts()
+    }
+
+    /// Adds what conditions say through supertraits.
+    fn elaborate(&mut self, conditions: &mut Conditions, at: Position) {
+        if !self.scope.fault.is_there() {
+            let done = elaborate_both(self.alloc, self.definitions, conditions, at);
+            self.scope.fault.check(done);
+        }
     }
 
     /// A type, or a constant where one is wanted.
-    pub(super) fn value(&mut self, is_const: bool, id: TermId) -> Result<Term, ItemFault> {
+    pub(super) fn value(&mut self, is_const: bool, id: TermId) -> Term {
         if is_const {
-            Ok(Term::Const(self.constant(id)?))
+            Term::Const(self.constant(id))
         } else {
-            Ok(Term::Ty(self.ty(id)?))
+            Term::Ty(self.ty(id))
         }
     }
 
     /// A type or a constant, where one is written.
-    pub(super) fn optional_value(
-        &mut self,
-        is_const: bool,
-        id: Option<TermId>,
-    ) -> Result<Option<Term>, ItemFault> {
+    pub(super) fn optional_value(&mut self, is_const: bool, id: Option<TermId>) -> Option<Term> {
         match id {
-            Some(id) => Ok(Some(self.value(is_const, id)?)),
-            None => Ok(None),
+            Some(id) => Some(self.value(is_const, id)),
+            None => None,
         }
     }
+}
+
+fn elaborate_both(
+    alloc: Global,
+    definitions: &Definitions,
+    conditions: &mut Conditions,
+    at: Position,
+) -> Result<(), ItemFault> {
+    elaborate(alloc, definitions, &mut conditions.predicates, at)?;
+    elaborate_const(alloc, definitions, &mut conditions.const_conditions, at)
 }
 
 /// The const bounds of an alias. None where it has neither implied const bounds nor const conditions.

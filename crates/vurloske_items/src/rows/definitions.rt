@@ -1,6 +1,8 @@
 //! The rows of definitions, which stand in traits and in impls.
+use crate::definitions::places::ItemEntry;
 use crate::faults::{ItemFault, wrong_name};
-use crate::rows::impl_items::Written;
+use crate::rows::impl_items::{Written, assoc_item, gives_value, how_written};
+use crate::rows::impls::polarity;
 use crate::rows::{Text, count};
 use crate::terms::Lowering;
 use goal_tables::rows::{Container, DefRow, DefValue};
@@ -51,7 +53,7 @@ impl DefSites {
         text: Text<'_>,
         left_out: &IndexSet<ItemId>,
     ) -> Result<(), ItemFault> {
-        for number in 0..text.item_count() {
+        for number in 0..count(text.definitions.places.items.len()) {
             let id = ItemId(number);
             if text.trait_gives_value(id) || left_out.contains(&id) {
                 self.sites.insert(DefSite::Trait(id))?;
@@ -61,7 +63,7 @@ impl DefSites {
     }
 
     fn add_in_impls(&mut self, text: Text<'_>) -> Result<(), ItemFault> {
-        for number in 0..count(&text.definitions.impls) {
+        for number in 0..count(text.definitions.places.impls.len()) {
             let id = ImplId(number);
             if let Some((node, trait_id)) = text.impl_with_trait(id)? {
                 self.add_in_impl(text, id, &node, trait_id)?;
@@ -77,13 +79,13 @@ impl DefSites {
         node: &Impl,
         trait_id: TraitId,
     ) -> Result<(), ItemFault> {
-        let is_positive = text.polarity(id, node).is_positive();
+        let is_positive = polarity(text.ast, &text.definitions.places, id, node).is_positive();
         for item in text.ast.assoc_items(node.items) {
             if !is_positive {
                 return Err(wrong_name(item.ident, Phrase::ITEM_OF_A_POSITIVE_IMPL));
             }
             let item_id = text.item_for(trait_id, item)?;
-            if let Written::Here = text.written(item)? {
+            if let Written::Here = how_written(text.ast, item)? {
                 if !self.sites.insert(DefSite::Impl(id, item_id))? {
                     return Err(wrong_name(item.ident, Phrase::NEW_IMPL_ITEM));
                 }
@@ -96,7 +98,7 @@ impl DefSites {
 impl Text<'_> {
     /// An impl with its trait.
     pub(super) fn impl_with_trait(self, id: ImplId) -> Result<Option<(Impl, TraitId)>, ItemFault> {
-        let Some(node) = self.definitions.impl_node(self.ast, id) else {
+        let Some(node) = self.definitions.places.impl_node(self.ast, id) else {
             return Ok(None);
         };
         match node.trait_ {
@@ -107,8 +109,8 @@ impl Text<'_> {
 
     /// Whether a trait gives its item a value.
     fn trait_gives_value(self, id: ItemId) -> bool {
-        match self.definitions.item_node(self.ast, id) {
-            Some(node) => self.gives_value(&node),
+        match self.definitions.places.item_node(self.ast, id) {
+            Some(node) => gives_value(self.ast, &node),
             None => false,
         }
     }
@@ -116,10 +118,10 @@ impl Text<'_> {
     /// The items that some positive impl leaves out.
     fn left_out(self) -> Result<IndexSet<ItemId>, ItemFault> {
         let mut items = IndexSet::new(self.alloc);
-        for number in 0..count(&self.definitions.impls) {
+        for number in 0..count(self.definitions.places.impls.len()) {
             let id = ImplId(number);
             if let Some((node, trait_id)) = self.impl_with_trait(id)? {
-                if self.polarity(id, &node).is_positive() {
+                if polarity(self.ast, &self.definitions.places, id, &node).is_positive() {
                     self.add_left_out(&node, trait_id, &mut items)?;
                 }
             }
@@ -133,12 +135,12 @@ impl Text<'_> {
         trait_id: TraitId,
         items: &mut IndexSet<ItemId>,
     ) -> Result<(), ItemFault> {
-        let Some(trait_node) = self.definitions.trait_node(self.ast, trait_id) else {
+        let Some(trait_node) = self.definitions.places.trait_node(self.ast, trait_id) else {
             return Ok(());
         };
         for item in self.ast.assoc_items(trait_node.items) {
             if let Some(id) = self.definitions.item(trait_id, item.ident.name) {
-                if self.assoc_item(node.items, id).is_none() {
+                if assoc_item(self.ast, &self.definitions.places, node.items, id).is_none() {
                     items.insert(id)?;
                 }
             }
@@ -154,92 +156,81 @@ impl Text<'_> {
     ) -> Result<(), ItemFault> {
         for (index, site) in sites.sites.iter().enumerate() {
             let id = DefId(u32::try_from(index).unwrap_or(u32::MAX));
-            if let Some(row) = self.def_row(id, *site)? {
-                rows.push(row)?;
+            match *site {
+                DefSite::Trait(item) => self.push_trait_def(id, item, rows)?,
+                DefSite::Impl(impl_id, item) => self.push_impl_def(id, impl_id, item, rows)?,
             }
         }
         Ok(())
     }
 
-    fn def_row(self, id: DefId, site: DefSite) -> Result<Option<DefRow>, ItemFault> {
-        match site {
-            DefSite::Trait(item) => self.def_row_in_trait(id, item),
-            DefSite::Impl(impl_id, item) => self.def_row_in_impl(id, impl_id, item),
-        }
+    fn push_trait_def(
+        self,
+        id: DefId,
+        item: ItemId,
+        rows: &mut Vec<DefRow>,
+    ) -> Result<(), ItemFault> {
+        let Some(ItemEntry { trait_id, .. }) = self.definitions.places.item_entry(item) else {
+            return Ok(());
+        };
+        let Some(node) = self.definitions.places.item_node(self.ast, item) else {
+            return Ok(());
+        };
+        let mut lowering = Lowering::of_trait(self.alloc, self.ast, self.definitions, trait_id);
+        let row = lowering.def_row(id, Container::Trait(trait_id), item, &node);
+        lowering.scope.fault.keep(rows.push(row));
+        lowering.scope.fault.result()
     }
 
-    fn def_row_in_trait(self, id: DefId, item: ItemId) -> Result<Option<DefRow>, ItemFault> {
-        let Some(entry) = self.definitions.item_entry(item) else {
-            return Ok(None);
-        };
-        let Some(node) = self.definitions.item_node(self.ast, item) else {
-            return Ok(None);
-        };
-        let mut row = self.missing(id, Container::Trait(entry.trait_id), item);
-        let mut lowering = Lowering::of_trait(
-            self.alloc,
-            self.ast,
-            self.definitions,
-            entry.trait_id,
-        )?;
-        self.fill_definition(&mut lowering, &node, &mut row)?;
-        Ok(Some(row))
-    }
-
-    fn def_row_in_impl(
+    fn push_impl_def(
         self,
         id: DefId,
         impl_id: ImplId,
         item: ItemId,
-    ) -> Result<Option<DefRow>, ItemFault> {
-        let Some(impl_node) = self.definitions.impl_node(self.ast, impl_id) else {
-            return Ok(None);
+        rows: &mut Vec<DefRow>,
+    ) -> Result<(), ItemFault> {
+        let Some(impl_node) = self.definitions.places.impl_node(self.ast, impl_id) else {
+            return Ok(());
         };
-        let Some(node) = self.assoc_item(impl_node.items, item) else {
-            return Ok(None);
+        let Some(node) = assoc_item(self.ast, &self.definitions.places, impl_node.items, item)
+        else {
+            return Ok(());
         };
-        let mut row = self.missing(id, Container::Impl(impl_id), item);
-        let mut lowering = Lowering::of_impl(self.alloc, self.ast, self.definitions, &impl_node)?;
-        self.fill_definition(&mut lowering, &node, &mut row)?;
-        Ok(Some(row))
+        let mut lowering = Lowering::of_impl(self.alloc, self.ast, self.definitions, &impl_node);
+        let row = lowering.def_row(id, Container::Impl(impl_id), item, &node);
+        lowering.scope.fault.keep(rows.push(row));
+        lowering.scope.fault.result()
     }
+}
 
-    /// A definition without a value.
-    fn missing(self, id: DefId, container: Container, item: ItemId) -> DefRow {
+impl Lowering<'_> {
+    /// What a definition gives its item, in the scope of its container.
+    fn def_row(
+        &mut self,
+        id: DefId,
+        container: Container,
+        item: ItemId,
+        node: &AssocItem,
+    ) -> DefRow {
+        self.declare(node.generics);
+        let own_params = self.own_kinds(node.generics.params);
+        self.conditions(node.generics);
         DefRow {
             id,
             container,
             item,
-            own_params: Vec::new(self.alloc),
-            value: DefValue::Missing,
+            own_params,
+            value: self.def_value(node),
         }
     }
 
-    /// Says what a definition gives its item, in the scope of its container.
-    fn fill_definition(
-        self,
-        lowering: &mut Lowering<'_>,
-        node: &AssocItem,
-        row: &mut DefRow,
-    ) -> Result<(), ItemFault> {
-        lowering.declare(node.generics)?;
-        row.own_params = self.kinds(node.generics.params)?;
-        lowering.conditions(node.generics)?;
-        row.value = self.def_value(lowering, node)?;
-        Ok(())
-    }
-
-    fn def_value(
-        self,
-        lowering: &mut Lowering<'_>,
-        node: &AssocItem,
-    ) -> Result<DefValue, ItemFault> {
+    fn def_value(&mut self, node: &AssocItem) -> DefValue {
         if self.ast.has_attr(node.attrs, "evaluated") {
-            return Ok(DefValue::Evaluated);
+            return DefValue::Evaluated;
         }
         match node.value {
-            Some(id) => Ok(DefValue::Term(lowering.value(node.is_const, id)?)),
-            None => Ok(DefValue::Missing),
+            Some(id) => DefValue::Term(self.value(node.is_const, id)),
+            None => DefValue::Missing,
         }
     }
 }

@@ -1,7 +1,9 @@
 //! The rows of free type aliases and constants.
 use crate::attributes::expect_attrs;
+use crate::definitions::places::attrs_at;
 use crate::faults::ItemFault;
 use crate::rows::{Text, count};
+use crate::terms::Lowering;
 use goal_tables::rows::FreeRow;
 use goal_terms::ids::FreeId;
 use vurloske_syntax::ast::{Free, FreeValue, TermId};
@@ -9,35 +11,39 @@ use vurloske_syntax::ast::{Free, FreeValue, TermId};
 impl Text<'_> {
     /// Adds the rows of the free aliases and constants.
     pub(super) fn push_free_rows(self, rows: &mut Vec<FreeRow>) -> Result<(), ItemFault> {
-        for number in 0..count(&self.definitions.free_aliases) {
+        for number in 0..count(self.definitions.places.free_aliases.len()) {
             let id = FreeId(number);
-            if let Some(node) = self.definitions.free_node(self.ast, id) {
-                rows.push(self.free_row(id, &node)?)?;
+            if let Some(node) = self.definitions.places.free_node(self.ast, id) {
+                self.push_free_row(id, &node, rows)?;
             }
         }
         Ok(())
     }
 
-    fn free_row(self, id: FreeId, node: &Free) -> Result<FreeRow, ItemFault> {
-        let mut row = FreeRow {
-            id,
-            params: Vec::new(self.alloc),
-            is_const: node.is_const,
-            predicates: Vec::new(self.alloc),
-            value: None,
-        };
-        self.fill_free(node, &mut row)?;
-        Ok(row)
-    }
-
-    fn fill_free(self, node: &Free, row: &mut FreeRow) -> Result<(), ItemFault> {
-        let attrs = self.attrs_at(&self.definitions.free_aliases, row.id.0);
+    fn push_free_row(
+        self,
+        id: FreeId,
+        node: &Free,
+        rows: &mut Vec<FreeRow>,
+    ) -> Result<(), ItemFault> {
+        let attrs = attrs_at(self.ast, &self.definitions.places.free_aliases, id.0);
         expect_attrs(self.ast, attrs, &[])?;
-        let mut lowering = self.lowering_of(node.generics)?;
-        row.params = lowering.scope.params.kinds(self.alloc)?;
-        row.predicates = lowering.conditions(node.generics)?.into_predicates();
-        row.value = lowering.optional_value(node.is_const, value(node))?;
-        Ok(())
+        let mut lowering = self.lowering_of(node.generics);
+        let row = lowering.free_row(id, node);
+        lowering.scope.fault.keep(rows.push(row));
+        lowering.scope.fault.result()
+    }
+}
+
+impl Lowering<'_> {
+    fn free_row(&mut self, id: FreeId, node: &Free) -> FreeRow {
+        FreeRow {
+            id,
+            params: self.scope.param_kinds(self.alloc),
+            is_const: node.is_const,
+            predicates: self.conditions(node.generics).into_predicates(),
+            value: self.optional_value(node.is_const, value(node)),
+        }
     }
 }
 

@@ -1,9 +1,10 @@
 //! What impls say of the items of their traits.
 use crate::attributes::{expect_attrs, name_in_attr, number_in_attr};
+use crate::definitions::places::Places;
 use crate::faults::{ItemFault, wrong_name};
 use crate::rows::Text;
 use goal_terms::ids::{ItemId, TraitId};
-use vurloske_syntax::ast::{AssocItem, Ident, Run};
+use vurloske_syntax::ast::{AssocItem, Ast, Ident, Run};
 use vurloske_syntax::phrase::Phrase;
 
 /// Where an item that an impl writes gets its value.
@@ -17,30 +18,49 @@ pub(super) enum Written {
     Broken(u32),
 }
 
-impl Text<'_> {
-    /// The item of a name among those of a trait or an impl.
-    pub(super) fn assoc_item(self, items: Run, item: ItemId) -> Option<AssocItem> {
-        let name = self.definitions.item_entry(item)?.name;
-        for node in self.ast.assoc_items(items) {
-            if node.ident.name == name {
-                return Some(*node);
-            }
+/// The item of a name among those of a trait or an impl.
+pub(super) fn assoc_item(
+    ast: &Ast,
+    places: &Places,
+    items: Run,
+    item: ItemId,
+) -> Option<AssocItem> {
+    let name = places.item_entry(item)?.name;
+    for node in ast.assoc_items(items) {
+        if node.ident.name == name {
+            return Some(*node);
         }
-        None
     }
+    None
+}
 
-    /// Whether a trait or an impl gives an item that it writes a value.
-    pub(super) fn gives_value(self, node: &AssocItem) -> bool {
-        node.value.is_some() || self.ast.has_attr(node.attrs, "evaluated")
+/// Whether a trait or an impl gives an item that it writes a value.
+pub(super) fn gives_value(ast: &Ast, node: &AssocItem) -> bool {
+    node.value.is_some() || ast.has_attr(node.attrs, "evaluated")
+}
+
+/// Where an item that an impl writes gets its value. A mistake where it has none, or where it has one
+/// beside that of another impl.
+pub(super) fn how_written(ast: &Ast, node: &AssocItem) -> Result<Written, ItemFault> {
+    expect_attrs(ast, node.attrs, &["from", "broken", "evaluated"])?;
+    let from = ast.attr_named(node.attrs, "from");
+    let broken = ast.attr_named(node.attrs, "broken");
+    match (gives_value(ast, node), from, broken) {
+        (true, None, None) => Ok(Written::Here),
+        (false, Some(attr), None) => Ok(Written::From(name_in_attr(ast, &attr)?)),
+        (false, None, Some(attr)) => Ok(Written::Broken(number_in_attr(ast, &attr)?)),
+        _ => Err(wrong_name(node.ident, Phrase::ITEM_WITH_ONE_VALUE)),
     }
+}
 
+impl Text<'_> {
     /// The item of a trait that one of an impl is for. A mistake where the trait has none of this name,
     /// or one of another kind.
     pub(super) fn item_for(self, trait_id: TraitId, node: &AssocItem) -> Result<ItemId, ItemFault> {
         let Some(id) = self.definitions.item(trait_id, node.ident.name) else {
             return Err(wrong_name(node.ident, Phrase::ITEM_OF_THE_TRAIT));
         };
-        match self.definitions.item_entry(id) {
+        match self.definitions.places.item_entry(id) {
             Some(entry) if entry.is_const && !node.is_const => {
                 Err(wrong_name(node.ident, Phrase::CONSTANT_OF_THE_TRAIT))
             }
@@ -48,20 +68,6 @@ impl Text<'_> {
                 Err(wrong_name(node.ident, Phrase::TYPE_OF_THE_TRAIT))
             }
             _ => Ok(id),
-        }
-    }
-
-    /// Where an item that an impl writes gets its value. A mistake where it has none, or where it has one
-    /// beside that of another impl.
-    pub(super) fn written(self, node: &AssocItem) -> Result<Written, ItemFault> {
-        expect_attrs(self.ast, node.attrs, &["from", "broken", "evaluated"])?;
-        let from = self.ast.attr_named(node.attrs, "from");
-        let broken = self.ast.attr_named(node.attrs, "broken");
-        match (self.gives_value(node), from, broken) {
-            (true, None, None) => Ok(Written::Here),
-            (false, Some(attr), None) => Ok(Written::From(name_in_attr(self.ast, &attr)?)),
-            (false, None, Some(attr)) => Ok(Written::Broken(number_in_attr(self.ast, &attr)?)),
-            _ => Err(wrong_name(node.ident, Phrase::ITEM_WITH_ONE_VALUE)),
         }
     }
 }

@@ -1,75 +1,50 @@
 //! The rows of impls of traits.
 use crate::attributes::expect_attrs;
+use crate::definitions::places::{Places, attrs_at};
 use crate::faults::{ItemFault, wrong_name};
 use crate::rows::{Text, count};
 use crate::terms::Lowering;
 use goal_tables::rows::{ImplPolarity, ImplRow};
-use goal_terms::ids::ImplId;
+use goal_terms::ids::{ImplId, TraitId};
 use goal_terms::predicates::TraitRef;
-use vurloske_syntax::ast::{Impl, Segment};
+use vurloske_syntax::ast::{Ast, Impl, Segment};
 use vurloske_syntax::phrase::Phrase;
 
 impl Text<'_> {
     /// Adds the rows of the impls of traits.
     pub(super) fn push_impl_rows(self, rows: &mut Vec<ImplRow>) -> Result<(), ItemFault> {
-        for number in 0..count(&self.definitions.impls) {
+        for number in 0..count(self.definitions.places.impls.len()) {
             let id = ImplId(number);
-            if let Some(node) = self.definitions.impl_node(self.ast, id) {
-                if let Some(row) = self.impl_row(id, &node)? {
-                    rows.push(row)?;
-                }
+            if let Some(node) = self.definitions.places.impl_node(self.ast, id) {
+                self.push_impl_row(id, &node, rows)?;
             }
         }
         Ok(())
     }
 
-    fn impl_row(self, id: ImplId, node: &Impl) -> Result<Option<ImplRow>, ItemFault> {
+    fn push_impl_row(
+        self,
+        id: ImplId,
+        node: &Impl,
+        rows: &mut Vec<ImplRow>,
+    ) -> Result<(), ItemFault> {
         let Some(trait_) = node.trait_ else {
-            return Ok(None);
+            return Ok(());
         };
         let trait_id = self.trait_named(trait_)?;
-        let attrs = self.attrs_at(&self.definitions.impls, id.0);
-        let mut row = ImplRow {
-            id,
-            trait_id,
-            params: Vec::new(self.alloc),
-            trait_args: Vec::new(self.alloc),
-            polarity: self.polarity(id, node),
-            is_const: node.is_const,
-            guaranteed_unsized: self.ast.has_attr(attrs, "guaranteed_unsized"),
-            predicates: Vec::new(self.alloc),
-            const_conditions: Vec::new(self.alloc),
-        };
-        self.fill_impl(node, trait_, &mut row)?;
-        Ok(Some(row))
-    }
-
-    fn fill_impl(self, node: &Impl, trait_: Segment, row: &mut ImplRow) -> Result<(), ItemFault> {
-        self.expect_impl_attrs(node, trait_, row.id)?;
-        let mut lowering = Lowering::of_impl(self.alloc, self.ast, self.definitions, node)?;
-        row.params = lowering.scope.params.kinds(self.alloc)?;
-        fill_header(&mut lowering, node, trait_, row)?;
-        let (predicates, const_conditions) = lowering.conditions(node.generics)?.into_parts();
-        row.predicates = predicates;
-        row.const_conditions = const_conditions;
-        Ok(())
-    }
-
-    /// Whether an impl says that its trait holds.
-    pub(super) fn polarity(self, id: ImplId, node: &Impl) -> ImplPolarity {
-        let attrs = self.attrs_at(&self.definitions.impls, id.0);
-        if node.is_negative {
-            ImplPolarity::Negative
-        } else if self.ast.has_attr(attrs, "reservation") {
-            ImplPolarity::Reservation
-        } else {
-            ImplPolarity::Positive
-        }
+        self.expect_impl_attrs(node, trait_, id)?;
+        let mut lowering = Lowering::of_impl(self.alloc, self.ast, self.definitions, node);
+        let mut row = lowering.impl_row(id, trait_id, node, trait_);
+        row.polarity = polarity(self.ast, &self.definitions.places, id, node);
+        let attrs = attrs_at(self.ast, &self.definitions.places.impls, id.0);
+        row.guaranteed_unsized = self.ast.has_attr(attrs, "guaranteed_unsized");
+        lowering.scope.fault.keep(rows.push(row));
+        lowering.scope.fault.result()
     }
 
     /// A mistake where an impl has an attribute that no impl has, or is both negative and a reservation.
     fn expect_impl_attrs(self, node: &Impl, trait_: Segment, id: ImplId) -> Result<(), ItemFault> {
-        let attrs = self.attrs_at(&self.definitions.impls, id.0);
+        let attrs = attrs_at(self.ast, &self.definitions.places.impls, id.0);
         expect_attrs(
             self.ast,
             attrs,
@@ -82,15 +57,35 @@ impl Text<'_> {
     }
 }
 
-/// Says for which arguments the impl is.
-fn fill_header(
-    lowering: &mut Lowering<'_>,
-    node: &Impl,
-    trait_: Segment,
-    row: &mut ImplRow,
-) -> Result<(), ItemFault> {
-    let self_ty = lowering.ty(node.self_ty)?;
-    let TraitRef { def_id: _, args } = lowering.trait_ref(self_ty, trait_)?;
-    row.trait_args = args;
-    Ok(())
+impl Lowering<'_> {
+    /// The row of a positive impl.
+    fn impl_row(&mut self, id: ImplId, trait_id: TraitId, node: &Impl, trait_: Segment) -> ImplRow {
+        let params = self.scope.param_kinds(self.alloc);
+        let self_ty = self.ty(node.self_ty);
+        let TraitRef { def_id: _, args } = self.trait_ref(self_ty, trait_);
+        let (predicates, const_conditions) = self.conditions(node.generics).into_parts();
+        ImplRow {
+            id,
+            trait_id,
+            params,
+            trait_args: args,
+            polarity: ImplPolarity::Positive,
+            is_const: node.is_const,
+            guaranteed_unsized: false,
+            predicates,
+            const_conditions,
+        }
+    }
+}
+
+/// Whether an impl says that its trait holds.
+pub(super) fn polarity(ast: &Ast, places: &Places, id: ImplId, node: &Impl) -> ImplPolarity {
+    if node.is_negative {
+        return ImplPolarity::Negative;
+    }
+    if ast.has_attr(attrs_at(ast, &places.impls, id.0), "reservation") {
+        ImplPolarity::Reservation
+    } else {
+        ImplPolarity::Positive
+    }
 }

@@ -1,5 +1,6 @@
 //! The rows of impls of no trait, and of their items.
 use crate::attributes::expect_attrs;
+use crate::definitions::places::{InherentEntry, attrs_at};
 use crate::faults::ItemFault;
 use crate::rows::{Text, count};
 use crate::terms::Lowering;
@@ -13,88 +14,88 @@ impl Text<'_> {
         self,
         rows: &mut Vec<InherentImplRow>,
     ) -> Result<(), ItemFault> {
-        for number in 0..count(&self.definitions.inherent_impls) {
+        for number in 0..count(self.definitions.places.inherent_impls.len()) {
             let id = InherentImplId(number);
-            if let Some(node) = self.definitions.inherent_impl_node(self.ast, id) {
-                rows.push(self.inherent_impl_row(id, &node)?)?;
+            if let Some(node) = self.definitions.places.inherent_impl_node(self.ast, id) {
+                self.push_inherent_impl_row(id, &node, rows)?;
             }
         }
         Ok(())
     }
 
-    fn inherent_impl_row(
+    fn push_inherent_impl_row(
         self,
         id: InherentImplId,
         node: &Impl,
-    ) -> Result<InherentImplRow, ItemFault> {
-        let attrs = self.attrs_at(&self.definitions.inherent_impls, id.0);
+        rows: &mut Vec<InherentImplRow>,
+    ) -> Result<(), ItemFault> {
+        let attrs = attrs_at(self.ast, &self.definitions.places.inherent_impls, id.0);
         expect_attrs(self.ast, attrs, &[])?;
-        let mut lowering = Lowering::of_impl(self.alloc, self.ast, self.definitions, node)?;
-        let self_ty = lowering.ty(node.self_ty)?;
-        Ok(InherentImplRow {
+        let mut lowering = Lowering::of_impl(self.alloc, self.ast, self.definitions, node);
+        let row = InherentImplRow {
             id,
-            params: lowering.scope.params.kinds(self.alloc)?,
-            self_ty,
-        })
+            params: lowering.scope.param_kinds(self.alloc),
+            self_ty: lowering.ty(node.self_ty),
+        };
+        lowering.scope.fault.keep(rows.push(row));
+        lowering.scope.fault.result()
     }
 
     /// Adds the rows of the items of impls of no trait.
     pub(super) fn push_inherent_rows(self, rows: &mut Vec<InherentRow>) -> Result<(), ItemFault> {
-        for number in 0..self.inherent_count() {
+        for number in 0..count(self.definitions.places.inherent_items.len()) {
             let id = InherentId(number);
-            if let Some(row) = self.inherent_row(id)? {
-                rows.push(row)?;
+            if let Some(node) = self.definitions.places.inherent_node(self.ast, id) {
+                self.push_inherent_row(id, &node, rows)?;
             }
         }
         Ok(())
     }
 
-    fn inherent_count(self) -> u32 {
-        u32::try_from(self.definitions.inherent_items.len()).unwrap_or(u32::MAX)
-    }
-
-    fn inherent_row(self, id: InherentId) -> Result<Option<InherentRow>, ItemFault> {
-        let Some(entry) = self.definitions.inherent_entry(id) else {
-            return Ok(None);
-        };
-        let mut row = InherentRow {
-            id,
-            impl_id: entry.impl_id,
-            is_const: entry.is_const,
-            own_params: Vec::new(self.alloc),
-            predicates: Vec::new(self.alloc),
-            value: None,
-        };
-        self.fill_inherent(&mut row)?;
-        Ok(Some(row))
-    }
-
-    fn fill_inherent(self, row: &mut InherentRow) -> Result<(), ItemFault> {
-        let definitions = self.definitions;
-        let Some(node) = definitions.inherent_node(self.ast, row.id) else {
+    fn push_inherent_row(
+        self,
+        id: InherentId,
+        node: &AssocItem,
+        rows: &mut Vec<InherentRow>,
+    ) -> Result<(), ItemFault> {
+        let Some(InherentEntry { impl_id, .. }) = self.definitions.places.inherent_entry(id) else {
             return Ok(());
         };
-        let Some(impl_node) = definitions.inherent_impl_node(self.ast, row.impl_id) else {
+        let Some(impl_node) = self
+            .definitions
+            .places
+            .inherent_impl_node(self.ast, impl_id)
+        else {
             return Ok(());
         };
         expect_attrs(self.ast, node.attrs, &[])?;
-        let mut lowering = Lowering::of_impl(self.alloc, self.ast, definitions, &impl_node)?;
-        lowering.declare(node.generics)?;
-        row.own_params = self.kinds(node.generics.params)?;
-        fill_inherent_item(&mut lowering, &impl_node, &node, row)
+        let mut lowering = Lowering::of_impl(self.alloc, self.ast, self.definitions, &impl_node);
+        let row = lowering.inherent_row(id, impl_id, &impl_node, node);
+        lowering.scope.fault.keep(rows.push(row));
+        lowering.scope.fault.result()
     }
 }
 
-/// Says what the impl and then the item itself demand, and what the item is.
-fn fill_inherent_item(
-    lowering: &mut Lowering<'_>,
-    impl_node: &Impl,
-    node: &AssocItem,
-    row: &mut InherentRow,
-) -> Result<(), ItemFault> {
-    let mut conditions = lowering.conditions(impl_node.generics)?;
-    lowering.generics(node.generics, &mut conditions)?;
-    row.predicates = conditions.into_predicates();
-    row.value = lowering.optional_value(node.is_const, node.value)?;
-    Ok(())
+impl Lowering<'_> {
+    /// What the impl and then the item itself demand, and what the item is.
+    fn inherent_row(
+        &mut self,
+        id: InherentId,
+        impl_id: InherentImplId,
+        impl_node: &Impl,
+        node: &AssocItem,
+    ) -> InherentRow {
+        self.declare(node.generics);
+        let own_params = self.own_kinds(node.generics.params);
+        let mut conditions = self.conditions(impl_node.generics);
+        self.generics(node.generics, &mut conditions);
+        InherentRow {
+            id,
+            impl_id,
+            is_const: node.is_const,
+            own_params,
+            predicates: conditions.into_predicates(),
+            value: self.optional_value(node.is_const, node.value),
+        }
+    }
 }

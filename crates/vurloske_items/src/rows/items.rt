@@ -1,85 +1,57 @@
 //! The rows of the items of traits.
 use crate::attributes::expect_attrs;
+use crate::definitions::places::ItemEntry;
 use crate::faults::ItemFault;
-use crate::rows::Text;
 use crate::rows::conditions::const_bounds;
+use crate::rows::{Text, count};
 use crate::terms::Lowering;
 use goal_tables::rows::ItemRow;
-use goal_terms::ids::ItemId;
-use goal_terms::predicates::TraitRef;
+use goal_terms::ids::{ItemId, TraitId};
 use vurloske_syntax::ast::AssocItem;
 
 impl Text<'_> {
     /// Adds the rows of the items of traits.
     pub(super) fn push_item_rows(self, rows: &mut Vec<ItemRow>) -> Result<(), ItemFault> {
-        for number in 0..self.item_count() {
+        for number in 0..count(self.definitions.places.items.len()) {
             let id = ItemId(number);
-            if let Some(node) = self.definitions.item_node(self.ast, id) {
-                if let Some(row) = self.item_row(id, &node)? {
-                    rows.push(row)?;
-                }
+            if let Some(node) = self.definitions.places.item_node(self.ast, id) {
+                self.push_item_row(id, &node, rows)?;
             }
         }
         Ok(())
     }
 
-    /// How many items the traits have.
-    pub(super) fn item_count(self) -> u32 {
-        u32::try_from(self.definitions.items.len()).unwrap_or(u32::MAX)
-    }
-
-    fn item_row(self, id: ItemId, node: &AssocItem) -> Result<Option<ItemRow>, ItemFault> {
-        let Some(entry) = self.definitions.item_entry(id) else {
-            return Ok(None);
+    fn push_item_row(
+        self,
+        id: ItemId,
+        node: &AssocItem,
+        rows: &mut Vec<ItemRow>,
+    ) -> Result<(), ItemFault> {
+        let Some(ItemEntry { trait_id, .. }) = self.definitions.places.item_entry(id) else {
+            return Ok(());
         };
-        let mut row = ItemRow {
-            id,
-            trait_id: entry.trait_id,
-            is_const: entry.is_const,
-            own_params: Vec::new(self.alloc),
-            own_predicates: Vec::new(self.alloc),
-            bounds: Vec::new(self.alloc),
-            const_bounds: None,
-        };
-        self.fill_item(node, &mut row)?;
-        Ok(Some(row))
-    }
-
-    fn fill_item(self, node: &AssocItem, row: &mut ItemRow) -> Result<(), ItemFault> {
         expect_attrs(self.ast, node.attrs, &["lang", "evaluated"])?;
-        let mut lowering = Lowering::of_trait(
-            self.alloc,
-            self.ast,
-            self.definitions,
-            row.trait_id,
-        )?;
-        lowering.declare(node.generics)?;
-        row.own_params = self.kinds(node.generics.params)?;
-        let conditions = fill_own_predicates(&mut lowering, node, row)?;
-        fill_bounds(&mut lowering, node, conditions, row)
+        let mut lowering = Lowering::of_trait(self.alloc, self.ast, self.definitions, trait_id);
+        let row = lowering.item_row(id, trait_id, node);
+        lowering.scope.fault.keep(rows.push(row));
+        lowering.scope.fault.result()
     }
 }
 
-/// Says what the item's own parameters and where clauses say, and gives the const conditions.
-fn fill_own_predicates(
-    lowering: &mut Lowering<'_>,
-    node: &AssocItem,
-    row: &mut ItemRow,
-) -> Result<Vec<TraitRef>, ItemFault> {
-    let (predicates, conditions) = lowering.conditions(node.generics)?.into_parts();
-    row.own_predicates = predicates;
-    Ok(conditions)
-}
-
-/// Says what the item's bounds say, beside const conditions.
-fn fill_bounds(
-    lowering: &mut Lowering<'_>,
-    node: &AssocItem,
-    conditions: Vec<TraitRef>,
-    row: &mut ItemRow,
-) -> Result<(), ItemFault> {
-    let (bounds, implied) = lowering.alias_bounds(node.bounds, node.ident.at)?;
-    row.bounds = bounds;
-    row.const_bounds = const_bounds(implied, conditions);
-    Ok(())
+impl Lowering<'_> {
+    fn item_row(&mut self, id: ItemId, trait_id: TraitId, node: &AssocItem) -> ItemRow {
+        self.declare(node.generics);
+        let own_params = self.own_kinds(node.generics.params);
+        let (own_predicates, conditions) = self.conditions(node.generics).into_parts();
+        let (bounds, implied) = self.alias_bounds(node.bounds, node.ident.at);
+        ItemRow {
+            id,
+            trait_id,
+            is_const: node.is_const,
+            own_params,
+            own_predicates,
+            bounds,
+            const_bounds: const_bounds(implied, conditions),
+        }
+    }
 }

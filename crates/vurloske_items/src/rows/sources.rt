@@ -1,7 +1,8 @@
 //! Which definitions impls use.
 use crate::faults::{ItemFault, wrong_name};
 use crate::rows::definitions::{DefSite, DefSites};
-use crate::rows::impl_items::Written;
+use crate::rows::impl_items::{Written, assoc_item, how_written};
+use crate::rows::impls::polarity;
 use crate::rows::{Text, count};
 use goal_tables::rows::{Source, SourceRow};
 use goal_terms::ids::{ImplId, ItemId, TraitId};
@@ -15,10 +16,10 @@ impl Text<'_> {
         sites: &DefSites,
         rows: &mut Vec<SourceRow>,
     ) -> Result<(), ItemFault> {
-        for number in 0..count(&self.definitions.impls) {
+        for number in 0..count(self.definitions.places.impls.len()) {
             let id = ImplId(number);
             if let Some((node, trait_id)) = self.impl_with_trait(id)? {
-                if self.polarity(id, &node).is_positive() {
+                if polarity(self.ast, &self.definitions.places, id, &node).is_positive() {
                     self.push_sources_of(sites, id, &node, trait_id, rows)?;
                 }
             }
@@ -34,7 +35,7 @@ impl Text<'_> {
         trait_id: TraitId,
         rows: &mut Vec<SourceRow>,
     ) -> Result<(), ItemFault> {
-        let Some(trait_node) = self.definitions.trait_node(self.ast, trait_id) else {
+        let Some(trait_node) = self.definitions.places.trait_node(self.ast, trait_id) else {
             return Ok(());
         };
         for item in self.ast.assoc_items(trait_node.items) {
@@ -59,7 +60,7 @@ impl Text<'_> {
         node: &Impl,
         item: ItemId,
     ) -> Result<Option<Source>, ItemFault> {
-        match self.assoc_item(node.items, item) {
+        match assoc_item(self.ast, &self.definitions.places, node.items, item) {
             Some(written) => self.written_source(sites, impl_id, item, &written),
             None => Ok(definition(sites, DefSite::Trait(item), false)),
         }
@@ -73,7 +74,7 @@ impl Text<'_> {
         item: ItemId,
         node: &AssocItem,
     ) -> Result<Option<Source>, ItemFault> {
-        match self.written(node)? {
+        match how_written(self.ast, node)? {
             Written::Here => {
                 let site = DefSite::Impl(impl_id, item);
                 Ok(definition(sites, site, node.is_default))

@@ -1,12 +1,15 @@
 //! Which item an alias names.
-use crate::definitions::{Definition, InherentEntry};
+use crate::definitions::Definition;
+use crate::definitions::places::InherentEntry;
 use crate::elaboration::elaborate;
 use crate::faults::{ItemFault, wrong, wrong_name};
 use crate::scope::{ParamName, SelfTerm};
-use crate::terms::Lowering;
+use crate::terms::parts::position;
+use crate::terms::{Lowering, no_alias};
 use goal_terms::ids::{InherentId, ItemId, TraitId};
 use goal_terms::predicates::{Clause, ClauseKind, TraitPredicate, TraitRef};
 use goal_terms::terms::{AliasTerm, AliasTermKind, GenericArg, Ty};
+use std::alloc::Global;
 use vurloske_syntax::ast::{Ident, Run, Segment, TermId, TermKind};
 use vurloske_syntax::phrase::Phrase;
 
@@ -28,6 +31,15 @@ impl Drop for Found {
 }
 
 impl Found {
+    /// An alias that has no parameters.
+    pub(super) fn new(alloc: Global, kind: AliasTermKind) -> Found {
+        Found {
+            kind,
+            args: Vec::new(alloc),
+            params: Run::EMPTY,
+        }
+    }
+
     pub(super) fn into_parts(self) -> (AliasTermKind, Vec<GenericArg>, Run) {
         let Found { kind, args, params } = self;
         (kind, args, params)
@@ -35,47 +47,57 @@ impl Found {
 }
 
 impl Lowering<'_> {
-    /// The trait of a name, with its parameters.
-    pub(super) fn trait_named(&self, ident: Ident) -> Result<(TraitId, Run), ItemFault> {
-        match self.definitions.named(ident.name) {
-            Some(named) => match named.definition {
-                Definition::Trait(id) => Ok((id, named.generics.params)),
-                _ => Err(wrong_name(ident, Phrase::TRAIT)),
-            },
-            None => Err(wrong_name(ident, Phrase::TRAIT)),
+    /// What stands for an item that was not found.
+    fn not_found(&mut self, fault: ItemFault) -> Found {
+        self.scope.fault.fail(fault);
+        Found::new(self.alloc, AliasTermKind::UnevaluatedConst(0))
+    }
+
+    /// The trait of a name, with its parameters. A mistake where the name is that of no trait.
+    pub(super) fn trait_named(&mut self, ident: Ident) -> (TraitId, Run) {
+        if let Some(named) = self.definitions.named(ident.name) {
+            if let Definition::Trait(id) = named.definition {
+                return (id, named.generics.params);
+            }
         }
+        self.scope.fault.fail(wrong_name(ident, Phrase::TRAIT));
+        (TraitId(0), Run::EMPTY)
     }
 
     /// The item of a trait with a name.
-    pub(super) fn item_of(&self, trait_ref: TraitRef, ident: Ident) -> Result<Found, ItemFault> {
+    pub(super) fn item_of(&mut self, trait_ref: TraitRef, ident: Ident) -> Found {
         let TraitRef { def_id, args } = trait_ref;
         match self.definitions.item(def_id, ident.name) {
-            Some(id) => Ok(self.found(id, args)),
-            None => Err(wrong_name(ident, Phrase::ITEM_OF_THE_TRAIT)),
+            Some(id) => self.found(id, args),
+            None => self.not_found(wrong_name(ident, Phrase::ITEM_OF_THE_TRAIT)),
         }
     }
 
     /// The item of a trait, or of a supertrait, with a name.
-    pub(super) fn item_through(
-        &self,
-        trait_ref: TraitRef,
-        ident: Ident,
-    ) -> Result<Found, ItemFault> {
-        match self.definitions.item_through(trait_ref.def_id, ident.name) {
-            Some(id) => {
-                let args = self.args_through(trait_ref, id, ident)?;
-                Ok(self.found(id, args))
-            }
-            None => Err(wrong_name(ident, Phrase::ITEM_OF_THE_TRAIT)),
+    pub(super) fn item_through(&mut self, trait_ref: TraitRef, ident: Ident) -> Found {
+        let Some(id) = self.definitions.item_through(trait_ref.def_id, ident.name) else {
+            return self.not_found(wrong_name(ident, Phrase::ITEM_OF_THE_TRAIT));
+        };
+        match self.args_through(trait_ref, id, ident) {
+            Ok(args) => self.found(id, args),
+            Err(fault) => self.not_found(fault),
+        }
+    }
+
+    /// The same of a trait that is used further.
+    pub(super) fn item_through_same(&mut self, trait_ref: &TraitRef, ident: Ident) -> Found {
+        match trait_ref.clone() {
+            Ok(trait_ref) => self.item_through(trait_ref, ident),
+            Err(_) => self.not_found(ItemFault::OutOfMemory),
         }
     }
 
     fn found(&self, id: ItemId, args: Vec<GenericArg>) -> Found {
-        let is_const = match self.definitions.item_entry(id) {
+        let is_const = match self.definitions.places.item_entry(id) {
             Some(entry) => entry.is_const,
             None => false,
         };
-        let params = match self.definitions.item_node(self.ast, id) {
+        let params = match self.definitions.places.item_node(self.ast, id) {
             Some(node) => node.generics.params,
             None => Run::EMPTY,
         };
@@ -98,7 +120,7 @@ impl Lowering<'_> {
         ident: Ident,
     ) -> Result<Vec<GenericArg>, ItemFault> {
         let TraitRef { def_id, args } = trait_ref;
-        let owner = match self.definitions.item_entry(id) {
+        let owner = match self.definitions.places.item_entry(id) {
             Some(entry) => entry.trait_id,
             None => def_id,
         };
@@ -112,23 +134,30 @@ impl Lowering<'_> {
     }
 
     /// `FnOnce::Output` of a trait reference with the arguments of `FnOnce`.
-    pub(super) fn output_of(
-        &self,
-        trait_ref: &TraitRef,
-        output: TermId,
-    ) -> Result<AliasTerm, ItemFault> {
-        match self.definitions.fn_once_output {
-            Some(id) => Ok(AliasTerm {
+    pub(super) fn output_of(&mut self, trait_ref: &TraitRef, output: TermId) -> AliasTerm {
+        let Some(id) = self.definitions.fn_once_output else {
+            self.scope.fault.fail(wrong(
+                position(self.ast, output),
+                Phrase::FN_ONCE_OUTPUT,
+                Phrase::NONE,
+            ));
+            return no_alias(self.alloc);
+        };
+        match trait_ref.args.clone() {
+            Ok(args) => AliasTerm {
                 kind: AliasTermKind::ProjectionTy(id),
-                args: trait_ref.args.clone()?,
-            }),
-            None => Err(wrong(self.at(output), Phrase::FN_ONCE_OUTPUT, Phrase::NONE)),
+                args,
+            },
+            Err(_) => {
+                self.scope.fault.fail(ItemFault::OutOfMemory);
+                no_alias(self.alloc)
+            }
         }
     }
 
     /// The first bound of a term that a name is, whose trait has an item of a name.
     pub(super) fn bound_with(&self, self_id: TermId, item: Ident) -> Option<Segment> {
-        let subject = self.plain_name(self_id)?;
+        let subject = self.ast.plain_name(self_id)?.name;
         if self.own_trait_with(self_id, item).is_some() {
             return None;
         }
@@ -140,7 +169,7 @@ impl Lowering<'_> {
         let SelfTerm::Param(id) = self.scope.self_term else {
             return None;
         };
-        if self.plain_name(self_id) != self.definitions.self_name {
+        if !self.definitions.is_self(self.ast.plain_name(self_id)?.name) {
             return None;
         }
         self.definitions.item(id, item.name)?;
@@ -149,71 +178,69 @@ impl Lowering<'_> {
 
     /// The item with a name that a type has: one of the trait whose self type it is, one of an impl of
     /// no trait, or the only one of this name, if its trait has no parameters.
-    pub(super) fn item_by_type(
-        &self,
-        self_ty: Ty,
-        self_id: TermId,
-        item: Ident,
-    ) -> Result<Found, ItemFault> {
+    pub(super) fn item_by_type(&mut self, self_ty: Ty, self_id: TermId, item: Ident) -> Found {
         if let Some(id) = self.own_trait_with(self_id, item) {
-            return self.item_of(self.identity(id)?, item);
+            let trait_ref = self.identity(id);
+            return self.item_of(trait_ref, item);
         }
-        let mut args = Vec::new(self.alloc);
-        if let Some((kind, params)) = self.inherent_item(&self_ty, item) {
-            args.push(GenericArg::Ty(self_ty))?;
-            return Ok(Found { kind, args, params });
-        }
-        let id = self.only_item(item)?;
-        args.push(GenericArg::Ty(self_ty))?;
-        Ok(self.found(id, args))
+        let mut found = match self.inherent_item(&self_ty, item) {
+            Some(found) => found,
+            None => self.only_item(item),
+        };
+        let pushed = found.args.push(GenericArg::Ty(self_ty));
+        self.scope.fault.keep(pushed);
+        found
     }
 
     /// A trait with its own parameters as arguments.
-    fn identity(&self, def_id: TraitId) -> Result<TraitRef, ItemFault> {
+    fn identity(&mut self, def_id: TraitId) -> TraitRef {
         let mut args = Vec::new(self.alloc);
-        if let Some(node) = self.definitions.trait_node(self.ast, def_id) {
-            self.push_own_params(&mut args, node.generics.params.len.saturating_add(1))?;
+        if let Some(node) = self.definitions.places.trait_node(self.ast, def_id) {
+            self.push_own_params(&mut args, node.generics.params.len.saturating_add(1));
         }
-        Ok(TraitRef { def_id, args })
+        TraitRef { def_id, args }
     }
 
-    fn push_own_params(&self, args: &mut Vec<GenericArg>, count: usize) -> Result<(), ItemFault> {
+    fn push_own_params(&mut self, args: &mut Vec<GenericArg>, count: usize) {
         for number in 0..count {
             let number = u32::try_from(number).unwrap_or(u32::MAX);
             if let Some(param) = self.scope.params.numbered(number) {
-                args.push(param.argument())?;
+                self.scope.fault.keep(args.push(param.argument()));
             }
         }
-        Ok(())
     }
 
     /// The item of this name, if one trait alone has it, and has no parameters.
-    fn only_item(&self, item: Ident) -> Result<ItemId, ItemFault> {
+    fn only_item(&mut self, item: Ident) -> Found {
         if let Some(id) = self.definitions.only_item(item.name) {
             if self.takes_self_alone(id) {
-                return Ok(id);
+                return self.found(id, Vec::new(self.alloc));
             }
         }
-        Err(wrong_name(item, Phrase::ITEM_OF_A_BOUND))
+        self.not_found(wrong_name(item, Phrase::ITEM_OF_A_BOUND))
     }
 
     /// Whether the trait of an item has no parameters but its self type.
     fn takes_self_alone(&self, id: ItemId) -> bool {
-        let Some(entry) = self.definitions.item_entry(id) else {
+        let Some(entry) = self.definitions.places.item_entry(id) else {
             return false;
         };
-        match self.definitions.trait_node(self.ast, entry.trait_id) {
+        match self.definitions.places.trait_node(self.ast, entry.trait_id) {
             Some(node) => node.generics.params.len == 0,
             None => false,
         }
     }
 
     /// The item of this name in an impl of no trait, for such a type.
-    fn inherent_item(&self, self_ty: &Ty, item: Ident) -> Option<(AliasTermKind, Run)> {
+    fn inherent_item(&self, self_ty: &Ty, item: Ident) -> Option<Found> {
         for id in self.definitions.inherent_items_named(item.name) {
-            if let Some(entry) = self.definitions.inherent_entry(*id) {
+            if let Some(entry) = self.definitions.places.inherent_entry(*id) {
                 if self.is_for(entry.self_ty, self_ty) {
-                    return Some((inherent_kind(*id, &entry), self.inherent_params(*id)));
+                    return Some(Found {
+                        kind: inherent_kind(*id, &entry),
+                        args: Vec::new(self.alloc),
+                        params: self.inherent_params(*id),
+                    });
                 }
             }
         }
@@ -221,7 +248,7 @@ impl Lowering<'_> {
     }
 
     fn inherent_params(&self, id: InherentId) -> Run {
-        match self.definitions.inherent_node(self.ast, id) {
+        match self.definitions.places.inherent_node(self.ast, id) {
             Some(node) => node.generics.params,
             None => Run::EMPTY,
         }

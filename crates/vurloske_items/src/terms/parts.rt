@@ -1,13 +1,15 @@
 //! Small parts of terms, which lead to no others.
+ghost use Rattle.std.specs.Prelude.{◌≤◌, IfSome};
+
 use crate::definitions::Definition;
-use crate::faults::{ItemFault, wrong, wrong_name};
+use crate::faults::{FirstFault, ItemFault, wrong, wrong_name};
 use crate::scope::{Param, ParamName, SelfTerm, UnknownNames};
 use crate::terms::{Lowering, Wanted};
 use goal_terms::answers::{ParamKind, VarKind};
 use goal_terms::scalars;
 use goal_terms::terms::{AliasTerm, AliasTermKind, Const, GenericArg, InferTy, Region, Term, Ty};
 use vurloske_syntax::ast::{
-    self, Arg, Args, Ident, Mutability, Position, Run, Segment, Symbol, TermId,
+    self, Arg, Args, Ast, Ident, Mutability, Position, Run, Segment, Symbol, TermId, TermKind,
 };
 use vurloske_syntax::phrase::Phrase;
 
@@ -61,177 +63,241 @@ pub(super) fn argument(term: Term) -> GenericArg {
     }
 }
 
-/// A parameter that is a type or a constant.
-fn param_term(param: Param, ident: Ident) -> Result<Term, ItemFault> {
-    match param.kind {
-        ParamKind::Ty => Ok(Term::Ty(Ty::Param(param.number))),
-        ParamKind::Const => Ok(Term::Const(Const::Param(param.number))),
-        ParamKind::Lifetime => Err(wrong_name(ident, Phrase::TYPE_OR_A_CONSTANT)),
-    }
-}
-
-/// What an item's name is with arguments.
-pub(super) fn defined(
-    definition: Definition,
-    args: Vec<GenericArg>,
-    ident: Ident,
-) -> Result<Term, ItemFault> {
+/// What an item's name is with arguments. `None` for a trait.
+fn defined(definition: Definition, args: Vec<GenericArg>) -> Option<Term> {
     let ty = match definition {
-        Definition::Trait(_) => return Err(wrong_name(ident, Phrase::TYPE_OR_A_CONSTANT)),
+        Definition::Trait(_) => return None,
         Definition::Builtin(builtin) => builtin.ty(),
         Definition::Foreign(id) => Ty::Foreign(id),
         Definition::Adt(id) => Ty::Adt(id, args),
         Definition::Fn(id) => Ty::FnDef(id, args),
         Definition::Closure(id) => Ty::Closure(id, args),
-        Definition::FreeTy(id) => Ty::Alias(AliasTerm {
-            kind: AliasTermKind::FreeTy(id),
-            args,
-        }),
-        Definition::Opaque(id) => Ty::Alias(AliasTerm {
-            kind: AliasTermKind::OpaqueTy(id),
-            args,
-        }),
-        Definition::FreeConst(id) => {
-            let kind = AliasTermKind::FreeConst(id);
-            return Ok(Term::Const(Const::Alias(AliasTerm { kind, args })));
-        }
+        Definition::FreeTy(id) => return Some(alias_of(AliasTermKind::FreeTy(id), args)),
+        Definition::Opaque(id) => return Some(alias_of(AliasTermKind::OpaqueTy(id), args)),
+        Definition::FreeConst(id) => return Some(alias_of(AliasTermKind::FreeConst(id), args)),
     };
-    Ok(Term::Ty(ty))
+    Some(Term::Ty(ty))
+}
+
+fn alias_of(kind: AliasTermKind, args: Vec<GenericArg>) -> Term {
+    alias_term(AliasTerm { kind, args })
 }
 
 impl Lowering<'_> {
-    /// Where a term stands.
-    pub(crate) fn at(&self, id: TermId) -> Position {
-        match self.ast.term(id) {
-            Some(term) => term.at,
-            None => Position { line: 0, column: 0 },
+    /// What was written of a term. `None` where nothing is read any more: there was a fault, or the term
+    /// is of another text or too deep, which are mistakes.
+    pub(super) fn node(&mut self, id: TermId, depth: u32) -> Option<ast::Term>
+        ensures { IfSome result (λ _. 1 ≤ depth) }
+    {
+        if self.scope.fault.is_there() {
+            return None;
         }
+        let Some(term) = self.ast.term(id) else {
+            self.scope.fault.fail(wrong(
+                position(self.ast, id),
+                Phrase::TERM_OF_THIS_TEXT,
+                Phrase::ANOTHER,
+            ));
+            return None;
+        };
+        if depth == 0 {
+            self.scope.fault.fail(wrong(term.at, Phrase::LESS_NESTING, Phrase::TOO_DEEP_TERM));
+            return None;
+        }
+        Some(term)
     }
 
-    /// What was written of a term. A mistake where it is of another text.
-    pub(super) fn node(&self, id: TermId) -> Result<ast::Term, ItemFault> {
-        match self.ast.term(id) {
-            Some(term) => Ok(term),
-            None => Err(wrong(self.at(id), Phrase::TERM_OF_THIS_TEXT, Phrase::ANOTHER)),
-        }
-    }
-
-    pub(super) fn as_ty(&self, term: Term, id: TermId) -> Result<Ty, ItemFault> {
+    pub(super) fn as_ty(&mut self, term: Term, id: TermId) -> Ty {
         match term {
-            Term::Ty(ty) => Ok(ty),
-            Term::Const(_) => Err(wrong(self.at(id), Phrase::TYPE, Phrase::CONSTANT)),
+            Term::Ty(ty) => ty,
+            Term::Const(_) => {
+                self.scope.fault.fail(wrong(
+                    position(self.ast, id),
+                    Phrase::TYPE,
+                    Phrase::CONSTANT,
+                ));
+                Ty::Error(0)
+            }
         }
     }
 
-    pub(super) fn as_const(&self, term: Term, id: TermId) -> Result<Const, ItemFault> {
+    pub(super) fn as_const(&mut self, term: Term, id: TermId) -> Const {
         match term {
-            Term::Const(value) => Ok(value),
-            Term::Ty(_) => Err(wrong(self.at(id), Phrase::CONSTANT, Phrase::TYPE)),
+            Term::Const(value) => value,
+            Term::Ty(_) => {
+                self.scope.fault.fail(wrong(
+                    position(self.ast, id),
+                    Phrase::CONSTANT,
+                    Phrase::TYPE,
+                ));
+                Const::Error(0)
+            }
+        }
+    }
+
+    /// A term that leads to no others, if it is one.
+    pub(super) fn leaf(&mut self, kind: TermKind, wanted: Wanted) -> Option<Term> {
+        match kind {
+            TermKind::Never => Some(Term::Ty(Ty::Never)),
+            TermKind::Infer => Some(self.variable(None, wanted)),
+            TermKind::InferNamed(ident) => Some(self.variable(Some(ident.name), wanted)),
+            TermKind::IntVar => {
+                let number = self.scope.variable(None, VarKind::Int);
+                Some(Term::Ty(Ty::Infer(InferTy::IntVar(number))))
+            }
+            TermKind::FloatVar => {
+                let number = self.scope.variable(None, VarKind::Float);
+                Some(Term::Ty(Ty::Infer(InferTy::FloatVar(number))))
+            }
+            TermKind::Error(number) => Some(wanted.error(number)),
+            TermKind::Placeholder(number) => Some(wanted.placeholder(number)),
+            TermKind::Literal(value) => Some(Term::Const(Const::Value(value))),
+            _ => None,
         }
     }
 
     /// `_` and `?x`
-    pub(super) fn variable(
-        &mut self,
-        name: Option<Symbol>,
-        wanted: Wanted,
-    ) -> Result<Term, ItemFault> {
-        let kind = match wanted {
-            Wanted::Ty => VarKind::Ty,
-            Wanted::Const => VarKind::Const,
-        };
-        let number = match name {
-            Some(name) => self.scope.variables.named(name, kind)?,
-            None => self.scope.variables.fresh(kind)?,
-        };
+    fn variable(&mut self, name: Option<Symbol>, wanted: Wanted) -> Term {
         match wanted {
-            Wanted::Ty => Ok(Term::Ty(Ty::Infer(InferTy::TyVar(number)))),
-            Wanted::Const => Ok(Term::Const(Const::Infer(number))),
+            Wanted::Ty => {
+                let number = self.scope.variable(name, VarKind::Ty);
+                Term::Ty(Ty::Infer(InferTy::TyVar(number)))
+            }
+            Wanted::Const => Term::Const(Const::Infer(self.scope.variable(name, VarKind::Const))),
         }
     }
 
-    /// `{integer}`
-    pub(super) fn int_variable(&mut self) -> Result<Term, ItemFault> {
-        let number = self.scope.variables.fresh(VarKind::Int)?;
-        Ok(Term::Ty(Ty::Infer(InferTy::IntVar(number))))
-    }
-
-    /// `{float}`
-    pub(super) fn float_variable(&mut self) -> Result<Term, ItemFault> {
-        let number = self.scope.variables.fresh(VarKind::Float)?;
-        Ok(Term::Ty(Ty::Infer(InferTy::FloatVar(number))))
-    }
-
-    /// Whether a name is `Self`.
-    pub(super) fn is_self(&self, ident: Ident) -> bool {
-        self.definitions.self_name == Some(ident.name)
+    /// A type on the heap, if there is memory.
+    pub(super) fn in_box(&mut self, ty: Ty) -> Option<Box<Ty>> {
+        match Box::new(self.alloc, ty) {
+            Ok(ty) => Some(ty),
+            Err(_) => {
+                self.scope.fault.fail(ItemFault::OutOfMemory);
+                None
+            }
+        }
     }
 
     /// The parameter that a name is.
-    pub(super) fn param(&self, ident: Ident) -> Result<Option<Term>, ItemFault> {
+    pub(super) fn param(&self, ident: Ident) -> Option<Param> {
         let name = match self.scope.self_term {
-            SelfTerm::Param(_) if self.is_self(ident) => ParamName::SelfTy,
+            SelfTerm::Param(_) if self.definitions.is_self(ident.name) => ParamName::SelfTy,
             _ => ParamName::Named(ident.name),
         };
-        match self.scope.param(name) {
-            Some(param) => Ok(Some(param_term(param, ident)?)),
-            None => Ok(None),
+        self.scope.param(name)
+    }
+
+    /// A parameter as a term. A mistake where arguments are written, or where it is a lifetime.
+    pub(super) fn param_term(&mut self, param: Param, segment: Segment) -> Term {
+        let term = match param.kind {
+            ParamKind::Ty => Term::Ty(Ty::Param(param.number)),
+            ParamKind::Const => Term::Const(Const::Param(param.number)),
+            ParamKind::Lifetime => {
+                self.scope
+                    .fault
+                    .fail(wrong_name(segment.ident, Phrase::TYPE_OR_A_CONSTANT));
+                Term::Ty(Ty::Error(0))
+            }
+        };
+        if !is_bare(segment.args) {
+            self.scope
+                .fault
+                .fail(wrong_name(segment.ident, Phrase::WHAT_TAKES_ARGUMENTS));
+        }
+        term
+    }
+
+    /// What an item's name is with arguments. A mistake for a trait.
+    pub(super) fn defined(
+        &mut self,
+        definition: Definition,
+        args: Vec<GenericArg>,
+        ident: Ident,
+    ) -> Term {
+        match defined(definition, args) {
+            Some(term) => term,
+            None => {
+                self.scope
+                    .fault
+                    .fail(wrong_name(ident, Phrase::TYPE_OR_A_CONSTANT));
+                Term::Ty(Ty::Error(0))
+            }
         }
     }
 
     /// What an impl is for, if that is what a name says.
     pub(super) fn impl_self(&self, ident: Ident) -> Option<TermId> {
         match self.scope.self_term {
-            SelfTerm::Term(id) if self.is_self(ident) => Some(id),
+            SelfTerm::Term(id) if self.definitions.is_self(ident.name) => Some(id),
             _ => None,
         }
     }
 
     /// A name that nothing has: a new parameter in the head of a block, else a mistake.
-    pub(super) fn unknown(&mut self, segment: Segment, wanted: Wanted) -> Result<Term, ItemFault> {
+    pub(super) fn unknown(&mut self, segment: Segment, wanted: Wanted) -> Term {
         let ident = segment.ident;
         if self.scope.unknown_names == UnknownNames::TypeParams && is_bare(segment.args) {
-            let name = ParamName::Named(ident.name);
-            self.scope.declare(name, ParamKind::Ty, ident.at)?;
-            if let Some(term) = self.param(ident)? {
-                return Ok(term);
+            self.scope
+                .declare(ParamName::Named(ident.name), ParamKind::Ty, ident.at);
+            if let Some(param) = self.param(ident) {
+                return self.param_term(param, segment);
             }
         }
-        match wanted {
-            Wanted::Ty => Err(wrong_name(ident, Phrase::TYPE)),
-            Wanted::Const => Err(wrong_name(ident, Phrase::CONSTANT)),
+        let expected = match wanted {
+            Wanted::Ty => Phrase::TYPE,
+            Wanted::Const => Phrase::CONSTANT,
+        };
+        self.scope.fault.fail(wrong_name(ident, expected));
+        wanted.error(0)
+    }
+}
+
+/// Adds erased lifetimes.
+pub(super) fn push_erased(fault: &mut FirstFault, all: &mut Vec<GenericArg>, count: usize) {
+    for _ in 0..count {
+        fault.keep(all.push(GenericArg::Lifetime(Region::Erased)));
+    }
+}
+
+/// Where a term stands.
+pub(crate) fn position(ast: &Ast, id: TermId) -> Position {
+    match ast.term(id) {
+        Some(term) => term.at,
+        None => Position { line: 0, column: 0 },
+    }
+}
+
+/// How many lifetimes are left out before the arguments that are written.
+pub(super) fn elided(ast: &Ast, args: Args, params: Run) -> usize {
+    if let Args::Angle(run) = args {
+        let written = ast.args(run);
+        if written.iter().any(|arg| matches!(arg, Arg::Lifetime(_))) {
+            return 0;
         }
     }
+    let params = ast.params(params);
+    params
+        .iter()
+        .filter(|param| param.kind == ast::ParamKind::Lifetime)
+        .count()
+}
 
-    /// A mistake where a name has arguments.
-    pub(super) fn without_args(&self, segment: Segment) -> Result<(), ItemFault> {
-        if is_bare(segment.args) {
-            Ok(())
-        } else {
-            Err(wrong_name(segment.ident, Phrase::WHAT_TAKES_ARGUMENTS))
-        }
+/// What the parameter at a place takes.
+pub(super) fn wanted_at(ast: &Ast, params: Run, place: usize) -> Wanted {
+    match ast.params(params).get(place) {
+        Some(param) if param.kind == ast::ParamKind::Const => Wanted::Const,
+        _ => Wanted::Ty,
     }
+}
 
-    /// How many lifetimes are left out before the arguments that are written.
-    pub(super) fn elided(&self, args: Args, params: Run) -> usize {
-        if let Args::Angle(run) = args {
-            let written = self.ast.args(run);
-            if written.iter().any(|arg| matches!(arg, Arg::Lifetime(_))) {
-                return 0;
-            }
-        }
-        let params = self.ast.params(params);
-        params
-            .iter()
-            .filter(|param| param.kind == ast::ParamKind::Lifetime)
-            .count()
-    }
-
-    /// What the parameter at a place takes.
-    pub(super) fn wanted_at(&self, params: Run, place: usize) -> Wanted {
-        match self.ast.params(params).get(place) {
-            Some(param) if param.kind == ast::ParamKind::Const => Wanted::Const,
-            _ => Wanted::Ty,
+/// Whether a trait's arguments say what its items are.
+pub(crate) fn has_equations(ast: &Ast, args: Args) -> bool {
+    match args {
+        Args::Absent | Args::Paren(_, None) => false,
+        Args::Paren(_, Some(_)) => true,
+        Args::Angle(run) => {
+            let args = ast.args(run);
+            args.iter().any(|arg| matches!(arg, Arg::Binding(_, _)))
         }
     }
 }
@@ -239,12 +305,4 @@ impl Lowering<'_> {
 /// Whether no arguments are written.
 fn is_bare(args: Args) -> bool {
     matches!(args, Args::Absent)
-}
-
-/// Adds erased lifetimes.
-pub(super) fn push_erased(all: &mut Vec<GenericArg>, count: usize) -> Result<(), ItemFault> {
-    for _ in 0..count {
-        all.push(GenericArg::Lifetime(Region::Erased))?;
-    }
-    Ok(())
 }

@@ -1,107 +1,89 @@
 //! The items of traits and impls.
-use crate::ast::{AssocItem, Ast, Generics, Run, TermId};
-use crate::cursor::Cursor;
-use crate::mistake::SyntaxFault;
+use crate::ast::{AssocItem, Generics, Run, TermId};
 use crate::parser::attributes::parse_attrs;
-use crate::parser::generics::{parse_own_bounds, parse_params, parse_where};
-use crate::parser::scraps::sees_word;
+use crate::parser::generics::{parse_own_bounds, parse_params, parse_where, skip_type};
 use crate::parser::terms::parse_term;
 use crate::phrase::Phrase;
+use crate::reader::Reader;
 use crate::token::{Keyword, Sign};
 
 /// `{ type A; .. }` or `;`
-pub(crate) fn parse_body(
-    cursor: &mut Cursor<'_>,
-    ast: &mut Ast,
-    depth: u32,
-) -> Result<Run, SyntaxFault> {
-    if cursor.eat(Sign::Semi) {
-        return Ok(Run::EMPTY);
+pub(crate) fn parse_body(reader: &mut Reader, depth: u32) -> Run {
+    if reader.eat(Sign::Semi) {
+        return Run::EMPTY;
     }
-    if !cursor.eat(Sign::OpenBrace) {
-        return Err(cursor.mistake(Phrase::BODY));
+    if !reader.eat(Sign::OpenBrace) {
+        reader.mistake(Phrase::BODY);
     }
-    let first = ast.assoc_items.len();
-    for _ in 0..cursor.left() {
-        if cursor.sees(Sign::CloseBrace) {
+    let first = reader.ast.assoc_items.len();
+    for _ in 0..reader.left() {
+        if reader.has_failed() || reader.sees(Sign::CloseBrace) {
             break;
         }
-        let item = parse_assoc_item(cursor, ast, depth)?;
-        ast.assoc_items.push(item)?;
+        let item = parse_assoc_item(reader, depth);
+        let pushed = reader.ast.assoc_items.push(item);
+        reader.keep(pushed);
     }
-    cursor.expect(Sign::CloseBrace)?;
-    Ok(Run::since(first, ast.assoc_items.len()))
+    reader.expect(Sign::CloseBrace);
+    Run::since(first, reader.ast.assoc_items.len())
 }
 
 /// `#[broken(7)] default type A<T>: Tr where .. = u8;`, `const N: usize;`
-fn parse_assoc_item(
-    cursor: &mut Cursor<'_>,
-    ast: &mut Ast,
-    depth: u32,
-) -> Result<AssocItem, SyntaxFault> {
-    let attrs = parse_attrs(cursor, ast, depth)?;
-    let is_default = sees_word(cursor, ast, "default");
-    if is_default {
-        cursor.advance();
-    }
-    let is_const = eat_kind(cursor)?;
-    let ident = cursor.ident(Phrase::NAME)?;
-    let params = parse_params(cursor, ast, depth)?;
+fn parse_assoc_item(reader: &mut Reader, depth: u32) -> AssocItem {
+    let attrs = parse_attrs(reader, depth);
+    let is_default = eat_default(reader);
+    let is_const = eat_kind(reader);
+    let ident = reader.ident(Phrase::NAME);
+    let params = parse_params(reader, depth);
     let bounds = if is_const {
-        parse_const_type(cursor, ast, depth)?
+        skip_type(reader, depth);
+        Run::EMPTY
     } else {
-        parse_own_bounds(cursor, ast, depth)?
+        parse_own_bounds(reader, depth)
     };
-    let first = ast.where_clauses.len();
-    parse_where(cursor, ast, depth)?;
-    let value = parse_value(cursor, ast, depth)?;
-    parse_where(cursor, ast, depth)?;
-    cursor.expect(Sign::Semi)?;
-    Ok(AssocItem {
+    let first = reader.ast.where_clauses.len();
+    parse_where(reader, depth);
+    let value = parse_value(reader, depth);
+    parse_where(reader, depth);
+    reader.expect(Sign::Semi);
+    AssocItem {
         attrs,
         ident,
         is_const,
         is_default,
         generics: Generics {
             params,
-            where_clauses: Run::since(first, ast.where_clauses.len()),
+            where_clauses: Run::since(first, reader.ast.where_clauses.len()),
         },
         bounds,
         value,
-    })
-}
-
-/// Whether `const` and not `type` is next.
-fn eat_kind(cursor: &mut Cursor<'_>) -> Result<bool, SyntaxFault> {
-    if cursor.eat_keyword(Keyword::Const) {
-        Ok(true)
-    } else if cursor.eat_keyword(Keyword::Type) {
-        Ok(false)
-    } else {
-        Err(cursor.mistake(Phrase::ASSOC_ITEM))
     }
 }
 
-/// `: usize`, which is not kept: a constant has no bounds.
-fn parse_const_type(
-    cursor: &mut Cursor<'_>,
-    ast: &mut Ast,
-    depth: u32,
-) -> Result<Run, SyntaxFault> {
-    cursor.expect(Sign::Colon)?;
-    parse_term(cursor, ast, depth)?;
-    Ok(Run::EMPTY)
+fn eat_default(reader: &mut Reader) -> bool {
+    let is_default = reader.sees_word(0, "default");
+    if is_default {
+        reader.advance();
+    }
+    is_default
+}
+
+/// Whether `const` and not `type` is next.
+fn eat_kind(reader: &mut Reader) -> bool {
+    if reader.eat_keyword(Keyword::Const) {
+        return true;
+    }
+    if !reader.eat_keyword(Keyword::Type) {
+        reader.mistake(Phrase::ASSOC_ITEM);
+    }
+    false
 }
 
 /// `= u8` or nothing.
-fn parse_value(
-    cursor: &mut Cursor<'_>,
-    ast: &mut Ast,
-    depth: u32,
-) -> Result<Option<TermId>, SyntaxFault> {
-    if cursor.eat(Sign::Eq) {
-        Ok(Some(parse_term(cursor, ast, depth)?))
+fn parse_value(reader: &mut Reader, depth: u32) -> Option<TermId> {
+    if reader.eat(Sign::Eq) {
+        Some(parse_term(reader, depth))
     } else {
-        Ok(None)
+        None
     }
 }

@@ -1,110 +1,92 @@
 //! Attributes.
-use crate::ast::{Ast, Attr, AttrArg, AttrValue, Run};
-use crate::cursor::Cursor;
-use crate::mistake::SyntaxFault;
+use crate::ast::{Attr, AttrArg, AttrValue, Run};
 use crate::parser::bounds::parse_bounds;
 use crate::parser::terms::parse_term;
 use crate::phrase::Phrase;
+use crate::reader::Reader;
 use crate::token::{Sign, TokenKind};
 
 /// `#[..]`, as many as there are.
-pub(crate) fn parse_attrs(
-    cursor: &mut Cursor<'_>,
-    ast: &mut Ast,
-    depth: u32,
-) -> Result<Run, SyntaxFault> {
-    let first = ast.attrs.len();
-    for _ in 0..cursor.left() {
-        if !cursor.eat(Sign::Pound) {
+pub(crate) fn parse_attrs(reader: &mut Reader, depth: u32) -> Run {
+    let first = reader.ast.attrs.len();
+    for _ in 0..reader.left() {
+        if !reader.eat(Sign::Pound) {
             break;
         }
-        let attr = parse_attr(cursor, ast, depth)?;
-        ast.attrs.push(attr)?;
+        parse_attr(reader, depth);
     }
-    Ok(Run::since(first, ast.attrs.len()))
+    Run::since(first, reader.ast.attrs.len())
 }
 
 /// `#![..]`, as many as there are.
-pub(crate) fn parse_inner_attrs(
-    cursor: &mut Cursor<'_>,
-    ast: &mut Ast,
-    depth: u32,
-) -> Result<Run, SyntaxFault> {
-    let first = ast.attrs.len();
-    for _ in 0..cursor.left() {
-        if !begins_inner_attr(cursor) {
+pub(crate) fn parse_inner_attrs(reader: &mut Reader, depth: u32) -> Run {
+    let first = reader.ast.attrs.len();
+    for _ in 0..reader.left() {
+        if !begins_inner_attr(reader) {
             break;
         }
-        cursor.expect(Sign::Pound)?;
-        cursor.expect(Sign::Not)?;
-        let attr = parse_attr(cursor, ast, depth)?;
-        ast.attrs.push(attr)?;
+        reader.advance();
+        reader.advance();
+        parse_attr(reader, depth);
     }
-    Ok(Run::since(first, ast.attrs.len()))
+    Run::since(first, reader.ast.attrs.len())
 }
 
-fn begins_inner_attr(cursor: &Cursor<'_>) -> bool {
-    matches!(
-        (cursor.peek(), cursor.peek_second()),
-        (TokenKind::Sign(Sign::Pound), TokenKind::Sign(Sign::Not))
-    )
+fn begins_inner_attr(reader: &Reader) -> bool {
+    reader.sees(Sign::Pound) && matches!(reader.peek_at(1), TokenKind::Sign(Sign::Not))
 }
 
-/// `[NAME]`, `[NAME = "text"]`, `[NAME(..)]`
-fn parse_attr(cursor: &mut Cursor<'_>, ast: &mut Ast, depth: u32) -> Result<Attr, SyntaxFault> {
-    cursor.expect(Sign::OpenBracket)?;
-    let ident = cursor.ident(Phrase::NAME_OF_AN_ATTRIBUTE)?;
-    let value = if cursor.eat(Sign::Eq) {
-        parse_text(cursor)?
-    } else if cursor.eat(Sign::OpenParen) {
-        AttrValue::Args(parse_attr_args(cursor, ast, depth)?)
+/// `[NAME]`, `[NAME = "text"]`, `[NAME(..)]`, which is added to those of the `Ast`.
+fn parse_attr(reader: &mut Reader, depth: u32) {
+    reader.expect(Sign::OpenBracket);
+    let ident = reader.ident(Phrase::NAME_OF_AN_ATTRIBUTE);
+    let value = if reader.eat(Sign::Eq) {
+        parse_text(reader)
+    } else if reader.eat(Sign::OpenParen) {
+        AttrValue::Args(parse_attr_args(reader, depth))
     } else {
         AttrValue::Absent
     };
-    cursor.expect(Sign::CloseBracket)?;
-    Ok(Attr { ident, value })
+    reader.expect(Sign::CloseBracket);
+    let pushed = reader.ast.attrs.push(Attr { ident, value });
+    reader.keep(pushed);
 }
 
-fn parse_text(cursor: &mut Cursor<'_>) -> Result<AttrValue, SyntaxFault> {
-    match cursor.peek() {
+fn parse_text(reader: &mut Reader) -> AttrValue {
+    match reader.peek() {
         TokenKind::Text(text) => {
-            cursor.advance();
-            Ok(AttrValue::Text(text))
+            reader.advance();
+            AttrValue::Text(text)
         }
-        _ => Err(cursor.mistake(Phrase::TEXT_IN_QUOTES)),
+        _ => {
+            reader.mistake(Phrase::TEXT_IN_QUOTES);
+            AttrValue::Absent
+        }
     }
 }
 
-fn parse_attr_args(cursor: &mut Cursor<'_>, ast: &mut Ast, depth: u32) -> Result<Run, SyntaxFault> {
-    let first = ast.attr_args.len();
-    for _ in 0..cursor.left() {
-        if cursor.sees(Sign::CloseParen) {
+fn parse_attr_args(reader: &mut Reader, depth: u32) -> Run {
+    let first = reader.ast.attr_args.len();
+    for place in 0..reader.left() {
+        if !reader.begins_part(place, Sign::CloseParen) {
             break;
         }
-        let arg = parse_attr_arg(cursor, ast, depth)?;
-        ast.attr_args.push(arg)?;
-        if !cursor.eat(Sign::Comma) {
-            break;
-        }
+        let arg = parse_attr_arg(reader, depth);
+        let pushed = reader.ast.attr_args.push(arg);
+        reader.keep(pushed);
     }
-    cursor.expect(Sign::CloseParen)?;
-    Ok(Run::since(first, ast.attr_args.len()))
+    reader.expect(Sign::CloseParen);
+    Run::since(first, reader.ast.attr_args.len())
 }
 
 /// `u8`, `base = T`, `T: Destruct`
-fn parse_attr_arg(
-    cursor: &mut Cursor<'_>,
-    ast: &mut Ast,
-    depth: u32,
-) -> Result<AttrArg, SyntaxFault> {
-    let term = parse_term(cursor, ast, depth)?;
-    if cursor.eat(Sign::Colon) {
-        return Ok(AttrArg::Bounds(term, parse_bounds(cursor, ast, depth)?));
+fn parse_attr_arg(reader: &mut Reader, depth: u32) -> AttrArg {
+    let term = parse_term(reader, depth);
+    if reader.eat(Sign::Colon) {
+        return AttrArg::Bounds(term, parse_bounds(reader, depth));
     }
-    match ast.plain_name(term) {
-        Some(ident) if cursor.eat(Sign::Eq) => {
-            Ok(AttrArg::Binding(ident, parse_term(cursor, ast, depth)?))
-        }
-        _ => Ok(AttrArg::Term(term)),
+    match reader.ast.plain_name(term) {
+        Some(ident) if reader.eat(Sign::Eq) => AttrArg::Binding(ident, parse_term(reader, depth)),
+        _ => AttrArg::Term(term),
     }
 }

@@ -1,59 +1,56 @@
 //! Bounds, and the objects that are made of them.
-use crate::ast::{Ast, Bound, Constness, Run, TermKind};
-use crate::cursor::Cursor;
-use crate::mistake::SyntaxFault;
+use crate::ast::{Bound, Constness, Run, TermKind};
 use crate::parser::scraps::{append, erased, parse_binder, some_lifetime};
 use crate::parser::terms::parse_segment;
 use crate::phrase::Phrase;
+use crate::reader::Reader;
 use crate::token::{Keyword, Sign, TokenKind};
 
 /// `dyn Tr + Other + 'a`
 #[cycle(terms)]
-pub(crate) fn parse_dyn(
-    cursor: &mut Cursor<'_>,
-    ast: &mut Ast,
-    depth: u32,
-) -> Result<TermKind, SyntaxFault> {
-    cursor.expect_keyword(Keyword::Dyn)?;
-    let mut lifetime = erased(cursor);
-    let mut bounds = Vec::new(cursor.alloc);
-    for _ in 0..cursor.left() {
-        match some_lifetime(cursor) {
+pub(crate) fn parse_dyn(reader: &mut Reader, depth: u32) -> TermKind {
+    reader.advance();
+    let mut lifetime = erased(reader);
+    let mut bounds = Vec::new(reader.alloc);
+    for _ in 0..reader.left() {
+        match some_lifetime(reader) {
             Some(next) => lifetime = next,
-            None => bounds.push(parse_bound(cursor, ast, depth)?)?,
+            None => {
+                let bound = parse_bound(reader, depth);
+                reader.keep(bounds.push(bound));
+            }
         }
-        if !cursor.eat(Sign::Plus) {
+        if !reader.eat(Sign::Plus) {
             break;
         }
     }
     if bounds.is_empty() {
-        return Err(cursor.mistake(Phrase::TRAIT));
+        reader.mistake(Phrase::TRAIT);
     }
-    Ok(TermKind::Dyn(append(&mut ast.bounds, &bounds)?, lifetime))
+    let added = append(&mut reader.ast.bounds, &bounds);
+    TermKind::Dyn(reader.added(added), lifetime)
 }
 
 /// `A + B`, or nothing.
-pub(crate) fn parse_bounds(
-    cursor: &mut Cursor<'_>,
-    ast: &mut Ast,
-    depth: u32,
-) -> Result<Run, SyntaxFault> {
-    let mut bounds = Vec::new(cursor.alloc);
-    for _ in 0..cursor.left() {
-        if !begins_bound(cursor) {
+pub(crate) fn parse_bounds(reader: &mut Reader, depth: u32) -> Run {
+    let mut bounds = Vec::new(reader.alloc);
+    for _ in 0..reader.left() {
+        if !begins_bound(reader) {
             break;
         }
-        bounds.push(parse_bound(cursor, ast, depth)?)?;
-        if !cursor.eat(Sign::Plus) {
+        let bound = parse_bound(reader, depth);
+        reader.keep(bounds.push(bound));
+        if !reader.eat(Sign::Plus) {
             break;
         }
     }
-    Ok(append(&mut ast.bounds, &bounds)?)
+    let added = append(&mut reader.ast.bounds, &bounds);
+    reader.added(added)
 }
 
-fn begins_bound(cursor: &Cursor<'_>) -> bool {
+fn begins_bound(reader: &Reader) -> bool {
     matches!(
-        cursor.peek(),
+        reader.peek(),
         TokenKind::Name(_)
             | TokenKind::Keyword(Keyword::For | Keyword::Const)
             | TokenKind::Sign(Sign::Question | Sign::OpenBracket)
@@ -62,34 +59,30 @@ fn begins_bound(cursor: &Cursor<'_>) -> bool {
 
 /// `for<'a> [const] Tr<'a>`, `?Sized`
 #[cycle(terms)]
-pub(crate) fn parse_bound(
-    cursor: &mut Cursor<'_>,
-    ast: &mut Ast,
-    depth: u32,
-) -> Result<Bound, SyntaxFault> {
-    let at = cursor.at();
-    let binder = parse_binder(cursor, ast)?;
-    let is_relaxed = cursor.eat(Sign::Question);
-    let constness = parse_constness(cursor)?;
-    let trait_ = parse_segment(cursor, ast, depth, Phrase::TRAIT)?;
-    Ok(Bound {
+pub(crate) fn parse_bound(reader: &mut Reader, depth: u32) -> Bound {
+    let at = reader.at();
+    let binder = parse_binder(reader);
+    let is_relaxed = reader.eat(Sign::Question);
+    let constness = parse_constness(reader);
+    let trait_ = parse_segment(reader, depth, Phrase::TRAIT);
+    Bound {
         binder,
         constness,
         is_relaxed,
         trait_,
         at,
-    })
+    }
 }
 
 /// `const`, `[const]` or nothing.
-pub(crate) fn parse_constness(cursor: &mut Cursor<'_>) -> Result<Constness, SyntaxFault> {
-    if cursor.eat_keyword(Keyword::Const) {
-        return Ok(Constness::Const);
+pub(crate) fn parse_constness(reader: &mut Reader) -> Constness {
+    if reader.eat_keyword(Keyword::Const) {
+        return Constness::Const;
     }
-    if !cursor.eat(Sign::OpenBracket) {
-        return Ok(Constness::Plain);
+    if !reader.eat(Sign::OpenBracket) {
+        return Constness::Plain;
     }
-    cursor.expect_keyword(Keyword::Const)?;
-    cursor.expect(Sign::CloseBracket)?;
-    Ok(Constness::Maybe)
+    reader.expect_keyword(Keyword::Const);
+    reader.expect(Sign::CloseBracket);
+    Constness::Maybe
 }

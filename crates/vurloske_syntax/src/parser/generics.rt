@@ -1,53 +1,45 @@
 //! Parameters and where clauses.
-use crate::ast::{Ast, Ident, Param, ParamKind, Run, TermId, WhereClause, WhereKind};
-use crate::cursor::Cursor;
-use crate::mistake::SyntaxFault;
+use crate::ast::{Ident, Param, ParamKind, Run, TermId, WhereClause, WhereKind};
 use crate::parser::bounds::parse_bounds;
 use crate::parser::scraps::{lifetime_ident, parse_binder};
 use crate::parser::terms::parse_term;
 use crate::phrase::Phrase;
+use crate::reader::Reader;
 use crate::token::{Keyword, Sign, TokenKind};
 
 /// `<'a, T: Tr, const N: usize>` or nothing.
-pub(crate) fn parse_params(
-    cursor: &mut Cursor<'_>,
-    ast: &mut Ast,
-    depth: u32,
-) -> Result<Run, SyntaxFault> {
-    if !cursor.eat(Sign::Lt) {
-        return Ok(Run::EMPTY);
+pub(crate) fn parse_params(reader: &mut Reader, depth: u32) -> Run {
+    if !reader.eat(Sign::Lt) {
+        return Run::EMPTY;
     }
-    let first = ast.params.len();
-    for _ in 0..cursor.left() {
-        if cursor.sees(Sign::Gt) {
+    let first = reader.ast.params.len();
+    for place in 0..reader.left() {
+        if !reader.begins_part(place, Sign::Gt) {
             break;
         }
-        let param = parse_param(cursor, ast, depth)?;
-        ast.params.push(param)?;
-        if !cursor.eat(Sign::Comma) {
-            break;
-        }
+        let param = parse_param(reader, depth);
+        let pushed = reader.ast.params.push(param);
+        reader.keep(pushed);
     }
-    cursor.expect(Sign::Gt)?;
-    Ok(Run::since(first, ast.params.len()))
+    reader.expect(Sign::Gt);
+    Run::since(first, reader.ast.params.len())
 }
 
-fn parse_param(cursor: &mut Cursor<'_>, ast: &mut Ast, depth: u32) -> Result<Param, SyntaxFault> {
-    if let TokenKind::Lifetime(_) = cursor.peek() {
-        return Ok(bare_param(ParamKind::Lifetime, lifetime_ident(cursor)?));
+fn parse_param(reader: &mut Reader, depth: u32) -> Param {
+    if sees_lifetime(reader) {
+        return bare_param(ParamKind::Lifetime, lifetime_ident(reader));
     }
-    if cursor.eat_keyword(Keyword::Const) {
-        let ident = cursor.ident(Phrase::NAME)?;
-        cursor.expect(Sign::Colon)?;
-        parse_term(cursor, ast, depth)?;
-        return Ok(bare_param(ParamKind::Const, ident));
+    if reader.eat_keyword(Keyword::Const) {
+        let ident = reader.ident(Phrase::NAME);
+        skip_type(reader, depth);
+        return bare_param(ParamKind::Const, ident);
     }
-    let ident = cursor.ident(Phrase::NAME_OF_A_PARAMETER)?;
-    let bounds = parse_own_bounds(cursor, ast, depth)?;
-    Ok(Param {
-        bounds,
-        ..bare_param(ParamKind::Ty, ident)
-    })
+    let ident = reader.ident(Phrase::NAME_OF_A_PARAMETER);
+    Param {
+        kind: ParamKind::Ty,
+        ident,
+        bounds: parse_own_bounds(reader, depth),
+    }
 }
 
 fn bare_param(kind: ParamKind, ident: Ident) -> Param {
@@ -58,148 +50,141 @@ fn bare_param(kind: ParamKind, ident: Ident) -> Param {
     }
 }
 
+fn sees_lifetime(reader: &Reader) -> bool {
+    matches!(reader.peek(), TokenKind::Lifetime(_))
+}
+
+/// `: usize`, the type of a constant, which is not kept.
+pub(crate) fn skip_type(reader: &mut Reader, depth: u32) {
+    reader.expect(Sign::Colon);
+    parse_term(reader, depth);
+}
+
 /// `: A + B` or nothing.
-pub(crate) fn parse_own_bounds(
-    cursor: &mut Cursor<'_>,
-    ast: &mut Ast,
-    depth: u32,
-) -> Result<Run, SyntaxFault> {
-    if cursor.eat(Sign::Colon) {
-        parse_bounds(cursor, ast, depth)
+pub(crate) fn parse_own_bounds(reader: &mut Reader, depth: u32) -> Run {
+    if reader.eat(Sign::Colon) {
+        parse_bounds(reader, depth)
     } else {
-        Ok(Run::EMPTY)
+        Run::EMPTY
     }
+}
+
+/// `where T: Tr, ..` or nothing, as a run.
+pub(crate) fn parse_clauses(reader: &mut Reader, depth: u32) -> Run {
+    let first = reader.ast.where_clauses.len();
+    parse_where(reader, depth);
+    Run::since(first, reader.ast.where_clauses.len())
 }
 
 /// `where T: Tr, ..` or nothing. The clauses are added to those of the `Ast`.
-pub(crate) fn parse_where(
-    cursor: &mut Cursor<'_>,
-    ast: &mut Ast,
-    depth: u32,
-) -> Result<(), SyntaxFault> {
-    if !cursor.eat_keyword(Keyword::Where) {
-        return Ok(());
-    }
-    for _ in 0..cursor.left() {
-        if ends_clauses(cursor, ast) {
-            break;
-        }
-        let clause = parse_clause(cursor, ast, depth)?;
-        ast.where_clauses.push(clause)?;
-        if !cursor.eat(Sign::Comma) {
-            break;
+pub(crate) fn parse_where(reader: &mut Reader, depth: u32) {
+    if reader.eat_keyword(Keyword::Where) {
+        for place in 0..reader.left() {
+            if !begins_clause(reader, place) {
+                break;
+            }
+            let clause = parse_clause(reader, depth);
+            let pushed = reader.ast.where_clauses.push(clause);
+            reader.keep(pushed);
         }
     }
-    Ok(())
 }
 
 /// The clauses and parameters at the head of a `where` block.
-pub(crate) fn parse_env_clauses(
-    cursor: &mut Cursor<'_>,
-    ast: &mut Ast,
-    depth: u32,
-) -> Result<Run, SyntaxFault> {
-    cursor.expect_keyword(Keyword::Where)?;
-    let first = ast.where_clauses.len();
-    for _ in 0..cursor.left() {
-        if ends_clauses(cursor, ast) {
+pub(crate) fn parse_env_clauses(reader: &mut Reader, depth: u32) -> Run {
+    reader.expect_keyword(Keyword::Where);
+    let first = reader.ast.where_clauses.len();
+    for place in 0..reader.left() {
+        if !begins_clause(reader, place) {
             break;
         }
-        let clause = parse_env_clause(cursor, ast, depth)?;
-        ast.where_clauses.push(clause)?;
-        if !cursor.eat(Sign::Comma) {
-            break;
-        }
+        let clause = parse_env_clause(reader, depth);
+        let pushed = reader.ast.where_clauses.push(clause);
+        reader.keep(pushed);
     }
-    Ok(Run::since(first, ast.where_clauses.len()))
+    Run::since(first, reader.ast.where_clauses.len())
+}
+
+/// Whether a further clause begins here: behind a comma, but for the first one. Reads the comma.
+fn begins_clause(reader: &mut Reader, place: usize) -> bool {
+    (place == 0 || reader.eat(Sign::Comma)) && !ends_clauses(reader)
 }
 
 /// Whether no clause is next. A `{` begins one only in front of `integer}` or its kin.
-fn ends_clauses(cursor: &Cursor<'_>, ast: &Ast) -> bool {
-    match cursor.peek() {
-        TokenKind::Sign(Sign::OpenBrace) => !sees_marked(cursor, ast),
+fn ends_clauses(reader: &Reader) -> bool {
+    match reader.peek() {
+        TokenKind::Sign(Sign::OpenBrace) => !sees_marked(reader),
         TokenKind::Sign(Sign::Semi | Sign::Eq) | TokenKind::End => true,
         _ => false,
     }
 }
 
 /// Whether a term like `{integer}` or `{const 3}` is next, by its next two tokens.
-fn sees_marked(cursor: &Cursor<'_>, ast: &Ast) -> bool {
-    match (cursor.peek_second(), cursor.peek_third()) {
-        (TokenKind::Name(name), TokenKind::Sign(Sign::CloseBrace)) => {
-            matches!(ast.name(name), "integer" | "float")
+fn sees_marked(reader: &Reader) -> bool {
+    match reader.peek_at(2) {
+        TokenKind::Sign(Sign::CloseBrace) => {
+            reader.sees_word(1, "integer") || reader.sees_word(1, "float")
         }
-        (TokenKind::Name(name), TokenKind::Number(_)) => {
-            matches!(ast.name(name), "error" | "placeholder")
+        TokenKind::Number(_) => {
+            matches!(reader.peek_at(1), TokenKind::Keyword(Keyword::Const))
+                || reader.sees_word(1, "error")
+                || reader.sees_word(1, "placeholder")
         }
-        (TokenKind::Keyword(Keyword::Const), TokenKind::Number(_)) => true,
         _ => false,
     }
 }
 
-fn parse_clause(
-    cursor: &mut Cursor<'_>,
-    ast: &mut Ast,
-    depth: u32,
-) -> Result<WhereClause, SyntaxFault> {
-    let at = cursor.at();
-    let binder = parse_binder(cursor, ast)?;
-    let term = parse_term(cursor, ast, depth)?;
-    let kind = parse_relation(cursor, ast, depth, term)?;
-    Ok(WhereClause { binder, kind, at })
+fn parse_clause(reader: &mut Reader, depth: u32) -> WhereClause {
+    let at = reader.at();
+    let binder = parse_binder(reader);
+    let term = parse_term(reader, depth);
+    let kind = parse_relation(reader, depth, term);
+    WhereClause { binder, kind, at }
 }
 
 /// What a clause says of its term: `: A + B` or `== u8`.
-fn parse_relation(
-    cursor: &mut Cursor<'_>,
-    ast: &mut Ast,
-    depth: u32,
-    term: TermId,
-) -> Result<WhereKind, SyntaxFault> {
-    if cursor.eat(Sign::Colon) {
-        return Ok(WhereKind::Bounds(term, parse_bounds(cursor, ast, depth)?));
+fn parse_relation(reader: &mut Reader, depth: u32, term: TermId) -> WhereKind {
+    if reader.eat(Sign::EqEq) {
+        return WhereKind::Equal(term, parse_term(reader, depth));
     }
-    if cursor.eat(Sign::EqEq) {
-        return Ok(WhereKind::Equal(term, parse_term(cursor, ast, depth)?));
+    if !reader.sees(Sign::Colon) {
+        reader.mistake(Phrase::COLON_OR_EQ);
     }
-    Err(cursor.mistake(Phrase::COLON_OR_EQ))
+    WhereKind::Bounds(term, parse_own_bounds(reader, depth))
 }
 
-fn parse_env_clause(
-    cursor: &mut Cursor<'_>,
-    ast: &mut Ast,
-    depth: u32,
-) -> Result<WhereClause, SyntaxFault> {
-    let at = cursor.at();
-    if let Some(kind) = parse_declared(cursor)? {
-        return Ok(WhereClause {
+fn parse_env_clause(reader: &mut Reader, depth: u32) -> WhereClause {
+    let at = reader.at();
+    if let Some(kind) = parse_declared(reader) {
+        return WhereClause {
             binder: Run::EMPTY,
             kind,
             at,
-        });
+        };
     }
-    let binder = parse_binder(cursor, ast)?;
-    let term = parse_term(cursor, ast, depth)?;
-    let kind = if binder.len == 0 && ends_name(cursor) && ast.plain_name(term).is_some() {
+    let binder = parse_binder(reader);
+    let term = parse_term(reader, depth);
+    let kind = if binder.len == 0 && declares_type(reader, term) {
         WhereKind::DeclareTy(term)
     } else {
-        parse_relation(cursor, ast, depth, term)?
+        parse_relation(reader, depth, term)
     };
-    Ok(WhereClause { binder, kind, at })
+    WhereClause { binder, kind, at }
 }
 
 /// `'a` and `const N`, which declare a parameter.
-fn parse_declared(cursor: &mut Cursor<'_>) -> Result<Option<WhereKind>, SyntaxFault> {
-    if let TokenKind::Lifetime(_) = cursor.peek() {
-        return Ok(Some(WhereKind::DeclareLifetime(lifetime_ident(cursor)?)));
+fn parse_declared(reader: &mut Reader) -> Option<WhereKind> {
+    if sees_lifetime(reader) {
+        return Some(WhereKind::DeclareLifetime(lifetime_ident(reader)));
     }
-    if cursor.eat_keyword(Keyword::Const) {
-        return Ok(Some(WhereKind::DeclareConst(cursor.ident(Phrase::NAME)?)));
+    if reader.eat_keyword(Keyword::Const) {
+        return Some(WhereKind::DeclareConst(reader.ident(Phrase::NAME)));
     }
-    Ok(None)
+    None
 }
 
-/// Whether a clause ends here.
-fn ends_name(cursor: &Cursor<'_>) -> bool {
-    cursor.sees(Sign::Comma) || cursor.sees(Sign::OpenBrace)
+/// Whether a term is a name alone, which declares a type parameter.
+fn declares_type(reader: &Reader, term: TermId) -> bool {
+    let ends = reader.sees(Sign::Comma) || reader.sees(Sign::OpenBrace);
+    ends && reader.ast.plain_name(term).is_some()
 }

@@ -1,73 +1,59 @@
 //! Goals.
-use crate::ast::{Ast, Bound, Goal, GoalKind, Run, Span, TermId};
-use crate::cursor::Cursor;
-use crate::mistake::SyntaxFault;
+use crate::ast::{Bound, Goal, GoalKind, Run, Span, TermId};
 use crate::parser::bounds::parse_constness;
 use crate::parser::terms::{parse_segment, parse_term};
 use crate::phrase::Phrase;
+use crate::reader::Reader;
 use crate::token::Sign;
 
 /// `T: Tr;`, `<T as Tr>::A = ?;`, `<T as Tr>::A == u8;`, behind its attributes.
-pub(crate) fn parse_goal(
-    cursor: &mut Cursor<'_>,
-    ast: &mut Ast,
-    depth: u32,
-    attrs: Run,
-) -> Result<Goal, SyntaxFault> {
-    let start = cursor.start();
-    let term = parse_term(cursor, ast, depth)?;
+pub(crate) fn parse_goal(reader: &mut Reader, depth: u32, attrs: Run) -> Goal {
+    let start = reader.start();
+    let term = parse_term(reader, depth);
     let subject = Span {
         start,
-        end: cursor.end(),
+        end: reader.end(),
     };
-    let kind = parse_goal_kind(cursor, ast, depth, term)?;
+    let kind = parse_goal_kind(reader, depth, term);
     let text = Span {
         start,
-        end: cursor.end(),
+        end: reader.end(),
     };
-    cursor.expect(Sign::Semi)?;
-    Ok(Goal {
+    reader.expect(Sign::Semi);
+    Goal {
         attrs,
         text,
         subject,
         kind,
-    })
+    }
 }
 
 /// What is asked of a term.
-fn parse_goal_kind(
-    cursor: &mut Cursor<'_>,
-    ast: &mut Ast,
-    depth: u32,
-    term: TermId,
-) -> Result<GoalKind, SyntaxFault> {
-    if cursor.eat(Sign::Colon) {
-        return Ok(GoalKind::Holds(term, parse_goal_bound(cursor, ast, depth)?));
+fn parse_goal_kind(reader: &mut Reader, depth: u32, term: TermId) -> GoalKind {
+    if reader.eat(Sign::Colon) {
+        return GoalKind::Holds(term, parse_goal_bound(reader, depth));
     }
-    if cursor.eat(Sign::EqEq) {
-        return Ok(GoalKind::Equal(term, parse_term(cursor, ast, depth)?));
+    if reader.eat(Sign::EqEq) {
+        return GoalKind::Equal(term, parse_term(reader, depth));
     }
-    if cursor.eat(Sign::Eq) {
-        cursor.expect(Sign::Question)?;
-        return Ok(GoalKind::Normalizes(term));
+    if reader.eat(Sign::Eq) {
+        reader.expect(Sign::Question);
+    } else {
+        reader.mistake(Phrase::COLON_OR_ANY_EQ);
     }
-    Err(cursor.mistake(Phrase::COLON_OR_ANY_EQ))
+    GoalKind::Normalizes(term)
 }
 
 /// `Tr`, `const Tr`, `[const] Tr`
-fn parse_goal_bound(
-    cursor: &mut Cursor<'_>,
-    ast: &mut Ast,
-    depth: u32,
-) -> Result<Bound, SyntaxFault> {
-    let at = cursor.at();
-    let constness = parse_constness(cursor)?;
-    let trait_ = parse_segment(cursor, ast, depth, Phrase::TRAIT)?;
-    Ok(Bound {
+fn parse_goal_bound(reader: &mut Reader, depth: u32) -> Bound {
+    let at = reader.at();
+    let constness = parse_constness(reader);
+    let trait_ = parse_segment(reader, depth, Phrase::TRAIT);
+    Bound {
         binder: Run::EMPTY,
         constness,
         is_relaxed: false,
         trait_,
         at,
-    })
+    }
 }

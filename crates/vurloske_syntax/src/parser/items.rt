@@ -1,19 +1,19 @@
 //! Items, and what they have in common.
-use crate::ast::{Ast, Free, FreeValue, Generics, Impl, ItemKind, Run, Segment, Trait};
-use crate::cursor::Cursor;
-use crate::mistake::SyntaxFault;
+use crate::ast::{Free, FreeValue, Generics, Impl, ItemKind, Run, Segment, TermId, Trait};
 use crate::parser::assoc_items::parse_body;
 use crate::parser::bounds::parse_bounds;
 use crate::parser::definitions::{parse_adt, parse_closure, parse_fn};
-use crate::parser::generics::{parse_params, parse_where};
-use crate::parser::scraps::sees_word;
+use crate::parser::generics::{
+    parse_clauses, parse_own_bounds, parse_params, parse_where, skip_type,
+};
 use crate::parser::terms::{parse_segment, parse_term};
 use crate::phrase::Phrase;
+use crate::reader::Reader;
 use crate::token::{Keyword, Sign, TokenKind};
 
 /// Whether an item is next.
-pub(crate) fn begins_item(cursor: &Cursor<'_>, ast: &Ast) -> bool {
-    match cursor.peek() {
+pub(crate) fn begins_item(reader: &Reader) -> bool {
+    match reader.peek() {
         TokenKind::Keyword(
             Keyword::Const
             | Keyword::Enum
@@ -23,25 +23,20 @@ pub(crate) fn begins_item(cursor: &Cursor<'_>, ast: &Ast) -> bool {
             | Keyword::Trait
             | Keyword::Type,
         ) => true,
-        TokenKind::Keyword(Keyword::Fn) => is_name(cursor.peek_second()),
-        TokenKind::Keyword(Keyword::Unsafe) => is_name(cursor.peek_third()),
-        TokenKind::Name(_) => begins_worded_item(cursor, ast),
+        TokenKind::Keyword(Keyword::Fn) => reader.sees_name(1),
+        TokenKind::Keyword(Keyword::Unsafe) => reader.sees_name(2),
+        TokenKind::Name(_) => begins_worded_item(reader),
         _ => false,
     }
 }
 
 /// Whether an item is next that begins with a word like `union`.
-fn begins_worded_item(cursor: &Cursor<'_>, ast: &Ast) -> bool {
-    if sees_word(cursor, ast, "auto") {
-        is_trait(cursor.peek_second())
+fn begins_worded_item(reader: &Reader) -> bool {
+    if reader.sees_word(0, "auto") {
+        is_trait(reader.peek_at(1))
     } else {
-        is_name(cursor.peek_second())
-            && (sees_word(cursor, ast, "union") || sees_word(cursor, ast, "closure"))
+        reader.sees_name(1) && (reader.sees_word(0, "union") || reader.sees_word(0, "closure"))
     }
-}
-
-fn is_name(kind: TokenKind) -> bool {
-    matches!(kind, TokenKind::Name(_))
 }
 
 fn is_trait(kind: TokenKind) -> bool {
@@ -49,90 +44,75 @@ fn is_trait(kind: TokenKind) -> bool {
 }
 
 /// An item behind its attributes.
-pub(crate) fn parse_item_kind(
-    cursor: &mut Cursor<'_>,
-    ast: &mut Ast,
-    depth: u32,
-) -> Result<ItemKind, SyntaxFault> {
-    let is_const = qualifies(cursor, ast) && cursor.eat_keyword(Keyword::Const);
-    match cursor.peek() {
-        TokenKind::Keyword(keyword) => parse_keyed_item(cursor, ast, depth, keyword, is_const),
-        _ if sees_word(cursor, ast, "auto") => {
-            cursor.advance();
-            let item = parse_trait(cursor, ast, depth)?;
-            Ok(ItemKind::Trait(Trait {
-                is_const,
-                is_auto: true,
-                ..item
-            }))
-        }
-        _ if sees_word(cursor, ast, "closure") => parse_closure(cursor, ast, depth, is_const),
-        _ => parse_adt(cursor, ast, depth),
+pub(crate) fn parse_item_kind(reader: &mut Reader, depth: u32) -> ItemKind {
+    let is_const = qualifies(reader) && reader.eat_keyword(Keyword::Const);
+    if let TokenKind::Keyword(keyword) = reader.peek() {
+        return parse_keyed_item(reader, depth, keyword, is_const);
+    }
+    if reader.sees_word(0, "auto") {
+        reader.advance();
+        return parse_trait(reader, depth, is_const, true);
+    }
+    if reader.sees_word(0, "closure") {
+        parse_closure(reader, depth, is_const)
+    } else {
+        parse_adt(reader, depth)
     }
 }
 
 /// Whether a `const` that is next stands before another item's word, and not before a name.
-fn qualifies(cursor: &Cursor<'_>, ast: &Ast) -> bool {
-    match (cursor.peek_second(), cursor.peek_third()) {
-        (TokenKind::Keyword(Keyword::Trait | Keyword::Fn | Keyword::Unsafe), _) => true,
-        (TokenKind::Name(word), TokenKind::Name(_)) => ast.name(word) == "closure",
-        (TokenKind::Name(word), TokenKind::Keyword(Keyword::Trait)) => ast.name(word) == "auto",
+fn qualifies(reader: &Reader) -> bool {
+    match reader.peek_at(1) {
+        TokenKind::Keyword(Keyword::Trait | Keyword::Fn | Keyword::Unsafe) => true,
+        TokenKind::Name(_) if reader.sees_name(2) => reader.sees_word(1, "closure"),
+        TokenKind::Name(_) if is_trait(reader.peek_at(2)) => reader.sees_word(1, "auto"),
         _ => false,
     }
 }
 
 /// An item whose word is a keyword.
-fn parse_keyed_item(
-    cursor: &mut Cursor<'_>,
-    ast: &mut Ast,
-    depth: u32,
-    keyword: Keyword,
-    is_const: bool,
-) -> Result<ItemKind, SyntaxFault> {
+fn parse_keyed_item(reader: &mut Reader, depth: u32, keyword: Keyword, is_const: bool) -> ItemKind {
     match keyword {
-        Keyword::Trait => {
-            let item = parse_trait(cursor, ast, depth)?;
-            Ok(ItemKind::Trait(Trait { is_const, ..item }))
-        }
-        Keyword::Impl => Ok(ItemKind::Impl(parse_impl(cursor, ast, depth)?)),
-        Keyword::Type | Keyword::Const => Ok(ItemKind::Free(parse_free(cursor, ast, depth)?)),
-        Keyword::Struct | Keyword::Enum => parse_adt(cursor, ast, depth),
-        Keyword::Fn | Keyword::Unsafe => parse_fn(cursor, ast, depth, is_const),
-        _ => parse_foreign(cursor),
+        Keyword::Trait => parse_trait(reader, depth, is_const, false),
+        Keyword::Impl => parse_impl(reader, depth),
+        Keyword::Type | Keyword::Const => parse_free(reader, depth),
+        Keyword::Struct | Keyword::Enum => parse_adt(reader, depth),
+        Keyword::Fn | Keyword::Unsafe => parse_fn(reader, depth, is_const),
+        _ => parse_foreign(reader),
     }
 }
 
 /// `extern type E;`
-fn parse_foreign(cursor: &mut Cursor<'_>) -> Result<ItemKind, SyntaxFault> {
-    cursor.expect_keyword(Keyword::Extern)?;
-    cursor.expect_keyword(Keyword::Type)?;
-    let ident = cursor.ident(Phrase::NAME)?;
-    cursor.expect(Sign::Semi)?;
-    Ok(ItemKind::Foreign(ident))
+fn parse_foreign(reader: &mut Reader) -> ItemKind {
+    reader.expect_keyword(Keyword::Extern);
+    reader.expect_keyword(Keyword::Type);
+    let ident = reader.ident(Phrase::NAME);
+    reader.expect(Sign::Semi);
+    ItemKind::Foreign(ident)
 }
 
 /// `trait Tr<T>: Super where .. { .. }`, `trait Both = A + B;`
-fn parse_trait(cursor: &mut Cursor<'_>, ast: &mut Ast, depth: u32) -> Result<Trait, SyntaxFault> {
-    cursor.expect_keyword(Keyword::Trait)?;
-    let ident = cursor.ident(Phrase::NAME)?;
-    let params = parse_params(cursor, ast, depth)?;
-    let is_alias = cursor.eat(Sign::Eq);
-    let bounds = if is_alias || cursor.eat(Sign::Colon) {
-        parse_bounds(cursor, ast, depth)?
+fn parse_trait(reader: &mut Reader, depth: u32, is_const: bool, is_auto: bool) -> ItemKind {
+    reader.expect_keyword(Keyword::Trait);
+    let ident = reader.ident(Phrase::NAME);
+    let params = parse_params(reader, depth);
+    let is_alias = reader.eat(Sign::Eq);
+    let bounds = if is_alias {
+        parse_bounds(reader, depth)
     } else {
-        Run::EMPTY
+        parse_own_bounds(reader, depth)
     };
-    let where_clauses = parse_clauses(cursor, ast, depth)?;
+    let where_clauses = parse_clauses(reader, depth);
     let items = if is_alias {
-        cursor.expect(Sign::Semi)?;
+        reader.expect(Sign::Semi);
         Run::EMPTY
     } else {
-        parse_body(cursor, ast, depth)?
+        parse_body(reader, depth)
     };
-    Ok(Trait {
+    ItemKind::Trait(Trait {
         ident,
-        is_const: false,
-        is_auto: false,
+        is_const,
+        is_auto,
         generics: Generics {
             params,
             where_clauses,
@@ -143,38 +123,16 @@ fn parse_trait(cursor: &mut Cursor<'_>, ast: &mut Ast, depth: u32) -> Result<Tra
     })
 }
 
-/// `where ..` or nothing, as a run.
-pub(crate) fn parse_clauses(
-    cursor: &mut Cursor<'_>,
-    ast: &mut Ast,
-    depth: u32,
-) -> Result<Run, SyntaxFault> {
-    let first = ast.where_clauses.len();
-    parse_where(cursor, ast, depth)?;
-    Ok(Run::since(first, ast.where_clauses.len()))
-}
-
 /// `impl<T> const Tr for T where .. { .. }`, also without a trait.
-fn parse_impl(cursor: &mut Cursor<'_>, ast: &mut Ast, depth: u32) -> Result<Impl, SyntaxFault> {
-    cursor.expect_keyword(Keyword::Impl)?;
-    let params = parse_params(cursor, ast, depth)?;
-    let is_const = cursor.eat_keyword(Keyword::Const);
-    let is_negative = cursor.eat(Sign::Not);
-    let trait_ = if is_const || is_negative {
-        Some(parse_head_trait(cursor, ast, depth)?)
-    } else {
-        None
-    };
-    let head = parse_term(cursor, ast, depth)?;
-    let (trait_, self_ty) = match ast.path(head) {
-        Some(segment) if trait_.is_none() && cursor.eat_keyword(Keyword::For) => {
-            (Some(segment), parse_term(cursor, ast, depth)?)
-        }
-        _ => (trait_, head),
-    };
-    let where_clauses = parse_clauses(cursor, ast, depth)?;
-    let items = parse_body(cursor, ast, depth)?;
-    Ok(Impl {
+fn parse_impl(reader: &mut Reader, depth: u32) -> ItemKind {
+    reader.expect_keyword(Keyword::Impl);
+    let params = parse_params(reader, depth);
+    let is_const = reader.eat_keyword(Keyword::Const);
+    let is_negative = reader.eat(Sign::Not);
+    let Header { trait_, self_ty } = parse_header(reader, depth, is_const || is_negative);
+    let where_clauses = parse_clauses(reader, depth);
+    let items = parse_body(reader, depth);
+    ItemKind::Impl(Impl {
         generics: Generics {
             params,
             where_clauses,
@@ -187,56 +145,68 @@ fn parse_impl(cursor: &mut Cursor<'_>, ast: &mut Ast, depth: u32) -> Result<Impl
     })
 }
 
-/// `Tr<u8> for`
-fn parse_head_trait(
-    cursor: &mut Cursor<'_>,
-    ast: &mut Ast,
-    depth: u32,
-) -> Result<Segment, SyntaxFault> {
-    let segment = parse_segment(cursor, ast, depth, Phrase::TRAIT)?;
-    cursor.expect_keyword(Keyword::For)?;
-    Ok(segment)
+/// For which trait an impl is, and for which type.
+#[derive(Clone, Copy)]
+struct Header {
+    trait_: Option<Segment>,
+    self_ty: TermId,
+}
+
+/// `Tr<u8> for T`, or a type alone unless the impl has to name a trait.
+fn parse_header(reader: &mut Reader, depth: u32, names_trait: bool) -> Header {
+    if names_trait {
+        let trait_ = parse_segment(reader, depth, Phrase::TRAIT);
+        reader.expect_keyword(Keyword::For);
+        return Header {
+            trait_: Some(trait_),
+            self_ty: parse_term(reader, depth),
+        };
+    }
+    let head = parse_term(reader, depth);
+    match reader.ast.path(head) {
+        Some(trait_) if reader.eat_keyword(Keyword::For) => Header {
+            trait_: Some(trait_),
+            self_ty: parse_term(reader, depth),
+        },
+        _ => Header {
+            trait_: None,
+            self_ty: head,
+        },
+    }
 }
 
 /// `type A<T> = u8;`, `type A = impl Tr;`, `const C: usize = 3;`
-fn parse_free(cursor: &mut Cursor<'_>, ast: &mut Ast, depth: u32) -> Result<Free, SyntaxFault> {
-    let is_const = cursor.eat_keyword(Keyword::Const);
-    if !is_const {
-        cursor.expect_keyword(Keyword::Type)?;
-    }
-    let ident = cursor.ident(Phrase::NAME)?;
-    let params = parse_params(cursor, ast, depth)?;
+fn parse_free(reader: &mut Reader, depth: u32) -> ItemKind {
+    let is_const = reader.sees_keyword(Keyword::Const);
+    reader.advance();
+    let ident = reader.ident(Phrase::NAME);
+    let params = parse_params(reader, depth);
     if is_const {
-        cursor.expect(Sign::Colon)?;
-        parse_term(cursor, ast, depth)?;
+        skip_type(reader, depth);
     }
-    let first = ast.where_clauses.len();
-    parse_where(cursor, ast, depth)?;
-    let value = parse_free_value(cursor, ast, depth)?;
-    parse_where(cursor, ast, depth)?;
-    cursor.expect(Sign::Semi)?;
-    Ok(Free {
+    let first = reader.ast.where_clauses.len();
+    parse_where(reader, depth);
+    let value = parse_free_value(reader, depth);
+    parse_where(reader, depth);
+    reader.expect(Sign::Semi);
+    ItemKind::Free(Free {
         ident,
         is_const,
         generics: Generics {
             params,
-            where_clauses: Run::since(first, ast.where_clauses.len()),
+            where_clauses: Run::since(first, reader.ast.where_clauses.len()),
         },
         value,
     })
 }
 
 /// `= u8`, `= impl Tr` or nothing.
-fn parse_free_value(
-    cursor: &mut Cursor<'_>,
-    ast: &mut Ast,
-    depth: u32,
-) -> Result<FreeValue, SyntaxFault> {
-    if !cursor.eat(Sign::Eq) {
-        return Ok(FreeValue::Absent);
+fn parse_free_value(reader: &mut Reader, depth: u32) -> FreeValue {
+    if !reader.eat(Sign::Eq) {
+        return FreeValue::Absent;
     }
-    if cursor.eat_keyword(Keyword::Impl) {
-        return Ok(FreeValue::Opaque(parse_bounds(cursor, ast, depth)?));
+    if reader.eat_keyword(Keyword::Impl) {
+        return FreeValue::Opaque(parse_bounds(reader, depth));
     }
-    Ok(FreeValue::Term(parse_term(cursor, ast, depth)?))
+    FreeValue::Term(parse_term(reader, depth))
 }

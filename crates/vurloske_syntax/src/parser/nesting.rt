@@ -1,19 +1,19 @@
 //! How deep a text may nest.
-ghost use Rattle.std.specs.Prelude.{◌≡◌, ◌+◌, IfOk};
+ghost use Rattle.std.specs.Prelude.{◌≡◌, ◌+◌, IfSome};
 
-use crate::cursor::Cursor;
-use crate::mistake::SyntaxFault;
 use crate::phrase::Phrase;
+use crate::reader::Reader;
 
 /// How many levels may stand in one another.
 pub(crate) const MAX_NESTING: u32 = 500;
 
-/// What is left one level down.
-pub(crate) fn deeper(cursor: &Cursor<'_>, depth: u32) -> Result<u32, SyntaxFault>
-    ensures { IfOk result (λ left. left + 1 ≡ depth) }
+/// What is left one level down, if that may be.
+pub(crate) fn deeper(reader: &mut Reader, depth: u32) -> Option<u32>
+    ensures { IfSome result (λ left. left + 1 ≡ depth) }
 {
-    match depth.checked_sub(1) {
-        Some(left) => Ok(left),
-        None => Err(cursor.mistake(Phrase::LESS_NESTING)),
+    let left = depth.checked_sub(1);
+    if left.is_none() {
+        reader.mistake(Phrase::LESS_NESTING);
     }
+    left
 }

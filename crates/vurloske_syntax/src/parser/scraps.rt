@@ -1,10 +1,9 @@
 //! What is read alike in many places.
 ghost use Rattle.std.specs.Prelude.{◌≡◌, ◌+◌, ◌++◌, vec_len, IfOk, OnOk};
 
-use crate::ast::{Ast, Ident, Lifetime, LifetimeKind, Mutability, Run};
-use crate::cursor::Cursor;
-use crate::mistake::SyntaxFault;
+use crate::ast::{Ident, Lifetime, LifetimeKind, Mutability, Run};
 use crate::phrase::Phrase;
+use crate::reader::Reader;
 use crate::token::{Keyword, Sign, TokenKind};
 use std::alloc::AllocError;
 
@@ -22,32 +21,27 @@ pub(crate) fn append<T: Copy + Drop>(list: &mut Vec<T>, parts: &[T]) -> Result<R
     Ok(run)
 }
 
-/// Whether a word is next that is one only where it stands.
-pub(crate) fn sees_word(cursor: &Cursor<'_>, ast: &Ast, word: &str) -> bool {
-    match cursor.peek() {
-        TokenKind::Name(name) => ast.name(name) == word,
-        _ => false,
-    }
-}
-
 /// A lifetime's name, as one declares it.
-pub(crate) fn lifetime_ident(cursor: &mut Cursor<'_>) -> Result<Ident, SyntaxFault> {
-    let at = cursor.at();
-    match cursor.peek() {
+pub(crate) fn lifetime_ident(reader: &mut Reader) -> Ident {
+    let at = reader.at();
+    match reader.peek() {
         TokenKind::Lifetime(LifetimeKind::Named(name)) => {
-            cursor.advance();
-            Ok(Ident { name, at })
+            reader.advance();
+            Ident { name, at }
         }
-        _ => Err(cursor.mistake(Phrase::NAME_OF_A_LIFETIME)),
+        _ => {
+            reader.mistake(Phrase::NAME_OF_A_LIFETIME);
+            Ident::MISSING
+        }
     }
 }
 
 /// A lifetime if one is next.
-pub(crate) fn some_lifetime(cursor: &mut Cursor<'_>) -> Option<Lifetime> {
-    let at = cursor.at();
-    match cursor.peek() {
+pub(crate) fn some_lifetime(reader: &mut Reader) -> Option<Lifetime> {
+    let at = reader.at();
+    match reader.peek() {
         TokenKind::Lifetime(kind) => {
-            cursor.advance();
+            reader.advance();
             Some(Lifetime { kind, at })
         }
         _ => None,
@@ -55,22 +49,22 @@ pub(crate) fn some_lifetime(cursor: &mut Cursor<'_>) -> Option<Lifetime> {
 }
 
 /// The lifetime that is meant where none is written.
-pub(crate) fn erased(cursor: &Cursor<'_>) -> Lifetime {
+pub(crate) fn erased(reader: &Reader) -> Lifetime {
     Lifetime {
         kind: LifetimeKind::Erased,
-        at: cursor.at(),
+        at: reader.at(),
     }
 }
 
 /// A lifetime, which may be left out.
-pub(crate) fn lifetime_or_erased(cursor: &mut Cursor<'_>) -> Lifetime {
-    let erased = erased(cursor);
-    some_lifetime(cursor).unwrap_or(erased)
+pub(crate) fn lifetime_or_erased(reader: &mut Reader) -> Lifetime {
+    let erased = erased(reader);
+    some_lifetime(reader).unwrap_or(erased)
 }
 
 /// `mut` or nothing.
-pub(crate) fn mutability(cursor: &mut Cursor<'_>) -> Mutability {
-    if cursor.eat_keyword(Keyword::Mut) {
+pub(crate) fn mutability(reader: &mut Reader) -> Mutability {
+    if reader.eat_keyword(Keyword::Mut) {
         Mutability::Mut
     } else {
         Mutability::Not
@@ -78,32 +72,31 @@ pub(crate) fn mutability(cursor: &mut Cursor<'_>) -> Mutability {
 }
 
 /// `mut` or `const`.
-pub(crate) fn raw_mutability(cursor: &mut Cursor<'_>) -> Result<Mutability, SyntaxFault> {
-    if cursor.eat_keyword(Keyword::Const) {
-        return Ok(Mutability::Not);
+pub(crate) fn raw_mutability(reader: &mut Reader) -> Mutability {
+    if reader.eat_keyword(Keyword::Const) {
+        return Mutability::Not;
     }
-    match mutability(cursor) {
-        Mutability::Mut => Ok(Mutability::Mut),
-        Mutability::Not => Err(cursor.mistake(Phrase::CONST_OR_MUT)),
+    if !reader.sees_keyword(Keyword::Mut) {
+        reader.mistake(Phrase::CONST_OR_MUT);
     }
+    mutability(reader)
 }
 
 /// `for<'a, 'b>` or nothing.
-pub(crate) fn parse_binder(cursor: &mut Cursor<'_>, ast: &mut Ast) -> Result<Run, SyntaxFault> {
-    if !cursor.eat_keyword(Keyword::For) {
-        return Ok(Run::EMPTY);
+pub(crate) fn parse_binder(reader: &mut Reader) -> Run {
+    if !reader.eat_keyword(Keyword::For) {
+        return Run::EMPTY;
     }
-    cursor.expect(Sign::Lt)?;
-    let first = ast.idents.len();
-    for _ in 0..cursor.left() {
-        if cursor.sees(Sign::Gt) {
+    reader.expect(Sign::Lt);
+    let first = reader.ast.idents.len();
+    for place in 0..reader.left() {
+        if !reader.begins_part(place, Sign::Gt) {
             break;
         }
-        ast.idents.push(lifetime_ident(cursor)?)?;
-        if !cursor.eat(Sign::Comma) {
-            break;
-        }
+        let name = lifetime_ident(reader);
+        let pushed = reader.ast.idents.push(name);
+        reader.keep(pushed);
     }
-    cursor.expect(Sign::Gt)?;
-    Ok(Run::since(first, ast.idents.len()))
+    reader.expect(Sign::Gt);
+    Run::since(first, reader.ast.idents.len())
 }

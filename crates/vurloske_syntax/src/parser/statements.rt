@@ -1,101 +1,74 @@
 //! Statements, and the blocks in which they stand.
-ghost use Rattle.std.specs.Prelude.{◌≡◌, ◌+◌, vec_len, IfOk, OnOk};
-
-use crate::ast::{Ast, Item, Run, Statement, StatementKind};
-use crate::cursor::Cursor;
-use crate::mistake::SyntaxFault;
-use crate::parser::attributes::{parse_attrs, parse_inner_attrs};
+use crate::ast::{Item, Run, Statement, StatementKind};
+use crate::parser::attributes::parse_attrs;
 use crate::parser::generics::parse_env_clauses;
 use crate::parser::goals::parse_goal;
 use crate::parser::items::{begins_item, parse_item_kind};
 use crate::parser::nesting::{MAX_NESTING, deeper};
 use crate::parser::scraps::append;
 use crate::phrase::Phrase;
+use crate::reader::Reader;
 use crate::token::{Keyword, Sign, TokenKind};
 
-/// The first text.
-pub(crate) fn parse_file(cursor: &mut Cursor<'_>, ast: &mut Ast) -> Result<(), SyntaxFault>
-    ensures { OnOk result (ast.new.file.first + ast.new.file.len ≡ vec_len ast.new.statements) }
-{
-    let attrs = parse_inner_attrs(cursor, ast, MAX_NESTING)?;
-    ast.inner_attrs = attrs;
-    ast.no_core = ast.has_attr(attrs, "no_core");
-    ast.file = parse_contents(cursor, ast)?;
-    Ok(())
-}
-
-/// A further text.
-pub(crate) fn parse_further(cursor: &mut Cursor<'_>, ast: &mut Ast) -> Result<(), SyntaxFault> {
-    parse_inner_attrs(cursor, ast, MAX_NESTING)?;
-    parse_contents(cursor, ast)?;
-    Ok(())
-}
-
-/// Items and statements up to the text's end.
-fn parse_contents(cursor: &mut Cursor<'_>, ast: &mut Ast) -> Result<Run, SyntaxFault>
-    ensures { IfOk result (λ run. run.first + run.len ≡ vec_len ast.new.statements) }
-{
-    let mut statements = Vec::new(cursor.alloc);
-    for _ in 0..cursor.left() {
-        if cursor.left() == 0 {
+/// Items and statements up to the text's end. The items are added to those of the `Ast`.
+pub(crate) fn parse_contents(reader: &mut Reader) -> Vec<Statement> {
+    let mut statements = Vec::new(reader.alloc);
+    for _ in 0..reader.left() {
+        if reader.left() == 0 {
             break;
         }
-        let attrs = parse_attrs(cursor, ast, MAX_NESTING)?;
-        if begins_item(cursor, ast) {
-            parse_item(cursor, ast, attrs)?;
+        let attrs = parse_attrs(reader, MAX_NESTING);
+        if begins_item(reader) {
+            parse_item(reader, attrs);
         } else {
-            statements.push(parse_statement(cursor, ast, MAX_NESTING, attrs)?)?;
+            parse_statement(reader, MAX_NESTING, attrs, &mut statements);
         }
     }
-    Ok(append(&mut ast.statements, &statements)?)
+    statements
 }
 
 /// An item, which is added to those of the `Ast`.
-fn parse_item(cursor: &mut Cursor<'_>, ast: &mut Ast, attrs: Run) -> Result<(), SyntaxFault> {
-    let at = cursor.at();
-    let kind = parse_item_kind(cursor, ast, MAX_NESTING)?;
-    ast.items.push(Item { attrs, kind, at })?;
-    Ok(())
+fn parse_item(reader: &mut Reader, attrs: Run) {
+    let at = reader.at();
+    let kind = parse_item_kind(reader, MAX_NESTING);
+    let pushed = reader.ast.items.push(Item { attrs, kind, at });
+    reader.keep(pushed);
 }
 
 /// `{ .. }`
 #[cycle(statements)]
-fn parse_block(cursor: &mut Cursor<'_>, ast: &mut Ast, depth: u32) -> Result<Run, SyntaxFault> {
-    cursor.expect(Sign::OpenBrace)?;
-    let mut statements = Vec::new(cursor.alloc);
-    for _ in 0..cursor.left() {
-        if cursor.left() == 0 || cursor.sees(Sign::CloseBrace) {
+fn parse_block(reader: &mut Reader, depth: u32) -> Run {
+    reader.expect(Sign::OpenBrace);
+    let mut statements = Vec::new(reader.alloc);
+    for _ in 0..reader.left() {
+        if reader.left() == 0 || reader.sees(Sign::CloseBrace) {
             break;
         }
-        let attrs = parse_attrs(cursor, ast, depth)?;
-        statements.push(parse_statement(cursor, ast, depth, attrs)?)?;
+        let attrs = parse_attrs(reader, depth);
+        parse_statement(reader, depth, attrs, &mut statements);
     }
-    cursor.expect(Sign::CloseBrace)?;
-    Ok(append(&mut ast.statements, &statements)?)
+    reader.expect(Sign::CloseBrace);
+    let added = append(&mut reader.ast.statements, &statements);
+    reader.added(added)
 }
 
-/// A statement behind its attributes, which only a goal may have.
+/// Adds a statement behind its attributes, which only a goal may have.
 #[cycle(statements)]
-fn parse_statement(
-    cursor: &mut Cursor<'_>,
-    ast: &mut Ast,
-    depth: u32,
-    attrs: Run,
-) -> Result<Statement, SyntaxFault> {
-    let at = cursor.at();
-    let kind = match said(cursor, ast) {
-        Saying::Where if attrs.len == 0 => parse_where_block(cursor, ast, depth)?,
-        Saying::Mode if attrs.len == 0 => parse_mode_block(cursor, ast, depth)?,
-        Saying::Goal => StatementKind::Goal(parse_goal(cursor, ast, depth, attrs)?),
-        Saying::Order(kind) if attrs.len == 0 => {
-            cursor.advance();
-            cursor.expect(Sign::Semi)?;
+fn parse_statement(reader: &mut Reader, depth: u32, attrs: Run, statements: &mut Vec<Statement>) {
+    let at = reader.at();
+    let kind = match said(reader) {
+        Saying::Goal => StatementKind::Goal(parse_goal(reader, depth, attrs)),
+        _ if attrs.len > 0 => return reader.mistake(Phrase::ITEM_OR_A_GOAL),
+        Saying::Where => parse_where_block(reader, depth),
+        Saying::Mode => parse_mode_block(reader, depth),
+        Saying::Limit => parse_limit(reader),
+        Saying::Order(kind) => {
+            reader.advance();
+            reader.expect(Sign::Semi);
             kind
         }
-        Saying::Limit if attrs.len == 0 => parse_limit(cursor)?,
-        _ => return Err(cursor.mistake(Phrase::ITEM_OR_A_GOAL)),
     };
-    Ok(Statement { kind, at })
+    reader.keep(statements.push(Statement { kind, at }));
 }
 
 /// What sort of statement is next.
@@ -109,74 +82,77 @@ enum Saying {
     Goal,
 }
 
-fn said(cursor: &Cursor<'_>, ast: &Ast) -> Saying {
-    match (cursor.peek(), cursor.peek_second()) {
+fn said(reader: &Reader) -> Saying {
+    match (reader.peek(), reader.peek_at(1)) {
         (TokenKind::Keyword(Keyword::Where), _) => Saying::Where,
-        (TokenKind::Name(word), TokenKind::Sign(Sign::Semi)) => match ast.name(word) {
-            "accesses" => Saying::Order(StatementKind::Accesses),
-            "faults" => Saying::Order(StatementKind::Faults),
-            "prelude" => Saying::Order(StatementKind::Prelude),
-            _ => Saying::Goal,
-        },
-        (TokenKind::Name(word), TokenKind::Name(_)) if ast.name(word) == "in" => Saying::Mode,
-        (TokenKind::Name(word), TokenKind::Number(_)) if ast.name(word) == "limit" => {
+        (TokenKind::Name(_), TokenKind::Sign(Sign::Semi)) => ordered(reader),
+        (TokenKind::Name(_), TokenKind::Name(_)) if reader.sees_word(0, "in") => Saying::Mode,
+        (TokenKind::Name(_), TokenKind::Number(_)) if reader.sees_word(0, "limit") => {
             Saying::Limit
         }
         _ => Saying::Goal,
     }
 }
 
+/// What a word alone says.
+fn ordered(reader: &Reader) -> Saying {
+    if reader.sees_word(0, "accesses") {
+        Saying::Order(StatementKind::Accesses)
+    } else if reader.sees_word(0, "faults") {
+        Saying::Order(StatementKind::Faults)
+    } else if reader.sees_word(0, "prelude") {
+        Saying::Order(StatementKind::Prelude)
+    } else {
+        Saying::Goal
+    }
+}
+
 /// `limit 3;`
-fn parse_limit(cursor: &mut Cursor<'_>) -> Result<StatementKind, SyntaxFault> {
-    cursor.advance();
-    let limit = cursor.short_number()?;
-    cursor.expect(Sign::Semi)?;
-    Ok(StatementKind::Limit(limit))
+fn parse_limit(reader: &mut Reader) -> StatementKind {
+    reader.advance();
+    let limit = reader.short_number();
+    reader.expect(Sign::Semi);
+    StatementKind::Limit(limit)
 }
 
 /// `where T: Tr, const N { .. }`
 #[cycle(statements)]
-fn parse_where_block(
-    cursor: &mut Cursor<'_>,
-    ast: &mut Ast,
-    depth: u32,
-) -> Result<StatementKind, SyntaxFault> {
-    let depth = deeper(cursor, depth)?;
-    let clauses = parse_env_clauses(cursor, ast, depth)?;
-    let body = parse_block(cursor, ast, depth)?;
-    Ok(StatementKind::Where(clauses, body))
+fn parse_where_block(reader: &mut Reader, depth: u32) -> StatementKind {
+    let Some(depth) = deeper(reader, depth) else {
+        return StatementKind::Where(Run::EMPTY, Run::EMPTY);
+    };
+    let clauses = parse_env_clauses(reader, depth);
+    let body = parse_block(reader, depth);
+    StatementKind::Where(clauses, body)
 }
 
 /// `in borrowck(A, B) { .. }`
 #[cycle(statements)]
-fn parse_mode_block(
-    cursor: &mut Cursor<'_>,
-    ast: &mut Ast,
-    depth: u32,
-) -> Result<StatementKind, SyntaxFault> {
-    let depth = deeper(cursor, depth)?;
-    cursor.advance();
-    let mode = cursor.ident(Phrase::MODE)?;
-    let names = parse_names(cursor, ast)?;
-    let body = parse_block(cursor, ast, depth)?;
-    Ok(StatementKind::Mode(mode, names, body))
+fn parse_mode_block(reader: &mut Reader, depth: u32) -> StatementKind {
+    let Some(depth) = deeper(reader, depth) else {
+        return StatementKind::Where(Run::EMPTY, Run::EMPTY);
+    };
+    reader.advance();
+    let mode = reader.ident(Phrase::MODE);
+    let names = parse_names(reader);
+    let body = parse_block(reader, depth);
+    StatementKind::Mode(mode, names, body)
 }
 
 /// `(A, B)` or nothing.
-fn parse_names(cursor: &mut Cursor<'_>, ast: &mut Ast) -> Result<Run, SyntaxFault> {
-    if !cursor.eat(Sign::OpenParen) {
-        return Ok(Run::EMPTY);
+fn parse_names(reader: &mut Reader) -> Run {
+    if !reader.eat(Sign::OpenParen) {
+        return Run::EMPTY;
     }
-    let first = ast.idents.len();
-    for _ in 0..cursor.left() {
-        if cursor.sees(Sign::CloseParen) {
+    let first = reader.ast.idents.len();
+    for place in 0..reader.left() {
+        if !reader.begins_part(place, Sign::CloseParen) {
             break;
         }
-        ast.idents.push(cursor.ident(Phrase::NAME)?)?;
-        if !cursor.eat(Sign::Comma) {
-            break;
-        }
+        let name = reader.ident(Phrase::NAME);
+        let pushed = reader.ast.idents.push(name);
+        reader.keep(pushed);
     }
-    cursor.expect(Sign::CloseParen)?;
-    Ok(Run::since(first, ast.idents.len()))
+    reader.expect(Sign::CloseParen);
+    Run::since(first, reader.ast.idents.len())
 }

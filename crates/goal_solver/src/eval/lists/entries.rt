@@ -98,6 +98,7 @@ pub(crate) fn run_entry(
         }
         InternedEntry::Evaluation => Ok(Reached::Next),
         InternedEntry::Ambiguous | InternedEntry::Undecided => Ok(run.ask(Outcome::Undecided)),
+        InternedEntry::HiddenType(_, _, _) => Ok(run.ask(Outcome::Undecided)),
         InternedEntry::Refused => Ok(Reached::Refuted),
     }
 }

@@ -110,6 +110,10 @@ fn interned_entry<'t>(
             };
             Ok(Some(InternedEntry::Expected(made)))
         }
+        RuleEntry::HiddenType(_, key, first) => {
+            let ids = intern_args(setting.allocator(), terms, &key.args)?;
+            Ok(Some(InternedEntry::HiddenType(key.def_id, ids, *first)))
+        }
         RuleEntry::Access(access) => Ok(Some(InternedEntry::Access(*access))),
         RuleEntry::DelayedFault(fault) => Ok(Some(InternedEntry::DelayedFault(*fault))),
         RuleEntry::Evaluation => Ok(Some(InternedEntry::Evaluation)),

@@ -4,6 +4,7 @@ ghost use Rattle.std.specs.Option.{option_copied};
 ghost use Rattle.goal_tables.specs.Rows.{impl_of};
 ghost use Rattle.goal_terms.specs.TreeOf.{trees_of, tree_of_ty};
 ghost use Rattle.goal_kinds.specs.declared.rules.RuleHeader.TheVariants as of_header;
+ghost use Rattle.goal_solver.specs.Accesses.{RecordsCausedFaults};
 ghost use Rattle.goal_solver.specs.GoingBack.{GoesBack};
 ghost use Rattle.goal_solver.specs.OpenRuns.{open_progress, open_start, after_entry, after_naming, named_trees, open_header, other_header, Equates, Matches, MatchesIf, Follows, NamesOpen};
 ghost use Rattle.goal_solver.specs.Refusals.{WhenRefused, RefusesEqual, RefusesMatch, RefusesMatchIf, RefusesNames};
@@ -121,7 +122,7 @@ impl EvalCtxt<'_> {
     ) -> Result<NamedArgs, Fault>
         ensures names { IfOk result (λ n. NamesOpen environment.now (named_trees named.now) arguments.now self.old (trees_of n.args.items) n.certainty self.new) }
         ensures refused { WhenRefused result (RefusesNames environment.now (named_trees named.now) arguments.now self.old self.new) }
-        ensures faults { self.new.delayed_faults ≡ self.old.delayed_faults }
+        ensures faults { RecordsCausedFaults self.old self.new }
         ensures goes_back { GoesBack self.old self.new }
         ensures fault { IsFaultFor self.old self.new result }
     {
@@ -146,7 +147,7 @@ impl EvalCtxt<'_> {
     ) -> Result<NamedArgs, Fault>
         ensures names { IfOk result (λ n. MatchesIf environment.now (open_header self.old.tables header) (Some (trees_of given.now)) self.old (trees_of n.args.items) n.certainty self.new) }
         ensures refused { WhenRefused result (RefusesMatchIf environment.now (open_header self.old.tables header) (Some (trees_of given.now)) self.old self.new) }
-        ensures faults { self.new.delayed_faults ≡ self.old.delayed_faults }
+        ensures faults { RecordsCausedFaults self.old self.new }
         ensures goes_back { GoesBack self.old self.new }
         ensures fault { IsFaultFor self.old self.new result }
     {
@@ -165,7 +166,7 @@ impl EvalCtxt<'_> {
     ) -> Result<NamedArgs, Fault>
         ensures names { IfOk result (λ n. MatchesIf environment.now (open_header self.old.tables (of_header.Impl id)) (Some (trees_of given.now)) self.old (trees_of n.args.items) n.certainty self.new) }
         ensures refused { WhenRefused result (RefusesMatchIf environment.now (open_header self.old.tables (of_header.Impl id)) (Some (trees_of given.now)) self.old self.new) }
-        ensures faults { self.new.delayed_faults ≡ self.old.delayed_faults }
+        ensures faults { RecordsCausedFaults self.old self.new }
         ensures goes_back { GoesBack self.old self.new }
         ensures fault { IsFaultFor self.old self.new result }
     {
@@ -185,7 +186,7 @@ impl EvalCtxt<'_> {
     ) -> Result<NamedArgs, Fault>
         ensures names { IfOk result (λ n. MatchesIf environment.now (open_header self.old.tables (of_header.InherentImpl id)) (Some (trees_of given.now)) self.old (trees_of n.args.items) n.certainty self.new) }
         ensures refused { WhenRefused result (RefusesMatchIf environment.now (open_header self.old.tables (of_header.InherentImpl id)) (Some (trees_of given.now)) self.old self.new) }
-        ensures faults { self.new.delayed_faults ≡ self.old.delayed_faults }
+        ensures faults { RecordsCausedFaults self.old self.new }
         ensures goes_back { GoesBack self.old self.new }
         ensures fault { IsFaultFor self.old self.new result }
     {
@@ -211,7 +212,7 @@ impl EvalCtxt<'_> {
     ) -> Result<NamedArgs, Fault>
         ensures names { IfOk result (λ n. MatchesIf environment.now (open_header self.old.tables (of_header.Impl other)) (other_header (impl_of self.old.tables of) (slice_get (named_trees named.now) number)) self.old (trees_of n.args.items) n.certainty self.new) }
         ensures refused { WhenRefused result (RefusesMatchIf environment.now (open_header self.old.tables (of_header.Impl other)) (other_header (impl_of self.old.tables of) (slice_get (named_trees named.now) number)) self.old self.new) }
-        ensures faults { self.new.delayed_faults ≡ self.old.delayed_faults }
+        ensures faults { RecordsCausedFaults self.old self.new }
         ensures goes_back { GoesBack self.old self.new }
         ensures fault { IsFaultFor self.old self.new result }
     {
@@ -260,7 +261,7 @@ impl EvalCtxt<'_> {
     ) -> Result<NamedArgs, Fault>
         ensures matches { IfOk result (λ n. Matches environment.now (record { params = params.now; terms = trees_of header.now }) (trees_of given.now) self.old (trees_of n.args.items) n.certainty self.new) }
         ensures refused { WhenRefused result (RefusesMatch environment.now (record { params = params.now; terms = trees_of header.now }) (trees_of given.now) self.old self.new) }
-        ensures faults { self.new.delayed_faults ≡ self.old.delayed_faults }
+        ensures faults { RecordsCausedFaults self.old self.new }
         ensures goes_back { GoesBack self.old self.new }
         ensures fault { IsFaultFor self.old self.new result }
     {
@@ -281,7 +282,7 @@ impl EvalCtxt<'_> {
     ) -> Result<Certainty, Fault>
         ensures equates { IfOk result (Equates environment.now (trees_of left.now) (trees_of right.now) self.old self.new) }
         ensures refused { WhenRefused result (RefusesEqual environment.now (trees_of left.now) (trees_of right.now) self.old self.new) }
-        ensures faults { self.new.delayed_faults ≡ self.old.delayed_faults }
+        ensures faults { RecordsCausedFaults self.old self.new }
         ensures goes_back { GoesBack self.old self.new }
         ensures fault { IsFaultFor self.old self.new result }
     {

@@ -7,6 +7,7 @@ ghost use Rattle.goal_terms.specs.TreeOf.{trees_of, tree_of_term};
 ghost use Rattle.goal_kinds.specs.Rules.{clauses_in, value_in};
 ghost use Rattle.goal_kinds.specs.declared.rules.RowValue.TheVariants as of_row;
 ghost use Rattle.goal_terms.specs.declared.answers.Certainty.{Certainty as certain};
+ghost use Rattle.goal_solver.specs.Accesses.{RecordsCausedFaults};
 ghost use Rattle.goal_solver.specs.GoingBack.{GoesBack};
 ghost use Rattle.goal_solver.specs.OpenRuns.{open_progress, named_trees, clauses_with, source_of, AddsGoals, AddsRow, Equates, Evaluates, GivesForm, GivesTerm, GivesValue, refusal_in, ReadsMode, Steps};
 ghost use Rattle.goal_solver.specs.Refusals.{WhenRefused, RefusesEqual, RefusesPending, RefusesForm, RefusesValue, RefusesTerm, StepRefused};
@@ -32,6 +33,7 @@ use goal_terms::terms::{GenericArg, Term, Ty};
 use std::alloc::{AllocError, Global};
 
 impl EvalCtxt<'_> {
+    #[tactic(auto, using(crate::proofs::RecordedLemmas::stepping))]
     /// Takes the step of an entry of a list with inference variables. Where it is refused, some of it may stay.
     /// Const conditions are undecided.
     pub(crate) fn step_through(
@@ -67,6 +69,10 @@ impl EvalCtxt<'_> {
                 let certainty = self.give_open(environment, &run.named, expected, term)?;
                 Ok(run.join(certainty))
             }
+            RuleEntry::HiddenType(expected, key, first) => {
+                let certainty = self.define_hidden_type(environment, expected, key, *first)?;
+                Ok(run.join(certainty))
+            }
             RuleEntry::Access(access) => {
                 let certainty = self.read_open(*access)?;
                 Ok(run.join(certainty))
@@ -88,7 +94,7 @@ impl EvalCtxt<'_> {
     fn evaluate_pending(&mut self) -> Result<(), Fault>
         ensures evaluates { OnOk result ((c : certain) × Evaluates self.old self.new c) }
         ensures refused { WhenRefused result (RefusesPending self.old self.new) }
-        ensures faults { self.new.delayed_faults ≡ self.old.delayed_faults }
+        ensures faults { RecordsCausedFaults self.old self.new }
         ensures goes_back { GoesBack self.old self.new }
         ensures fault { IsFaultFor self.old self.new result }
     {
@@ -111,7 +117,7 @@ impl EvalCtxt<'_> {
     fn read_open(&mut self, access: OpaqueAccess) -> Result<Certainty, Fault>
         ensures reads { IfOk result (λ c. ReadsMode access self.old c self.new) }
         ensures never { WhenRefused result ⊥ }
-        ensures faults { self.new.delayed_faults ≡ self.old.delayed_faults }
+        ensures faults { RecordsCausedFaults self.old self.new }
         ensures goes_back { GoesBack self.old self.new }
         ensures fault { IsFaultFor self.old self.new result }
     {
@@ -129,7 +135,7 @@ impl EvalCtxt<'_> {
         clause: &ClauseKind,
     ) -> Result<(), Fault>
         ensures added { OnOk result (AddsGoals source environment.now (tree_of_kind clause.now ∷ []) self.old self.new) }
-        ensures faults { self.new.delayed_faults ≡ self.old.delayed_faults }
+        ensures faults { RecordsCausedFaults self.old self.new }
         ensures goes_back { GoesBack self.old self.new }
         ensures only_memory { IsOkUnless result Fault.OutOfMemory }
     {
@@ -147,7 +153,7 @@ impl EvalCtxt<'_> {
         kind: ClauseKind,
     ) -> Result<(), Fault>
         ensures added { OnOk result (AddsGoals source environment.now (tree_of_kind kind ∷ []) self.old self.new) }
-        ensures faults { self.new.delayed_faults ≡ self.old.delayed_faults }
+        ensures faults { RecordsCausedFaults self.old self.new }
         ensures goes_back { GoesBack self.old self.new }
         ensures only_memory { IsOkUnless result Fault.OutOfMemory }
     {
@@ -173,7 +179,7 @@ impl EvalCtxt<'_> {
         number: u32,
     ) -> Result<Certainty, Fault>
         ensures added { IfOk result (λ c. AddsRow (source_of row) environment.now (clauses_in self.old.tables row) (slice_get (named_trees named.now) number) self.old c self.new) }
-        ensures faults { self.new.delayed_faults ≡ self.old.delayed_faults }
+        ensures faults { RecordsCausedFaults self.old self.new }
         ensures goes_back { GoesBack self.old self.new }
         ensures only_memory { IfErr result (λ f. f ≡ Fault.OutOfMemory) }
     {
@@ -198,7 +204,7 @@ impl EvalCtxt<'_> {
         args: &[GenericArg],
     ) -> Result<(), Fault>
         ensures added { OnOk result (AddsGoals source environment.now (clauses_with (trees_of args.now) clauses.now) self.old self.new) }
-        ensures faults { self.new.delayed_faults ≡ self.old.delayed_faults }
+        ensures faults { RecordsCausedFaults self.old self.new }
         ensures goes_back { GoesBack self.old self.new }
         ensures only_memory { IsOkUnless result Fault.OutOfMemory }
     {
@@ -221,7 +227,7 @@ impl EvalCtxt<'_> {
     ) -> Result<Certainty, Fault>
         ensures gives { IfOk result (λ c. GivesTerm environment.now (named_trees named.now) (tree_of_term expected.now) term.now self.old c self.new) }
         ensures refused { WhenRefused result (RefusesTerm environment.now (named_trees named.now) (tree_of_term expected.now) term.now self.old self.new) }
-        ensures faults { self.new.delayed_faults ≡ self.old.delayed_faults }
+        ensures faults { RecordsCausedFaults self.old self.new }
         ensures goes_back { GoesBack self.old self.new }
         ensures fault { IsFaultFor self.old self.new result }
     {
@@ -247,7 +253,7 @@ impl EvalCtxt<'_> {
     ) -> Result<Certainty, Fault>
         ensures gives { IfOk result (λ c. GivesValue environment.now (tree_of_term expected.now) (value_in self.old.tables value) (slice_get (named_trees named.now) number) self.old c self.new) }
         ensures refused { WhenRefused result (RefusesValue environment.now (tree_of_term expected.now) (value_in self.old.tables value) (slice_get (named_trees named.now) number) self.old self.new) }
-        ensures faults { self.new.delayed_faults ≡ self.old.delayed_faults }
+        ensures faults { RecordsCausedFaults self.old self.new }
         ensures goes_back { GoesBack self.old self.new }
         ensures fault { IsFaultFor self.old self.new result }
     {
@@ -274,7 +280,7 @@ impl EvalCtxt<'_> {
     ) -> Result<Certainty, Fault>
         ensures gives { IfOk result (λ c. GivesForm environment.now (tree_of_term expected.now) (tree_of_term term.now) self.old c self.new) }
         ensures refused { WhenRefused result (RefusesForm environment.now (tree_of_term expected.now) (tree_of_term term.now) self.old self.new) }
-        ensures faults { self.new.delayed_faults ≡ self.old.delayed_faults }
+        ensures faults { RecordsCausedFaults self.old self.new }
         ensures goes_back { GoesBack self.old self.new }
         ensures fault { IsFaultFor self.old self.new result }
     {
@@ -289,7 +295,7 @@ impl EvalCtxt<'_> {
     }
 
     /// Makes two terms equal, as `eq` does.
-    fn equate_terms(
+    pub(crate) fn equate_terms(
         &mut self,
         environment: &[Clause],
         left: &Term,
@@ -297,7 +303,7 @@ impl EvalCtxt<'_> {
     ) -> Result<Certainty, Fault>
         ensures equates { IfOk result (Equates environment.now (tree_of_term left.now ∷ []) (tree_of_term right.now ∷ []) self.old self.new) }
         ensures refused { WhenRefused result (RefusesEqual environment.now (tree_of_term left.now ∷ []) (tree_of_term right.now ∷ []) self.old self.new) }
-        ensures faults { self.new.delayed_faults ≡ self.old.delayed_faults }
+        ensures faults { RecordsCausedFaults self.old self.new }
         ensures goes_back { GoesBack self.old self.new }
         ensures fault { IsFaultFor self.old self.new result }
     {

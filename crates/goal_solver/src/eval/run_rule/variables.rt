@@ -1,4 +1,4 @@
-//! Which rules hold an inference variable.
+//! Which rules hold an inference variable, or define an opaque type.
 ghost use Rattle.std.specs.Prelude.{◌≡◌, ◌||◌};
 ghost use Rattle.std.specs.List.{list_any};
 ghost use Rattle.goal_terms.specs.NodeTests.{is_any_infer, some_node};
@@ -12,7 +12,8 @@ use goal_terms::node_tests::NodeTest;
 use goal_terms::predicates::{Clause, ClauseKind};
 use goal_terms::terms::{GenericArg, Term};
 
-/// Whether an inference variable stands in a rule's entries, expected terms aside, or in the environment.
+/// Whether an inference variable stands in a rule's entries, expected terms aside, or in the environment, or
+/// one of the entries is an opaque type's hidden type.
 /// Region variables do not count.
 pub(crate) fn has_variable(entries: &[RuleEntry], environment: &[Clause]) -> bool
     ensures { result ≡ (list_any (some_in_entry is_any_infer) entries.now || some_env is_any_infer environment.now) }
@@ -26,7 +27,7 @@ fn entries_have_variable(entries: &[RuleEntry]) -> bool
     entries.iter().any(|entry| entry_has_variable(entry))
 }
 
-/// Whether an inference variable stands in an entry, its expected term aside.
+/// Whether an inference variable stands in an entry, its expected term aside. A hidden type counts as such.
 fn entry_has_variable(entry: &RuleEntry) -> bool
     ensures { result ≡ some_in_entry is_any_infer entry.now }
 {
@@ -35,6 +36,7 @@ fn entry_has_variable(entry: &RuleEntry) -> bool
         RuleEntry::Equation(left, right) => args_have_variable(left) || args_have_variable(right),
         RuleEntry::Clause(_, clause) => clause_has_variable(clause),
         RuleEntry::Term(_, term) => term_has_variable(term),
+        RuleEntry::HiddenType(_, _, _) => true,
         RuleEntry::RowClauses(_, _)
         | RuleEntry::RowConditions(_, _, _)
         | RuleEntry::Access(_)

@@ -4,6 +4,7 @@ use Rattle.goal_terms.specs.Tree.{alias, forest}
 use Rattle.goal_kinds.specs.AliasLists.{alias_list}
 use Rattle.goal_kinds.specs.Interned.{erased_all}
 use Rattle.goal_kinds.specs.InternedEntries.{setting_at}
+use Rattle.goal_kinds.specs.RuleModes.{first_use_of}
 use Rattle.goal_kinds.proofs.lists.aliases.alias_list.Goals as goal
 
 pub returns-in-InherentTy-clause-entries : goal.returns-in-InherentTy-clause-entries
@@ -53,3 +54,17 @@ unfolding alias_list
 returns-in-ProjectionConst-clause-entries c T env itself =
     IfOk-weaker c.undecided-in-ProjectionConst.result _ _ (λ es made. made ∙ ap (λ k. alias_list (setting_at c.args.setting env) k (erased_all T c.args.args.now)) (sym c.in-ProjectionConst.is))
     (c.undecided-in-ProjectionConst.ensures.entries T)
+
+pub returns-in-OpaqueTy-clause-defined : goal.returns-in-OpaqueTy-clause-defined
+returns-in-OpaqueTy-clause-defined c f e =
+    IfOk-weaker c.opaque_alias_list.result _ _ (λ es h. (c.in-OpaqueTy.id, c.in-OpaqueTy.is, h))
+    (c.opaque_alias_list.ensures.defined f (ap (first_use_of c.args.setting.rows.now c.args.setting.mode.now) (sym c.in-OpaqueTy.is) ∙ e))
+
+pub returns-in-UnevaluatedConst-clause-named : goal.returns-in-UnevaluatedConst-clause-named
+returns-in-UnevaluatedConst-clause-named c = c.undecided.ensures.named c.args.setting.rows.now
+
+pub returns-in-ProjectionTy-clause-named : goal.returns-in-ProjectionTy-clause-named
+returns-in-ProjectionTy-clause-named c = c.undecided-in-ProjectionTy.ensures.named c.args.setting.rows.now
+
+pub returns-in-ProjectionConst-clause-named : goal.returns-in-ProjectionConst-clause-named
+returns-in-ProjectionConst-clause-named c = c.undecided-in-ProjectionConst.ensures.named c.args.setting.rows.now

@@ -1,10 +1,11 @@
-use Rattle.std.proofs.Common.{ap, subst}
+use Rattle.std.proofs.Common.{sym, ap, subst}
 use Rattle.std.proofs.lemmas.List.Elements.{All-head, All-tail}
 use Rattle.std.proofs.lemmas.Result.{IfOk-weaker}
 use Rattle.goal_tables.specs.Rows.{inherent_of}
 use Rattle.goal_kinds.specs.Interned.{IsIn, AreIn, erased_at, erased_all}
 use Rattle.goal_kinds.specs.InternedEntries.{entries_at, setting_at}
 use Rattle.goal_kinds.proofs.InherentListLemmas.{no-self, no-row, no-impl, all-there}
+use Rattle.goal_kinds.proofs.NamedRowLemmas.{found-again}
 use Rattle.goal_kinds.proofs.lists.aliases.inherent_alias_list.Goals as goal
 
 pub returns-in_default-clause-entries : goal.returns-in_default-clause-entries
@@ -41,3 +42,19 @@ returns-clause-entries c T env =
     (erased_all T c.in-Some.own.now) c.in-Some-inherent_row.row.now c.in-Some-inherent_impl_row.of.now (entries_at T es.items) (ap (erased_all T) c.in-Some.ensures)
     c.in-Some-inherent_row.ensures c.in-Some-inherent_impl_row.ensures made)
     (c.inherent_list.ensures.entries T)
+
+pub returns-in_default-clause-named : goal.returns-in_default-clause-named
+returns-in_default-clause-named c = c.undecided.ensures.named c.args.setting.rows.now
+
+pub returns-in_default-inherent_row-clause-named : goal.returns-in_default-inherent_row-clause-named
+returns-in_default-inherent_row-clause-named c = c.undecided-in_default-inherent_row.ensures.named c.args.setting.rows.now
+
+pub returns-in_default-inherent_impl_row-clause-named : goal.returns-in_default-inherent_impl_row-clause-named
+returns-in_default-inherent_impl_row-clause-named c = c.undecided-in_default-inherent_impl_row.ensures.named c.args.setting.rows.now
+
+pub returns-clause-named : goal.returns-clause-named
+returns-clause-named c =
+    c.inherent_list.ensures.named c.args.setting.rows.now
+    (found-again (λ r. r.id.0) c.args.setting.rows.now.inherent_items.items c.args.id.0 c.in-Some-inherent_row.row.now (sym c.in-Some-inherent_row.ensures))
+    (found-again (λ r. r.id.0) c.args.setting.rows.now.inherent_impls.items c.in-Some-inherent_row.row.now.impl_id.0 c.in-Some-inherent_impl_row.of.now
+    (sym c.in-Some-inherent_impl_row.ensures))

@@ -27,4 +27,5 @@ returns-in_default c = record {
       (erased_at c.args.terms.now c.args.asked.now.rigid_alias) (definition_of c.args.setting.rows.now c.args.id))
       (erased_at c.args.terms.now c.args.asked.now.rigid_alias) c.in_default.not-PostAnalysis c.in_default.not-ErasedNotCoherence)
       (c.rigid_entries.ensures.entries c.args.terms.now);
+  named = λ row. c.rigid_entries.ensures.named c.args.setting.rows.now;
 }

@@ -1,10 +1,12 @@
-use Rattle.std.proofs.Common.{refl, ap, ◌∙◌}
+use Rattle.std.proofs.Common.{Some, refl, sym, ap, ◌∙◌}
+use Rattle.std.specs.Option.{option_map}
 use Rattle.goal_terms.specs.TableMeaning.{tree_at}
 use Rattle.goal_kinds.specs.Entries.{equal_terms, row_clauses}
 use Rattle.goal_kinds.specs.Interned.{erased_at, erased_all}
 use Rattle.goal_kinds.specs.InternedEntries.{projection_at}
 use Rattle.goal_kinds.proofs.ClauseListLemmas.{loose-list, other-list, same-list, parts-erased, alias-args_in}
 use Rattle.goal_kinds.proofs.FewEntries.{four-at, four-in}
+use Rattle.goal_kinds.proofs.NamedRowLemmas.{four-named}
 use Rattle.goal_kinds.proofs.lists.projections.equation_list.Goals as goal
 
 pub returns-in_default : goal.returns-in_default
@@ -13,6 +15,7 @@ returns-in_default c = record {
   list =
       loose-list (projection_at c.args.terms.now c.args.asked.now) (tree_at c.args.terms.now c.args.alias) (erased_at c.args.terms.now c.args.term) c.node.result
       c.node.ensures.top c.in_default.not-Alias;
+  named = λ t item. tt;
 }
 
 pub returns-then-not-projects-clause-list : goal.returns-then-not-projects-clause-list
@@ -37,3 +40,8 @@ returns-clause-list c =
     ∙ ap (λ bs. equal_terms bs (erased_all c.args.terms.now c.args.asked.now.args.now))
     (parts-erased c.args.terms.now c.args.alias c.parts.result.now c.parts.ensures.trees))
     (c.in_ok-named.ensures.entry c.args.terms.now) (ap (λ cs. row_clauses cs 0) c.as_slice.ensures.value) refl)
+
+pub returns-clause-named : goal.returns-clause-named
+returns-clause-named c t item =
+    four-named t _ _ _ _ _ c.in_ok-vec.ensures.items (c.in_ok-equal.ensures.named t) (c.in_ok-named.ensures.named t)
+    (ap (option_map (λ r. r.own_predicates.items)) item ∙ ap Some (sym c.as_slice.ensures.value)) tt

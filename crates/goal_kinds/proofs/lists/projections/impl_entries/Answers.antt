@@ -1,4 +1,5 @@
-use Rattle.std.proofs.Common.{◌++◌, ◌∷◌, [], refl, ap, ◌∙◌}
+use Rattle.std.proofs.Common.{◌++◌, ◌∷◌, [], Some, refl, sym, ap, ◌∙◌}
+use Rattle.std.specs.Option.{option_map}
 use Rattle.goal_kinds.specs.Entries.{arguments, given_arguments, row_clauses, evaluation}
 use Rattle.goal_kinds.specs.ImplTerms.{trait_args}
 use Rattle.goal_kinds.specs.Interned.{erased_all}
@@ -7,6 +8,7 @@ use Rattle.goal_kinds.specs.TraitLists.{impl_match}
 use Rattle.goal_kinds.proofs.FewEntries.{three-at, three-in}
 use Rattle.goal_kinds.proofs.ListPartLemmas.{joined-at, joined-in}
 use Rattle.goal_kinds.proofs.ProjectionListLemmas.{first-erased, first_in}
+use Rattle.goal_kinds.proofs.NamedRowLemmas.{three-named, joined-named}
 use Rattle.goal_kinds.proofs.lists.projections.impl_entries.Goals as goal
 
 pub returns-clause-within : goal.returns-clause-within
@@ -28,3 +30,10 @@ returns-clause-entries c T =
     ∙ ap (λ ts. impl_match c.args.row.now ts [])
     (first-erased T c.args.asked.now.trait_params c.args.asked.now.args.now c.first_of.result.now c.first_of.ensures))
     (three-at T _ _ _ _ _ _ _ c.in_ok-further.ensures.items refl (c.in_ok-named.ensures.entry T) (ap (λ cs. row_clauses cs 1) c.as_slice.ensures.value))) refl
+
+pub returns-clause-named : goal.returns-clause-named
+returns-clause-named c t row item said =
+    joined-named t c.append-2.new.self.items c.append.new.self.items c.args.said.items c.in_ok-append-2.ensures.items
+    (joined-named t c.append.new.self.items c.in_ok-entries.entries.items c.in_ok-further.further.items c.in_ok-append.ensures.items (c.in_ok-entries.ensures.named t row)
+    (three-named t _ _ _ _ c.in_ok-further.ensures.items tt (c.in_ok-named.ensures.named t)
+    (ap (option_map (λ r. r.own_predicates.items)) item ∙ ap Some (sym c.as_slice.ensures.value)))) said

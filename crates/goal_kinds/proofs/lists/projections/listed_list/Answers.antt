@@ -7,6 +7,7 @@ use Rattle.goal_kinds.specs.ProjectionLists.{listed_list}
 use Rattle.goal_kinds.proofs.InternedLemmas.{in-grown, are_in-grown}
 use Rattle.goal_kinds.proofs.ListPartLemmas.{one-in, pushed-at, pushed-in}
 use Rattle.goal_kinds.proofs.ProjectionListLemmas.{first_in}
+use Rattle.goal_kinds.proofs.NamedRowLemmas.{pushed-named, premises-name}
 use Rattle.goal_kinds.proofs.lists.projections.listed_list.Goals as goal
 
 pub returns-in_ok-push-in-Behind-clause-within : goal.returns-in_ok-push-in-Behind-clause-within
@@ -35,3 +36,12 @@ returns-in_ok-vec-in-BySize-clause-within c =
       c.in_ok-unit-in-BySize.ensures.within,
       in-grown T U kept c.args.asked.now.rigid_alias c.requires.asked.1,
     )
+
+pub returns-in_ok-push-in-Behind-clause-named : goal.returns-in_ok-push-in-Behind-clause-named
+returns-in_ok-push-in-Behind-clause-named c t =
+    pushed-named t c.push.new.self.items c.in_ok-entries-in-Behind.entries.items _ c.in_ok-push-in-Behind.ensures.items
+    (premises-name t c.args.terms.now ImplWhereBound c.in_ok-entries-in-Behind.entries.items (map (premise_at c.args.terms.now) c.in-Behind.premises.items)
+    (c.in_ok-entries-in-Behind.ensures.entries c.args.terms.now)) tt
+
+pub returns-in_ok-entries-in-Rigid-clause-named : goal.returns-in_ok-entries-in-Rigid-clause-named
+returns-in_ok-entries-in-Rigid-clause-named c t = c.in_ok-entries-in-Rigid.ensures.named t

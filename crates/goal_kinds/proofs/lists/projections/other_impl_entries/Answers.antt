@@ -1,7 +1,9 @@
-use Rattle.std.proofs.Common.{ap, ◌∙◌}
+use Rattle.std.proofs.Common.{Some, sym, ap, ◌∙◌}
+use Rattle.std.specs.Option.{option_map}
 use Rattle.goal_kinds.specs.Entries.{arguments, followed_by, row_clauses}
 use Rattle.goal_kinds.proofs.FewEntries.{four-at, four-in}
 use Rattle.goal_kinds.proofs.ProjectionListLemmas.{behind-erased, behind_in, other_header-made}
+use Rattle.goal_kinds.proofs.NamedRowLemmas.{other-header, four-named}
 use Rattle.goal_kinds.proofs.lists.projections.other_impl_entries.Goals as goal
 
 pub returns-clause-within : goal.returns-clause-within
@@ -18,3 +20,10 @@ returns-clause-entries c T =
     (c.in_ok-followed.ensures.entry T
     ∙ ap (λ ts. arguments (followed_by 2 ts)) (behind-erased T c.args.asked.now.trait_params c.args.asked.now.args.now c.behind.result.now c.behind.ensures))
     (c.definition_value-said.ensures.entry T)
+
+pub returns-clause-named : goal.returns-clause-named
+returns-clause-named c t row other definition =
+    four-named t _ _ _ _ _ c.in_ok-vec.ensures.items
+    (other-header t c.args.other.now c.args.row.now 0 _ _ _ other row c.as_slice.ensures.value c.as_slice-2.ensures.value c.as_slice-args.ensures.value)
+    (ap (option_map (λ r. r.predicates.items)) other ∙ ap Some (sym c.as_slice-3.ensures.value)) (c.in_ok-followed.ensures.named t)
+    (c.definition_value-said.ensures.named t definition)

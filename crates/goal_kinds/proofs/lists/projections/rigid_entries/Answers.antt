@@ -10,4 +10,5 @@ returns-in_default c = record {
   entries = λ T.
       IfOk-weaker c.standing.result _ _ (λ es made. made ∙ rigid-stands c.args.mode.now (erased_at T c.args.rigid_alias) c.in_default.not-Coherence)
       (c.standing.ensures.entries T);
+  named = c.standing.ensures.named;
 }

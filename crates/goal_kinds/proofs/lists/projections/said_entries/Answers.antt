@@ -25,3 +25,6 @@ returns-clause-entries c env =
     ∙ ap (said_by_row_entries (setting_at c.args.setting env) c.args.row.now (projection_at c.args.terms.now c.args.asked.now)
     (erased_at c.args.terms.now c.args.asked.now.rigid_alias)) c.in-Some.ensures)
     (c.source_entries.ensures.entries env)
+
+pub returns-in_default-clause-named : goal.returns-in_default-clause-named
+returns-in_default-clause-named c row = c.undecided.ensures.named c.args.setting.rows.now

@@ -35,3 +35,6 @@ returns-else-is_default-clause-entries c env =
     (λ es made. made ∙ ap (λ b. if b then default_entries c.args.setting.mode.now found itself else found) (sym c.if-is_default.false)
     ∙ ap (source_entries S c.args.row.now p itself) (sym c.in-Def.is))
     (c.definition_entries.ensures.entries env)
+
+pub returns-in_ok-error-in-Broken-clause-named : goal.returns-in_ok-error-in-Broken-clause-named
+returns-in_ok-error-in-Broken-clause-named c row = c.standing.ensures.named c.args.setting.rows.now

@@ -1,10 +1,11 @@
-use Rattle.std.proofs.Common.{ap, ◌∙◌}
+use Rattle.std.proofs.Common.{sym, ap, ◌∙◌}
 use Rattle.std.proofs.lemmas.Result.{IfOk-weaker}
 use Rattle.goal_kinds.specs.Entries.{arguments, followed_by}
 use Rattle.goal_kinds.specs.InternedEntries.{setting_at, projection_at}
 use Rattle.goal_kinds.specs.ProjectionLists.{definition_value, taken_entries}
 use Rattle.goal_kinds.proofs.ListPartLemmas.{one-in, two-at, two-in}
 use Rattle.goal_kinds.proofs.ProjectionListLemmas.{behind-erased, behind_in, from-own, from-another}
+use Rattle.goal_kinds.proofs.NamedRowLemmas.{found-again, two-named}
 use Rattle.goal_kinds.proofs.lists.projections.taken_entries.Goals as goal
 
 pub returns-then-other-row-clause-within : goal.returns-then-other-row-clause-within
@@ -46,3 +47,16 @@ returns-in-Some-clause-entries c T env =
     (from-another (setting_at c.args.setting env) c.args.row.now c.args.definition.now.container c.in-Impl.other _ c.in-Impl.is c.if-other-row.false
     c.in-Some.ensures))
     (c.other_impl_entries.ensures.entries T)
+
+pub returns-then-other-row-clause-named : goal.returns-then-other-row-clause-named
+returns-then-other-row-clause-named c row definition =
+    two-named c.args.setting.rows.now _ _ _ c.in_ok-vec-in-Impl.ensures.items (c.in_ok-followed-in-Impl.ensures.named c.args.setting.rows.now)
+    (c.definition_value-then-other-row.ensures.named c.args.setting.rows.now definition)
+
+pub returns-in_default-clause-named : goal.returns-in_default-clause-named
+returns-in_default-clause-named c row definition = c.undecided.ensures.named c.args.setting.rows.now
+
+pub returns-in-Some-clause-named : goal.returns-in-Some-clause-named
+returns-in-Some-clause-named c row definition =
+    c.other_impl_entries.ensures.named c.args.setting.rows.now row
+    (found-again (λ r. r.id.0) c.args.setting.rows.now.impls.items c.in-Impl.other.0 c.in-Some.found.now (sym c.in-Some.ensures)) definition

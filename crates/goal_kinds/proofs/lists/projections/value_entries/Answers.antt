@@ -20,3 +20,6 @@ returns-in-Evaluated-clause-entries c env =
     ∙ evaluated-taken (setting_at c.args.setting env) c.args.row.now (projection_at c.args.terms.now c.args.asked.now)
     (erased_at c.args.terms.now c.args.asked.now.rigid_alias) c.args.definition.now c.args.definition.now.value c.in-Evaluated.is)
     (c.taken_entries-in-Evaluated.ensures.entries c.args.terms.now env)
+
+pub returns-in-Missing-clause-named : goal.returns-in-Missing-clause-named
+returns-in-Missing-clause-named c row definition = c.missing_entries.ensures.named c.args.setting.rows.now

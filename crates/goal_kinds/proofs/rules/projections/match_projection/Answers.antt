@@ -1,35 +1,36 @@
-use Rattle.std.proofs.Common.{sym, ◌∙◌, ◌≡◌}
-use Rattle.goal_kinds.specs.Levels.{level}
-use Rattle.goal_kinds.specs.RuleWords.{projection_in}
-use Rattle.goal_kinds.proofs.ProjectionRuleLemmas.{trait_clause-rule, host_clause-rule, projection_clause-rule, refused-given}
-use Rattle.goal_terms.specs.TreeOf.{tree_of_term}
-use Rattle.goal_kinds.proofs.ExpectedLemmas.{refused-for}
+use Rattle.std.proofs.Common.{[], ◌≡◌, ap, sym, subst, None}
+use Rattle.std.specs.Prelude.{IfOk, IfErr}
+use Rattle.goal_kinds.specs.CandidateRules.{IsRefusal}
+use Rattle.goal_kinds.specs.Candidates.{assumption}
+use Rattle.goal_kinds.specs.InternedEntries.{setting_at}
+use Rattle.goal_kinds.specs.NamedRows.{CandidateIsSorted}
+use Rattle.goal_kinds.specs.ProjectionKind.{asked_projection_list}
+use Rattle.goal_kinds.specs.RuleLists.{IsListed, list_then}
+use Rattle.goal_kinds.proofs.ProjectionFaceLemmas.{projection_said-given, projection_said-accepted}
+use Rattle.goal_kinds.proofs.SortedProjections.{said-sorted}
 use Rattle.goal_kinds.proofs.rules.projections.match_projection.Goals as goal
 
-pub returns-in_ok-refused-in-Trait-clause-says : goal.returns-in_ok-refused-in-Trait-clause-says
-returns-in_ok-refused-in-Trait-clause-says c S n here =
-    trait_clause-rule S (level S n) _ (projection_in S.tables c.args.asked.now) c.args.then c.args.assumption.now.kind _ c.in-Trait.is c.in_ok-refused-in-Trait.ensures.entries
+pub candidate_rule-requires-clause-sorted : goal.candidate_rule-requires-clause-sorted
+candidate_rule-requires-clause-sorted c = subst CandidateIsSorted (ap assumption (sym c.in_ok-predicate.ensures.tree)) (said-sorted c.args.assumption.now.kind)
 
-pub returns-in_ok-refused-in-Trait-clause-given : goal.returns-in_ok-refused-in-Trait-clause-given
-returns-in_ok-refused-in-Trait-clause-given c = refused-given c.in_ok-refused-in-Trait.field-0 c.in_ok-refused-in-Trait.ensures.entries
+pub returns-clause-listed : goal.returns-clause-listed
+returns-clause-listed c env =
+    subst (λ k. IfOk c.candidate_rule.result (λ r. IsListed c.args.setting.rows.now r (list_then c.args.then (asked_projection_list c.args.asked.now.alias (setting_at c.args.setting env) k))))
+    (ap assumption c.in_ok-predicate.ensures.tree) (c.candidate_rule.ensures.listed env)
 
-pub returns-in_ok-match_equation-in-Projection-clause-says : goal.returns-in_ok-match_equation-in-Projection-clause-says
-returns-in_ok-match_equation-in-Projection-clause-says c S n here =
-    projection_clause-rule S (level S n) _ (projection_in S.tables c.args.asked.now) c.args.then c.args.assumption.now.kind _ c.in-Projection.is
-    (c.in_ok-match_equation-in-Projection.ensures.says S n (here ∙ sym c.rows.ensures.rows))
+pub returns-clause-refused : goal.returns-clause-refused
+returns-clause-refused c env =
+    subst (λ k. IfErr c.candidate_rule.result (IsRefusal (asked_projection_list c.args.asked.now.alias (setting_at c.args.setting env) k ≡ None)))
+    (ap assumption c.in_ok-predicate.ensures.tree) (c.candidate_rule.ensures.refused env)
 
-pub returns-in_ok-refused-in-HostEffect-clause-says : goal.returns-in_ok-refused-in-HostEffect-clause-says
-returns-in_ok-refused-in-HostEffect-clause-says c S n here =
-    host_clause-rule S (level S n) _ (projection_in S.tables c.args.asked.now) c.args.then c.args.assumption.now.kind _ c.in-HostEffect.is
-    c.in_ok-refused-in-HostEffect.ensures.entries
+pub returns-clause-given : goal.returns-clause-given
+returns-clause-given c =
+    projection_said-given c.args.setting.rows.now (setting_at c.args.setting []) c.args.asked.now.alias c.args.assumption.now.kind c.args.then c.candidate_rule.result
+    (subst (λ k. IfOk c.candidate_rule.result (λ r. IsListed c.args.setting.rows.now r (list_then c.args.then (asked_projection_list c.args.asked.now.alias (setting_at c.args.setting []) k))))
+    (ap assumption c.in_ok-predicate.ensures.tree) (c.candidate_rule.ensures.listed []))
 
-pub returns-in_ok-refused-in-HostEffect-clause-given : goal.returns-in_ok-refused-in-HostEffect-clause-given
-returns-in_ok-refused-in-HostEffect-clause-given c = refused-given c.in_ok-refused-in-HostEffect.field-0 c.in_ok-refused-in-HostEffect.ensures.entries
-
-pub returns-in_ok-refused-in-Trait-clause-expected : goal.returns-in_ok-refused-in-Trait-clause-expected
-returns-in_ok-refused-in-Trait-clause-expected c =
-    refused-for (λ t. t ≡ tree_of_term c.args.expected.now) _ c.in_ok-refused-in-Trait.ensures.entries
-
-pub returns-in_ok-refused-in-HostEffect-clause-expected : goal.returns-in_ok-refused-in-HostEffect-clause-expected
-returns-in_ok-refused-in-HostEffect-clause-expected c =
-    refused-for (λ t. t ≡ tree_of_term c.args.expected.now) _ c.in_ok-refused-in-HostEffect.ensures.entries
+pub returns-clause-accepted : goal.returns-clause-accepted
+returns-clause-accepted c e =
+    projection_said-accepted (setting_at c.args.setting []) c.args.asked.now.alias c.args.assumption.now.kind c.candidate_rule.result e
+    (subst (λ k. IfErr c.candidate_rule.result (IsRefusal (asked_projection_list c.args.asked.now.alias (setting_at c.args.setting []) k ≡ None)))
+    (ap assumption c.in_ok-predicate.ensures.tree) (c.candidate_rule.ensures.refused []))

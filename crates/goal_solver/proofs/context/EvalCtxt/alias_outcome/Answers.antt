@@ -1,11 +1,43 @@
-use Rattle.goal_solver.proofs.AccessLemmas.{recorded-concluded, recorded-rerun}
+use Rattle.goal_solver.proofs.EvaluationLemmas.{term-interned, run-interned, interned-unchanged, interned-caused, interned-ends, interned-stops}
+use Rattle.goal_solver.proofs.GoalOutcomeLemmas.{grown-goes_back, grown-then_back}
+use Rattle.goal_terms.proofs.InternLemmas.{keeps-chain}
+use Rattle.goal_solver.proofs.AccessLemmas.{none-recorded}
+use Rattle.goal_solver.specs.State.{State}
+use Rattle.std.proofs.Common.{ap, ◌∙◌, inl, inr, ⊎_elim}
+use Rattle.goal_kinds.specs.Interned.{erased_all}
+use Rattle.goal_solver.specs.Answers.{erased_args}
 use Rattle.goal_solver.proofs.context.EvalCtxt.alias_outcome.Goals as goal
 
-pub returns-in_err-found-clause-caused : goal.returns-in_err-found-clause-caused
-returns-in_err-found-clause-caused c =
-    recorded-concluded c.args.self.now c.alias_run-first.new.self c.first_answer.new.self c.alias_run-first.result c.alias_run-first.ensures.goes_back c.alias_run-first.ensures.caused c.alias_run-first.ensures.ends c.first_answer.ensures.caused
+pub returns-in_err-args-clause-goes_back : goal.returns-in_err-args-clause-goes_back
+returns-in_err-args-clause-goes_back c = grown-goes_back c.args.self.now c.interned_args.new.self c.interned_args.ensures.unchanged c.interned_args.ensures.kept
+
+pub returns-in_err-args-clause-caused : goal.returns-in_err-args-clause-caused
+returns-in_err-args-clause-caused c = none-recorded c.args.self.now c.interned_args.new.self (ap (λ (s : State). s.accesses) c.interned_args.ensures.unchanged)
+
+pub returns-clause-kept : goal.returns-clause-kept
+returns-clause-kept c = keeps-chain c.args.self.now.terms c.interned_args.new.self.terms c.evaluate_alias.new.self.terms c.interned_args.ensures.kept c.evaluate_alias.ensures.kept
+
+pub returns-clause-unchanged : goal.returns-clause-unchanged
+returns-clause-unchanged c = interned-unchanged c.args.self.now c.interned_args.new.self c.evaluate_alias.new.self c.interned_args.ensures.unchanged c.evaluate_alias.ensures.unchanged
+
+pub returns-clause-goes_back : goal.returns-clause-goes_back
+returns-clause-goes_back c = grown-then_back c.args.self.now c.interned_args.new.self c.evaluate_alias.new.self c.interned_args.ensures.unchanged c.interned_args.ensures.kept c.evaluate_alias.ensures.goes_back
 
 pub returns-clause-caused : goal.returns-clause-caused
-returns-clause-caused c =
-    recorded-rerun c.args.self.now c.alias_run-first.new.self c.first_answer.new.self c.alias_recorded-2.new.self c.alias_run-first.result c.alias_run-first.ensures.goes_back c.first_answer.ensures.goes_back c.alias_run-first.ensures.caused
-    c.alias_run-first.ensures.ends c.first_answer.ensures.caused c.alias_recorded-2.ensures.caused
+returns-clause-caused c = interned-caused c.args.self.now c.interned_args.new.self c.evaluate_alias.new.self c.interned_args.ensures.unchanged c.evaluate_alias.ensures.caused
+
+pub returns-clause-ends : goal.returns-clause-ends
+returns-clause-ends c = interned-ends c.args.self.now c.interned_args.new.self c.evaluate_alias.result c.interned_args.ensures.unchanged c.interned_args.ensures.kept c.evaluate_alias.ensures.ends
+
+pub returns-clause-stops : goal.returns-clause-stops
+returns-clause-stops c = interned-stops c.args.self.now c.interned_args.new.self c.evaluate_alias.result c.interned_args.ensures.unchanged c.evaluate_alias.ensures.stops
+
+pub returns-clause-says : goal.returns-clause-says
+returns-clause-says c =
+    term-interned c.args.self.now c.interned_args.new.self c.evaluate_alias.new.self c.args.environment.now c.args.alias.now.kind _ _ c.evaluate_alias.result c.interned_args.ensures.unchanged (ap (erased_all c.interned_args.new.self.terms) c.deref-2.ensures.value ∙ c.in_ok-args.ensures.trees ∙ ap erased_args c.deref.ensures.value) c.evaluate_alias.ensures.says
+
+pub returns-clause-fits : goal.returns-clause-fits
+returns-clause-fits c =
+    ⊎_elim (λ h. inl h)
+    (λ h. inr (run-interned c.args.self.now c.interned_args.new.self c.evaluate_alias.new.self c.args.environment.now c.args.alias.now.kind _ _ c.evaluate_alias.result c.interned_args.ensures.unchanged (ap (erased_all c.interned_args.new.self.terms) c.deref-2.ensures.value ∙ c.in_ok-args.ensures.trees ∙ ap erased_args c.deref.ensures.value) h))
+    c.evaluate_alias.ensures.fits

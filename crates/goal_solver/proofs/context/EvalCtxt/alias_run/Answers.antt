@@ -1,11 +1,15 @@
-use Rattle.goal_terms.proofs.InternLemmas.{keeps-chain}
+use Rattle.goal_solver.proofs.FaultLemmas.{run-faults}
 use Rattle.std.proofs.Common.{refl}
 use Rattle.goal_solver.proofs.BindingLemmas.{goes_back-interned}
-use Rattle.goal_solver.proofs.GoingBackLemmas.{goes_back-through, solved-grown, solved-grown_twice}
+use Rattle.goal_solver.proofs.GoingBackLemmas.{goes_back-through, solved-grown}
 use Rattle.goal_solver.proofs.CacheLemmas.{sound-new, sound-parts}
 use Rattle.std.proofs.Common.{◌∙◌, ap}
 use Rattle.goal_solver.specs.State.{State}
-use Rattle.goal_solver.proofs.AccessLemmas.{none-recorded, run-recorded, ends-here}
+use Rattle.goal_solver.proofs.AccessLemmas.{run-recorded, ends-here}
+use Rattle.goal_kinds.specs.Interned.{erased_all}
+use Rattle.goal_kinds.specs.Levels.{level}
+use Rattle.goal_solver.specs.Evaluations.{SaysTermAt}
+use Rattle.goal_solver.proofs.EvaluationLemmas.{run-says}
 use Rattle.goal_solver.proofs.context.EvalCtxt.alias_run.Goals as goal
 
 pub invariant_of-self : goal.invariant_of-self
@@ -15,23 +19,9 @@ invariant_of-self c = (
   c.self.invariant.2,
   c.self.invariant.3,
   c.self.invariant.4,
-  solved-grown c.self.inside.terms c.intern_args.new.terms c.self.inside.inference c.intern_args.ensures.kept c.self.invariant.5,
+  solved-grown c.self.inside.terms c.alias_term-found.new.terms c.self.inside.inference c.alias_term-found.ensures.kept c.self.invariant.5,
   c.self.invariant.6,
 )
-
-pub invariant_of-self-2 : goal.invariant_of-self-2
-invariant_of-self-2 c = (
-  c.self.invariant.0,
-  c.self.invariant.1,
-  c.self.invariant.2,
-  c.self.invariant.3,
-  c.self.invariant.4,
-  solved-grown_twice c.self.inside.terms c.intern_args.new.terms c.alias_term-found.new.terms c.self.inside.inference c.intern_args.ensures.kept c.alias_term-found.ensures.kept c.self.invariant.5,
-  c.self.invariant.6,
-)
-
-pub returns-in_err-ids-clause-goes_back : goal.returns-in_err-ids-clause-goes_back
-returns-in_err-ids-clause-goes_back c = goes_back-interned _ c.args.self.now _ c.intern_args.new.terms c.self.view_is refl c.intern_args.ensures.kept
 
 pub alias_term-found-requires-clause-effects : goal.alias_term-found-requires-clause-effects
 alias_term-found-requires-clause-effects c = sound-new _ _ _ c.new-effects.ensures
@@ -39,12 +29,8 @@ alias_term-found-requires-clause-effects c = sound-new _ _ _ c.new-effects.ensur
 pub returns-clause-goes_back : goal.returns-clause-goes_back
 returns-clause-goes_back c =
     goes_back-through c.args.self.now _ c.record_effects.new.self
-    (goes_back-interned _ c.args.self.now _ c.alias_term-found.new.terms c.self.view_is refl
-    (keeps-chain c.self.inside.terms c.intern_args.new.terms c.alias_term-found.new.terms c.intern_args.ensures.kept c.alias_term-found.ensures.kept))
+    (goes_back-interned _ c.args.self.now _ c.alias_term-found.new.terms c.self.view_is refl c.alias_term-found.ensures.kept)
     c.record_effects.ensures.goes_back
-
-pub returns-in_err-ids-clause-caused : goal.returns-in_err-ids-clause-caused
-returns-in_err-ids-clause-caused c = none-recorded c.args.self.now _ (ap (λ (s : State). s.accesses) c.self.view_is)
 
 pub returns-in_err-record_effects-clause-caused : goal.returns-in_err-record_effects-clause-caused
 returns-in_err-record_effects-clause-caused c =
@@ -58,3 +44,16 @@ pub returns-clause-ends : goal.returns-clause-ends
 returns-clause-ends c =
     ends-here _ c.args.self.now.tables _ c.args.self.now.typing_mode c.alias_term-found.result (c.rows.ensures.rows ∙ ap (λ (s : State). s.tables) c.self.view_is) (ap (λ (s : State). s.typing_mode) c.self.view_is)
     c.alias_term-found.ensures.stops
+
+pub returns-in_err-record_effects-clause-faults : goal.returns-in_err-record_effects-clause-faults
+returns-in_err-record_effects-clause-faults c = run-faults _ _ c.args.self.now c.record_effects.new.self _ _ c.alias_term-found.new.effects.delayed_faults.items c.self.view_is refl refl c.rows.ensures.rows (sound-parts _ _ _ c.alias_term-found.ensures.effects).faults c.record_effects.ensures.faults
+
+pub returns-clause-faults : goal.returns-clause-faults
+returns-clause-faults c = run-faults _ _ c.args.self.now c.record_effects.new.self _ _ c.alias_term-found.new.effects.delayed_faults.items c.self.view_is refl refl c.rows.ensures.rows (sound-parts _ _ _ c.alias_term-found.ensures.effects).faults c.record_effects.ensures.faults
+
+pub returns-clause-says : goal.returns-clause-says
+returns-clause-says c =
+    run-says (λ S n T U. SaysTermAt (level S n) c.args.kind (erased_all T c.args.args.now) U c.alias_term-found.result)
+    _ _ _ _ _ c.args.self.now c.record_effects.new.self c.args.environment.now c.args.on_access c.alias_term-found.new.terms
+    c.self.view_is c.alias_term-found.ensures.says (c.rows.ensures.rows ∙ ap (λ (s : State). s.tables) c.self.view_is) (ap (λ (s : State). s.typing_mode) c.self.view_is) refl refl
+    (ap (λ (s : State). s.terms) c.record_effects.ensures.unchanged)

@@ -2,7 +2,7 @@ use Rattle.goal_solver.specs.RunRules.{IsRecordedAnswer}
 use Rattle.goal_solver.proofs.ClosingLemmas.{closing-answers, closing-recorded}
 use Rattle.goal_solver.proofs.GoingBackLemmas.{goes_back-through}
 use Rattle.goal_solver.proofs.MergingLemmas.{ok-map}
-use Rattle.goal_solver.proofs.RecordedLemmas.{listed-kept}
+use Rattle.goal_solver.proofs.RecordedLemmas.{listed-caused}
 use Rattle.std.proofs.Common.{inl}
 use Rattle.goal_solver.proofs.RefusalLemmas.{refused-on, refused-map, stops-last}
 use Rattle.goal_solver.proofs.context.EvalCtxt.answer_open.Goals as goal
@@ -22,8 +22,8 @@ returns-clause-recorded c =
 
 pub returns-clause-listed : goal.returns-clause-listed
 returns-clause-listed c =
-    listed-kept c.args.self.now c.run_through.new.self c.evaluate_added_goals_and_make_canonical_response.new.self c.args.entries.now
-    c.evaluate_added_goals_and_make_canonical_response.ensures.faults c.run_through.ensures.listed
+    listed-caused c.args.self.now c.run_through.new.self c.evaluate_added_goals_and_make_canonical_response.new.self c.args.entries.now
+    c.run_through.ensures.goes_back c.evaluate_added_goals_and_make_canonical_response.ensures.goes_back.tables c.evaluate_added_goals_and_make_canonical_response.ensures.faults c.run_through.ensures.listed
 
 pub returns-clause-goes_back : goal.returns-clause-goes_back
 returns-clause-goes_back c =

@@ -1,3 +1,11 @@
+use Rattle.std.proofs.Common.{refl, ap, ◌∙◌}
+use Rattle.std.specs.Prelude.{IfOk}
+use Rattle.goal_kinds.specs.Levels.{level}
+use Rattle.goal_solver.specs.Answers.{erased_args}
+use Rattle.goal_solver.specs.Assembled.{level_through}
+use Rattle.goal_solver.specs.Outcomes.{SaysWhich}
+use Rattle.goal_solver.specs.State.{State}
+use Rattle.goal_solver.proofs.EvaluationLemmas.{run-says}
 use Rattle.goal_solver.proofs.GoingBackLemmas.{solved-grown}
 use Rattle.goal_solver.proofs.CacheLemmas.{sound-new}
 use Rattle.goal_solver.proofs.context.EvalCtxt.class_run.Goals as goal
@@ -15,3 +23,10 @@ invariant_of-self c = (
 
 pub alias_proven_via-found-requires : goal.alias_proven_via-found-requires
 alias_proven_via-found-requires c = record { effects = sound-new _ _ _ c.new-effects.ensures }
+
+pub returns-clause-says : goal.returns-clause-says
+returns-clause-says c =
+    run-says (λ S n T U. IfOk c.alias_proven_via-found.result (SaysWhich ((level_through S (level S n) c.args.class).gives c.args.alias.now.kind (erased_args c.args.alias.now.args.items)) ((level_through S (level S n) c.args.class).gives_refuted c.args.alias.now.kind (erased_args c.args.alias.now.args.items)) U))
+    _ _ _ _ _ c.args.self.now c.record_effects.new.self c.args.environment.now c.args.on_access c.alias_proven_via-found.new.terms
+    c.self.view_is c.alias_proven_via-found.ensures.says (c.rows.ensures.rows ∙ ap (λ (s : State). s.tables) c.self.view_is) (ap (λ (s : State). s.typing_mode) c.self.view_is) refl refl
+    (ap (λ (s : State). s.terms) c.record_effects.ensures.unchanged)

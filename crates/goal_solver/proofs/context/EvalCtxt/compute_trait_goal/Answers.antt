@@ -16,3 +16,6 @@ returns-clause-agrees c = no-two-disagree c.args.self.now.tables c.args.goal.now
 
 pub returns-clause-caused : goal.returns-clause-caused
 returns-clause-caused c = λ closed. c.trait_goal_response.ensures.caused closed
+
+pub returns-clause-faults : goal.returns-clause-faults
+returns-clause-faults c = λ closed. c.trait_goal_response.ensures.faults closed

@@ -4,7 +4,7 @@ use Rattle.goal_terms.specs.Tree.{Tree}
 use Rattle.goal_terms.specs.TreeOf.{tree_of_term}
 use Rattle.goal_solver.specs.Equating.{IsEquated}
 use Rattle.goal_solver.proofs.BindingLemmas.{goes_back-interned}
-use Rattle.goal_solver.proofs.EquatedLemmas.{agreed-interned, equated-interned, alone-interned, unchanged-interned, back-interned, fault-interned}
+use Rattle.goal_solver.proofs.EquatedLemmas.{agreed-interned, equated-unanswered, equated-interned, alone-interned, unchanged-interned, back-interned, fault-interned, faults-interned}
 use Rattle.goal_solver.proofs.GoingBackLemmas.{solved-grown}
 use Rattle.goal_solver.proofs.context.EvalCtxt.eq.Goals as goal
 
@@ -19,8 +19,9 @@ invariant_of-self c = (
   c.self.invariant.6,
 )
 
-pub returns-in_default-clause-agreed : goal.returns-in_default-clause-agreed
-returns-in_default-clause-agreed c = agreed-interned _ c.args.self.now c.intern_pair.new.terms c.self.view_is c.intern_pair.ensures.kept c.self.invariant.5
+pub returns-in_default-clause-equated : goal.returns-in_default-clause-equated
+returns-in_default-clause-equated c =
+    equated-unanswered c.args.self.now _ c.args.environment.now _ _ (agreed-interned _ c.args.self.now c.intern_pair.new.terms c.self.view_is c.intern_pair.ensures.kept c.self.invariant.5)
 
 pub returns-in_default-clause-goes_back : goal.returns-in_default-clause-goes_back
 returns-in_default-clause-goes_back c = goes_back-interned _ c.args.self.now _ c.intern_pair.new.terms c.self.view_is refl c.intern_pair.ensures.kept
@@ -44,18 +45,10 @@ returns c =
     equated-interned _ c.args.self.now c.equate.new.self c.intern_pair.new.terms c.args.environment.now _ _ (tree_of_term c.args.left.now ∷ []) (tree_of_term c.args.right.now ∷ []) c.equate.result
     c.self.view_is c.intern_pair.ensures.kept c.self.invariant.5 (ap (λ (t : Tree). t ∷ []) first) (ap (λ (t : Tree). t ∷ []) second) c.equate.ensures.equated in
     record {
-      sound = all.sound;
-      decided = all.decided;
-      equal = all.equal;
-      never = all.never;
-      agreed = all.agreed;
-      most_general = all.most_general;
-      identified = all.identified;
-      plain = all.plain;
-      regions = all.regions;
-      same = all.same;
+      equated = all;
       alone = alone-interned _ c.args.self.now c.equate.new.self c.intern_pair.new.terms c.self.view_is c.equate.ensures.alone;
       unchanged = unchanged-interned _ c.args.self.now c.equate.new.self c.intern_pair.new.terms c.equate.result c.self.view_is c.equate.ensures.unchanged;
+      faults = faults-interned _ c.args.self.now c.equate.new.self c.intern_pair.new.terms c.self.view_is c.equate.ensures.faults;
       goes_back = back-interned _ c.args.self.now c.equate.new.self c.intern_pair.new.terms c.self.view_is c.intern_pair.ensures.kept c.equate.ensures.goes_back;
       fault = fault-interned _ c.args.self.now c.equate.new.self c.intern_pair.new.terms c.equate.result c.self.view_is c.equate.ensures.fault;
     }

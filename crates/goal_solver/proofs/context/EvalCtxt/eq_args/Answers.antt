@@ -1,11 +1,11 @@
 use Rattle.std.proofs.Common.{◌≡◌, map, refl, ap, ◌∙◌}
 use Rattle.goal_terms.specs.TableMeaning.{tree_at, Keeps}
-use Rattle.goal_terms.specs.TreeOf.{tree_of_arg}
+use Rattle.goal_terms.specs.TreeOf.{trees_of}
 use Rattle.goal_terms.proofs.InternLemmas.{keeps-chain}
 use Rattle.goal_kinds.proofs.UnderLemmas.{are_in-below}
 use Rattle.goal_solver.specs.Equating.{IsEquated}
 use Rattle.goal_solver.proofs.BindingLemmas.{goes_back-interned}
-use Rattle.goal_solver.proofs.EquatedLemmas.{trees-kept, agreed-interned, equated-interned, alone-interned, unchanged-interned, back-interned, fault-interned}
+use Rattle.goal_solver.proofs.EquatedLemmas.{trees-kept, agreed-interned, equated-unanswered, equated-interned, alone-interned, unchanged-interned, back-interned, fault-interned, faults-interned}
 use Rattle.goal_solver.proofs.GoingBackLemmas.{solved-grown, solved-grown_twice}
 use Rattle.goal_solver.proofs.context.EvalCtxt.eq_args.Goals as goal
 
@@ -20,8 +20,9 @@ invariant_of-self c = (
   c.self.invariant.6,
 )
 
-pub returns-in_default-clause-agreed : goal.returns-in_default-clause-agreed
-returns-in_default-clause-agreed c = agreed-interned _ c.args.self.now c.intern_args.new.terms c.self.view_is c.intern_args.ensures.kept c.self.invariant.5
+pub returns-in_default-clause-equated : goal.returns-in_default-clause-equated
+returns-in_default-clause-equated c =
+    equated-unanswered c.args.self.now _ c.args.environment.now _ _ (agreed-interned _ c.args.self.now c.intern_args.new.terms c.self.view_is c.intern_args.ensures.kept c.self.invariant.5)
 
 pub returns-in_default-clause-goes_back : goal.returns-in_default-clause-goes_back
 returns-in_default-clause-goes_back c = goes_back-interned _ c.args.self.now _ c.intern_args.new.terms c.self.view_is refl c.intern_args.ensures.kept
@@ -37,8 +38,9 @@ invariant_of-self-in_default-intern_args c = (
   c.self.invariant.6,
 )
 
-pub returns-in_default-intern_args-clause-agreed : goal.returns-in_default-intern_args-clause-agreed
-returns-in_default-intern_args-clause-agreed c = agreed-interned _ c.args.self.now c.intern_args-2.new.terms c.self.view_is (keeps-chain c.self.inside.terms c.intern_args.new.terms c.intern_args-2.new.terms c.intern_args.ensures.kept c.intern_args-2.ensures.kept) c.self.invariant.5
+pub returns-in_default-intern_args-clause-equated : goal.returns-in_default-intern_args-clause-equated
+returns-in_default-intern_args-clause-equated c =
+    equated-unanswered c.args.self.now _ c.args.environment.now _ _ (agreed-interned _ c.args.self.now c.intern_args-2.new.terms c.self.view_is (keeps-chain c.self.inside.terms c.intern_args.new.terms c.intern_args-2.new.terms c.intern_args.ensures.kept c.intern_args-2.ensures.kept) c.self.invariant.5)
 
 pub returns-in_default-intern_args-clause-goes_back : goal.returns-in_default-intern_args-clause-goes_back
 returns-in_default-intern_args-clause-goes_back c = goes_back-interned _ c.args.self.now _ c.intern_args-2.new.terms c.self.view_is refl (keeps-chain c.self.inside.terms c.intern_args.new.terms c.intern_args-2.new.terms c.intern_args.ensures.kept c.intern_args-2.ensures.kept)
@@ -57,28 +59,20 @@ invariant_of-self-2 c = (
 pub returns : goal.returns
 returns c =
     let kept : Keeps c.self.inside.terms c.intern_args-2.new.terms = keeps-chain c.self.inside.terms c.intern_args.new.terms c.intern_args-2.new.terms c.intern_args.ensures.kept c.intern_args-2.ensures.kept in
-    let first : map (tree_at c.intern_args-2.new.terms) c.deref.result.now ≡ map tree_of_arg c.args.left.now =
+    let first : map (tree_at c.intern_args-2.new.terms) c.deref.result.now ≡ trees_of c.args.left.now =
     ap (map (tree_at c.intern_args-2.new.terms)) c.deref.ensures.value
     ∙ trees-kept c.intern_args.new.terms c.intern_args-2.new.terms c.intern_args-2.ensures.kept c.in-Ok.first.items (are_in-below c.intern_args.new.terms c.in-Ok.first.items c.in-Ok.ensures.within)
     ∙ c.in-Ok.ensures.exact in
-    let second : map (tree_at c.intern_args-2.new.terms) c.deref-2.result.now ≡ map tree_of_arg c.args.right.now =
+    let second : map (tree_at c.intern_args-2.new.terms) c.deref-2.result.now ≡ trees_of c.args.right.now =
     ap (map (tree_at c.intern_args-2.new.terms)) c.deref-2.ensures.value ∙ c.in-Ok-intern_args.ensures.exact in
-    let all : IsEquated c.args.self.now c.equate.new.self c.args.environment.now (map tree_of_arg c.args.left.now) (map tree_of_arg c.args.right.now) c.equate.result =
-    equated-interned _ c.args.self.now c.equate.new.self c.intern_args-2.new.terms c.args.environment.now _ _ (map tree_of_arg c.args.left.now) (map tree_of_arg c.args.right.now) c.equate.result
+    let all : IsEquated c.args.self.now c.equate.new.self c.args.environment.now (trees_of c.args.left.now) (trees_of c.args.right.now) c.equate.result =
+    equated-interned _ c.args.self.now c.equate.new.self c.intern_args-2.new.terms c.args.environment.now _ _ (trees_of c.args.left.now) (trees_of c.args.right.now) c.equate.result
     c.self.view_is kept c.self.invariant.5 first second c.equate.ensures.equated in
     record {
-      sound = all.sound;
-      decided = all.decided;
-      equal = all.equal;
-      never = all.never;
-      agreed = all.agreed;
-      most_general = all.most_general;
-      identified = all.identified;
-      plain = all.plain;
-      regions = all.regions;
-      same = all.same;
+      equated = all;
       alone = alone-interned _ c.args.self.now c.equate.new.self c.intern_args-2.new.terms c.self.view_is c.equate.ensures.alone;
       unchanged = unchanged-interned _ c.args.self.now c.equate.new.self c.intern_args-2.new.terms c.equate.result c.self.view_is c.equate.ensures.unchanged;
+      faults = faults-interned _ c.args.self.now c.equate.new.self c.intern_args-2.new.terms c.self.view_is c.equate.ensures.faults;
       goes_back = back-interned _ c.args.self.now c.equate.new.self c.intern_args-2.new.terms c.self.view_is kept c.equate.ensures.goes_back;
       fault = fault-interned _ c.args.self.now c.equate.new.self c.intern_args-2.new.terms c.equate.result c.self.view_is c.equate.ensures.fault;
     }

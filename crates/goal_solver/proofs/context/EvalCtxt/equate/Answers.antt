@@ -3,9 +3,9 @@ use Rattle.std.specs.Result.{OnOk, is_err}
 use Rattle.goal_terms.specs.TableMeaning.{tree_at}
 use Rattle.goal_solver.specs.Equating.{IsEquated}
 use Rattle.goal_solver.specs.GoingBack.{GoesBack}
-use Rattle.goal_solver.proofs.EquatedLemmas.{equated-undone, refuted-undone, memory-undone, alone-undone, unchanged-undone, related-equated}
+use Rattle.goal_solver.proofs.EquatedLemmas.{equated-undone, refuted-undone, memory-undone, alone-undone, alone-through, unchanged-undone, related-equated}
 use Rattle.goal_solver.proofs.GoingBackLemmas.{goes_back-restored, goes_back-through}
-use Rattle.goal_solver.proofs.LifetimeLemmas.{changes-through}
+use Rattle.goal_solver.proofs.FaultLemmas.{accesses-faults, inferred-faults, undone-faults}
 use Rattle.goal_solver.proofs.context.EvalCtxt.equate.Goals as goal
 
 pub returns-in-Err-clause-equated : goal.returns-in-Err-clause-equated
@@ -46,8 +46,14 @@ pub returns-then-is_err-clause-alone : goal.returns-then-is_err-clause-alone
 returns-then-is_err-clause-alone c =
     let back : GoesBack c.args.self.now c.equate_lifetimes.new.self = goes_back-through c.args.self.now c.relate_all.new.self c.equate_lifetimes.new.self c.in-Ok.ensures.goes_back c.equate_lifetimes.ensures.goes_back in
     alone-undone c.args.self.now c.equate_lifetimes.new.self c.rollback-then-is_err.new.self c.rollback-then-is_err.new.self
-    (changes-through c.args.self.now c.relate_all.new.self c.equate_lifetimes.new.self c.in-Ok.ensures.alone c.equate_lifetimes.ensures.alone)
     (c.rollback-then-is_err.ensures.undone c.args.self.now c.snapshot-before.ensures back) refl
+
+pub returns-then-is_err-clause-faults : goal.returns-then-is_err-clause-faults
+returns-then-is_err-clause-faults c =
+    let back : GoesBack c.args.self.now c.equate_lifetimes.new.self = goes_back-through c.args.self.now c.relate_all.new.self c.equate_lifetimes.new.self c.in-Ok.ensures.goes_back c.equate_lifetimes.ensures.goes_back in
+    undone-faults c.args.self.now c.equate_lifetimes.new.self c.rollback-then-is_err.new.self back
+    (inferred-faults c.relate_all.new.self c.equate_lifetimes.new.self c.equate_lifetimes.ensures.alone ∙ c.in-Ok.ensures.faults)
+    (c.rollback-then-is_err.ensures.undone c.args.self.now c.snapshot-before.ensures back)
 
 pub returns-then-is_err-clause-unchanged : goal.returns-then-is_err-clause-unchanged
 returns-then-is_err-clause-unchanged c =
@@ -77,3 +83,30 @@ returns-clause-equated c =
 
 pub returns-clause-goes_back : goal.returns-clause-goes_back
 returns-clause-goes_back c = goes_back-through c.args.self.now c.relate_all.new.self c.equate_lifetimes.new.self c.in-Ok.ensures.goes_back c.equate_lifetimes.ensures.goes_back
+
+pub returns-clause-alone : goal.returns-clause-alone
+returns-clause-alone c = alone-through c.args.self.now c.relate_all.new.self c.equate_lifetimes.new.self c.in-Ok.ensures.alone c.equate_lifetimes.ensures.alone
+
+pub returns-clause-faults : goal.returns-clause-faults
+returns-clause-faults c = inferred-faults c.relate_all.new.self c.equate_lifetimes.new.self c.equate_lifetimes.ensures.alone ∙ c.in-Ok.ensures.faults
+
+pub returns-in-Err-clause-alone : goal.returns-in-Err-clause-alone
+returns-in-Err-clause-alone c =
+    alone-undone c.args.self.now c.relate_all.new.self c.rollback.new.self c.undecided_by.new.self
+    (c.rollback.ensures.undone c.args.self.now c.snapshot-before.ensures c.in-Err.ensures.goes_back) c.undecided_by.ensures.alone
+
+pub returns-in-Err-clause-faults : goal.returns-in-Err-clause-faults
+returns-in-Err-clause-faults c =
+    accesses-faults c.rollback.new.self c.undecided_by.new.self c.undecided_by.ensures.alone
+    ∙ undone-faults c.args.self.now c.relate_all.new.self c.rollback.new.self c.in-Err.ensures.goes_back c.in-Err.ensures.faults
+    (c.rollback.ensures.undone c.args.self.now c.snapshot-before.ensures c.in-Err.ensures.goes_back)
+
+pub returns-then-is_refuted-clause-faults : goal.returns-then-is_refuted-clause-faults
+returns-then-is_refuted-clause-faults c =
+    undone-faults c.args.self.now c.relate_all.new.self c.rollback-then-is_refuted.new.self c.in-Ok.ensures.goes_back c.in-Ok.ensures.faults
+    (c.rollback-then-is_refuted.ensures.undone c.args.self.now c.snapshot-before.ensures c.in-Ok.ensures.goes_back)
+
+pub returns-then-is_refuted-clause-alone : goal.returns-then-is_refuted-clause-alone
+returns-then-is_refuted-clause-alone c =
+    alone-undone c.args.self.now c.relate_all.new.self c.rollback-then-is_refuted.new.self c.rollback-then-is_refuted.new.self
+    (c.rollback-then-is_refuted.ensures.undone c.args.self.now c.snapshot-before.ensures c.in-Ok.ensures.goes_back) refl

@@ -5,16 +5,5 @@ use Rattle.goal_solver.proofs.context.EvalCtxt.equate_args.Goals as goal
 pub returns-clause-refused : goal.returns-clause-refused
 returns-clause-refused c =
     equal-refused c.args.self.now c.eq_args.new.self c.args.environment.now (trees_of c.args.left.now) (trees_of c.args.right.now) c.eq_args.result
-    (record {
-      sound = c.eq_args.ensures.sound;
-      decided = c.eq_args.ensures.decided;
-      equal = c.eq_args.ensures.equal;
-      never = c.eq_args.ensures.never;
-      agreed = c.eq_args.ensures.agreed;
-      most_general = c.eq_args.ensures.most_general;
-      identified = c.eq_args.ensures.identified;
-      plain = c.eq_args.ensures.plain;
-      regions = c.eq_args.ensures.regions;
-      same = c.eq_args.ensures.same;
-    })
+    c.eq_args.ensures.equated
     c.eq_args.ensures.unchanged c.eq_args.ensures.goes_back

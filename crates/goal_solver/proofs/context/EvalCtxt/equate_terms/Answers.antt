@@ -6,16 +6,5 @@ use Rattle.goal_solver.proofs.context.EvalCtxt.equate_terms.Goals as goal
 pub returns-clause-refused : goal.returns-clause-refused
 returns-clause-refused c =
     equal-refused c.args.self.now c.eq.new.self c.args.environment.now (tree_of_term c.args.left.now ∷ []) (tree_of_term c.args.right.now ∷ []) c.eq.result
-    (record {
-      sound = c.eq.ensures.sound;
-      decided = c.eq.ensures.decided;
-      equal = c.eq.ensures.equal;
-      never = c.eq.ensures.never;
-      agreed = c.eq.ensures.agreed;
-      most_general = c.eq.ensures.most_general;
-      identified = c.eq.ensures.identified;
-      plain = c.eq.ensures.plain;
-      regions = c.eq.ensures.regions;
-      same = c.eq.ensures.same;
-    })
+    c.eq.ensures.equated
     c.eq.ensures.unchanged c.eq.ensures.goes_back

@@ -13,7 +13,6 @@ use Rattle.goal_kinds.specs.Headers.{under}
 use Rattle.goal_kinds.specs.TraitGoals.{header_of}
 use Rattle.goal_kinds.specs.declared.faults.Fault.{Fault}
 use Rattle.goal_solver.specs.Answers.{erased_args}
-use Rattle.goal_solver.specs.Equating.{IsEquated}
 use Rattle.goal_solver.specs.Relating.{AgreesWith, Identifies, Refuses}
 use Rattle.goal_solver.specs.State.{kinds_of}
 use Rattle.goal_solver.specs.TranslatedArgs.{certainty_in}
@@ -36,29 +35,17 @@ returns-in_err-certainty-clause-never c =
     c.deref-4.ensures.value
     (ap trees_of c.deref-5.ensures.value ∙ c.in-Ok.ensures ∙ ap (λ (xs : List GenericArg). map (instance (trees_of xs)) (trees_of c.deref-2.result.now)) c.deref-3.ensures.value
     ∙ ap (λ (xs : List GenericArg). map (instance (trees_of c.in_ok-args.args.items)) (trees_of xs)) c.deref-2.ensures.value)
-    (Err c.in_err-certainty.field-0.0) c.in_err-certainty.ensures.never)
+    (Err c.in_err-certainty.field-0.0) c.in_err-certainty.ensures.equated.never)
 
 pub returns-clause-made_equal : goal.returns-clause-made_equal
 returns-clause-made_equal c =
-    let equated : IsEquated c.fresh_args_for_item.new.self c.eq_args.new.self c.args.environment.now (trees_of c.deref-4.result.now) (trees_of c.deref-5.result.now) (Ok c.in_ok-certainty.certainty) = record {
-      sound = c.in_ok-certainty.ensures.sound;
-      decided = c.in_ok-certainty.ensures.decided;
-      equal = c.in_ok-certainty.ensures.equal;
-      never = c.in_ok-certainty.ensures.never;
-      agreed = c.in_ok-certainty.ensures.agreed;
-      most_general = c.in_ok-certainty.ensures.most_general;
-      identified = c.in_ok-certainty.ensures.identified;
-      plain = c.in_ok-certainty.ensures.plain;
-      regions = c.in_ok-certainty.ensures.regions;
-      same = c.in_ok-certainty.ensures.same;
-    } in
     made-equal c.args.self.now c.fresh_args_for_item.new.self c.eq_args.new.self c.args.environment.now c.args.other.now c.args.trait_ref.now c.deref-4.result.now c.deref-5.result.now c.in_ok-args.args.items
     (c.in_ok-args.ensures.made ∙ ap (λ (ps : List ParamKind). with_variables (map kind_for ps) c.args.self.now) c.deref.ensures.value)
     (c.in_ok-args.ensures.fresh ∙ ap (λ (ps : List ParamKind). fresh_args ps (length (kinds_of c.args.self.now))) c.deref.ensures.value)
     c.deref-4.ensures.value
     (ap trees_of c.deref-5.ensures.value ∙ c.in-Ok.ensures ∙ ap (λ (xs : List GenericArg). map (instance (trees_of xs)) (trees_of c.deref-2.result.now)) c.deref-3.ensures.value
     ∙ ap (λ (xs : List GenericArg). map (instance (trees_of c.in_ok-args.args.items)) (trees_of xs)) c.deref-2.ensures.value)
-    c.in_ok-certainty.certainty c.in_ok-args.args refl equated
+    c.in_ok-certainty.certainty c.in_ok-args.args refl c.in_ok-certainty.ensures.equated
 
 pub returns-clause-equal : goal.returns-clause-equal
 returns-clause-equal c =

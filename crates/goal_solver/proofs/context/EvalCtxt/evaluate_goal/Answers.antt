@@ -1,19 +1,15 @@
 use Rattle.std.proofs.Common.{sym, ap, ◌∙◌}
 use Rattle.goal_kinds.specs.Settings.{is_headline}
-use Rattle.goal_solver.specs.Answers.{IsOwed}
 use Rattle.goal_solver.specs.State.{State}
-use Rattle.goal_solver.proofs.AddedGoalLemmas.{owed-before, owed-stands_for, goal-verdict, fault-later}
+use Rattle.goal_solver.proofs.AddedGoalLemmas.{owed-before, goal-verdict, fault-later}
 use Rattle.goal_solver.proofs.GoingBackLemmas.{goes_back-through}
 use Rattle.goal_solver.proofs.RefusalLemmas.{goal-refused}
 use Rattle.goal_solver.proofs.context.EvalCtxt.evaluate_goal.Goals as goal
 
 pub returns-clause-answer : goal.returns-clause-answer
 returns-clause-answer c = λ m owed closed.
-    let first : IsOwed c.args.self.now m =
-    owed-before c.args.self.now c.goal_outcome-outcome.new.self m c.goal_outcome-outcome.ensures.goes_back
-    (owed-before c.goal_outcome-outcome.new.self c.verdict.new.self m c.verdict.ensures.goes_back owed) in
     goal-verdict c.args.self.now m c.args.goal.now c.goal_outcome-outcome.result c.verdict.result
-    (c.goal_outcome-outcome.ensures.says m (owed-stands_for c.args.self.now m first) closed)
+    (c.goal_outcome-outcome.ensures.says m (owed-before c.goal_outcome-outcome.new.self c.verdict.new.self m c.verdict.ensures.goes_back owed) closed)
     (c.verdict.ensures.owed m owed (λ h. c.goal_outcome-outcome.ensures.stops (ap is_headline (sym c.goal_outcome-outcome.ensures.goes_back.typing_mode) ∙ h)))
 
 pub returns-clause-closed : goal.returns-clause-closed
@@ -31,10 +27,7 @@ pub returns-clause-refused : goal.returns-clause-refused
 returns-clause-refused c =
     goal-refused c.args.self.now c.goal_outcome-outcome.new.self c.verdict.new.self c.args.goal.now c.verdict.result c.goal_outcome-outcome.ensures.goes_back.typing_mode
     (λ m owed closed.
-    let first : IsOwed c.args.self.now m =
-    owed-before c.args.self.now c.goal_outcome-outcome.new.self m c.goal_outcome-outcome.ensures.goes_back
-    (owed-before c.goal_outcome-outcome.new.self c.verdict.new.self m c.verdict.ensures.goes_back owed) in
     goal-verdict c.args.self.now m c.args.goal.now c.goal_outcome-outcome.result c.verdict.result
-    (c.goal_outcome-outcome.ensures.says m (owed-stands_for c.args.self.now m first) closed)
+    (c.goal_outcome-outcome.ensures.says m (owed-before c.goal_outcome-outcome.new.self c.verdict.new.self m c.verdict.ensures.goes_back owed) closed)
     (c.verdict.ensures.owed m owed (λ h. c.goal_outcome-outcome.ensures.stops (ap is_headline (sym c.goal_outcome-outcome.ensures.goes_back.typing_mode) ∙ h))))
     c.verdict.ensures.refused

@@ -19,6 +19,7 @@ loop-i-init c = record {
   split = subst (λ (xs : List ℕ). AreSplit (length c.args.goals.now) c.args.taken.now.items (xs ++ c.args.places.now)) (sym c.new-left.ensures.items) c.requires.split;
   taken = take-length c.args.taken.now.items;
   alone = refl;
+  faults = refl;
   goes_back = goes_back-same c.args.self.now;
 }
 
@@ -73,6 +74,7 @@ loop-i-preserved c = record {
   split = next-split (length c.args.goals.now) c.loop-i.i (get_or c.args.places.now c.loop-i.i 0) c.args.places.now c.loop-i.taken.items c.loop-i.left.items c.list_place.new.taken.items c.list_place.new.left.items c.in_ok-answered.answered (omega arith) refl c.in_ok-list_place.ensures.listed c.loop-i.invariant.split;
   taken = next-begins c.args.taken.now.items c.loop-i.taken.items c.loop-i.left.items c.list_place.new.taken.items c.list_place.new.left.items (get_or c.args.places.now c.loop-i.i 0) c.in_ok-answered.answered c.in_ok-list_place.ensures.listed c.loop-i.invariant.taken;
   alone = records-through c.args.self.now c.loop-i.self c.evaluate_goal.new.self c.loop-i.invariant.alone c.evaluate_goal.ensures.alone;
+  faults = c.evaluate_goal.ensures.faults ∙ c.loop-i.invariant.faults;
   goes_back = goes_back-through c.args.self.now c.loop-i.self c.evaluate_goal.new.self c.loop-i.invariant.goes_back c.evaluate_goal.ensures.goes_back;
 }
 

@@ -1,5 +1,6 @@
 use Rattle.std.proofs.Common.{◌≡◌, ◌++◌, length, drop}
 use Rattle.goal_terms.specs.declared.modes.TypingMode.{TypingMode}
+use Rattle.goal_solver.specs.Accesses.{RecordsCausedFaults}
 use Rattle.goal_solver.specs.AddedGoals.{AreSplit, AreClosedAt, LeavesUndecided}
 use Rattle.goal_solver.specs.Answers.{IsOwed}
 use Rattle.goal_solver.specs.GoingBack.{BeginsWith, GoesBack}
@@ -13,5 +14,6 @@ invariant-loop-i l = record {
   split : AreSplit (length l.goals) l.taken.items (l.left.items ++ drop l.i l.places);
   taken : BeginsWith l.taken.items l.fn.taken.items;
   alone : ChangesRecords l.fn.self l.self;
+  faults : RecordsCausedFaults l.fn.self l.self;
   goes_back : GoesBack l.fn.self l.self;
 }

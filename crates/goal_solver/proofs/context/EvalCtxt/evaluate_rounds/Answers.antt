@@ -19,6 +19,7 @@ loop-round-init c = record {
   split = c.requires.split;
   taken = take-length c.args.taken.now.items;
   alone = refl;
+  faults = refl;
   goes_back = goes_back-same c.args.self.now;
 }
 
@@ -104,6 +105,7 @@ loop-round-preserved c = record {
   split = (subst (λ (xs : List ℕ). AreSplit (length c.args.goals.now) c.evaluate_round.new.taken.items xs) c.in_ok-left.ensures.split.2 c.in_ok-left.ensures.split.1);
   taken = begins-through c.args.taken.now.items c.loop-round.taken.items c.evaluate_round.new.taken.items c.loop-round.invariant.taken c.evaluate_round.ensures.taken;
   alone = records-through c.args.self.now c.loop-round.self c.evaluate_round.new.self c.loop-round.invariant.alone c.evaluate_round.ensures.alone;
+  faults = c.evaluate_round.ensures.faults ∙ c.loop-round.invariant.faults;
   goes_back = goes_back-through c.args.self.now c.loop-round.self c.evaluate_round.new.self c.loop-round.invariant.goes_back c.evaluate_round.ensures.goes_back;
 }
 

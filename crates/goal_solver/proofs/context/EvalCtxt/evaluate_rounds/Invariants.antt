@@ -1,4 +1,5 @@
 use Rattle.std.proofs.Common.{◌≡◌, length}
+use Rattle.goal_solver.specs.Accesses.{RecordsCausedFaults}
 use Rattle.goal_solver.specs.AddedGoals.{AreSplit, AreClosedAt}
 use Rattle.goal_solver.specs.GoingBack.{BeginsWith, GoesBack}
 use Rattle.goal_solver.specs.Relating.{ChangesRecords}
@@ -10,5 +11,6 @@ invariant-loop-round l = record {
   split : AreSplit (length l.goals) l.taken.items l.pending.items;
   taken : BeginsWith l.taken.items l.fn.taken.items;
   alone : ChangesRecords l.fn.self l.self;
+  faults : RecordsCausedFaults l.fn.self l.self;
   goes_back : GoesBack l.fn.self l.self;
 }

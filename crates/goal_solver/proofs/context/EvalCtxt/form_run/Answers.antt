@@ -1,5 +1,14 @@
+use Rattle.std.proofs.Common.{refl, ap, ◌∙◌}
+use Rattle.std.specs.Prelude.{IfOk}
+use Rattle.goal_kinds.specs.Interned.{erased_at}
+use Rattle.goal_kinds.specs.Level.{HasHeadForm, HeadFormRefuted}
+use Rattle.goal_kinds.specs.Levels.{level}
+use Rattle.goal_solver.specs.Outcomes.{SaysWhich}
+use Rattle.goal_solver.specs.State.{State}
+use Rattle.goal_solver.proofs.EvaluationLemmas.{run-says}
+use Rattle.goal_solver.proofs.FaultLemmas.{run-faults}
 use Rattle.goal_solver.proofs.GoingBackLemmas.{solved-grown}
-use Rattle.goal_solver.proofs.CacheLemmas.{sound-new}
+use Rattle.goal_solver.proofs.CacheLemmas.{sound-new, sound-parts}
 use Rattle.goal_solver.proofs.context.EvalCtxt.form_run.Goals as goal
 
 pub invariant_of-self : goal.invariant_of-self
@@ -15,3 +24,16 @@ invariant_of-self c = (
 
 pub head_form-found-requires-clause-effects : goal.head_form-found-requires-clause-effects
 head_form-found-requires-clause-effects c = sound-new _ _ _ c.new-effects.ensures
+
+pub returns-in_err-record_effects-clause-faults : goal.returns-in_err-record_effects-clause-faults
+returns-in_err-record_effects-clause-faults c = run-faults _ _ c.args.self.now c.record_effects.new.self _ _ c.head_form-found.new.effects.delayed_faults.items c.self.view_is refl refl c.rows.ensures.rows (sound-parts _ _ _ c.head_form-found.ensures.effects).faults c.record_effects.ensures.faults
+
+pub returns-clause-faults : goal.returns-clause-faults
+returns-clause-faults c = run-faults _ _ c.args.self.now c.record_effects.new.self _ _ c.head_form-found.new.effects.delayed_faults.items c.self.view_is refl refl c.rows.ensures.rows (sound-parts _ _ _ c.head_form-found.ensures.effects).faults c.record_effects.ensures.faults
+
+pub returns-clause-says : goal.returns-clause-says
+returns-clause-says c =
+    run-says (λ S n T U. IfOk c.head_form-found.result (SaysWhich (HasHeadForm (level S n) (erased_at T c.args.id)) (HeadFormRefuted (level S n) (erased_at T c.args.id)) U))
+    _ _ _ _ _ c.args.self.now c.record_effects.new.self c.args.environment.now c.args.on_access c.head_form-found.new.terms
+    c.self.view_is c.head_form-found.ensures.says (c.rows.ensures.rows ∙ ap (λ (s : State). s.tables) c.self.view_is) (ap (λ (s : State). s.typing_mode) c.self.view_is) refl refl
+    (ap (λ (s : State). s.terms) c.record_effects.ensures.unchanged)

@@ -23,6 +23,7 @@ use Rattle.goal_solver.proofs.ApplicableLemmas.{nothing-applies, nothing-applies
 use Rattle.goal_solver.specs.Answers.{expected_variable}
 use Rattle.goal_solver.proofs.PromiseLemmas.{found-lists, unsure-lists, maybe-lists, leaves-undecided, not-at_once, nothing-named, empty-maybe}
 use Rattle.goal_solver.proofs.AccessLemmas.{none-recorded, recorded-stopped}
+use Rattle.goal_solver.proofs.EvaluationLemmas.{says-under}
 use Rattle.goal_solver.proofs.context.EvalCtxt.normalizes_to_response.Goals as goal
 
 pub returns-in_default-clause-goes_back : goal.returns-in_default-clause-goes_back
@@ -56,7 +57,7 @@ returns-in-Ok-Is-clause-sound c = λ m stands closed.
     (sym (c.in-Some.ensures ∙ ap general_variable_at (c.node.ensures ∙ ap node_of c.view.ensures)))
     (subst (FoundIn c.alias_outcome.new.self.terms) c.in-Ok-Is.field-0-is c.in-Ok-Is.ensures.within).0
     (subst (SaysWhich ((level_over c.args.self.now m c.args.goal.now.param_env.items).gives c.args.goal.now.predicate.alias.kind (erased_args c.args.goal.now.predicate.alias.args.items)) ((level_over c.args.self.now m c.args.goal.now.param_env.items).gives_refuted c.args.goal.now.predicate.alias.kind (erased_args c.args.goal.now.predicate.alias.args.items)) c.alias_outcome.new.self.terms) c.in-Ok-Is.field-0-is
-    (c.in-Ok-Is.ensures.says m stands))
+    (says-under c.args.self.now m _ _ _ _ _ _ c.deref-2.ensures.value (c.in-Ok-Is.ensures.says m stands)))
     c.respond_found.result (c.respond_found.ensures.yes, c.respond_found.ensures.maybe, c.respond_found.ensures.only_memory)
 
 pub returns-in-Ok-Is-clause-decided : goal.returns-in-Ok-Is-clause-decided
@@ -67,7 +68,7 @@ returns-in-Ok-Is-clause-decided c = λ m n owed closed expected undecided.
     c.alias_outcome.new.self.terms c.in-Ok-Is.id c.in-Some.expected
     (subst (FoundIn c.alias_outcome.new.self.terms) c.in-Ok-Is.field-0-is c.in-Ok-Is.ensures.within).0
     (subst (SaysWhich ((level_over c.args.self.now m c.args.goal.now.param_env.items).gives c.args.goal.now.predicate.alias.kind (erased_args c.args.goal.now.predicate.alias.args.items)) ((level_over c.args.self.now m c.args.goal.now.param_env.items).gives_refuted c.args.goal.now.predicate.alias.kind (erased_args c.args.goal.now.predicate.alias.args.items)) c.alias_outcome.new.self.terms) c.in-Ok-Is.field-0-is
-    (c.in-Ok-Is.ensures.says m owed))
+    (says-under c.args.self.now m _ _ _ _ _ _ c.deref-2.ensures.value (c.in-Ok-Is.ensures.says m owed)))
     c.respond_found.result (c.respond_found.ensures.yes, c.respond_found.ensures.maybe, c.respond_found.ensures.only_memory) undecided
 
 pub returns-in_default-clause-applies : goal.returns-in_default-clause-applies
@@ -104,7 +105,7 @@ pub returns-in-Ok-Undecided-clause-whole : goal.returns-in-Ok-Undecided-clause-w
 unfolding IsAnswer
 returns-in-Ok-Undecided-clause-whole c = λ m n owed ok closed expected undecided.
     subst (SaysWhich ((level_over c.args.self.now m c.args.goal.now.param_env.items).gives c.args.goal.now.predicate.alias.kind (erased_args c.args.goal.now.predicate.alias.args.items)) ((level_over c.args.self.now m c.args.goal.now.param_env.items).gives_refuted c.args.goal.now.predicate.alias.kind (erased_args c.args.goal.now.predicate.alias.args.items)) c.alias_outcome.new.self.terms) c.in-Ok-Undecided.field-0-is
-    (c.in-Ok-Undecided.ensures.says m owed)
+    (says-under c.args.self.now m _ _ _ _ _ _ c.deref-2.ensures.value (c.in-Ok-Undecided.ensures.says m owed))
 
 pub returns-in-Ok-Is-clause-applies : goal.returns-in-Ok-Is-clause-applies
 returns-in-Ok-Is-clause-applies c = λ ok.
@@ -118,7 +119,7 @@ returns-in-Ok-Is-clause-applies c = λ ok.
     given-fits c.args.self.now some.0 c.args.self.now.remaining_depth c.args.goal.now.predicate c.args.goal.now.param_env.items c.alias_outcome.new.self.terms c.in-Ok-Is.id c.is_well_formed.ensures.tables
     (sym (c.is_closed_alias.ensures ∙ ap (is_closed_alias c.args.goal.now.predicate.alias) c.deref.ensures.value) ∙ c.if-not-is_closed_alias.false) ok
     (subst (SaysWhich ((level_over c.args.self.now some.0 c.args.goal.now.param_env.items).gives c.args.goal.now.predicate.alias.kind (erased_args c.args.goal.now.predicate.alias.args.items)) ((level_over c.args.self.now some.0 c.args.goal.now.param_env.items).gives_refuted c.args.goal.now.predicate.alias.kind (erased_args c.args.goal.now.predicate.alias.args.items)) c.alias_outcome.new.self.terms) c.in-Ok-Is.field-0-is
-    (says some.0 some.1))) c.in-Ok-Is.ensures.fits)
+    (says-under c.args.self.now some.0 _ _ _ _ _ _ c.deref-2.ensures.value (says some.0 some.1)))) c.in-Ok-Is.ensures.fits)
     (sym (c.in-Some.ensures ∙ ap general_variable_at (c.node.ensures ∙ ap node_of c.view.ensures)))
     c.respond_found.ensures.yes
 
@@ -164,7 +165,7 @@ returns-in-Err-clause-no_class c = λ closed. nothing-named c.stopped.result c.s
 pub returns-in-Ok-Refuted-clause-sound : goal.returns-in-Ok-Refuted-clause-sound
 returns-in-Ok-Refuted-clause-sound c = λ m owed closed.
     subst (SaysWhich ((level_over c.args.self.now m c.args.goal.now.param_env.items).gives c.args.goal.now.predicate.alias.kind (erased_args c.args.goal.now.predicate.alias.args.items)) ((level_over c.args.self.now m c.args.goal.now.param_env.items).gives_refuted c.args.goal.now.predicate.alias.kind (erased_args c.args.goal.now.predicate.alias.args.items)) c.alias_outcome.new.self.terms) c.in-Ok-Refuted.field-0-is
-    (c.in-Ok-Refuted.ensures.says m owed)
+    (says-under c.args.self.now m _ _ _ _ _ _ c.deref-2.ensures.value (c.in-Ok-Refuted.ensures.says m owed))
 
 pub returns-in-Ok-Refuted-clause-at_once : goal.returns-in-Ok-Refuted-clause-at_once
 returns-in-Ok-Refuted-clause-at_once c = λ h.

@@ -1,5 +1,10 @@
+use Rattle.std.proofs.Common.{refl, sym, ap, subst}
+use Rattle.std.specs.Prelude.{IfOk}
+use Rattle.goal_solver.specs.Lists.{RunIn}
+use Rattle.goal_solver.specs.State.{State}
+use Rattle.goal_solver.proofs.CacheLemmas.{sound-new, sound-parts}
+use Rattle.goal_solver.proofs.FaultLemmas.{run-faults}
 use Rattle.goal_solver.proofs.GoingBackLemmas.{solved-grown}
-use Rattle.goal_solver.proofs.CacheLemmas.{sound-new}
 use Rattle.goal_solver.proofs.context.EvalCtxt.reach.Goals as goal
 
 pub invariant_of-self : goal.invariant_of-self
@@ -9,9 +14,19 @@ invariant_of-self c = (
   c.self.invariant.2,
   c.self.invariant.3,
   c.self.invariant.4,
-  solved-grown c.self.inside.terms c.run_rule_entry.new.terms c.self.inside.inference c.run_rule_entry.ensures.kept c.self.invariant.5,
+  solved-grown c.self.inside.terms c.run_rule_entry-reached.new.terms c.self.inside.inference c.run_rule_entry-reached.ensures.kept c.self.invariant.5,
   c.self.invariant.6,
 )
 
-pub run_rule_entry-requires-clause-effects : goal.run_rule_entry-requires-clause-effects
-run_rule_entry-requires-clause-effects c = sound-new _ _ _ c.new-effects.ensures
+pub run_rule_entry-reached-requires-clause-effects : goal.run_rule_entry-reached-requires-clause-effects
+run_rule_entry-reached-requires-clause-effects c = sound-new _ _ _ c.new-effects.ensures
+
+pub returns-in_err-record_effects-clause-faults : goal.returns-in_err-record_effects-clause-faults
+returns-in_err-record_effects-clause-faults c = run-faults _ _ c.args.self.now c.record_effects.new.self _ _ c.run_rule_entry-reached.new.effects.delayed_faults.items c.self.view_is refl refl c.rows.ensures.rows (sound-parts _ _ _ c.run_rule_entry-reached.ensures.effects).faults c.record_effects.ensures.faults
+
+pub returns-clause-faults : goal.returns-clause-faults
+returns-clause-faults c = run-faults _ _ c.args.self.now c.record_effects.new.self _ _ c.run_rule_entry-reached.new.effects.delayed_faults.items c.self.view_is refl refl c.rows.ensures.rows (sound-parts _ _ _ c.run_rule_entry-reached.ensures.effects).faults c.record_effects.ensures.faults
+
+pub returns-clause-within : goal.returns-clause-within
+returns-clause-within c =
+    subst (λ T. IfOk c.run_rule_entry-reached.result (λ r. RunIn T c.run_rule_entry-reached.new.run)) (sym (ap (λ (s : State). s.terms) c.record_effects.ensures.unchanged)) c.run_rule_entry-reached.ensures.within

@@ -1,121 +1,55 @@
-use Rattle.std.proofs.Common.{◌≡◌, sym, ap, ◌∙◌, subst, refl}
-use Rattle.std.specs.Prelude.{not}
-use Rattle.goal_terms.proofs.InternLemmas.{keeps-chain}
-use Rattle.goal_infer.proofs.SolvedLemmas.{solved-kept}
+use Rattle.std.proofs.Common.{◌≡◌, ℕ, List, Result, Ok, Err, sym, ap, ◌∙◌, subst}
+use Rattle.std.specs.Prelude.{IfOk}
+use Rattle.goal_terms.specs.TableMeaning.{Keeps}
+use Rattle.goal_terms.specs.Tree.{Tree}
+use Rattle.goal_terms.specs.declared.modes.TypingMode.{TypingMode}
+use Rattle.goal_terms.specs.declared.predicates.Clause.{Clause}
+use Rattle.goal_terms.specs.declared.term_nodes.TermId.{TermId}
+use Rattle.goal_infer.specs.Resolution.{IsSolved, resolution}
 use Rattle.goal_kinds.specs.Interned.{AreIn, erased_all}
-use Rattle.goal_kinds.proofs.InternedLemmas.{are_in-grown}
-use Rattle.goal_kinds.proofs.UnderLemmas.{are_in-below}
-use Rattle.goal_solver.specs.Pending.{AreListsOfOneKind}
-use Rattle.goal_solver.specs.Relating.{all_bound}
+use Rattle.goal_kinds.proofs.InternedLemmas.{all_same-grown}
+use Rattle.goal_solver.specs.Answers.{IsOwed}
+use Rattle.goal_solver.specs.GoingBack.{restored}
+use Rattle.goal_solver.specs.Relating.{Identifies, all_bound, all_replaced}
+use Rattle.goal_solver.specs.Settled.{AreSettledIn}
 use Rattle.goal_solver.specs.State.{State}
-use Rattle.goal_solver.proofs.RelatedLemmas.{followed-alike, followed-lefts, followed-rights, settled-in}
-use Rattle.goal_solver.proofs.CacheLemmas.{sound-new}
+use Rattle.goal_solver.specs.declared.eval.outcomes.Outcome.{Outcome}
+use Rattle.goal_solver.specs.declared.eval.outcomes.Stop.{Stop}
+use Rattle.goal_solver.proofs.AddedGoalLemmas.{owed-before}
+use Rattle.goal_solver.proofs.SinceMarkLemmas.{resolution-kept}
 use Rattle.goal_solver.proofs.context.EvalCtxt.relate_followed.Goals as goal
-use Rattle.goal_solver.proofs.context.EvalCtxt.relate_followed.Goals.{After-relate_resolved_lists}
 
-pub follow_all-requires-clause-within : goal.follow_all-requires-clause-within
-follow_all-requires-clause-within c = are_in-below c.self.inside.terms c.args.left.now (subst (λ (s : State). AreIn s.terms c.args.left.now) (sym c.self.view_is) c.requires.first)
+-- the bindings of a context in which there are only more terms make the same of terms
+resumed-bound : (a b : State) → b.inference ≡ a.inference → Keeps a.terms b.terms → IsSolved a.terms a.inference → (ids : List TermId) → AreIn a.terms ids →
+    all_bound b (erased_all b.terms ids) ≡ all_bound a (erased_all a.terms ids)
+resumed-bound a b e keeps solved ids here =
+    ap (λ ρ. all_replaced ρ (erased_all b.terms ids)) (ap (resolution b.terms) e ∙ resolution-kept a.terms b.terms a.inference keeps solved)
+    ∙ ap (all_replaced (resolution a.terms a.inference)) (all_same-grown a.terms b.terms keeps ids here)
 
-pub follow_all-requires-2-clause-within : goal.follow_all-requires-2-clause-within
-follow_all-requires-2-clause-within c =
-    are_in-below c.follow_all.new.table c.args.right.now
-    (are_in-grown c.self.inside.terms c.follow_all.new.table c.follow_all.ensures.kept c.args.right.now (subst (λ (s : State). AreIn s.terms c.args.right.now) (sym c.self.view_is) c.requires.second))
-
-pub follow_all-requires-2-clause-solved : goal.follow_all-requires-2-clause-solved
-follow_all-requires-2-clause-solved c = solved-kept c.self.inside.terms c.follow_all.new.table c.self.inside.inference c.follow_all.ensures.kept c.self.invariant.5
-
-pub invariant_of-self : goal.invariant_of-self
-invariant_of-self c = (
-  c.self.invariant.0,
-  c.self.invariant.1,
-  c.self.invariant.2,
-  c.self.invariant.3,
-  c.self.invariant.4,
-  solved-kept c.self.inside.terms c.follow_all.new.table c.self.inside.inference c.follow_all.ensures.kept c.self.invariant.5,
-  c.self.invariant.6,
-)
-
-pub invariant_of-self-in_err-rights : goal.invariant_of-self-in_err-rights
-invariant_of-self-in_err-rights c = (
-  c.self.invariant.0,
-  c.self.invariant.1,
-  c.self.invariant.2,
-  c.self.invariant.3,
-  c.self.invariant.4,
-  solved-kept c.self.inside.terms c.follow_all-2.new.table c.self.inside.inference (keeps-chain c.self.inside.terms c.follow_all.new.table c.follow_all-2.new.table c.follow_all.ensures.kept c.follow_all-2.ensures.kept) c.self.invariant.5,
-  c.self.invariant.6,
-)
-
-pub invariant_of-self-2 : goal.invariant_of-self-2
-invariant_of-self-2 c = (
-  c.self.invariant.0,
-  c.self.invariant.1,
-  c.self.invariant.2,
-  c.self.invariant.3,
-  c.self.invariant.4,
-  solved-kept c.self.inside.terms c.relate_resolved_lists.new.terms c.self.inside.inference
-      (keeps-chain c.self.inside.terms c.follow_all-2.new.table c.relate_resolved_lists.new.terms
-      (keeps-chain c.self.inside.terms c.follow_all.new.table c.follow_all-2.new.table c.follow_all.ensures.kept c.follow_all-2.ensures.kept) c.relate_resolved_lists.ensures.kept) c.self.invariant.5,
-  c.self.invariant.6,
-)
-
-pub relate_resolved_lists-requires : goal.relate_resolved_lists-requires
-relate_resolved_lists-requires c = record {
-  effects = sound-new _ _ _ c.new-effects.ensures;
-  alike = subst (λ xs. AreListsOfOneKind c.follow_all-2.new.table xs c.deref-2.result.now) (sym c.deref.ensures.value)
-      (subst (AreListsOfOneKind c.follow_all-2.new.table c.in_ok-lefts.lefts.items) (sym c.deref-2.ensures.value)
-      (followed-alike _ c.args.self.now c.self.view_is c.follow_all.new.table c.follow_all-2.new.table c.args.left.now c.args.right.now c.in_ok-lefts.lefts.items c.in_ok-rights.rights.items (record {
-        solved = c.self.invariant.5;
-        kept = c.follow_all.ensures.kept;
-        kept_on = c.follow_all-2.ensures.kept;
-        below = c.in_ok-lefts.ensures.within;
-        under = c.in_ok-rights.ensures.within;
-        first = c.in_ok-lefts.ensures.trees;
-        second = c.in_ok-rights.ensures.trees;
-        first_sorts = c.in_ok-lefts.ensures.sorts;
-        second_sorts = c.in_ok-rights.ensures.sorts;
-      }) c.requires.first c.requires.second));
+-- what a run settles that goes on where nothing is owed
+resumed-settled : (a b : State) (P Q : TypingMode → Type 0) (env : List Clause) (n : ℕ) (us vs xs ys : List Tree) (r : Result Outcome Stop) → ((m : TypingMode) → Q m → ⊥) → us ≡ xs → vs ≡ ys →
+    IfOk r (AreSettledIn b P env n us vs) → IfOk r (AreSettledIn a Q env n xs ys)
+resumed-settled a b P Q env n us vs xs ys (Ok o) never p q h = record {
+  holds = λ held m owed. absurd (never m owed);
+  refuted = λ is ρ. subst (λ v. Identifies ρ xs v → ⊥) q (subst (λ u. Identifies ρ u vs → ⊥) p (h.refuted is ρ));
+  closed = λ sides m owed. absurd (never m owed);
 }
+resumed-settled a b P Q env n us vs xs ys (Err e) never p q h = tt
 
--- both lists are followed
-lefts : (c : After-relate_resolved_lists) → erased_all c.follow_all-2.new.table c.deref.result.now ≡ all_bound c.args.self.now (erased_all c.args.self.now.terms c.args.left.now)
-lefts c =
-    ap (erased_all c.follow_all-2.new.table) c.deref.ensures.value
-    ∙ followed-lefts _ c.args.self.now c.self.view_is c.follow_all.new.table c.follow_all-2.new.table c.args.left.now c.args.right.now c.in_ok-lefts.lefts.items c.in_ok-rights.rights.items (record {
-      solved = c.self.invariant.5;
-      kept = c.follow_all.ensures.kept;
-      kept_on = c.follow_all-2.ensures.kept;
-      below = c.in_ok-lefts.ensures.within;
-      under = c.in_ok-rights.ensures.within;
-      first = c.in_ok-lefts.ensures.trees;
-      second = c.in_ok-rights.ensures.trees;
-      first_sorts = c.in_ok-lefts.ensures.sorts;
-      second_sorts = c.in_ok-rights.ensures.sorts;
-    })
-
-rights : (c : After-relate_resolved_lists) → erased_all c.follow_all-2.new.table c.deref-2.result.now ≡ all_bound c.args.self.now (erased_all c.args.self.now.terms c.args.right.now)
-rights c =
-    ap (erased_all c.follow_all-2.new.table) c.deref-2.ensures.value
-    ∙ followed-rights _ c.args.self.now c.self.view_is c.follow_all.new.table c.follow_all-2.new.table c.args.left.now c.args.right.now c.in_ok-lefts.lefts.items c.in_ok-rights.rights.items (record {
-      solved = c.self.invariant.5;
-      kept = c.follow_all.ensures.kept;
-      kept_on = c.follow_all-2.ensures.kept;
-      below = c.in_ok-lefts.ensures.within;
-      under = c.in_ok-rights.ensures.within;
-      first = c.in_ok-lefts.ensures.trees;
-      second = c.in_ok-rights.ensures.trees;
-      first_sorts = c.in_ok-lefts.ensures.sorts;
-      second_sorts = c.in_ok-rights.ensures.sorts;
-    }) c.requires.second
+module _ (a b c : State) (first : b ≡ restored a b) (kept : Keeps a.terms b.terms) (noted : c ≡ record b { accesses = c.accesses }) (solved : IsSolved a.terms a.inference) where
+  again : (ids : List TermId) → AreIn a.terms ids → all_bound c (erased_all c.terms ids) ≡ all_bound a (erased_all a.terms ids)
+  again =
+      resumed-bound a c (ap (λ (s : State). s.inference) noted ∙ ap (λ (s : State). s.inference) first)
+      (subst (Keeps a.terms) (sym (ap (λ (s : State). s.terms) noted)) kept) solved
 
 pub returns-clause-settled : goal.returns-clause-settled
 returns-clause-settled c =
-    settled-in _ c.args.self.now c.args.environment.now _ c.args.depth
-    (all_bound c.args.self.now (erased_all c.args.self.now.terms c.args.left.now)) (all_bound c.args.self.now (erased_all c.args.self.now.terms c.args.right.now))
-    (erased_all c.follow_all-2.new.table c.deref.result.now) (erased_all c.follow_all-2.new.table c.deref-2.result.now) c.relate_resolved_lists.result c.relate_resolved_lists.ensures.says
-    (c.rows.ensures.rows ∙ ap (λ (s : State). s.tables) c.self.view_is) (ap (λ (s : State). s.typing_mode) c.self.view_is) refl refl (ap not c.some_in_env-opens.ensures)
-    (lefts (goal.at.returns-clause-settled c).After-relate_resolved_lists) (rights (goal.at.returns-clause-settled c).After-relate_resolved_lists)
+    let same = again c.args.self.now c.relate_run-first.new.self c.first_answer.new.self c.relate_run-first.ensures.alone c.relate_run-first.ensures.kept c.first_answer.ensures.unchanged c.holds_together.ensures.solved in
+    resumed-settled c.args.self.now c.first_answer.new.self _ (IsOwed c.relate_run.new.self) c.args.environment.now c.args.depth _ _ _ _ c.relate_run.result
+    (λ m owed. c.in_ok-outcome.ensures.on c.in_default.is m (owed-before c.first_answer.new.self c.relate_run.new.self m c.relate_run.ensures.goes_back owed))
+    (same c.args.left.now c.requires.first) (same c.args.right.now c.requires.second) c.relate_run.ensures.settled
 
 pub returns-clause-same : goal.returns-clause-same
 returns-clause-same c = λ e.
-    c.relate_resolved_lists.ensures.same (lefts (goal.at.returns-clause-same c).After-relate_resolved_lists ∙ e ∙ sym (rights (goal.at.returns-clause-same c).After-relate_resolved_lists))
+    let same = again c.args.self.now c.relate_run-first.new.self c.first_answer.new.self c.relate_run-first.ensures.alone c.relate_run-first.ensures.kept c.first_answer.ensures.unchanged c.holds_together.ensures.solved in
+    c.relate_run.ensures.same (same c.args.left.now c.requires.first ∙ e ∙ sym (same c.args.right.now c.requires.second))

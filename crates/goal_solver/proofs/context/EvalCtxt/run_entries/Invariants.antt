@@ -12,5 +12,5 @@ invariant-loop-entry l = record {
   back : GoesBack l.fn.self l.self;
   recorded : AreRecorded l.self (take l.entry-index l.entries);
   listed : AreListed l.entries l.fn.self l.self;
-  so_far : RunsSoFar l.fn.self l.environment l.entries l.self.terms l.run l.entry-index;
+  so_far : RunsSoFar l.fn.self l.on_access l.environment l.entries l.self.terms l.run l.entry-index;
 }

@@ -23,14 +23,14 @@ loop-entry-preserved c = record {
       c.step_through.new.self (open_progress c.step_through.new.run) (omega arith) c.entry-item.is c.loop-entry.invariant.through c.in_ok-step_through.ensures.steps;
   recorded = open_recorded-next c.args.environment.now c.loop-entry.self c.step_through.new.self c.args.entries.now c.loop-entry.entry-index c.entry-item.result
       (open_progress c.loop-entry.run) (open_progress c.step_through.new.run) c.step_through.ensures.goes_back (omega arith) c.entry-item.is c.in_ok-step_through.ensures.steps c.loop-entry.invariant.recorded;
-  listed = listed-next c.args.self.now c.loop-entry.self c.step_through.new.self c.args.entries.now c.loop-entry.entry-index c.entry-item.result (omega arith) c.entry-item.is
+  listed = listed-next c.args.self.now c.loop-entry.self c.step_through.new.self c.args.entries.now c.loop-entry.entry-index c.entry-item.result (omega arith) c.entry-item.is c.loop-entry.invariant.back
       c.loop-entry.invariant.listed c.step_through.ensures.listed;
   back = goes_back-through c.args.self.now c.loop-entry.self c.step_through.new.self c.loop-entry.invariant.back c.step_through.ensures.goes_back;
 }
 
 pub returns-in_err-step_through-clause-listed : goal.returns-in_err-step_through-clause-listed
 returns-in_err-step_through-clause-listed c =
-    listed-next c.args.self.now c.loop-entry.self c.step_through.new.self c.args.entries.now c.loop-entry.entry-index c.entry-item.result (omega arith) c.entry-item.is
+    listed-next c.args.self.now c.loop-entry.self c.step_through.new.self c.args.entries.now c.loop-entry.entry-index c.entry-item.result (omega arith) c.entry-item.is c.loop-entry.invariant.back
     c.loop-entry.invariant.listed c.step_through.ensures.listed
 
 pub returns-in_err-step_through-clause-goes_back : goal.returns-in_err-step_through-clause-goes_back

@@ -1,13 +1,14 @@
-use Rattle.std.proofs.Common.{sym, subst}
+use Rattle.std.proofs.Common.{◌∷◌, [], refl, sym, subst}
 use Rattle.std.specs.Prelude.{slice_get}
 use Rattle.goal_terms.specs.TreeOf.{trees_of, tree_of_term}
 use Rattle.goal_kinds.specs.Rules.{clauses_in}
 use Rattle.goal_solver.specs.OpenRuns.{open_progress, named_trees, source_of, AddsRow, GivesTerm, NamesOpen}
 use Rattle.goal_solver.proofs.BindingLemmas.{on_ok-map}
 use Rattle.goal_solver.proofs.GoingBackLemmas.{goes_back-same}
-use Rattle.goal_solver.proofs.OpenStepLemmas.{arguments-step, equation-step, clause-step, row-step, term-step, access-step, fault-step, fault-listed, evaluation-step, undecided-step, refused-step}
+use Rattle.goal_solver.proofs.OpenStepLemmas.{arguments-step, equation-step, clause-step, row-step, term-step, hidden-step, access-step, fault-step, fault-listed, evaluation-step, undecided-step, refused-step}
+use Rattle.goal_solver.proofs.RecordedLemmas.{none-listed}
 use Rattle.goal_solver.specs.Refusals.{RefusesNames, RefusesTerm}
-use Rattle.goal_solver.proofs.RefusalLemmas.{memory-only, refused-on, refused-map, arguments-refused, equation-refused, term-refused, evaluation-refused, refusal-refused}
+use Rattle.goal_solver.proofs.RefusalLemmas.{memory-only, refused-on, refused-map, arguments-refused, equation-refused, term-refused, hidden-refused, evaluation-refused, refusal-refused}
 use Rattle.goal_solver.proofs.context.EvalCtxt.step_through.Goals as goal
 
 pub returns-in_err-certainty-in-Refused-clause-goes_back : goal.returns-in_err-certainty-in-Refused-clause-goes_back
@@ -49,6 +50,17 @@ returns-in_ok-certainty-in-Term-clause-steps c =
     (subst (λ ns. GivesTerm c.args.environment.now (named_trees ns) (tree_of_term c.in-Term.expected) c.in-Term.term c.args.self.now c.in_ok-certainty-in-Term.certainty c.give_open.new.self)
     c.deref-in-Term.ensures.value c.in_ok-certainty-in-Term.ensures.gives)
     c.join-in-Term.ensures
+
+pub returns-in_ok-certainty-in-HiddenType-clause-steps : goal.returns-in_ok-certainty-in-HiddenType-clause-steps
+returns-in_ok-certainty-in-HiddenType-clause-steps c =
+    hidden-step c.args.environment.now c.args.entry.now c.in-HiddenType.expected c.in-HiddenType.key c.in-HiddenType.first c.args.self.now (open_progress c.args.run.now) c.define_hidden_type.new.self
+    (open_progress c.join-in-HiddenType.new.self) c.in_ok-certainty-in-HiddenType.certainty c.in-HiddenType.is c.in_ok-certainty-in-HiddenType.ensures.defines c.join-in-HiddenType.ensures
+
+pub returns-in_err-certainty-in-HiddenType-clause-refused : goal.returns-in_err-certainty-in-HiddenType-clause-refused
+returns-in_err-certainty-in-HiddenType-clause-refused c =
+    refused-on _ c.from_residual-in_err-certainty-in-HiddenType.result c.in_err-certainty-in-HiddenType.field-0.0 c.from_residual-in_err-certainty-in-HiddenType.ensures.1
+    (λ is. hidden-refused c.args.environment.now c.args.entry.now c.in-HiddenType.expected c.in-HiddenType.key c.in-HiddenType.first c.args.self.now (open_progress c.args.run.now) c.define_hidden_type.new.self
+    c.in-HiddenType.is (c.in_err-certainty-in-HiddenType.ensures.refused is))
 
 pub returns-in_ok-certainty-in-Access-clause-steps : goal.returns-in_ok-certainty-in-Access-clause-steps
 returns-in_ok-certainty-in-Access-clause-steps c =
@@ -122,3 +134,12 @@ pub returns-in_err-certainty-in-Refused-clause-refused : goal.returns-in_err-cer
 returns-in_err-certainty-in-Refused-clause-refused c =
     refused-on _ c.from_residual-in_err-certainty-in-Refused.result c.in_err-certainty-in-Refused.field-0.0 c.from_residual-in_err-certainty-in-Refused.ensures.1
     (refusal-refused c.args.environment.now c.args.entry.now c.args.self.now (open_progress c.args.run.now) c.in_err-certainty-in-Refused.field-0.0 c.in-Refused.is c.in_err-certainty-in-Refused.ensures)
+
+pub returns-in_err-certainty-in-Refused-clause-listed : goal.returns-in_err-certainty-in-Refused-clause-listed
+returns-in_err-certainty-in-Refused-clause-listed c = none-listed c.args.self.now c.args.self.now (c.args.entry.now ∷ []) refl
+
+pub returns-in_ok-certainty-in-Refused-clause-listed : goal.returns-in_ok-certainty-in-Refused-clause-listed
+returns-in_ok-certainty-in-Refused-clause-listed c = none-listed c.args.self.now c.args.self.now (c.args.entry.now ∷ []) refl
+
+pub returns-in-Ambiguous-clause-listed : goal.returns-in-Ambiguous-clause-listed
+returns-in-Ambiguous-clause-listed c = none-listed c.args.self.now c.args.self.now (c.args.entry.now ∷ []) refl

@@ -1,8 +1,17 @@
+use Rattle.goal_solver.specs.Accesses.{uncaused}
+use Rattle.goal_solver.proofs.FaultLemmas.{run-faults}
 use Rattle.std.proofs.Common.{refl}
 use Rattle.goal_solver.proofs.BindingLemmas.{goes_back-interned}
-use Rattle.goal_solver.proofs.GoingBackLemmas.{solved-grown, solved-grown_twice}
+use Rattle.goal_solver.proofs.GoingBackLemmas.{goes_back-through, solved-grown, solved-grown_twice}
 use Rattle.goal_solver.proofs.CacheLemmas.{sound-new, sound-parts}
-use Rattle.std.proofs.Common.{◌∙◌, ap}
+use Rattle.std.proofs.Common.{◌∙◌, ap, subst}
+use Rattle.std.specs.Prelude.{IfOk}
+use Rattle.goal_terms.proofs.InternLemmas.{keeps-chain}
+use Rattle.goal_kinds.specs.Answers.{setting_of}
+use Rattle.goal_kinds.specs.Interned.{erased_all}
+use Rattle.goal_kinds.specs.Levels.{level}
+use Rattle.goal_solver.specs.Outcomes.{SaysThrough}
+use Rattle.goal_solver.proofs.EvaluationLemmas.{memory-ends, run-says}
 use Rattle.goal_solver.specs.State.{State}
 use Rattle.goal_solver.proofs.AccessLemmas.{none-recorded, run-recorded, ends-here}
 use Rattle.goal_solver.proofs.context.EvalCtxt.trait_run.Goals as goal
@@ -50,3 +59,37 @@ pub returns-clause-ends : goal.returns-clause-ends
 returns-clause-ends c =
     ends-here _ c.args.self.now.tables _ c.args.self.now.typing_mode c.evaluate_trait_goal-outcome.result (c.rows.ensures.rows ∙ ap (λ (s : State). s.tables) c.self.view_is) (ap (λ (s : State). s.typing_mode) c.self.view_is)
     c.evaluate_trait_goal-outcome.ensures.stops
+
+pub returns-in_err-ids-clause-faults : goal.returns-in_err-ids-clause-faults
+returns-in_err-ids-clause-faults c = ap (λ (s : State). uncaused s.tables s.delayed_faults) c.self.view_is
+
+pub returns-in_err-record_effects-clause-faults : goal.returns-in_err-record_effects-clause-faults
+returns-in_err-record_effects-clause-faults c = run-faults _ _ c.args.self.now c.record_effects.new.self _ _ c.evaluate_trait_goal-outcome.new.effects.delayed_faults.items c.self.view_is refl refl c.rows.ensures.rows (sound-parts _ _ _ c.evaluate_trait_goal-outcome.ensures.effects).faults c.record_effects.ensures.faults
+
+pub returns-clause-faults : goal.returns-clause-faults
+returns-clause-faults c = run-faults _ _ c.args.self.now c.record_effects.new.self _ _ c.evaluate_trait_goal-outcome.new.effects.delayed_faults.items c.self.view_is refl refl c.rows.ensures.rows (sound-parts _ _ _ c.evaluate_trait_goal-outcome.ensures.effects).faults c.record_effects.ensures.faults
+
+pub returns-in_err-record_effects-clause-goes_back : goal.returns-in_err-record_effects-clause-goes_back
+returns-in_err-record_effects-clause-goes_back c =
+    goes_back-through c.args.self.now _ c.record_effects.new.self (goes_back-interned _ c.args.self.now _ c.evaluate_trait_goal-outcome.new.terms c.self.view_is refl (keeps-chain c.self.inside.terms c.intern_args.new.terms c.evaluate_trait_goal-outcome.new.terms c.intern_args.ensures.kept c.evaluate_trait_goal-outcome.ensures.kept))
+    c.record_effects.ensures.goes_back
+
+pub returns-clause-goes_back : goal.returns-clause-goes_back
+returns-clause-goes_back c =
+    goes_back-through c.args.self.now _ c.record_effects.new.self (goes_back-interned _ c.args.self.now _ c.evaluate_trait_goal-outcome.new.terms c.self.view_is refl (keeps-chain c.self.inside.terms c.intern_args.new.terms c.evaluate_trait_goal-outcome.new.terms c.intern_args.ensures.kept c.evaluate_trait_goal-outcome.ensures.kept))
+    c.record_effects.ensures.goes_back
+
+pub returns-clause-says : goal.returns-clause-says
+returns-clause-says c = λ m runs.
+    subst (λ ts. IfOk c.evaluate_trait_goal-outcome.result (SaysThrough (λ k. (level (setting_of c.args.self.now.tables m c.args.environment.now) c.args.depth).through k c.args.trait_id ts) ((level (setting_of c.args.self.now.tables m c.args.environment.now) c.args.depth).trait_refuted c.args.trait_id ts)))
+    (ap (erased_all c.intern_args.new.terms) c.deref.ensures.value ∙ c.in_ok-ids.ensures.trees)
+    (run-says (λ S n T U. IfOk c.evaluate_trait_goal-outcome.result (SaysThrough (λ k. (level S c.args.depth).through k c.args.trait_id (erased_all c.intern_args.new.terms c.deref.result.now)) ((level S c.args.depth).trait_refuted c.args.trait_id (erased_all c.intern_args.new.terms c.deref.result.now))))
+    _ _ _ _ _ c.args.self.now c.record_effects.new.self c.args.environment.now c.args.on_access c.evaluate_trait_goal-outcome.new.terms
+    c.self.view_is c.evaluate_trait_goal-outcome.ensures.says (c.rows.ensures.rows ∙ ap (λ (s : State). s.tables) c.self.view_is) (ap (λ (s : State). s.typing_mode) c.self.view_is) refl refl
+    (ap (λ (s : State). s.terms) c.record_effects.ensures.unchanged) m runs)
+
+pub returns-clause-stops : goal.returns-clause-stops
+returns-clause-stops c =
+    memory-ends c.args.self.now.tables c.args.self.now.typing_mode c.evaluate_trait_goal-outcome.result
+    (ends-here _ c.args.self.now.tables _ c.args.self.now.typing_mode c.evaluate_trait_goal-outcome.result (c.rows.ensures.rows ∙ ap (λ (s : State). s.tables) c.self.view_is)
+    (ap (λ (s : State). s.typing_mode) c.self.view_is) c.evaluate_trait_goal-outcome.ensures.stops)

@@ -16,12 +16,21 @@ returns-then-id-impl_id-clause-goes_back c = goes_back-same c.args.self.now
 pub returns-in_ok-args-in-Trait-clause-goes_back : goal.returns-in_ok-args-in-Trait-clause-goes_back
 returns-in_ok-args-in-Trait-clause-goes_back c = goes_back-same c.args.self.now
 
-pub returns-else-id-impl_id-clause-decided : goal.returns-else-id-impl_id-clause-decided
-returns-else-id-impl_id-clause-decided c = λ m owed q taken.
+pub returns-else-id-impl_id-clause-other : goal.returns-else-id-impl_id-clause-other
+returns-else-id-impl_id-clause-other c = λ q taken.
     let other : (c.in-Impl.id.0 == c.args.impl_id.0) ≡ false = search rules in
-    c.args_of_other.ensures.decided m owed q (taken-other c.args.self.now c.args.impl_id c.in-Impl.id c.args.container q c.in-Impl.is other taken)
-
-pub returns-else-id-impl_id-clause-fresh : goal.returns-else-id-impl_id-clause-fresh
-returns-else-id-impl_id-clause-fresh c = λ m owed q taken.
-    let other : (c.in-Impl.id.0 == c.args.impl_id.0) ≡ false = search rules in
-    c.args_of_other.ensures.fresh m owed q (taken-other c.args.self.now c.args.impl_id c.in-Impl.id c.args.container q c.in-Impl.is other taken)
+    let at = taken-other c.args.self.now c.args.impl_id c.in-Impl.id c.args.container q c.in-Impl.is other taken in
+    record {
+      closed = λ closed. record {
+        sound = λ m owed. c.args_of_other.ensures.sound m owed q at closed;
+        decided = λ m owed. c.args_of_other.ensures.decided m owed q at closed;
+        fresh = λ m owed. c.args_of_other.ensures.fresh m owed q at closed;
+        binds_nothing = c.args_of_other.ensures.binds_nothing q at closed;
+      };
+      variables = λ opened. record {
+        made_equal = c.args_of_other.ensures.made_equal q at opened;
+        equal = λ m owed. c.args_of_other.ensures.equal m owed q at opened;
+        never = c.args_of_other.ensures.never q at opened;
+      };
+      added = c.args_of_other.ensures.added q at;
+    }

@@ -2,6 +2,7 @@ use Rattle.std.proofs.Common.{sym, ap, subst}
 use Rattle.goal_solver.specs.GoingBack.{GoesBack}
 use Rattle.goal_solver.specs.State.{State}
 use Rattle.goal_solver.proofs.AddedGoalLemmas.{restored-owed, restored-alone, restored-fault, restored-itself}
+use Rattle.goal_solver.proofs.FaultLemmas.{undone-faults}
 use Rattle.goal_solver.proofs.GoingBackLemmas.{goes_back-restored}
 use Rattle.goal_solver.proofs.VariableLemmas.{on_err}
 use Rattle.goal_solver.proofs.RefusalLemmas.{restored-refused}
@@ -29,7 +30,12 @@ returns-then-is_err-clause-closed c = λ closed.
 pub returns-then-is_err-clause-alone : goal.returns-then-is_err-clause-alone
 returns-then-is_err-clause-alone c =
     restored-alone c.args.self.now c.evaluate_added_goals-answered.new.self c.rollback.new.self
-    (c.rollback.ensures.undone c.args.self.now c.snapshot-before.ensures c.evaluate_added_goals-answered.ensures.goes_back) c.evaluate_added_goals-answered.ensures.alone
+    (c.rollback.ensures.undone c.args.self.now c.snapshot-before.ensures c.evaluate_added_goals-answered.ensures.goes_back)
+
+pub returns-then-is_err-clause-faults : goal.returns-then-is_err-clause-faults
+returns-then-is_err-clause-faults c =
+    undone-faults c.args.self.now c.evaluate_added_goals-answered.new.self c.rollback.new.self c.evaluate_added_goals-answered.ensures.goes_back c.evaluate_added_goals-answered.ensures.faults
+    (c.rollback.ensures.undone c.args.self.now c.snapshot-before.ensures c.evaluate_added_goals-answered.ensures.goes_back)
 
 pub returns-then-is_err-clause-unchanged : goal.returns-then-is_err-clause-unchanged
 returns-then-is_err-clause-unchanged c =

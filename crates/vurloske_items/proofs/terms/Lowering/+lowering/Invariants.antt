@@ -7,11 +7,8 @@ decreases-term_within l = 16 * l.depth + 0
 abbrev pub decreases-ty_within : goal.decreases-ty_within
 decreases-ty_within l = 16 * l.depth + 1
 
-abbrev pub decreases-boxed : goal.decreases-boxed
-decreases-boxed l = 16 * l.depth + 2
-
 abbrev pub decreases-array : goal.decreases-array
-decreases-array l = 16 * l.depth + 3
+decreases-array l = 16 * l.depth + 2
 
 abbrev pub decreases-ty_list : goal.decreases-ty_list
 decreases-ty_list l = 16 * l.depth + 2
@@ -57,3 +54,9 @@ decreases-bound_within l = 16 * l.depth + 7
 
 abbrev pub decreases-dyn_ty : goal.decreases-dyn_ty
 decreases-dyn_ty l = 16 * l.depth + 8
+
+abbrev pub decreases-structural : goal.decreases-structural
+decreases-structural l = 16 * l.depth + 9
+
+abbrev pub decreases-composed : goal.decreases-composed
+decreases-composed l = 16 * l.depth + 10

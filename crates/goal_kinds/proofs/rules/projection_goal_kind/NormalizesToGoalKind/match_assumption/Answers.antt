@@ -1,25 +1,18 @@
-use Rattle.std.proofs.Common.{refl}
-use Rattle.goal_kinds.specs.Answers.{setting_of}
 use Rattle.goal_kinds.specs.CandidateRules.{said_by}
-use Rattle.goal_kinds.specs.ProjectionKind.{ProjectionCandidateGives, ProjectionCandidateRefuted}
-use Rattle.goal_kinds.specs.Projections.{CandidateGives, TermRefuted}
-use Rattle.goal_kinds.proofs.TraitKindLemmas.{means-gives, means-refuted}
+use Rattle.goal_kinds.proofs.ProjectionFaceLemmas.{projection-gives, projection-refuted, projection-told}
 use Rattle.goal_kinds.proofs.rules.projection_goal_kind.NormalizesToGoalKind.match_assumption.Goals as goal
 
 pub returns-clause-gives : goal.returns-clause-gives
-unfolding CandidateGives TermRefuted
 returns-clause-gives c =
-    let S = setting_of c.args.tables.now c.args._mode.now c.args.goal.now.param_env.items in
-    means-gives S c.args.then
-    (λ n t. ProjectionCandidateGives c.args.goal.now.predicate.alias S n (said_by c.args.assumption.now.kind) t)
-    (λ n. ProjectionCandidateRefuted c.args.goal.now.predicate.alias S n (said_by c.args.assumption.now.kind))
-    c.match_projection.result (λ n. c.match_projection.ensures.says S n refl)
+    projection-gives c.setting_of-setting.result c.args.tables.now c.args.mode.now c.args.goal.now.param_env.items c.args.goal.now.predicate.alias (said_by c.args.assumption.now.kind)
+    c.setting_of-setting.ensures.rows c.setting_of-setting.ensures.mode c.args.then c.match_projection.result tt (c.match_projection.ensures.listed c.args.goal.now.param_env.items)
 
 pub returns-clause-refuted : goal.returns-clause-refuted
-unfolding CandidateGives TermRefuted
 returns-clause-refuted c =
-    let S = setting_of c.args.tables.now c.args._mode.now c.args.goal.now.param_env.items in
-    means-refuted S c.args.then
-    (λ n t. ProjectionCandidateGives c.args.goal.now.predicate.alias S n (said_by c.args.assumption.now.kind) t)
-    (λ n. ProjectionCandidateRefuted c.args.goal.now.predicate.alias S n (said_by c.args.assumption.now.kind))
-    c.match_projection.result (λ n. c.match_projection.ensures.says S n refl)
+    projection-refuted c.setting_of-setting.result c.args.tables.now c.args.mode.now c.args.goal.now.param_env.items c.args.goal.now.predicate.alias (said_by c.args.assumption.now.kind)
+    c.setting_of-setting.ensures.rows c.setting_of-setting.ensures.mode c.args.then c.match_projection.result tt (c.match_projection.ensures.listed c.args.goal.now.param_env.items)
+
+pub returns-clause-list : goal.returns-clause-list
+returns-clause-list c =
+    projection-told c.setting_of-setting.result c.args.tables.now c.args.mode.now c.args.goal.now.param_env.items c.args.goal.now.predicate.alias (said_by c.args.assumption.now.kind)
+    c.setting_of-setting.ensures.rows c.setting_of-setting.ensures.mode c.args.then c.match_projection.result (c.match_projection.ensures.listed c.args.goal.now.param_env.items)

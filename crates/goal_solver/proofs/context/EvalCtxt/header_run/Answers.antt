@@ -1,0 +1,51 @@
+use Rattle.std.proofs.Common.{rules, refl, ap, ◌∙◌, subst}
+use Rattle.goal_kinds.specs.Interned.{erased_all}
+use Rattle.goal_kinds.specs.Levels.{level}
+use Rattle.goal_kinds.specs.TraitGoals.{header_of}
+use Rattle.goal_solver.specs.Answers.{level_over}
+use Rattle.goal_solver.specs.Outcomes.{MatchIn, SaysMatch, header_terms}
+use Rattle.goal_solver.specs.State.{State}
+use Rattle.goal_solver.proofs.BindingLemmas.{goes_back-interned}
+use Rattle.goal_solver.proofs.GoingBackLemmas.{goes_back-through, solved-grown}
+use Rattle.goal_solver.proofs.CacheLemmas.{sound-new}
+use Rattle.goal_solver.proofs.EvaluationLemmas.{run-says}
+use Rattle.goal_solver.proofs.TranslatedLemmas.{counted-says}
+use Rattle.goal_solver.proofs.context.EvalCtxt.header_run.Goals as goal
+
+pub invariant_of-self : goal.invariant_of-self
+invariant_of-self c = (
+  c.self.invariant.0,
+  c.self.invariant.1,
+  c.self.invariant.2,
+  c.self.invariant.3,
+  c.self.invariant.4,
+  solved-grown c.self.inside.terms c.match_header-found.new.terms c.self.inside.inference c.match_header-found.ensures.kept c.self.invariant.5,
+  c.self.invariant.6,
+)
+
+pub match_header-found-requires-clause-effects : goal.match_header-found-requires-clause-effects
+match_header-found-requires-clause-effects c = sound-new _ _ _ c.new-effects.ensures
+
+pub returns-clause-goes_back : goal.returns-clause-goes_back
+returns-clause-goes_back c =
+    goes_back-through c.args.self.now _ c.record_effects.new.self
+    (goes_back-interned _ c.args.self.now _ c.match_header-found.new.terms c.self.view_is refl c.match_header-found.ensures.kept)
+    c.record_effects.ensures.goes_back
+
+pub returns-clause-within : goal.returns-clause-within
+returns-clause-within c =
+    let within : MatchIn c.record_effects.new.self.terms c.in_ok-found.found = search rules in
+    c.counted.ensures.within c.record_effects.new.self.terms within
+
+pub returns-clause-says : goal.returns-clause-says
+returns-clause-says c = λ m runs.
+    let over : SaysMatch (level_over c.args.self.now m c.args.environment.now) c.deref.result.now (header_terms c.deref-2.result.now) (erased_all c.args.self.now.terms c.args.given.now) c.record_effects.new.self.terms c.in_ok-found.found =
+    run-says (λ S n T U. SaysMatch (level S n) c.deref.result.now (header_terms c.deref-2.result.now) (erased_all T c.args.given.now) U c.in_ok-found.found)
+    _ _ _ _ _ c.args.self.now c.record_effects.new.self c.args.environment.now c.args.on_access c.match_header-found.new.terms
+    c.self.view_is c.in_ok-found.ensures.says (c.rows.ensures.rows ∙ ap (λ (s : State). s.tables) c.self.view_is) (ap (λ (s : State). s.typing_mode) c.self.view_is) refl refl
+    (ap (λ (s : State). s.terms) c.record_effects.ensures.unchanged) m runs in
+    let found : SaysMatch (level_over c.args.self.now m c.args.environment.now) c.args.other.now.params.items (header_of c.args.other.now) (erased_all c.args.self.now.terms c.args.given.now) c.record_effects.new.self.terms c.in_ok-found.found =
+    subst (λ xs. SaysMatch (level_over c.args.self.now m c.args.environment.now) c.args.other.now.params.items (header_terms xs) (erased_all c.args.self.now.terms c.args.given.now) c.record_effects.new.self.terms c.in_ok-found.found) c.deref-2.ensures.value
+    (subst (λ ps. SaysMatch (level_over c.args.self.now m c.args.environment.now) ps (header_terms c.deref-2.result.now) (erased_all c.args.self.now.terms c.args.given.now) c.record_effects.new.self.terms c.in_ok-found.found) c.deref.ensures.value over) in
+    counted-says (level_over c.args.self.now m c.args.environment.now) c.args.other.now (erased_all c.args.self.now.terms c.args.given.now) c.record_effects.new.self.terms c.in_ok-found.found c.counted.result
+    (λ k. c.counted.ensures.same (search rules)) found

@@ -1,0 +1,46 @@
+-- What the evaluation of a goal without inference variables says, over a context.
+use Rattle.std.specs.Prelude.{◌≡◌, true, List, Result, IfOk, IfErr}
+use Rattle.goal_terms.specs.PredicateTrees.{PredicateTree, holds}
+use Rattle.goal_terms.specs.Tree.{Tree}
+use Rattle.goal_terms.specs.declared.modes.TypingMode.{TypingMode}
+use Rattle.goal_terms.specs.declared.predicates.Clause.{Clause}
+use Rattle.goal_terms.specs.declared.terms.AliasTermKind.{AliasTermKind}
+use Rattle.goal_kinds.specs.Level.{Level}
+use Rattle.goal_kinds.specs.Premises.{ClauseHolds, ClauseRefuted}
+use Rattle.goal_kinds.specs.Settings.{is_headline}
+use Rattle.goal_solver.specs.Answers.{IsOwed, level_over, erased_args}
+use Rattle.goal_solver.specs.Outcomes.{RunsAs, Says, SaysWhich}
+use Rattle.goal_solver.specs.Promises.{const_asked, equation_asked}
+use Rattle.goal_solver.specs.State.{State}
+use Rattle.goal_solver.specs.declared.eval.outcomes.Found.{Found}
+use Rattle.goal_solver.specs.declared.eval.outcomes.OnAccess.{OnAccess}
+use Rattle.goal_solver.specs.declared.eval.outcomes.Outcome.{Outcome}
+use Rattle.goal_solver.specs.declared.eval.outcomes.Stop.{Stop}
+use Rattle.goal_solver.specs.declared.eval.outcomes.Stop.TheVariants as stop
+use Rattle.goal_solver.specs.declared.eval.predicate_views.PredicateView.{PredicateView}
+use Rattle.goal_solver.specs.declared.eval.predicate_views.PredicateView.TheVariants as view
+
+-- a predicate as it stands in a goal, lifetimes aside
+abbrev pub predicate_seen : PredicateView → PredicateTree
+predicate_seen (view.Trait p) = holds p.now.trait_ref.def_id (erased_args p.now.trait_ref.args.items)
+predicate_seen (view.HostEffect p) = const_asked p.now
+predicate_seen (view.Projection p) = equation_asked p.now
+
+-- whether a predicate holds, at a level
+abbrev pub SaysAt : Level → PredicateTree → Result Outcome Stop → Type 0
+SaysAt L p r = IfOk r (Says (ClauseHolds L p) (ClauseRefuted L p))
+
+-- so in each mode that is owed an answer, and in each one that a run stands for
+abbrev pub SaysOf : State → State → List Clause → PredicateTree → Result Outcome Stop → Type 0
+SaysOf old new env p r = (m : TypingMode) → IsOwed new m → SaysAt (level_over old m env) p r
+
+abbrev pub RunSays : OnAccess → State → List Clause → PredicateTree → Result Outcome Stop → Type 0
+RunSays on old env p r = (m : TypingMode) → RunsAs on old.typing_mode m → SaysAt (level_over old m env) p r
+
+-- which term an alias has, at a level
+abbrev pub SaysTermAt : Level → AliasTermKind → List Tree → List Tree → Result Found Stop → Type 0
+SaysTermAt L k ts T r = IfOk r (SaysWhich (L.gives k ts) (L.gives_refuted k ts) T)
+
+-- an evaluation in a mode of the headline is only stopped by want of memory
+abbrev pub StopsForMemory : {A : Type 0} → State → Result A Stop → Type 0
+StopsForMemory s r = is_headline s.typing_mode ≡ true → IfErr r (λ e. e ≡ stop.OutOfMemory)
