@@ -57,6 +57,8 @@ pub mod SinceMarkLemmas
 pub mod RuleEntryLemmas
 pub mod RuleAnswerLemmas
 pub mod OpenStepLemmas
+pub mod OpenTraitLemmas
+pub mod KeptFaultLemmas
 pub mod OpenRecordLemmas
 pub mod OpenRunLemmas
 pub mod ClosingLemmas

@@ -1,5 +1,5 @@
 -- Trait goals with inference variables: how their forms and their classes answer.
-use Rattle.std.proofs.Common.{◌≡◌, ◌||◌, ◌<◌, length, ℕ, Bool, true, false, Option, Some, None, Result, Ok, Err, List, [], ◌∷◌, inl, inr, get_or, refl, sym, ap, subst, ◌∙◌}
+use Rattle.std.proofs.Common.{◌≡◌, ◌||◌, ◌<◌, length, ℕ, Bool, true, false, Option, Some, None, Result, Ok, Err, List, [], ◌∷◌, inl, inr, get_or, refl, sym, ap, subst, ◌∙◌, ⊎_elim}
 use Rattle.std.specs.List.{All}
 use Rattle.std.specs.Prelude.{IfOk}
 use Rattle.std.proofs.lemmas.Option.{slice_get-get_or}
@@ -38,12 +38,12 @@ use Rattle.goal_solver.specs.Collecting.{KindWords, words_for, Speaks, Lacks, Ar
 use Rattle.goal_solver.specs.GoingBack.{restored}
 use Rattle.goal_solver.specs.HeadForms.{IsClosedForm, IsFormAnswer, IsFormOpen, IsAnswered, bound_term}
 use Rattle.goal_solver.specs.HiddenTypes.{AsksForm}
-use Rattle.goal_solver.specs.OpenGoals.{IsNoForm, IsConsidered, Considers, fault_in, has_kind_fault, IsLeft, IsFormless, FormsGoal, IsClassAnswer, ClassAnswers, IsRefusedIn, ByClasses, trait_classes, WhenAnswered, MergesGoal}
+use Rattle.goal_solver.specs.OpenGoals.{IsNoForm, IsConsidered, Considers, fault_in, has_kind_fault, IsLeft, IsFormless, FormsGoal, IsClassAnswer, ClassAnswers, rules_of_class, AreOfClass, CollectsClasses, ConsidersRules, ByClasses, trait_classes, WhenAnswered, MergesGoal}
 use Rattle.goal_solver.specs.MergedRules.{MergesRules}
-use Rattle.goal_solver.specs.OpenRuns.{refusal_in}
 use Rattle.goal_solver.specs.Pending.{is_alias}
 use Rattle.goal_solver.specs.State.{State}
 use Rattle.goal_solver.specs.TranslatedArgs.{IsSameEnvironment}
+use Rattle.goal_solver.specs.declared.assembly.class_rules.ClassRules.{ClassRules}
 use Rattle.goal_solver.specs.declared.assembly.merged_rules.Merged.{Merged}
 
 -- of an error only a refusal is claimed something
@@ -125,26 +125,21 @@ unfolding ByClasses
 next-answers C env c cs s z u r h rest = inr (z, h, rest)
 
 -- and without any the goal is refused
-pub none-answers : (C : CollectsBy) (env : List Clause) (s u : State) (r : Result Response Fault) → u ≡ s → IsRefusedIn s.typing_mode r → ByClasses C env [] s r u
+pub none-answers : (C : CollectsBy) (env : List Clause) (s u : State) (r : Result Response Fault) → u ≡ s → r ≡ Err fault.NoSolution → ByClasses C env [] s r u
 unfolding ByClasses
 none-answers C env s u r e h = (e, h)
-
-refusal-maybe : (m : TypingMode) (c : Certainty) → refusal_in m ≡ Ok c → (refusal_in m ≡ Ok certainty.Maybe) × (c ≡ certainty.Maybe)
-refusal-maybe mode.Coherence c e = (refl, cc)
-refusal-maybe _ c e = absurd (cc)
-
-pub refused-ok : (m : TypingMode) (c : Certainty) (r : Response) → Ok c ≡ refusal_in m → r.certainty ≡ c → IsRefusedIn m (Ok r)
-refused-ok m c r e f =
-    let h = refusal-maybe m c (sym e) in inr (h.0, f ∙ h.1)
-
-pub refused-err : (m : TypingMode) (f : Fault) → Err f ≡ refusal_in m → f ≡ fault.NoSolution → IsRefusedIn m (Err f)
-refused-err m f e h = inl (sym e ∙ ap Err h, ap Err h)
 
 -- a class answers by what its rules are merged to
 pub class-answers : (C : CollectsBy) (env es : List Clause) (c : TraitGoalProvenVia) (s u : State) (rules qs : List Rule) (m n : Merged) (a : Option Response) → es ≡ env → qs ≡ rules →
     C s.typing_mode c rules → MergesRules es qs s m u → m ≡ n → IsClassAnswer c n a → ClassAnswers C env c s a u
 class-answers C env es c s u rules qs m n a e f h merges is k =
     (rules, h, n, subst (λ x. MergesRules env rules s x u) is (subst (λ xs. MergesRules env xs s m u) f (subst (λ xs. MergesRules xs qs s m u) e merges)), k)
+
+-- what a class answers, by the mode that there was before
+pub answered-in : (mode : TypingMode) (w : ClassRules) (c : TraitGoalProvenVia) (z u : State) (o a : Option Response) → z.typing_mode ≡ mode → o ≡ a →
+    ClassAnswers (AreOfClass z.typing_mode w) w.param_env.items c z o u → ClassAnswers (AreOfClass mode w) w.param_env.items c z a u
+answered-in mode w c z u o a e f h =
+    subst (λ x. ClassAnswers (AreOfClass x w) w.param_env.items c z a u) e (subst (λ x. ClassAnswers (AreOfClass z.typing_mode w) w.param_env.items c z x u) f h)
 
 -- what is claimed of an answer follows from another claim of it
 pub answered-map : (A B : Type 0) (r : Result Response Fault) → (A → B) → WhenAnswered r A → WhenAnswered r B
@@ -182,20 +177,64 @@ considers self_of with_self g h s a b r o form e asked is k replaced same = reco
   environment = same;
 }
 
--- a goal that is considered is answered by its classes
-pub by-classes : {P : Type 0} (K : KindWords P) (g h : Goal P) (s z u : State) (r : Result Response Fault) (o : Option (Goal P)) →
-    FormsGoal K.self_type K.is_with_self (has_kind_fault K.has_fault s.tables) g s z o → o ≡ Some h → z.tables ≡ s.tables →
-    WhenAnswered r (ByClasses (CollectsFor K z.tables h) h.param_env.items trait_classes z r u) → WhenAnswered r (MergesGoal K g s r u)
-by-classes K g h s z u r o forms is same by =
-    let f = subst (λ x. FormsGoal K.self_type K.is_with_self (has_kind_fault K.has_fault s.tables) g s z x) is forms in
-    answered-map (ByClasses (CollectsFor K z.tables h) h.param_env.items trait_classes z r u) (MergesGoal K g s r u) r
-    (λ b. inr (inr (h, z, f.0, f.1, subst (λ t. ByClasses (CollectsFor K t h) h.param_env.items trait_classes z r u) same b))) by
+-- classes whose rules are others answer likewise
+pub classes-mapped : (C D : CollectsBy) (env : List Clause) (cs : List TraitGoalProvenVia) (s u : State) (r : Result Response Fault) →
+    ((m : TypingMode) (c : TraitGoalProvenVia) (rs : List Rule) → C m c rs → D m c rs) → ByClasses C env cs s r u → ByClasses D env cs s r u
+unfolding ByClasses
+classes-mapped C D env [] s u r f h = h
+classes-mapped C D env (c ∷ cs) s u r f h =
+    ⊎_elim (λ k. inl (k.0, (k.1.0, f s.typing_mode c k.1.0 k.1.1, k.1.2, k.1.3, k.1.4), k.2))
+    (λ k. inr (k.0, (k.1.0, f s.typing_mode c k.1.0 k.1.1, k.1.2, k.1.3, k.1.4), classes-mapped C D env cs k.0 u r f k.2)) h
 
--- what a class answers, by the tables that there were before
-pub answered-by : {P : Type 0} (K : KindWords P) (g : Goal P) (t : Tables) (c : TraitGoalProvenVia) (z u : State) (o a : Option Response) → z.tables ≡ t → o ≡ a →
-    ClassAnswers (CollectsFor K z.tables g) g.param_env.items c z o u → ClassAnswers (CollectsFor K t g) g.param_env.items c z a u
-answered-by K g t c z u o a e f h =
-    subst (λ x. ClassAnswers (CollectsFor K x g) g.param_env.items c z a u) e (subst (λ x. ClassAnswers (CollectsFor K z.tables g) g.param_env.items c z x u) f h)
+-- the rules of a class that were collected in a mode
+of-class : {P : Type 0} (K : KindWords P) (t : Tables) (h : Goal P) (w : ClassRules) (mode m : TypingMode) (c : TraitGoalProvenVia) (rs : List Rule) →
+    ((x : TraitGoalProvenVia) → CollectsFor K t h mode x (rules_of_class w x)) → AreOfClass mode w m c rs → CollectsFor K t h m c rs
+of-class K t h w mode m c rs collected is = subst (λ xs. CollectsFor K t h m c xs) (sym is.1) (subst (λ x. CollectsFor K t h x c (rules_of_class w c)) (sym is.0) (collected c))
+
+-- the rules of all classes are collected
+pub each-class : {P : Type 0} (K : KindWords P) (t : Tables) (h : Goal P) (m : TypingMode) (w : ClassRules) → CollectsFor K t h m class.ParamEnv w.environment.items →
+    CollectsFor K t h m class.AliasBound w.bounds.items → CollectsFor K t h m class.Misc w.rest.items → (c : TraitGoalProvenVia) → CollectsFor K t h m c (rules_of_class w c)
+each-class K t h m w first second third class.ParamEnv = first
+each-class K t h m w first second third class.AliasBound = second
+each-class K t h m w first second third class.Misc = third
+
+-- for the goal that is considered in a goal's place
+pub collects-classes : {P : Type 0} (K : KindWords P) (g h : Goal P) (s x z : State) (w : ClassRules) (o : Option (Goal P)) → FormsGoal K.self_type K.is_with_self (has_kind_fault K.has_fault s.tables) g s z o →
+    o ≡ Some h → x ≡ z → z ≡ restored s z → w.param_env.items ≡ h.param_env.items → ((c : TraitGoalProvenVia) → CollectsFor K x.tables h x.typing_mode c (rules_of_class w c)) →
+    CollectsClasses K g s z w
+collects-classes K g h s x z w o forms is same back env collected =
+    let f = subst (λ y. FormsGoal K.self_type K.is_with_self (has_kind_fault K.has_fault s.tables) g s z y) is forms in
+    record {
+      considered = h;
+      considers = f.0;
+      accepted = f.1;
+      environment = env;
+      collected = λ c. subst (λ (y : State). CollectsFor K y.tables h y.typing_mode c (rules_of_class w c)) (same ∙ back) (collected c);
+    }
+
+-- which is one that a check accepts
+pub considered-accepted : {P : Type 0} (K : KindWords P) (g h : Goal P) (s x z : State) (o : Option (Goal P)) → FormsGoal K.self_type K.is_with_self (has_kind_fault K.has_fault s.tables) g s z o →
+    o ≡ Some h → x ≡ z → z ≡ restored s z → has_kind_fault K.has_fault x.tables h ≡ false
+considered-accepted K g h s x z o forms is same back =
+    let f = subst (λ y. FormsGoal K.self_type K.is_with_self (has_kind_fault K.has_fault s.tables) g s z y) is forms in
+    subst (λ (y : State). has_kind_fault K.has_fault y.tables h ≡ false) (sym (same ∙ back)) f.1
+
+-- a goal for which rules are collected is answered by its classes
+pub by-classes : {P : Type 0} (K : KindWords P) (g : Goal P) (s z u : State) (r : Result Response Fault) (o : Option ClassRules) (w : ClassRules) → ConsidersRules K g s o z → o ≡ Some w →
+    z ≡ restored s z → WhenAnswered r (ByClasses (AreOfClass z.typing_mode w) w.param_env.items trait_classes z r u) → WhenAnswered r (MergesGoal K g s r u)
+by-classes K g s z u r o w considers is back by =
+    let f = subst (λ x. ConsidersRules K g s x z) is considers in
+    let mode : z.typing_mode ≡ s.typing_mode = ap (λ (x : State). x.typing_mode) back in
+    answered-map (ByClasses (AreOfClass z.typing_mode w) w.param_env.items trait_classes z r u) (MergesGoal K g s r u) r
+    (λ b. inr (inr (
+      f.considered,
+      z,
+      f.considers,
+      f.accepted,
+      classes-mapped (AreOfClass z.typing_mode w) (CollectsFor K s.tables f.considered) f.considered.param_env.items trait_classes z u r
+          (λ m c rs h. of-class K s.tables f.considered w s.typing_mode m c rs f.collected (h.0 ∙ mode, h.1))
+          (subst (λ es. ByClasses (AreOfClass z.typing_mode w) es trait_classes z r u) f.environment b),
+    ))) by
 
 pub none-left : (o : Option Response) → ((x : Response) → o ≡ Some x → ⊥) → o ≡ None
 none-left None n = refl

@@ -27,7 +27,7 @@ use Rattle.goal_solver.specs.GoingBack.{GoesBack, restored}
 use Rattle.goal_solver.specs.Collecting.{KindWords, CollectsFor}
 use Rattle.goal_solver.specs.MergedRules.{MergesRules}
 use Rattle.goal_solver.specs.HiddenTypes.{AsksForm, tree_in}
-use Rattle.goal_solver.specs.OpenGoals.{Considers, FormsGoal, IsFormless, IsLeft, IsRefusedIn, WhenAnswered, has_kind_fault}
+use Rattle.goal_solver.specs.OpenGoals.{Considers, FormsGoal, IsFormless, IsLeft, WhenAnswered, has_kind_fault}
 use Rattle.goal_solver.specs.OpenProjections.{CollectsAll, is_formed, Forms, FormsAll, RefusesForm, LacksForm, WithForms, IsRigidList, IsRigid, own_args, proven_class, MergesGroup, ByBounds, ByRest, ByLater, ByGroups, alias_words, ByClass, MergesThrough, MergesProjection, AsksItsTrait, AnswersTrait}
 use Rattle.goal_solver.specs.OpenRuns.{RunsOpen}
 use Rattle.goal_solver.specs.Refusals.{WhenRefused, IsRefusedOpen}
@@ -235,7 +235,7 @@ pub rest-splits : (C : CollectsBy) (env : List Clause) (s z : State) (r : Respon
 rest-splits C env s z r m h = (merged.Split, z, m, (h, refl))
 
 pub rest-refuses : (C : CollectsBy) (env : List Clause) (s z : State) (r : Result Response Fault) →
-    MergesGroup C env (class.AliasBound ∷ class.Misc ∷ []) s merged.Refuted z → IsRefusedIn z.typing_mode r → ByRest C env s r z
+    MergesGroup C env (class.AliasBound ∷ class.Misc ∷ []) s merged.Refuted z → r ≡ Err fault.NoSolution → ByRest C env s r z
 rest-refuses C env s z r m h = (merged.Refuted, z, m, (h, refl))
 
 -- the classes after the environment are those of the class through which the trait goal holds

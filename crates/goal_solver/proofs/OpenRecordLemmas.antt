@@ -48,7 +48,7 @@ steps-recorded env entry.Evaluation s p u q h sure = (sym (ap (λ (x : OpenProgr
 steps-recorded env (entry.HiddenType v k f) s p u q h sure = ((joins-yes p q _ h sure).0, tt)
 steps-recorded env entry.Ambiguous s p u q h sure = ((both-yes p.certainty certainty.Maybe (sym (ap (λ (x : OpenProgress). x.certainty) h.1) ∙ sure)).0, tt)
 steps-recorded env entry.Undecided s p u q h sure = ((both-yes p.certainty certainty.Maybe (sym (ap (λ (x : OpenProgress). x.certainty) h.1) ∙ sure)).0, tt)
-steps-recorded env entry.Refused s p u q h sure = ((joins-yes p q _ h sure).0, tt)
+steps-recorded env entry.Refused s p u q h sure = absurd h
 
 -- one entry more
 pub open_recorded-next : (env : List Clause) (a b : State) (es : List RuleEntry) (i : ℕ) (e : RuleEntry) (p q : OpenProgress) → GoesBack a b → i < length es → e ≡ get_or es i e →

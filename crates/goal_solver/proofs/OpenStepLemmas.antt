@@ -36,7 +36,7 @@ use Rattle.goal_kinds.specs.declared.rules.RuleTerm.{RuleTerm}
 use Rattle.goal_solver.specs.Accesses.{uncaused_faults, RecordsCausedFaults}
 use Rattle.goal_solver.specs.Added.{with_goals, Enters, RecordsFault}
 use Rattle.goal_solver.specs.GoingBack.{GoesBack}
-use Rattle.goal_solver.specs.OpenRuns.{OpenProgress, named_trees, after_entry, after_naming, clauses_with, predicate_of, other_header, refusal_in, source_of, AddsGoals, AddsRow, Defines, Equates, Evaluates, Follows, GivesForm, GivesTerm, GivesValue, IsGoalOf, Matches, MatchesIf, NamesOpen, ReadsMode, Steps}
+use Rattle.goal_solver.specs.OpenRuns.{OpenProgress, named_trees, after_entry, after_naming, clauses_with, predicate_of, other_header, source_of, AddsGoals, AddsRow, Defines, Equates, Evaluates, Follows, GivesForm, GivesTerm, GivesValue, IsGoalOf, Matches, MatchesIf, NamesOpen, ReadsMode, Steps}
 use Rattle.goal_solver.specs.RunRules.{AreListed}
 use Rattle.goal_solver.specs.State.{State}
 use Rattle.goal_solver.proofs.BindingLemmas.{zip-map}
@@ -246,10 +246,6 @@ unfolding Steps
 undecided-step env e s p q stays after =
     ⊎_elim (λ is. subst (λ x. Steps env x s p s q) (sym is) (refl, after))
     (λ more. ⊎_elim (λ is. subst (λ x. Steps env x s p s q) (sym is) (refl, after)) (λ w. subst (λ x. Steps env x s p s q) (sym w.3) (refl, after)) more) stays
-
-pub refused-step : (env : List Clause) (e : RuleEntry) (s : State) (p q : OpenProgress) (c : Certainty) → e ≡ entry.Refused → refusal_in s.typing_mode ≡ Ok c → q ≡ after_entry p c → Steps env e s p s q
-unfolding Steps
-refused-step env e s p q c is refuses after = subst (λ x. Steps env x s p s q) (sym is) (c, (refl, refuses), after)
 
 -- only the fault of its entry comes with the step
 entered-one : {A : Type 0} (x y : A) (old new : List A) → Enters x old new → Contains new y → Contains old y ⊎ (x ≡ y)

@@ -29,7 +29,7 @@ use Rattle.goal_solver.specs.AddedGoals.{IsClosedGoal, IsRefutedIn, IsGoalAnswer
 use Rattle.goal_solver.specs.Answers.{IsOwed}
 use Rattle.goal_solver.specs.Equating.{IsEquated}
 use Rattle.goal_solver.specs.GoingBack.{BeginsWith, GoesBack, restored, begun}
-use Rattle.goal_solver.specs.OpenRuns.{OpenProgress, open_start, refusal_in, RunsThrough}
+use Rattle.goal_solver.specs.OpenRuns.{OpenProgress, open_start, RunsThrough}
 use Rattle.goal_solver.specs.Refusals.{WhenRefused, RefusesGoal, RefusesListed, RefusesOne, RefusesEqual, RefusesPending, RefusesMatch, RefusesMatchIf, RefusesNames, RefusesForm, RefusesValue, RefusesTerm, RefusesHidden, StepRefused, StopsAtEntry, StopsSomewhere, IsRefusedOpen}
 use Rattle.goal_solver.specs.Relating.{ChangesRecords, SaysYes, Refuses}
 use Rattle.goal_solver.specs.State.{State, kinds_of}
@@ -69,20 +69,19 @@ stopped-never P (Err fault.OutOfMemory) h = λ is. absurd (cc)
 stopped-never P (Err fault.NotForThisKind) h = λ is. absurd (cc)
 
 -- a goal that is refused
-pub goal-refused : (s a z : State) (g : Goal Predicate) (r : Result Certainty Fault) → a.typing_mode ≡ s.typing_mode →
-    ((m : TypingMode) → IsOwed z m → IsClosedGoal g.predicate g.param_env.items → IsGoalAnswer s m g r) → WhenRefused r (a.typing_mode ≢ mode.Coherence) → WhenRefused r (RefusesGoal s z g)
-goal-refused s a z g (Ok c) e h final = tt
-goal-refused s a z g (Err f) e h final = λ is. record {
-  final = λ same. final is (e ∙ same);
-  refuted = λ m owed closed. subst (λ (x : Fault). IsGoalAnswer s m g (Err x)) is (h m owed closed);
-}
+pub goal-refused : (s z : State) (g : Goal Predicate) (r : Result Certainty Fault) → ((m : TypingMode) → IsOwed z m → IsClosedGoal g.predicate g.param_env.items → IsGoalAnswer s m g r) →
+    WhenRefused r (RefusesGoal s z g)
+goal-refused s z g (Ok c) h = tt
+goal-refused s z g (Err f) h = λ is. record { refuted = λ m owed closed. subst (λ (x : Fault). IsGoalAnswer s m g (Err x)) is (h m owed closed) }
+
+-- one that isn't closed
+pub open-goal-refused : (s z : State) (g : Goal Predicate) (r : Result Certainty Fault) → (IsClosedGoal g.predicate g.param_env.items → ⊥) → WhenRefused r (RefusesGoal s z g)
+open-goal-refused s z g (Ok c) n = tt
+open-goal-refused s z g (Err f) n = λ is. record { refuted = λ m owed closed. absurd (n closed) }
 
 -- one that is refused later, after others
 pub refuses-later : (a b z : State) (g : Goal Predicate) → ChangesRecords a b → RefusesGoal b z g → RefusesGoal a z g
-refuses-later a b z g e h = record {
-  final = λ is. h.final (ap (λ (s : State). s.typing_mode) e ∙ is);
-  refuted = λ m owed closed. subst (λ (s : State). IsRefutedIn s m g) e (h.refuted m owed closed);
-}
+refuses-later a b z g e h = record { refuted = λ m owed closed. subst (λ (s : State). IsRefutedIn s m g) e (h.refuted m owed closed) }
 
 -- what a place counts in the beginning of a list
 count-taken : (i n : ℕ) (xs : List ℕ) → count_of i (take n xs) ≤ count_of i xs
@@ -107,7 +106,7 @@ refuses-pending s b y gs ts places e f split h = (
   h.0,
   h.1,
   listed-pending s places h.0 h.1 split h.2 h.3,
-  record { final = h.4.final; refuted = λ m owed closed. h.4.refuted m (owed.0, elim owed.1 [ inl k ↦ inl (sym e ∙ k) | inr k ↦ inr (sym e ∙ k.0, sym f ∙ k.1) ]) closed },
+  record { refuted = λ m owed closed. h.4.refuted m (owed.0, elim owed.1 [ inl k ↦ inl (sym e ∙ k) | inr k ↦ inr (sym e ∙ k.0, sym f ∙ k.1) ]) closed },
 )
 
 pub aside-refused : (o s b y : State) (gs hs : List (GoalSource × Goal Predicate)) (ts places : List ℕ) (r : Result Certainty Fault) → o ≡ s → hs ≡ s.goals →
@@ -124,7 +123,7 @@ aside-refused o s b y gs hs ts places r e f k l split h =
 pub restored-refused : (s b z : State) (r : Result Certainty Fault) → z ≡ restored s b → GoesBack s b → WhenRefused r (RefusesOne s b) → WhenRefused r (RefusesOne s z)
 restored-refused s b z r e g h =
     refused-map r
-    (λ k. (k.0, k.1, k.2, record { final = k.3.final; refuted = λ m owed closed. k.3.refuted m (restored-owed s b z m e g owed) closed }))
+    (λ k. (k.0, k.1, k.2, record { refuted = λ m owed closed. k.3.refuted m (restored-owed s b z m e g owed) closed }))
     h
 
 -- a refusal of the goals that are pending
@@ -179,9 +178,9 @@ pub evaluation-refused : (env : List Clause) (e : RuleEntry) (s : State) (p : Op
 unfolding StepRefused
 evaluation-refused env e s p u is h = subst (λ x. StepRefused env x s p u) (sym is) h
 
-pub refusal-refused : (env : List Clause) (e : RuleEntry) (s : State) (p : OpenProgress) (f : Fault) → e ≡ entry.Refused → Err f ≡ refusal_in s.typing_mode → f ≡ fault.NoSolution → StepRefused env e s p s
+pub refusal-refused : (env : List Clause) (e : RuleEntry) (s : State) (p : OpenProgress) → e ≡ entry.Refused → StepRefused env e s p s
 unfolding StepRefused
-refusal-refused env e s p f is refuses final = subst (λ x. StepRefused env x s p s) (sym is) (refl, sym refuses ∙ ap (λ (g : Fault). Err g) final)
+refusal-refused env e s p is = subst (λ x. StepRefused env x s p s) (sym is) refl
 
 -- a list whose steps are taken up to one that is refused
 pub stops-at : (env : List Clause) (es : List RuleEntry) (i : ℕ) (e : RuleEntry) (s u : State) (q : OpenProgress) (z : State) → i < length es → e ≡ get_or es i e →

@@ -26,9 +26,9 @@ use Rattle.goal_solver.specs.Answers.{IsMaybe}
 use Rattle.goal_solver.specs.Collecting.{KindWords, trait_words, CollectsFor}
 use Rattle.goal_solver.specs.HiddenTypes.{AsksForm}
 use Rattle.goal_solver.specs.MergedRules.{MergesRules}
-use Rattle.goal_solver.specs.OpenRuns.{refusal_in}
 use Rattle.goal_solver.specs.State.{State}
 use Rattle.goal_solver.specs.TranslatedArgs.{IsSameEnvironment}
+use Rattle.goal_solver.specs.declared.assembly.class_rules.ClassRules.{ClassRules}
 use Rattle.goal_solver.specs.declared.assembly.merged_rules.Merged.{Merged}
 use Rattle.goal_solver.specs.declared.assembly.merged_rules.Merged.TheVariants as merged
 
@@ -95,13 +95,9 @@ IsClassAnswer c merged.Split (Some r) = r.certainty ≡ certainty.Maybe
 abbrev pub ClassAnswers : (TypingMode → TraitGoalProvenVia → List Rule → Type 0) → List Clause → TraitGoalProvenVia → State → Option Response → State → Type 0
 ClassAnswers Collects env c s a u = (rules : List Rule) × Collects s.typing_mode c rules × (m : Merged) × MergesRules env rules s m u × IsClassAnswer c m a
 
--- a goal whose candidates are all refused is refused; in coherence no refusal is final
-abbrev pub IsRefusedIn : TypingMode → Result Response Fault → Type 0
-IsRefusedIn m r = ((refusal_in m ≡ Err fault.NoSolution) × (r ≡ Err fault.NoSolution)) ⊎ ((refusal_in m ≡ Ok certainty.Maybe) × IsMaybe r)
-
 -- the first of some classes that answers decides, and where none does the goal is refused
 unfoldable pub ByClasses : (TypingMode → TraitGoalProvenVia → List Rule → Type 0) → List Clause → List TraitGoalProvenVia → State → Result Response Fault → State → Type 0
-ByClasses Collects env [] s r u = (u ≡ s) × IsRefusedIn s.typing_mode r
+ByClasses Collects env [] s r u = (u ≡ s) × (r ≡ Err fault.NoSolution)
 ByClasses Collects env (c ∷ cs) s r u =
     ((a : Response) × ClassAnswers Collects env c s (Some a) u × (r ≡ Ok a))
     ⊎ ((z : State) × ClassAnswers Collects env c s None z × ByClasses Collects env cs z r u)
@@ -109,6 +105,15 @@ ByClasses Collects env (c ∷ cs) s r u =
 -- the classes of a trait goal, in order
 abbrev pub trait_classes : List TraitGoalProvenVia
 trait_classes = class.ParamEnv ∷ class.AliasBound ∷ class.Misc ∷ []
+
+-- the rules of a class, and that some are these, in a mode
+abbrev pub rules_of_class : ClassRules → TraitGoalProvenVia → List Rule
+rules_of_class w class.ParamEnv = w.environment.items
+rules_of_class w class.AliasBound = w.bounds.items
+rules_of_class w class.Misc = w.rest.items
+
+abbrev pub AreOfClass : TypingMode → ClassRules → TypingMode → TraitGoalProvenVia → List Rule → Type 0
+AreOfClass mode w m c rs = (m ≡ mode) × (rs ≡ rules_of_class w c)
 
 -- a context with another depth left
 abbrev pub at_depth : ℕ → State → State
@@ -119,6 +124,19 @@ abbrev pub WhenAnswered : Result Response Fault → Type 0 → Type 0
 WhenAnswered (Ok r) A = A
 WhenAnswered (Err fault.NoSolution) A = A
 WhenAnswered (Err f) A = Unit {0}
+
+-- the rules of a goal's candidates are collected, class by class, for the goal that is considered in its place
+pub record CollectsClasses {P : Type 0} (K : KindWords P) (g : Goal P) (s z : State) (w : ClassRules) : Type 0 where
+  pub considered : Goal P
+  pub considers : Considers K.self_type K.is_with_self g considered s z
+  pub accepted : has_kind_fault K.has_fault s.tables considered ≡ false
+  pub environment : w.param_env.items ≡ considered.param_env.items
+  pub collected : (c : TraitGoalProvenVia) → CollectsFor K s.tables considered s.typing_mode c (rules_of_class w c)
+
+-- there are none where no goal is considered
+abbrev pub ConsidersRules : {P : Type 0} → KindWords P → Goal P → State → Option ClassRules → State → Type 0
+ConsidersRules K g s None z = IsLeft K.self_type K.is_with_self (has_kind_fault K.has_fault s.tables) g s z
+ConsidersRules K g s (Some w) z = CollectsClasses K g s z w
 
 -- a goal is answered by its candidates: undecided where it isn't considered, refused where it is refuted that its self type has a head form, and else by its classes
 abbrev pub MergesGoal : {P : Type 0} → KindWords P → Goal P → State → Result Response Fault → State → Type 0

@@ -33,7 +33,7 @@ use Rattle.goal_solver.specs.Collecting.{KindWords, kind_words, CollectsFor}
 use Rattle.goal_solver.specs.GoingBack.{restored}
 use Rattle.goal_solver.specs.MergedRules.{MergesRules}
 use Rattle.goal_solver.specs.HiddenTypes.{AsksForm, tree_in}
-use Rattle.goal_solver.specs.OpenGoals.{Considers, IsLeft, IsFormless, IsRefusedIn, WhenAnswered, MergesTrait, at_depth, has_kind_fault}
+use Rattle.goal_solver.specs.OpenGoals.{Considers, IsLeft, IsFormless, WhenAnswered, MergesTrait, at_depth, has_kind_fault}
 use Rattle.goal_solver.specs.OpenRuns.{RunsOpen}
 use Rattle.goal_solver.specs.Refusals.{IsRefusedOpen}
 use Rattle.goal_solver.specs.State.{State}
@@ -152,7 +152,7 @@ IsGivenByBounds env own p merged.Split s r u = IsMaybe r × (u ≡ s)
 
 -- the bounds and the rest decide together, or the goal is refused
 abbrev pub IsGivenByRest : Merged → State → Result Response Fault → State → Type 0
-IsGivenByRest merged.Refuted s r u = IsRefusedIn s.typing_mode r × (u ≡ s)
+IsGivenByRest merged.Refuted s r u = (r ≡ Err fault.NoSolution) × (u ≡ s)
 IsGivenByRest (merged.Answered q) s r u = (r ≡ Ok q) × (u ≡ s)
 IsGivenByRest merged.Split s r u = IsMaybe r × (u ≡ s)
 

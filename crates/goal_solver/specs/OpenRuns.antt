@@ -15,7 +15,6 @@ use Rattle.goal_terms.specs.declared.answers.OpaqueTypeKey.{OpaqueTypeKey}
 use Rattle.goal_terms.specs.declared.answers.Response.{Response}
 use Rattle.goal_terms.specs.declared.ids.OpaqueId.{OpaqueId}
 use Rattle.goal_terms.specs.declared.modes.TypingMode.{TypingMode}
-use Rattle.goal_terms.specs.declared.modes.TypingMode.TheVariants as mode
 use Rattle.goal_terms.specs.declared.predicates.Clause.{Clause}
 use Rattle.goal_terms.specs.declared.predicates.ClauseKind.{ClauseKind}
 use Rattle.goal_terms.specs.declared.predicates.ClauseKind.TheVariants as clause
@@ -225,11 +224,6 @@ ReadsMode a s c u =
     (RecordsAccess a s u × (c ≡ certainty.Yes))
     ⊎ ((is_headline s.typing_mode ≡ false) × (u ≡ record s { accesses = u.accesses }) × GoesBack s u × (c ≡ certainty.Maybe))
 
--- what a rule that doesn't stand is answered: in coherence no refusal is final
-abbrev pub refusal_in : TypingMode → Result Certainty Fault
-refusal_in mode.Coherence = Ok certainty.Maybe
-refusal_in _ = Err fault.NoSolution
-
 -- something is done with a certainty, which joins those before it
 abbrev pub Joins : OpenProgress → OpenProgress → (Certainty → Type 0) → Type 0
 Joins p q Does = (c : Certainty) × Does c × (q ≡ after_entry p c)
@@ -248,7 +242,7 @@ Steps env (entry.DelayedFault f) s p u q = RecordsFault f s u × (q ≡ p)
 Steps env entry.Evaluation s p u q = (c : Certainty) × Evaluates s u c × (q ≡ p)
 Steps env entry.Ambiguous s p u q = (u ≡ s) × (q ≡ after_entry p certainty.Maybe)
 Steps env entry.Undecided s p u q = (u ≡ s) × (q ≡ after_entry p certainty.Maybe)
-Steps env entry.Refused s p u q = Joins p q (λ c. (u ≡ s) × (refusal_in s.typing_mode ≡ Ok c))
+Steps env entry.Refused s p u q = ⊥
 
 -- a chain of states: the step of each entry, in order, and no other step
 unfoldable pub RunsThrough : List Clause → List RuleEntry → State → OpenProgress → State → OpenProgress → Type 0

@@ -1,12 +1,11 @@
 -- What refusals rest on: those of the goals that are pending, of the steps of a list of entries with inference variables, and of such a list.
-use Rattle.std.specs.Prelude.{◌≡◌, ◌≢◌, ◌⊎◌, ◌<◌, ℕ, false, List, [], ◌∷◌, ◌++◌, length, map, Option, Some, None, slice_get, Result, Err, IfErr}
+use Rattle.std.specs.Prelude.{◌≡◌, ◌⊎◌, ◌<◌, ℕ, false, List, [], ◌∷◌, ◌++◌, length, map, Option, Some, None, slice_get, Result, Err, IfErr}
 use Rattle.goal_terms.specs.Folding.{instance}
 use Rattle.goal_terms.specs.Tree.{Tree, node_of}
 use Rattle.goal_terms.specs.TreeOf.{trees_of, tree_of_ty, tree_of_term}
 use Rattle.goal_terms.specs.declared.answers.GoalSource.{GoalSource}
 use Rattle.goal_terms.specs.declared.answers.OpaqueTypeKey.{OpaqueTypeKey}
 use Rattle.goal_terms.specs.declared.modes.TypingMode.{TypingMode}
-use Rattle.goal_terms.specs.declared.modes.TypingMode.TheVariants as mode
 use Rattle.goal_terms.specs.declared.predicates.Clause.{Clause}
 use Rattle.goal_terms.specs.declared.predicates.Goal.{Goal}
 use Rattle.goal_terms.specs.declared.predicates.Predicate.{Predicate}
@@ -31,7 +30,7 @@ use Rattle.goal_solver.specs.Answers.{IsOwed}
 use Rattle.goal_solver.specs.Equating.{IsEquated}
 use Rattle.goal_solver.specs.GoingBack.{GoesBack, restored, begun}
 use Rattle.goal_solver.specs.HiddenTypes.{NormalizesArgs, RefusesArgs, EntersHidden, checked_in}
-use Rattle.goal_solver.specs.OpenRuns.{OpenProgress, open_start, open_header, other_header, refusal_in, RunsThrough}
+use Rattle.goal_solver.specs.OpenRuns.{OpenProgress, open_start, open_header, other_header, RunsThrough}
 use Rattle.goal_solver.specs.Pending.{is_alias}
 use Rattle.goal_solver.specs.State.{State, kinds_of}
 use Rattle.goal_solver.specs.Variables.{with_variables, kind_for, fresh_args}
@@ -46,9 +45,8 @@ pub record RefusesEqual (env : List Clause) (ts us : List Tree) (old new : State
   pub undone : new ≡ restored old new
   pub back : GoesBack old new
 
--- a goal is refused: outside of coherence, and it is refuted if it is closed
+-- a goal is refused: it is refuted if it is closed
 pub record RefusesGoal (old new : State) (g : Goal Predicate) : Type 0 where
-  pub final : old.typing_mode ≢ mode.Coherence
   pub refuted : (m : TypingMode) → IsOwed new m → IsClosedGoal g.predicate g.param_env.items → IsRefutedIn old m g
 
 -- so is one of the goals at listed places
@@ -134,7 +132,7 @@ StepRefused env (entry.DelayedFault f) s p u = ⊥
 StepRefused env entry.Evaluation s p u = RefusesPending s u
 StepRefused env entry.Ambiguous s p u = ⊥
 StepRefused env entry.Undecided s p u = ⊥
-StepRefused env entry.Refused s p u = (u ≡ s) × (refusal_in s.typing_mode ≡ Err fault.NoSolution)
+StepRefused env entry.Refused s p u = u ≡ s
 
 -- the steps of the entries before one are taken, in order, and the step of that one is refused
 pub record StopsAtEntry (env : List Clause) (es : List RuleEntry) (old new : State) : Type 0 where

@@ -19,6 +19,7 @@ ghost use Rattle.goal_solver.specs.Promises.{AnswersGiven, AnswersTraitAbove, Ap
 ghost use Rattle.goal_solver.specs.State.{kinds_of};
 
 pub mod candidates;
+pub(crate) mod class_rules;
 pub(crate) mod collecting;
 pub(crate) mod merged_rules;
 pub(crate) mod merging;

@@ -91,6 +91,7 @@ fn has_same_entries(a: &Vec<(OpaqueTypeKey, Ty)>, b: &Vec<(OpaqueTypeKey, Ty)>) 
 impl EvalCtxt<'_> {
     /// Runs rules under an environment, each at the remaining depth, and merges the responses of those that
     /// aren't refused. Inference state, added goals and storage are as before.
+    #[cycle(open)]
     pub(crate) fn merge_rules(
         &mut self,
         environment: &[Clause],
@@ -111,6 +112,7 @@ impl EvalCtxt<'_> {
     }
 
     /// Runs one more rule, and merges its response with those before it, if it isn't refused.
+    #[cycle(open)]
     fn merge_next(
         &mut self,
         environment: &[Clause],
@@ -134,6 +136,7 @@ impl EvalCtxt<'_> {
 
     /// Runs a rule under an environment at the remaining depth. Where it is refused, there is no response.
     /// Inference state, added goals and storage are as before.
+    #[cycle(open)]
     fn run_unrefused(
         &mut self,
         environment: &[Clause],

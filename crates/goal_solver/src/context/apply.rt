@@ -8,6 +8,7 @@ ghost use Rattle.goal_infer.specs.Replacement.{number_of};
 ghost use Rattle.goal_infer.specs.Unification.{is_made_in};
 ghost use Rattle.goal_solver.specs.Binding.{IsApplicable, Applies, CanBeListed, GetValues, EntersAll, IsSameEntry, with_equations, with_entries};
 ghost use Rattle.goal_solver.specs.GoingBack.{GoesBack, restored};
+ghost use Rattle.goal_solver.specs.Relating.{ChangesRecords};
 ghost use Rattle.goal_solver.specs.Stored.{HasOneTypeAKey};
 ghost use Rattle.goal_solver.specs.Variables.{with_variables};
 
@@ -38,6 +39,23 @@ impl EvalCtxt<'_> {
             return Err(Fault::OutOfMemory);
         };
         Ok(response.certainty)
+    }
+
+    /// Applies a response that is sure and lists no hidden type, and answers whether it is one. Only memory is
+    /// refused; then inference state is as before.
+    pub(crate) fn apply_sure(&mut self, response: &Response) -> Result<Certainty, Fault>
+        requires { IsApplicable self.old response.now }
+        ensures alone { ChangesRecords self.old self.new }
+        ensures goes_back { GoesBack self.old self.new }
+        ensures only_memory { IsOkUnless result Fault.OutOfMemory }
+    {
+        if let Certainty::Maybe = response.certainty {
+            return Ok(Certainty::Maybe);
+        }
+        if !response.opaque_entries.is_empty() {
+            return Ok(Certainty::Maybe);
+        }
+        self.apply_response(response)
     }
 
     /// Makes, gives and adds what a response lists. Where memory is refused, some of it stays.

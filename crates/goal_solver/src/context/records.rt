@@ -1,18 +1,21 @@
 //! What a context records: opaque accesses and delayed faults, each once, in the order of first entry.
-ghost use Rattle.std.specs.Prelude.{◌≡◌, ◌⊎◌, ◌↔◌, IsTrue, OnOk, OnErr, IsOkUnless};
+ghost use Rattle.std.specs.Prelude.{◌≡◌, ◌⊎◌, ◌↔◌, true, take, IsTrue, OnOk, OnErr, IsOkUnless};
 ghost use Rattle.std.specs.List.{All, Contains};
 ghost use Rattle.goal_terms.specs.declared.answers.DelayedFault.{DelayedFault as Delayed};
 ghost use Rattle.goal_terms.specs.declared.answers.OpaqueAccess.{OpaqueAccess as Access};
-ghost use Rattle.goal_kinds.specs.Causes.{IsFaultCaused};
-ghost use Rattle.goal_solver.specs.Accesses.{RecordsCausedFaults};
+ghost use Rattle.goal_kinds.specs.Causes.{IsFaultCaused, is_missing};
+ghost use Rattle.goal_solver.specs.Accesses.{RecordsCausedFaults, uncaused, uncaused_faults};
 ghost use Rattle.goal_solver.specs.Added.{Enters, EntersAtMost, RecordsAccess, RecordsFault};
 ghost use Rattle.goal_solver.specs.GoingBack.{GoesBack};
 ghost use Rattle.goal_solver.specs.Stored.{IsSet};
 
 use crate::context::EvalCtxt;
+use crate::context::respond::since;
 use crate::eval::effects::Effects;
 use crate::eval::outcomes::Stop;
 use crate::faults::Fault;
+use goal_tables::checked::CheckedTables;
+use goal_tables::rows::DefValue;
 use goal_terms::answers::{DelayedFault, OpaqueAccess};
 use goal_terms::term_nodes::OutOfMemory;
 
@@ -130,6 +133,54 @@ impl EvalCtxt<'_> {
         }
         Ok(())
     }
+
+    /// Lets go of the delayed faults behind the first `count`, if one of those has no cause in the tables. It takes
+    /// no memory.
+    pub(crate) fn keep_caused_faults(&mut self, count: usize)
+        ensures unchanged { self.new ≡ record self.old { delayed_faults = self.new.delayed_faults } }
+        ensures kept { take count self.new.delayed_faults ≡ take count self.old.delayed_faults }
+        ensures caused { uncaused_faults self.new ≡ uncaused self.old.tables (take count self.old.delayed_faults) }
+    {
+        if !are_caused(self.tables, since(self.delayed_faults.as_slice(), count)) {
+            self.delayed_faults.truncate(count);
+        }
+    }
+}
+
+/// Whether each of some delayed faults has its cause in the tables.
+fn are_caused(tables: &CheckedTables, faults: &[DelayedFault]) -> bool
+    ensures { result ≡ true → All (IsFaultCaused tables.now) faults.now }
+{
+    for fault in faults {
+        if !is_caused(tables, *fault) {
+            return false;
+        }
+    }
+    true
+}
+
+/// Whether a delayed fault has its cause in the tables.
+fn is_caused(tables: &CheckedTables, fault: DelayedFault) -> bool
+    ensures { result ≡ true → IsFaultCaused tables.now fault }
+{
+    let rows = tables.rows();
+    match fault {
+        DelayedFault::MissingItem(id) => match rows.definition_row(id) {
+            None => false,
+            Some(row) => is_missing(&row.value),
+        },
+        DelayedFault::AutoTrait(id) => match rows.trait_row(id) {
+            None => false,
+            Some(row) => row.is_auto,
+        },
+    }
+}
+
+/// Whether a definition has no value.
+fn is_missing(value: &DefValue) -> bool
+    ensures { result ≡ is_missing value.now }
+{
+    matches!(value, DefValue::Missing)
 }
 
 /// Enters an access behind others, where it isn't among them. Only memory is refused; then nothing changes.

@@ -35,6 +35,7 @@ impl EvalCtxt<'_> {
     /// which they came. In terms and hidden types the bindings of variables are followed. The answer is `Yes`
     /// only where `certainty` is `Yes` and no goal is left that was added. Where it is refused, inference
     /// state, added goals and storage are as before.
+    #[cycle(open)]
     pub fn evaluate_added_goals_and_make_canonical_response(
         &mut self,
         certainty: Certainty,
@@ -151,7 +152,7 @@ pub(crate) fn both(first: Certainty, second: Certainty) -> Certainty
 }
 
 /// What stands in a list after so many.
-fn since<T>(items: &[T], count: usize) -> &[T]
+pub(crate) fn since<T>(items: &[T], count: usize) -> &[T]
     ensures { result.now ≡ drop count items.now }
 {
     if count < items.len() {

@@ -1,5 +1,5 @@
 //! Evaluating the goals that were added to a context.
-ghost use Rattle.std.specs.Prelude.{◌≡◌, ◌≢◌, ◌↔◌, ◌<◌, ℕ, List, [], ◌∷◌, ◌++◌, length, true, false, Some, slice_get, Err, IfOk, IfErr, OnOk, OnErr, IsTrue, IsOkUnless};
+ghost use Rattle.std.specs.Prelude.{◌≡◌, ◌↔◌, ◌<◌, ℕ, List, [], ◌∷◌, ◌++◌, length, true, false, Some, slice_get, Err, IfOk, IfErr, OnOk, OnErr, IsTrue, IsOkUnless};
 ghost use Rattle.std.specs.List.{Contains};
 ghost use Rattle.goal_terms.specs.declared.modes.TypingMode.{TypingMode as modes};
 ghost use Rattle.goal_kinds.specs.Settings.{is_headline};
@@ -16,8 +16,7 @@ use crate::context::{EvalCtxt, Snapshot};
 use crate::eval::outcomes::{Outcome, Stop};
 use crate::faults::Fault;
 use goal_terms::answers::{Certainty, GoalSource};
-use goal_terms::modes::TypingMode;
-use goal_terms::predicates::{Goal, Predicate};
+use goal_terms::predicates::{Goal, Predicate, TraitPredicate};
 use std::mem;
 
 /// How many times the goals are gone over at most.
@@ -26,12 +25,14 @@ const MOST_ROUNDS: usize = 8;
 impl EvalCtxt<'_> {
     /// Evaluates the goals that were added and not taken out, in order, in rounds, until a round binds no
     /// variable or eight are done. A goal that holds at the remaining depth is taken out. `Yes`: all were.
-    /// `NoSolution`: one is refuted; in coherence such a one stays undecided. `Maybe`: some are undecided.
+    /// `NoSolution`: one is refuted. `Maybe`: some are undecided.
     ///
-    /// A goal is asked with the bindings of its variables followed, and is undecided while one is left in it or
-    /// one stands in its environment. Two kinds go further: an alias and a term are then made equal, and the
-    /// term of an alias without variables is given to the goal's expected variable. So goals may bind variables,
-    /// and these bindings stay. After a fault inference state, goals and storage are as before.
+    /// A goal is asked with the bindings of its variables followed. While one is left in it or one stands in its
+    /// environment, a trait goal is answered by its candidates at one less of the depth, and an answer that is sure
+    /// is applied; an alias and a term are made equal; the term of an alias without variables is given to the
+    /// goal's expected variable; and any other goal is undecided. So goals may bind variables, and these bindings
+    /// stay. After a fault inference state, goals and storage are as before.
+    #[cycle(open)]
     pub fn try_evaluate_added_goals(&mut self) -> Result<Certainty, Fault>
         ensures sound { (m : modes) → IsOwed self.new m → ArePendingClosed self.old → IsPendingAnswer self.old m result }
         ensures decided { (m : modes) → IsOwed self.new m → ArePendingClosed self.old → LeavesOpen result → ArePendingUndecided self.old m }
@@ -55,6 +56,7 @@ impl EvalCtxt<'_> {
 
     /// Evaluates the goals that were added and not taken out. After a fault some may be taken out, and some
     /// variables bound.
+    #[cycle(open)]
     fn evaluate_added_goals(&mut self) -> Result<Certainty, Fault>
         ensures sound { (m : modes) → IsOwed self.new m → ArePendingClosed self.old → IsPendingAnswer self.old m result }
         ensures decided { (m : modes) → IsOwed self.new m → ArePendingClosed self.old → LeavesOpen result → ArePendingUndecided self.old m }
@@ -90,6 +92,7 @@ impl EvalCtxt<'_> {
 
     /// Evaluates the goals at some places in rounds, until one binds no variable. The places of those that
     /// hold come after the others that were taken out.
+    #[cycle(open)]
     fn evaluate_rounds(
         &mut self,
         goals: &[(GoalSource, Goal<Predicate>)],
@@ -132,6 +135,7 @@ impl EvalCtxt<'_> {
 
     /// Evaluates the goals at some places, in order, and answers the places of those that are undecided. The
     /// places of those that hold come after the others that were taken out.
+    #[cycle(open)]
     fn evaluate_round(
         &mut self,
         goals: &[(GoalSource, Goal<Predicate>)],
@@ -161,7 +165,24 @@ impl EvalCtxt<'_> {
     }
 
     /// What a goal comes to at the remaining depth.
+    #[cycle(open)]
     pub(crate) fn evaluate_goal(&mut self, goal: &Goal<Predicate>) -> Result<Certainty, Fault>
+        ensures answer { (m : modes) → IsOwed self.new m → IsClosedGoal goal.now.predicate goal.now.param_env.items → IsGoalAnswer self.old m goal.now result }
+        ensures refused { WhenRefused result (RefusesGoal self.old self.new goal.now) }
+        ensures closed { IsClosedGoal goal.now.predicate goal.now.param_env.items → self.new.inference ≡ self.old.inference }
+        ensures alone { ChangesRecords self.old self.new }
+        ensures faults { RecordsCausedFaults self.old self.new }
+        ensures goes_back { GoesBack self.old self.new }
+        ensures fault { IsFaultFor self.old self.new result }
+    {
+        match self.open_trait_goal(goal)? {
+            Some(asked) => self.evaluate_open_trait(&asked),
+            None => self.evaluate_other(goal),
+        }
+    }
+
+    /// What a goal comes to at the remaining depth, if it isn't a trait goal in which a variable is left.
+    fn evaluate_other(&mut self, goal: &Goal<Predicate>) -> Result<Certainty, Fault>
         ensures answer { (m : modes) → IsOwed self.new m → IsClosedGoal goal.now.predicate goal.now.param_env.items → IsGoalAnswer self.old m goal.now result }
         ensures refused { WhenRefused result (RefusesGoal self.old self.new goal.now) }
         ensures closed { IsClosedGoal goal.now.predicate goal.now.param_env.items → self.new.inference ≡ self.old.inference }
@@ -174,11 +195,39 @@ impl EvalCtxt<'_> {
         self.verdict(outcome)
     }
 
-    /// What is answered to a goal that holds or not. In coherence no refusal is final yet, so the goal is
-    /// undecided there. Nothing changes but that an access may be recorded.
+    /// What a trait goal with inference variables comes to: it is answered by its candidates, at one less of the
+    /// depth, and an answer that is sure is applied. At depth 0 it is undecided.
+    #[cycle(open)]
+    fn evaluate_open_trait(&mut self, goal: &Goal<TraitPredicate>) -> Result<Certainty, Fault>
+        ensures alone { ChangesRecords self.old self.new }
+        ensures faults { RecordsCausedFaults self.old self.new }
+        ensures goes_back { GoesBack self.old self.new }
+        ensures fault { IsFaultFor self.old self.new result }
+    {
+        if self.remaining_depth == 0 {
+            return Ok(Certainty::Maybe);
+        }
+        let known = self.delayed_faults.len();
+        let answered = self.apply_below(goal);
+        self.keep_caused_faults(known);
+        answered
+    }
+
+    /// Applies what a trait goal with inference variables is answered, if that is sure.
+    #[cycle(open)]
+    fn apply_below(&mut self, goal: &Goal<TraitPredicate>) -> Result<Certainty, Fault>
+        requires positive { 0 < self.old.remaining_depth }
+        ensures alone { ChangesRecords self.old self.new }
+        ensures goes_back { GoesBack self.old self.new }
+        ensures fault { IsFaultFor self.old self.new result }
+    {
+        let response = self.merge_below(goal)?;
+        self.apply_sure(&response)
+    }
+
+    /// What is answered to a goal that holds or not. Nothing changes but that an access may be recorded.
     fn verdict(&mut self, outcome: Result<Outcome, Stop>) -> Result<Certainty, Fault>
         ensures owed { (m : modes) → IsOwed self.new m → (is_headline self.old.typing_mode ≡ true → IfErr outcome (λ s. s ≡ Stop.OutOfMemory)) → IsVerdict outcome result }
-        ensures refused { WhenRefused result (self.old.typing_mode ≢ TypingMode.Coherence) }
         ensures unchanged { self.new ≡ restored self.old self.new }
         ensures alone { self.new ≡ record self.old { accesses = self.new.accesses } }
         ensures goes_back { GoesBack self.old self.new }
@@ -187,10 +236,7 @@ impl EvalCtxt<'_> {
         match outcome {
             Ok(Outcome::Holds) => Ok(Certainty::Yes),
             Ok(Outcome::Undecided) => Ok(Certainty::Maybe),
-            Ok(Outcome::Refuted) => match self.typing_mode() {
-                TypingMode::Coherence => Ok(Certainty::Maybe),
-                _ => Err(Fault::NoSolution),
-            },
+            Ok(Outcome::Refuted) => Err(Fault::NoSolution),
             Err(stop) => self.undecided_by(stop),
         }
     }

@@ -1,5 +1,5 @@
 //! Whether a goal that was added holds.
-ghost use Rattle.std.specs.Prelude.{◌≡◌, ◌<◌, ◌||◌, length, false, IfOk, IfErr};
+ghost use Rattle.std.specs.Prelude.{◌≡◌, ◌<◌, ◌||◌, length, false, None, IfOk, IfErr, IsOkUnless};
 ghost use Rattle.goal_terms.specs.NodeTests.{is_any_infer};
 ghost use Rattle.goal_terms.specs.TableMeaning.{Keeps};
 ghost use Rattle.goal_terms.specs.declared.modes.TypingMode.{TypingMode as modes};
@@ -14,17 +14,20 @@ ghost use Rattle.goal_solver.specs.Outcomes.{Says};
 ghost use Rattle.goal_solver.specs.Relating.{ChangesRecords};
 
 use crate::context::EvalCtxt;
+use crate::context::rebuilding::rebuilt_args;
 use crate::eval::closed_goals::has_variable;
 use crate::eval::open_terms::any_variable;
 use crate::eval::outcomes::{Found, Outcome, Stop};
 use crate::eval::predicate_views::PredicateView;
+use crate::eval::where_goals::copied_clauses;
+use crate::faults::Fault;
 use goal_infer::followed::{follow, follow_all};
 use goal_infer::resolve::resolve;
 use goal_infer::unify::{Unified, unify};
 use goal_kinds::candidates::interned::{InternedPredicate, InternedTrait};
 use goal_tables::predicate_terms::some_in_env;
 use goal_terms::node_tests::{NodeTest, general_variable};
-use goal_terms::predicates::{Clause, Goal, NormalizesTo, Predicate};
+use goal_terms::predicates::{Clause, Goal, NormalizesTo, Predicate, TraitPredicate, TraitRef};
 use goal_terms::term_nodes::TermId;
 use goal_terms::terms::Term;
 
@@ -53,6 +56,57 @@ impl EvalCtxt<'_> {
             }
             Predicate::Ambiguous => Ok(Outcome::Undecided),
         }
+    }
+
+    /// A trait goal with the bindings of its variables followed, if a variable is left in it or stands in its
+    /// environment. Nothing changes but that there may be more terms. Only memory is refused.
+    pub(crate) fn open_trait_goal(
+        &mut self,
+        goal: &Goal<Predicate>,
+    ) -> Result<Option<Goal<TraitPredicate>>, Fault>
+        ensures closed { IsClosedGoal goal.now.predicate goal.now.param_env.items → IfOk result (λ o. o ≡ None) }
+        ensures unchanged { self.new ≡ record self.old { terms = self.new.terms } }
+        ensures kept { Keeps self.old.terms self.new.terms }
+        ensures only_memory { IsOkUnless result Fault.OutOfMemory }
+    {
+        match &goal.predicate {
+            Predicate::Trait(asked) => {
+                if !has_variable(goal) {
+                    return Ok(None);
+                }
+                let Ok(followed) = self.followed_trait_goal(asked, &goal.param_env) else {
+                    return Err(Fault::OutOfMemory);
+                };
+                Ok(if_open(followed))
+            }
+            _ => Ok(None),
+        }
+    }
+
+    /// A trait goal with the bindings of the variables in its arguments followed. Nothing changes but that there
+    /// may be more terms.
+    fn followed_trait_goal(
+        &mut self,
+        asked: &TraitPredicate,
+        environment: &[Clause],
+    ) -> Result<Goal<TraitPredicate>, Stop>
+        ensures kept { Keeps self.old.terms self.new.terms }
+        ensures unchanged { self.new ≡ record self.old { terms = self.new.terms } }
+        ensures stops { IfErr result (λ s. s ≡ Stop.OutOfMemory) }
+    {
+        let ids = self.interned_args(asked.trait_ref.args.as_slice())?;
+        let ids = self.followed_args(ids.as_slice())?;
+        let args = rebuilt_args(&self.terms, ids.as_slice())?;
+        let Ok(param_env) = copied_clauses(self.allocator(), environment) else {
+            return Err(Stop::OutOfMemory);
+        };
+        let def_id = asked.trait_ref.def_id;
+        let trait_ref = TraitRef { def_id, args };
+        let predicate = TraitPredicate { trait_ref };
+        Ok(Goal {
+            param_env,
+            predicate,
+        })
     }
 
     /// Whether a goal's predicate holds at the remaining depth.
@@ -266,5 +320,14 @@ impl EvalCtxt<'_> {
             Unified::Undecided => Ok(Outcome::Undecided),
             Unified::No => Ok(Outcome::Refuted),
         }
+    }
+}
+
+/// A goal, if an inference variable stands in it or in its environment.
+fn if_open(goal: Goal<TraitPredicate>) -> Option<Goal<TraitPredicate>> {
+    if has_variable(&goal) {
+        Some(goal)
+    } else {
+        None
     }
 }

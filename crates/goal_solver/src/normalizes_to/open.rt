@@ -170,10 +170,7 @@ impl EvalCtxt<'_> {
         self.is_well_formed();
         let classes = [TraitGoalProvenVia::AliasBound, TraitGoalProvenVia::Misc];
         match self.merge_group(goal, &classes)? {
-            Merged::Refuted => {
-                let certainty = self.open_refusal()?;
-                Ok(self.respond(certainty, None))
-            }
+            Merged::Refuted => Err(Fault::NoSolution),
             Merged::Answered(response) => Ok(response),
             Merged::Split => Ok(self.respond(Certainty::Maybe, None)),
         }

@@ -1,14 +1,14 @@
 //! Trait goals with inference variables.
-ghost use Rattle.std.specs.Prelude.{◌≡◌, ◌<◌, ℕ, suc, false, Ok, Err, IfOk, IfErr, IfSome, IsOkUnless};
+ghost use Rattle.std.specs.Prelude.{◌≡◌, ◌<◌, ℕ, suc, false, Err, IfOk, IfErr, IfSome, IsOkUnless};
 ghost use Rattle.goal_terms.specs.TreeOf.{tree_of_ty};
 ghost use Rattle.goal_solver.specs.Binding.{IsApplicable};
-ghost use Rattle.goal_solver.specs.Collecting.{kind_words, CollectsFor};
+ghost use Rattle.goal_solver.specs.Collecting.{kind_words};
 ghost use Rattle.goal_solver.specs.GoingBack.{GoesBack, restored};
-ghost use Rattle.goal_solver.specs.OpenGoals.{FormsGoal, IsFormless, MergesGoal, MergesTrait, WhenAnswered, at_depth, has_kind_fault, IsConsidered, ClassAnswers, IsClassAnswer, ByClasses, IsRefusedIn, proven_by, trait_classes};
+ghost use Rattle.goal_solver.specs.OpenGoals.{FormsGoal, IsFormless, MergesGoal, MergesTrait, WhenAnswered, at_depth, has_kind_fault, IsConsidered, AreOfClass, ConsidersRules, ClassAnswers, ByClasses, proven_by, trait_classes};
 ghost use Rattle.goal_solver.specs.Relating.{IsFaultFor};
 ghost use Rattle.goal_solver.specs.TranslatedArgs.{IsSameEnvironment};
 
-use crate::assembly::collecting::class_rules;
+use crate::assembly::class_rules::{ClassRules, rules_by_class};
 use crate::assembly::merged_rules::Merged;
 use crate::context::EvalCtxt;
 use crate::eval::goals::lies_in_goal;
@@ -25,6 +25,7 @@ use goal_terms::terms::{Term, Ty};
 impl EvalCtxt<'_> {
     /// What a trait goal with inference variables is answered: by its candidates, at one less of the depth.
     /// Inference state, added goals and storage are as before.
+    #[cycle(open)]
     pub(crate) fn merge_below(&mut self, goal: &Goal<TraitPredicate>) -> Result<Response, Fault>
         requires positive { 0 < self.old.remaining_depth }
         ensures merges { (n : ℕ) → self.old.remaining_depth ≡ suc n → WhenAnswered result (MergesTrait goal.now (at_depth n self.old) result (at_depth n self.new)) }
@@ -36,13 +37,30 @@ impl EvalCtxt<'_> {
         self.holds_together();
         let depth = self.remaining_depth;
         self.remaining_depth = depth - 1;
-        let answer = self.merge_goal(goal);
+        let answer = self.merge_trait(goal);
         self.remaining_depth = depth;
         answer
     }
 
     /// What the candidates of a trait goal make of it at the remaining depth. Inference state, added goals and
     /// storage are as before.
+    #[cycle(open)]
+    fn merge_trait(&mut self, goal: &Goal<TraitPredicate>) -> Result<Response, Fault>
+        ensures merges { WhenAnswered result (MergesTrait goal.now self.old result self.new) }
+        ensures applies { IfOk result (IsApplicable self.new) }
+        ensures unchanged { self.new ≡ restored self.old self.new }
+        ensures goes_back { GoesBack self.old self.new }
+        ensures fault { IsFaultFor self.old self.new result }
+    {
+        self.is_well_formed();
+        match self.considered_rules(goal)? {
+            None => Ok(self.respond(Certainty::Maybe, None)),
+            Some(rules) => self.merge_classes(&rules),
+        }
+    }
+
+    /// What the candidates of a goal make of it at the remaining depth, by the classes of a trait goal. Inference
+    /// state, added goals and storage are as before.
     pub(crate) fn merge_goal<G: GoalKind + Drop>(
         &mut self,
         goal: &Goal<G>,
@@ -54,10 +72,28 @@ impl EvalCtxt<'_> {
         ensures fault { IsFaultFor self.old self.new result }
     {
         self.is_well_formed();
-        match self.with_normalized_self_ty(goal)? {
+        match self.considered_rules(goal)? {
             None => Ok(self.respond(Certainty::Maybe, None)),
-            Some(normalized) => self.merge_classes(&normalized),
+            Some(rules) => self.merge_classes(&rules),
         }
+    }
+
+    /// The rules of a goal's candidates for the head form of its self type, if candidates are considered for it. Inference state, added goals and storage are as before.
+    fn considered_rules<G: GoalKind + Drop>(
+        &mut self,
+        goal: &Goal<G>,
+    ) -> Result<Option<ClassRules>, Fault>
+        ensures considers { IfOk result (λ o. ConsidersRules (kind_words G.merging G.has_term G.self_type G.is_with_self G.has_fault G.trait_asked G.passes G.is_impl_for G.candidate_gives G.candidate_refuted G.is_for G.additional) goal.now self.old o self.new) }
+        ensures formless { IfErr result (λ f. f ≡ Fault.NoSolution → IsFormless G.self_type goal.now self.old self.new) }
+        ensures unchanged { self.new ≡ restored self.old self.new }
+        ensures goes_back { GoesBack self.old self.new }
+        ensures fault { IsFaultFor self.old self.new result }
+    {
+        let Some(normalized) = self.with_normalized_self_ty(goal)? else {
+            return Ok(None);
+        };
+        let rules = rules_by_class(self.tables, &self.typing_mode, normalized)?;
+        Ok(Some(rules))
     }
 
     /// The goal to consider candidates for: that for the head form of the self type. There is none where the head
@@ -88,40 +124,37 @@ impl EvalCtxt<'_> {
         Ok(Some(replaced))
     }
 
-    /// What a trait goal comes to at the remaining depth, by its classes: the environment, then the bounds of its
-    /// self type, then the rest. The goal's self type is a head form. Inference state, added goals and storage
-    /// are as before.
-    fn merge_classes<G: GoalKind>(&mut self, goal: &Goal<G>) -> Result<Response, Fault>
-        requires accepted { has_kind_fault G.has_fault self.old.tables goal.now ≡ false }
-        ensures decides { WhenAnswered result (ByClasses (CollectsFor (kind_words G.merging G.has_term G.self_type G.is_with_self G.has_fault G.trait_asked G.passes G.is_impl_for G.candidate_gives G.candidate_refuted G.is_for G.additional) self.old.tables goal.now) goal.now.param_env.items trait_classes self.old result self.new) }
+    /// What a trait goal comes to at the remaining depth, by the rules of its classes: those of the environment, then
+    /// those of the bounds of its self type, then the rest. Inference state, added goals and storage are as before.
+    #[cycle(open)]
+    fn merge_classes(&mut self, rules: &ClassRules) -> Result<Response, Fault>
+        ensures decides { WhenAnswered result (ByClasses (AreOfClass self.old.typing_mode rules.now) rules.now.param_env.items trait_classes self.old result self.new) }
         ensures applies { IfOk result (IsApplicable self.new) }
         ensures unchanged { self.new ≡ restored self.old self.new }
         ensures goes_back { GoesBack self.old self.new }
         ensures fault { IsFaultFor self.old self.new result }
     {
-        self.is_well_formed();
-        if let Some(answer) = self.class_answer(goal, TraitGoalProvenVia::ParamEnv)? {
+        if let Some(answer) = self.class_answer(rules, TraitGoalProvenVia::ParamEnv)? {
             return Ok(answer);
         }
-        if let Some(answer) = self.class_answer(goal, TraitGoalProvenVia::AliasBound)? {
+        if let Some(answer) = self.class_answer(rules, TraitGoalProvenVia::AliasBound)? {
             return Ok(answer);
         }
-        if let Some(answer) = self.class_answer(goal, TraitGoalProvenVia::Misc)? {
+        if let Some(answer) = self.class_answer(rules, TraitGoalProvenVia::Misc)? {
             return Ok(answer);
         }
-        let certainty = self.open_refusal()?;
-        Ok(self.respond(certainty, None))
+        Err(Fault::NoSolution)
     }
 
-    /// What a class of candidates answers to a goal at the remaining depth: nothing where all of them are refused.
-    /// Inference state, added goals and storage are as before.
-    fn class_answer<G: GoalKind>(
+    /// What a class of candidates answers to a goal at the remaining depth, by its rules: nothing where all of them
+    /// are refused. Inference state, added goals and storage are as before.
+    #[cycle(open)]
+    fn class_answer(
         &mut self,
-        goal: &Goal<G>,
+        rules: &ClassRules,
         class: TraitGoalProvenVia,
     ) -> Result<Option<Response>, Fault>
-        requires accepted { has_kind_fault G.has_fault self.old.tables goal.now ≡ false }
-        ensures answers { IfOk result (λ a. ClassAnswers (CollectsFor (kind_words G.merging G.has_term G.self_type G.is_with_self G.has_fault G.trait_asked G.passes G.is_impl_for G.candidate_gives G.candidate_refuted G.is_for G.additional) self.old.tables goal.now) goal.now.param_env.items class self.old a self.new) }
+        ensures answers { IfOk result (λ a. ClassAnswers (AreOfClass self.old.typing_mode rules.now) rules.now.param_env.items class self.old a self.new) }
         ensures applies { IfOk result (λ a. IfSome a (IsApplicable self.new)) }
         ensures never { result ≡ Err Fault.NoSolution → ⊥ }
         ensures unchanged { self.new ≡ restored self.old self.new }
@@ -129,8 +162,7 @@ impl EvalCtxt<'_> {
         ensures fault { IsFaultFor self.old self.new result }
     {
         self.is_well_formed();
-        let rules = class_rules(self.tables, &self.typing_mode, goal, class)?;
-        match self.merge_rules(&goal.param_env, &rules)? {
+        match self.merge_rules(&rules.param_env, rules.of_class(class))? {
             Merged::Refuted => Ok(None),
             Merged::Answered(response) => Ok(Some(proven_by(class, response))),
             Merged::Split => Ok(Some(self.respond(Certainty::Maybe, None))),

@@ -117,7 +117,7 @@ const OTHER_MODES: &[Scene] = &[
         mode: Mode::Coherence,
         limit: 4,
         turns: &[&[
-            Step::Run(Run::List(&[IS_Z, Entry::Refused], MAYBE)),
+            Step::Run(Run::List(&[IS_Z, Entry::Refused], NO)),
             Step::Run(Run::List(&[IS_Z, IS_P], NO)),
         ]],
         ..AT_ONCE

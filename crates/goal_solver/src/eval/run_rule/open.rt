@@ -1,9 +1,9 @@
 //! Running lists of entries with inference variables.
-ghost use Rattle.std.specs.Prelude.{◌≡◌, IfOk};
+ghost use Rattle.std.specs.Prelude.{◌≡◌, ◌∷◌, [], IfOk, OnOk};
 ghost use Rattle.goal_solver.specs.Binding.{IsApplicable};
 ghost use Rattle.goal_solver.specs.GoingBack.{GoesBack, restored};
-ghost use Rattle.goal_solver.specs.OpenRuns.{open_start, OpenProgress, RunsThrough, Closes, RunsOpen};
-ghost use Rattle.goal_solver.specs.Refusals.{WhenRefused, StopsAtEntry, StopsSomewhere, IsRefusedOpen};
+ghost use Rattle.goal_solver.specs.OpenRuns.{open_progress, open_start, OpenProgress, Steps, RunsThrough, Closes, RunsOpen};
+ghost use Rattle.goal_solver.specs.Refusals.{WhenRefused, StepRefused, StopsAtEntry, StopsSomewhere, IsRefusedOpen};
 ghost use Rattle.goal_solver.specs.Relating.{IsFaultFor};
 ghost use Rattle.goal_solver.specs.RunRules.{AreListed, AreRecorded, IsRecordedAnswer};
 ghost use Rattle.goal_solver.specs.State.{State};
@@ -19,6 +19,7 @@ impl EvalCtxt<'_> {
     /// What a list of entries with inference variables comes to: in a trial, the step of each entry is taken, in
     /// order, and then the goals are evaluated that are pending. The response lists what came of it, and can be
     /// applied. Inference state, added goals and storage are as before.
+    #[cycle(open)]
     pub(crate) fn run_open(
         &mut self,
         environment: &[Clause],
@@ -45,6 +46,7 @@ impl EvalCtxt<'_> {
     }
 
     /// Takes the step of each entry, and closes with an evaluation.
+    #[cycle(open)]
     fn answer_open(
         &mut self,
         environment: &[Clause],
@@ -63,6 +65,7 @@ impl EvalCtxt<'_> {
 
     /// Takes the step of each entry, in order, and answers how sure all of them are. Where one is refused, what
     /// came before it stays.
+    #[cycle(open)]
     fn run_through(
         &mut self,
         environment: &[Clause],
@@ -77,8 +80,28 @@ impl EvalCtxt<'_> {
     {
         let mut run = OpenRun::new(self.allocator());
         for entry in entries {
-            self.step_through(environment, &mut run, entry)?;
+            self.step_or_evaluate(environment, &mut run, entry)?;
         }
         Ok(run.certainty)
+    }
+
+    /// Takes the step of an entry, which may be an evaluation. Where it is refused, some of it may stay.
+    #[cycle(open)]
+    fn step_or_evaluate(
+        &mut self,
+        environment: &[Clause],
+        run: &mut OpenRun,
+        entry: &RuleEntry,
+    ) -> Result<(), Fault>
+        ensures steps { OnOk result (Steps environment.now entry.now self.old (open_progress run.old) self.new (open_progress run.new)) }
+        ensures refused { WhenRefused result (StepRefused environment.now entry.now self.old (open_progress run.old) self.new) }
+        ensures listed { AreListed (entry.now ∷ []) self.old self.new }
+        ensures goes_back { GoesBack self.old self.new }
+        ensures fault { IsFaultFor self.old self.new result }
+    {
+        match entry {
+            RuleEntry::Evaluation => self.evaluate_pending(),
+            _ => self.step_through(environment, run, entry),
+        }
     }
 }

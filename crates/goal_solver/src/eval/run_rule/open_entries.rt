@@ -1,5 +1,5 @@
 //! The steps of a list of entries with inference variables.
-ghost use Rattle.std.specs.Prelude.{◌≡◌, ◌∷◌, [], IfOk, IfErr, OnOk, IsOkUnless, slice_get, option_map};
+ghost use Rattle.std.specs.Prelude.{◌≡◌, ◌≢◌, ◌∷◌, [], IfOk, IfErr, OnOk, IsOkUnless, slice_get, option_map};
 ghost use Rattle.std.specs.Option.{option_copied};
 ghost use Rattle.goal_terms.specs.Folding.{instance};
 ghost use Rattle.goal_terms.specs.PredicateTrees.{tree_of_kind};
@@ -9,7 +9,7 @@ ghost use Rattle.goal_kinds.specs.declared.rules.RowValue.TheVariants as of_row;
 ghost use Rattle.goal_terms.specs.declared.answers.Certainty.{Certainty as certain};
 ghost use Rattle.goal_solver.specs.Accesses.{RecordsCausedFaults};
 ghost use Rattle.goal_solver.specs.GoingBack.{GoesBack};
-ghost use Rattle.goal_solver.specs.OpenRuns.{open_progress, named_trees, clauses_with, source_of, AddsGoals, AddsRow, Equates, Evaluates, GivesForm, GivesTerm, GivesValue, refusal_in, ReadsMode, Steps};
+ghost use Rattle.goal_solver.specs.OpenRuns.{open_progress, named_trees, clauses_with, source_of, AddsGoals, AddsRow, Equates, Evaluates, GivesForm, GivesTerm, GivesValue, ReadsMode, Steps};
 ghost use Rattle.goal_solver.specs.Refusals.{WhenRefused, RefusesEqual, RefusesPending, RefusesForm, RefusesValue, RefusesTerm, StepRefused};
 ghost use Rattle.goal_solver.specs.Relating.{IsFaultFor};
 ghost use Rattle.goal_solver.specs.RunRules.{AreListed};
@@ -27,21 +27,21 @@ use goal_terms::answers::{Certainty, GoalSource, OpaqueAccess};
 use goal_terms::heads::Node;
 use goal_terms::ids::{DefId, FreeId, InherentId, OpaqueId};
 use goal_terms::instantiate::instantiate;
-use goal_terms::modes::TypingMode;
 use goal_terms::predicates::{Clause, ClauseKind, Goal};
 use goal_terms::terms::{GenericArg, Term, Ty};
 use std::alloc::{AllocError, Global};
 
 impl EvalCtxt<'_> {
     #[tactic(auto, using(crate::proofs::RecordedLemmas::stepping))]
-    /// Takes the step of an entry of a list with inference variables. Where it is refused, some of it may stay.
-    /// Const conditions are undecided.
+    /// Takes the step of an entry of a list with inference variables, if it isn't an evaluation. Where it is
+    /// refused, some of it may stay. Const conditions are undecided.
     pub(crate) fn step_through(
         &mut self,
         environment: &[Clause],
         run: &mut OpenRun,
         entry: &RuleEntry,
     ) -> Result<(), Fault>
+        requires other { entry.now ≢ RuleEntry.Evaluation }
         ensures steps { OnOk result (Steps environment.now entry.now self.old (open_progress run.old) self.new (open_progress run.new)) }
         ensures refused { WhenRefused result (StepRefused environment.now entry.now self.old (open_progress run.old) self.new) }
         ensures listed { AreListed (entry.now ∷ []) self.old self.new }
@@ -78,20 +78,18 @@ impl EvalCtxt<'_> {
                 Ok(run.join(certainty))
             }
             RuleEntry::DelayedFault(fault) => self.record_fault(*fault),
-            RuleEntry::Evaluation => self.evaluate_pending(),
+            RuleEntry::Evaluation => unreachable!(),
             RuleEntry::Ambiguous | RuleEntry::Undecided | RuleEntry::RowConditions(_, _, _) => {
                 Ok(run.join(Certainty::Maybe))
             }
-            RuleEntry::Refused => {
-                let certainty = self.open_refusal()?;
-                Ok(run.join(certainty))
-            }
+            RuleEntry::Refused => Err(Fault::NoSolution),
         }
     }
 
     /// Evaluates the goals that are pending, as `try_evaluate_added_goals` does. Those that are undecided stay
     /// pending.
-    fn evaluate_pending(&mut self) -> Result<(), Fault>
+    #[cycle(open)]
+    pub(crate) fn evaluate_pending(&mut self) -> Result<(), Fault>
         ensures evaluates { OnOk result ((c : certain) × Evaluates self.old self.new c) }
         ensures refused { WhenRefused result (RefusesPending self.old self.new) }
         ensures faults { RecordsCausedFaults self.old self.new }
@@ -100,16 +98,6 @@ impl EvalCtxt<'_> {
     {
         self.try_evaluate_added_goals()?;
         Ok(())
-    }
-
-    /// What a rule that doesn't stand is answered. In coherence no refusal is final, so it is undecided there.
-    pub(crate) fn open_refusal(&self) -> Result<Certainty, Fault>
-        ensures { result ≡ refusal_in self.now.typing_mode }
-    {
-        match self.typing_mode {
-            TypingMode::Coherence => Ok(Certainty::Maybe),
-            _ => Err(Fault::NoSolution),
-        }
     }
 
     /// Records that the mode is read, as `read_mode` does. Where the run would be stopped, it is undecided, or

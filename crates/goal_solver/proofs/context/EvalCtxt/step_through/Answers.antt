@@ -5,14 +5,11 @@ use Rattle.goal_kinds.specs.Rules.{clauses_in}
 use Rattle.goal_solver.specs.OpenRuns.{open_progress, named_trees, source_of, AddsRow, GivesTerm, NamesOpen}
 use Rattle.goal_solver.proofs.BindingLemmas.{on_ok-map}
 use Rattle.goal_solver.proofs.GoingBackLemmas.{goes_back-same}
-use Rattle.goal_solver.proofs.OpenStepLemmas.{arguments-step, equation-step, clause-step, row-step, term-step, hidden-step, access-step, fault-step, fault-listed, evaluation-step, undecided-step, refused-step}
+use Rattle.goal_solver.proofs.OpenStepLemmas.{arguments-step, equation-step, clause-step, row-step, term-step, hidden-step, access-step, fault-step, fault-listed, undecided-step}
 use Rattle.goal_solver.proofs.RecordedLemmas.{none-listed}
 use Rattle.goal_solver.specs.Refusals.{RefusesNames, RefusesTerm}
-use Rattle.goal_solver.proofs.RefusalLemmas.{memory-only, refused-on, refused-map, arguments-refused, equation-refused, term-refused, hidden-refused, evaluation-refused, refusal-refused}
+use Rattle.goal_solver.proofs.RefusalLemmas.{memory-only, refused-on, refused-map, arguments-refused, equation-refused, term-refused, hidden-refused, refusal-refused}
 use Rattle.goal_solver.proofs.context.EvalCtxt.step_through.Goals as goal
-
-pub returns-in_err-certainty-in-Refused-clause-goes_back : goal.returns-in_err-certainty-in-Refused-clause-goes_back
-returns-in_err-certainty-in-Refused-clause-goes_back c = goes_back-same c.args.self.now
 
 pub returns-in_ok-found-in-Arguments-clause-steps : goal.returns-in_ok-found-in-Arguments-clause-steps
 returns-in_ok-found-in-Arguments-clause-steps c =
@@ -77,26 +74,12 @@ pub returns-in-DelayedFault-clause-listed : goal.returns-in-DelayedFault-clause-
 returns-in-DelayedFault-clause-listed c =
     fault-listed c.record_fault.result c.args.entry.now c.in-DelayedFault.fault c.args.self.now c.record_fault.new.self c.in-DelayedFault.is c.record_fault.ensures.recorded c.record_fault.ensures.unchanged
 
-pub returns-in-Evaluation-clause-steps : goal.returns-in-Evaluation-clause-steps
-returns-in-Evaluation-clause-steps c =
-    on_ok-map c.evaluate_pending.result
-    (λ h. evaluation-step c.args.environment.now c.args.entry.now c.args.self.now (open_progress c.args.run.now) c.evaluate_pending.new.self c.in-Evaluation.is h)
-    c.evaluate_pending.ensures.evaluates
-
 pub returns-in-Ambiguous-clause-steps : goal.returns-in-Ambiguous-clause-steps
 returns-in-Ambiguous-clause-steps c =
     undecided-step c.args.environment.now c.args.entry.now c.args.self.now (open_progress c.args.run.now) (open_progress c.join-in-Ambiguous.new.self) c.in-Ambiguous.is c.join-in-Ambiguous.ensures
 
 pub returns-in-Ambiguous-clause-goes_back : goal.returns-in-Ambiguous-clause-goes_back
 returns-in-Ambiguous-clause-goes_back c = goes_back-same c.args.self.now
-
-pub returns-in_ok-certainty-in-Refused-clause-steps : goal.returns-in_ok-certainty-in-Refused-clause-steps
-returns-in_ok-certainty-in-Refused-clause-steps c =
-    refused-step c.args.environment.now c.args.entry.now c.args.self.now (open_progress c.args.run.now) (open_progress c.join-in-Refused.new.self) c.in_ok-certainty-in-Refused.certainty
-    c.in-Refused.is (sym c.in_ok-certainty-in-Refused.ensures) c.join-in-Refused.ensures
-
-pub returns-in_ok-certainty-in-Refused-clause-goes_back : goal.returns-in_ok-certainty-in-Refused-clause-goes_back
-returns-in_ok-certainty-in-Refused-clause-goes_back c = goes_back-same c.args.self.now
 
 pub returns-in_err-found-in-Arguments-clause-refused : goal.returns-in_err-found-in-Arguments-clause-refused
 returns-in_err-found-in-Arguments-clause-refused c =
@@ -124,22 +107,14 @@ returns-in_err-certainty-in-Term-clause-refused c =
 pub returns-in-DelayedFault-clause-refused : goal.returns-in-DelayedFault-clause-refused
 returns-in-DelayedFault-clause-refused c = memory-only _ c.record_fault.result c.record_fault.ensures.only_memory
 
-pub returns-in-Evaluation-clause-refused : goal.returns-in-Evaluation-clause-refused
-returns-in-Evaluation-clause-refused c =
-    refused-map c.evaluate_pending.result
-    (λ h. evaluation-refused c.args.environment.now c.args.entry.now c.args.self.now (open_progress c.args.run.now) c.evaluate_pending.new.self c.in-Evaluation.is h)
-    c.evaluate_pending.ensures.refused
-
-pub returns-in_err-certainty-in-Refused-clause-refused : goal.returns-in_err-certainty-in-Refused-clause-refused
-returns-in_err-certainty-in-Refused-clause-refused c =
-    refused-on _ c.from_residual-in_err-certainty-in-Refused.result c.in_err-certainty-in-Refused.field-0.0 c.from_residual-in_err-certainty-in-Refused.ensures.1
-    (refusal-refused c.args.environment.now c.args.entry.now c.args.self.now (open_progress c.args.run.now) c.in_err-certainty-in-Refused.field-0.0 c.in-Refused.is c.in_err-certainty-in-Refused.ensures)
-
-pub returns-in_err-certainty-in-Refused-clause-listed : goal.returns-in_err-certainty-in-Refused-clause-listed
-returns-in_err-certainty-in-Refused-clause-listed c = none-listed c.args.self.now c.args.self.now (c.args.entry.now ∷ []) refl
-
-pub returns-in_ok-certainty-in-Refused-clause-listed : goal.returns-in_ok-certainty-in-Refused-clause-listed
-returns-in_ok-certainty-in-Refused-clause-listed c = none-listed c.args.self.now c.args.self.now (c.args.entry.now ∷ []) refl
-
 pub returns-in-Ambiguous-clause-listed : goal.returns-in-Ambiguous-clause-listed
 returns-in-Ambiguous-clause-listed c = none-listed c.args.self.now c.args.self.now (c.args.entry.now ∷ []) refl
+
+pub returns-in-Refused-clause-refused : goal.returns-in-Refused-clause-refused
+returns-in-Refused-clause-refused c = λ is. refusal-refused c.args.environment.now c.args.entry.now c.args.self.now (open_progress c.args.run.now) c.in-Refused.is
+
+pub returns-in-Refused-clause-listed : goal.returns-in-Refused-clause-listed
+returns-in-Refused-clause-listed c = none-listed c.args.self.now c.args.self.now (c.args.entry.now ∷ []) refl
+
+pub returns-in-Refused-clause-goes_back : goal.returns-in-Refused-clause-goes_back
+returns-in-Refused-clause-goes_back c = goes_back-same c.args.self.now

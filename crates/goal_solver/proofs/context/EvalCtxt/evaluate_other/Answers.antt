@@ -4,7 +4,7 @@ use Rattle.goal_solver.specs.State.{State}
 use Rattle.goal_solver.proofs.AddedGoalLemmas.{owed-before, goal-verdict, fault-later}
 use Rattle.goal_solver.proofs.GoingBackLemmas.{goes_back-through}
 use Rattle.goal_solver.proofs.RefusalLemmas.{goal-refused}
-use Rattle.goal_solver.proofs.context.EvalCtxt.evaluate_goal.Goals as goal
+use Rattle.goal_solver.proofs.context.EvalCtxt.evaluate_other.Goals as goal
 
 pub returns-clause-answer : goal.returns-clause-answer
 returns-clause-answer c = λ m owed closed.
@@ -25,9 +25,8 @@ returns-clause-fault c =
 
 pub returns-clause-refused : goal.returns-clause-refused
 returns-clause-refused c =
-    goal-refused c.args.self.now c.goal_outcome-outcome.new.self c.verdict.new.self c.args.goal.now c.verdict.result c.goal_outcome-outcome.ensures.goes_back.typing_mode
+    goal-refused c.args.self.now c.verdict.new.self c.args.goal.now c.verdict.result
     (λ m owed closed.
     goal-verdict c.args.self.now m c.args.goal.now c.goal_outcome-outcome.result c.verdict.result
     (c.goal_outcome-outcome.ensures.says m (owed-before c.goal_outcome-outcome.new.self c.verdict.new.self m c.verdict.ensures.goes_back owed) closed)
     (c.verdict.ensures.owed m owed (λ h. c.goal_outcome-outcome.ensures.stops (ap is_headline (sym c.goal_outcome-outcome.ensures.goes_back.typing_mode) ∙ h))))
-    c.verdict.ensures.refused

@@ -1,0 +1,789 @@
+use Rattle.goal_solver.proofs.AnswerLemmas.{goes_back-grown}
+use Rattle.goal_solver.proofs.BindingLemmas.{on_ok-map}
+use Rattle.goal_solver.proofs.OpenStepLemmas.{evaluation-step}
+use Rattle.std.proofs.Common.{◌≡◌, ◌++◌, ℕ, List, Vec, Global, Result, length, get_or, drop, refl, sym, ◌∙◌, subst, arith, [], ap, inl, Some, None, Ok, Err, ◌∷◌}
+use Rattle.std.specs.Prelude.{IfOk, IfErr, IfSome}
+use Rattle.std.proofs.Math.Seq.{take-length}
+use Rattle.goal_terms.specs.declared.answers.Certainty.{Certainty}
+use Rattle.goal_kinds.specs.declared.faults.Fault.{Fault}
+use Rattle.goal_solver.specs.AddedGoals.{AreSplit, LeavesUndecided, IsRefusalAt, AreClosedAt, IsAnswerAt, IsClosedGoal}
+use Rattle.goal_solver.specs.GoingBack.{BeginsWith, GoesBack, restored, begun}
+use Rattle.goal_solver.specs.Relating.{IsFaultFor, SaysYes}
+use Rattle.goal_solver.proofs.AddedGoalLemmas.{round-begins, records-through, fault-before, restored-owed, restored-alone, restored-fault, restored-itself, answer-before, fault-later}
+use Rattle.goal_solver.proofs.GoingBackLemmas.{goes_back-same, goes_back-through, begins-through, goes_back-restored, goes_back-tried, valid-begun}
+use Rattle.goal_solver.proofs.RoundLemmas.{next-listed, next-within, next-fault, next-says, next-split, next-begins, ends-says, ends-split, handed-on, first-fault, first-done, first-open, left-none, left-some, same-lengths}
+use Rattle.goal_solver.proofs.RefusalLemmas.{refused-on, refuses-later, refuses-among, aside-refused, restored-refused, memory-only, pending-refused, stops-at, refused-map, stops-last, open-refused, open-goal-refused, evaluation-refused}
+use Rattle.std.proofs.lemmas.Bool.{false≢true}
+use Rattle.goal_solver.specs.State.{State, kinds_of}
+use Rattle.goal_solver.specs.Refusals.{RefusesListed, IsRefusedOpen}
+use Rattle.goal_terms.specs.declared.answers.GoalSource.{GoalSource}
+use Rattle.goal_terms.specs.declared.predicates.Goal.{Goal}
+use Rattle.goal_terms.specs.declared.predicates.Predicate.{Predicate}
+use Rattle.goal_solver.proofs.AsideLemmas.{aside-sound, aside-decided, aside-closed, aside-taken}
+use Rattle.goal_solver.proofs.PlaceLemmas.{taken-split}
+use Rattle.goal_solver.proofs.FaultLemmas.{undone-faults, grown-faults}
+use Rattle.goal_solver.proofs.VariableLemmas.{on_err}
+use Rattle.goal_solver.specs.Responses.{ListsSinceMark}
+use Rattle.goal_solver.specs.OpenRuns.{Evaluates, open_progress, open_start, RunsThrough, RunsOpen}
+use Rattle.goal_solver.proofs.ClosingLemmas.{evaluates-grown, closing-answers, closing-recorded}
+use Rattle.goal_solver.proofs.MergingLemmas.{ok-map}
+use Rattle.goal_solver.proofs.SinceMarkLemmas.{lists-kept}
+use Rattle.std.proofs.lemmas.List.Elements.{All-nil}
+use Rattle.goal_solver.specs.RunRules.{IsRecorded, IsRecordedAnswer}
+use Rattle.goal_solver.proofs.OpenRecordLemmas.{open_recorded-next, tried-recorded, tried-listed, fault-tried}
+use Rattle.goal_solver.proofs.OpenRunLemmas.{through-none, through-next, through-all}
+use Rattle.goal_solver.proofs.RecordedLemmas.{recorded-end, none-listed, listed-next, listed-caused, step-caused}
+use Rattle.goal_solver.specs.Binding.{IsApplicable}
+use Rattle.goal_solver.proofs.ListedLemmas.{listed-applies}
+use Rattle.goal_solver.proofs.LaterLemmas.{merged-later}
+use Rattle.goal_solver.proofs.MergedLemmas.{runs-none, merged-next}
+use Rattle.goal_solver.proofs.BelowLemmas.{applies-below, merges-below}
+use Rattle.goal_terms.specs.declared.answers.Response.{Response}
+use Rattle.goal_terms.specs.declared.answers.TraitGoalProvenVia.TheVariants as class
+use Rattle.goal_kinds.specs.declared.faults.Fault.TheVariants as fault
+use Rattle.goal_solver.specs.Answers.{IsQuiet}
+use Rattle.goal_solver.specs.Collecting.{trait_words}
+use Rattle.goal_solver.specs.OpenGoals.{AreOfClass, rules_of_class}
+use Rattle.goal_solver.specs.declared.assembly.merged_rules.Merged.TheVariants as merged
+use Rattle.goal_solver.proofs.ApplicableLemmas.{nothing-applies-after}
+use Rattle.goal_solver.proofs.OpenClassLemmas.{answered-in, by-classes, class-answers, first-answers, next-answers, none-answers, none-left}
+use Rattle.goal_solver.proofs.OpenTraitLemmas.{grown-records, some-unless, restored-records, let-go, let-go-back, let-go-caused, let-go-fault}
+use Rattle.goal_solver.proofs.context.EvalCtxt.+open.Goals as goal
+
+pub evaluate_round-loop-i-init : goal.evaluate_round-loop-i-init
+evaluate_round-loop-i-init t c = record {
+  says = λ m owed closed. subst (λ (xs : List ℕ). LeavesUndecided c.args.self.now m c.args.goals.now c.args.places.now c.args.places.now xs) (sym c.new-left.ensures.items) (round-begins c.args.self.now m c.args.goals.now c.args.places.now);
+  closed = λ h. refl;
+  split = subst (λ (xs : List ℕ). AreSplit (length c.args.goals.now) c.args.taken.now.items (xs ++ c.args.places.now)) (sym c.new-left.ensures.items) c.requires.split;
+  taken = take-length c.args.taken.now.items;
+  alone = refl;
+  faults = refl;
+  goes_back = goes_back-same c.args.self.now;
+}
+
+pub evaluate_round-goal_at-added-requires : goal.evaluate_round-goal_at-added-requires
+evaluate_round-goal_at-added-requires t c = next-within (length c.args.goals.now) c.args.taken.now.items c.args.places.now c.loop-i.i (get_or c.args.places.now c.loop-i.i 0) (omega arith) refl c.requires.split
+
+pub evaluate_round-returns-in_err-answered-clause-refuses : goal.evaluate_round-returns-in_err-answered-clause-refuses
+evaluate_round-returns-in_err-answered-clause-refuses t c = λ m owed closed.
+    handed-on c.from_residual.result c.in_err-answered.field-0.0 (λ (r : Result (Vec ℕ Global) Fault). IfErr r (IsRefusalAt c.args.self.now m c.args.goals.now c.args.places.now)) c.from_residual.ensures.1
+    (next-fault c.args.self.now c.loop-i.self m c.args.goals.now c.args.places.now c.loop-i.i (get_or c.args.places.now c.loop-i.i 0) c.goal_at-added.result.now c.in_err-answered.field-0.0 (omega arith) refl c.goal_at-added.ensures
+    c.loop-i.invariant.alone (c.in_err-answered.ensures.answer m owed (closed (get_or c.args.places.now c.loop-i.i 0) c.goal_at-added.result.now c.goal_at-added.ensures (next-listed c.args.places.now c.loop-i.i (get_or c.args.places.now c.loop-i.i 0) (omega arith) refl))))
+
+pub evaluate_round-returns-in_err-answered-clause-split : goal.evaluate_round-returns-in_err-answered-clause-split
+evaluate_round-returns-in_err-answered-clause-split t c = (
+  c.loop-i.left.items ++ drop c.loop-i.i c.args.places.now,
+  c.loop-i.invariant.split,
+  handed-on c.from_residual.result c.in_err-answered.field-0.0 (λ (r : Result (Vec ℕ Global) Fault). IfOk r (λ left. c.loop-i.left.items ++ drop c.loop-i.i c.args.places.now ≡ left.items)) c.from_residual.ensures.1 tt,
+)
+
+pub evaluate_round-returns-in_err-answered-clause-alone : goal.evaluate_round-returns-in_err-answered-clause-alone
+evaluate_round-returns-in_err-answered-clause-alone t c = records-through c.args.self.now c.loop-i.self c.evaluate_goal.new.self c.loop-i.invariant.alone c.evaluate_goal.ensures.alone
+
+pub evaluate_round-returns-in_err-answered-clause-goes_back : goal.evaluate_round-returns-in_err-answered-clause-goes_back
+evaluate_round-returns-in_err-answered-clause-goes_back t c = goes_back-through c.args.self.now c.loop-i.self c.evaluate_goal.new.self c.loop-i.invariant.goes_back c.evaluate_goal.ensures.goes_back
+
+pub evaluate_round-returns-in_err-answered-clause-fault : goal.evaluate_round-returns-in_err-answered-clause-fault
+evaluate_round-returns-in_err-answered-clause-fault t c =
+    handed-on c.from_residual.result c.in_err-answered.field-0.0 (λ (r : Result (Vec ℕ Global) Fault). IsFaultFor c.args.self.now c.evaluate_goal.new.self r) c.from_residual.ensures.1
+    (fault-before Certainty (Vec ℕ Global) c.args.self.now c.loop-i.self c.evaluate_goal.new.self c.in_err-answered.field-0.0 c.loop-i.invariant.goes_back c.in_err-answered.ensures.fault)
+
+pub evaluate_round-returns-in_err-list_place-clause-split : goal.evaluate_round-returns-in_err-list_place-clause-split
+evaluate_round-returns-in_err-list_place-clause-split t c = (
+  c.loop-i.left.items ++ drop c.loop-i.i c.args.places.now,
+  subst (λ (xs : List ℕ). AreSplit (length c.args.goals.now) xs (c.loop-i.left.items ++ drop c.loop-i.i c.args.places.now)) (sym c.in_err-list_place.ensures.unchanged.0) c.loop-i.invariant.split,
+  handed-on c.from_residual-in_err-list_place.result c.in_err-list_place.field-0.0 (λ (r : Result (Vec ℕ Global) Fault). IfOk r (λ left. c.loop-i.left.items ++ drop c.loop-i.i c.args.places.now ≡ left.items)) c.from_residual-in_err-list_place.ensures.1 tt,
+)
+
+pub evaluate_round-returns-in_err-list_place-clause-taken : goal.evaluate_round-returns-in_err-list_place-clause-taken
+evaluate_round-returns-in_err-list_place-clause-taken t c = subst (λ (xs : List ℕ). BeginsWith xs c.args.taken.now.items) (sym c.in_err-list_place.ensures.unchanged.0) c.loop-i.invariant.taken
+
+pub evaluate_round-returns-in_err-list_place-clause-alone : goal.evaluate_round-returns-in_err-list_place-clause-alone
+evaluate_round-returns-in_err-list_place-clause-alone t c = records-through c.args.self.now c.loop-i.self c.evaluate_goal.new.self c.loop-i.invariant.alone c.evaluate_goal.ensures.alone
+
+pub evaluate_round-returns-in_err-list_place-clause-goes_back : goal.evaluate_round-returns-in_err-list_place-clause-goes_back
+evaluate_round-returns-in_err-list_place-clause-goes_back t c = goes_back-through c.args.self.now c.loop-i.self c.evaluate_goal.new.self c.loop-i.invariant.goes_back c.evaluate_goal.ensures.goes_back
+
+pub evaluate_round-loop-i-preserved : goal.evaluate_round-loop-i-preserved
+evaluate_round-loop-i-preserved t c = record {
+  says = λ m. next-says c.args.self.now c.loop-i.self c.evaluate_goal.new.self m c.args.goals.now c.args.places.now c.loop-i.taken.items c.loop-i.left.items c.list_place.new.taken.items c.list_place.new.left.items c.loop-i.i (get_or c.args.places.now c.loop-i.i 0) c.goal_at-added.result.now c.in_ok-answered.answered
+      (omega arith) refl c.goal_at-added.ensures c.loop-i.invariant.alone c.evaluate_goal.ensures.goes_back c.in_ok-list_place.ensures.listed (c.loop-i.invariant.says m) (c.in_ok-answered.ensures.answer m);
+  closed = λ closed. c.evaluate_goal.ensures.closed (closed (get_or c.args.places.now c.loop-i.i 0) c.goal_at-added.result.now c.goal_at-added.ensures (next-listed c.args.places.now c.loop-i.i (get_or c.args.places.now c.loop-i.i 0) (omega arith) refl)) ∙ c.loop-i.invariant.closed closed;
+  split = next-split (length c.args.goals.now) c.loop-i.i (get_or c.args.places.now c.loop-i.i 0) c.args.places.now c.loop-i.taken.items c.loop-i.left.items c.list_place.new.taken.items c.list_place.new.left.items c.in_ok-answered.answered (omega arith) refl c.in_ok-list_place.ensures.listed c.loop-i.invariant.split;
+  taken = next-begins c.args.taken.now.items c.loop-i.taken.items c.loop-i.left.items c.list_place.new.taken.items c.list_place.new.left.items (get_or c.args.places.now c.loop-i.i 0) c.in_ok-answered.answered c.in_ok-list_place.ensures.listed c.loop-i.invariant.taken;
+  alone = records-through c.args.self.now c.loop-i.self c.evaluate_goal.new.self c.loop-i.invariant.alone c.evaluate_goal.ensures.alone;
+  faults = c.evaluate_goal.ensures.faults ∙ c.loop-i.invariant.faults;
+  goes_back = goes_back-through c.args.self.now c.loop-i.self c.evaluate_goal.new.self c.loop-i.invariant.goes_back c.evaluate_goal.ensures.goes_back;
+}
+
+pub evaluate_round-returns-clause-says : goal.evaluate_round-returns-clause-says
+evaluate_round-returns-clause-says t c = λ m owed closed. ends-says c.args.self.now m c.args.goals.now c.args.places.now c.loop-i.left.items c.loop-i.i (omega arith) (c.loop-i.invariant.says m owed closed)
+
+pub evaluate_round-returns-clause-split : goal.evaluate_round-returns-clause-split
+evaluate_round-returns-clause-split t c = (c.loop-i.left.items, ends-split (length c.args.goals.now) c.loop-i.i c.args.places.now c.loop-i.taken.items c.loop-i.left.items (omega arith) c.loop-i.invariant.split, refl)
+
+pub evaluate_round-returns-in_err-answered-clause-refused : goal.evaluate_round-returns-in_err-answered-clause-refused
+evaluate_round-returns-in_err-answered-clause-refused t c =
+    refused-on _ c.from_residual.result c.in_err-answered.field-0.0 c.from_residual.ensures.1
+    (λ is. (
+      get_or c.args.places.now c.loop-i.i 0,
+      c.goal_at-added.result.now,
+      c.goal_at-added.ensures,
+      next-listed c.args.places.now c.loop-i.i (get_or c.args.places.now c.loop-i.i 0) (omega arith) refl,
+      refuses-later c.args.self.now c.loop-i.self c.evaluate_goal.new.self c.goal_at-added.result.now.1 c.loop-i.invariant.alone (c.in_err-answered.ensures.refused is),
+    ))
+
+pub evaluate_rounds-loop-round-init : goal.evaluate_rounds-loop-round-init
+evaluate_rounds-loop-round-init t c = record {
+  first = λ closed. (refl, refl, refl);
+  split = c.requires.split;
+  taken = take-length c.args.taken.now.items;
+  alone = refl;
+  faults = refl;
+  goes_back = goes_back-same c.args.self.now;
+}
+
+pub evaluate_rounds-evaluate_round-requires : goal.evaluate_rounds-evaluate_round-requires
+evaluate_rounds-evaluate_round-requires t c = (
+  omega (arith, c.loop-round.invariant.goes_back.remaining_depth),
+  subst (λ (xs : List ℕ). AreSplit (length c.args.goals.now) c.loop-round.taken.items xs) (sym c.as_slice.ensures.value) c.loop-round.invariant.split,
+)
+
+pub evaluate_rounds-returns-in_err-left-clause-answer : goal.evaluate_rounds-returns-in_err-left-clause-answer
+evaluate_rounds-returns-in_err-left-clause-answer t c = λ m owed closed.
+    let first = c.loop-round.invariant.first closed in
+    handed-on c.from_residual.result c.in_err-left.field-0.0 (λ (r : Result Certainty Fault). IsAnswerAt c.args.self.now m c.args.goals.now c.args.places.items r) c.from_residual.ensures.1
+    (first-fault c.args.self.now c.loop-round.self m c.args.goals.now c.args.places.items c.as_slice.result.now c.in_err-left.field-0.0 first.2 (c.as_slice.ensures.value ∙ first.1) (c.in_err-left.ensures.refuses m owed (subst (λ (xs : List ℕ). AreClosedAt c.args.goals.now xs) (sym (c.as_slice.ensures.value ∙ first.1)) closed)))
+
+pub evaluate_rounds-returns-in_err-left-clause-split : goal.evaluate_rounds-returns-in_err-left-clause-split
+evaluate_rounds-returns-in_err-left-clause-split t c = (
+  c.evaluate_round.ensures.split.0,
+  c.evaluate_round.ensures.split.1,
+  handed-on c.from_residual.result c.in_err-left.field-0.0 (λ (r : Result Certainty Fault). SaysYes r → c.evaluate_round.ensures.split.0 ≡ []) c.from_residual.ensures.1 (λ y. absurd y),
+)
+
+pub evaluate_rounds-returns-in_err-left-clause-alone : goal.evaluate_rounds-returns-in_err-left-clause-alone
+evaluate_rounds-returns-in_err-left-clause-alone t c = records-through c.args.self.now c.loop-round.self c.evaluate_round.new.self c.loop-round.invariant.alone c.evaluate_round.ensures.alone
+
+pub evaluate_rounds-returns-in_err-left-clause-goes_back : goal.evaluate_rounds-returns-in_err-left-clause-goes_back
+evaluate_rounds-returns-in_err-left-clause-goes_back t c = goes_back-through c.args.self.now c.loop-round.self c.evaluate_round.new.self c.loop-round.invariant.goes_back c.evaluate_round.ensures.goes_back
+
+pub evaluate_rounds-returns-in_err-left-clause-taken : goal.evaluate_rounds-returns-in_err-left-clause-taken
+evaluate_rounds-returns-in_err-left-clause-taken t c = begins-through c.args.taken.now.items c.loop-round.taken.items c.evaluate_round.new.taken.items c.loop-round.invariant.taken c.evaluate_round.ensures.taken
+
+pub evaluate_rounds-returns-in_err-left-clause-fault : goal.evaluate_rounds-returns-in_err-left-clause-fault
+evaluate_rounds-returns-in_err-left-clause-fault t c =
+    handed-on c.from_residual.result c.in_err-left.field-0.0 (λ (r : Result Certainty Fault). IsFaultFor c.args.self.now c.evaluate_round.new.self r) c.from_residual.ensures.1
+    (fault-before (Vec ℕ Global) Certainty c.args.self.now c.loop-round.self c.evaluate_round.new.self c.in_err-left.field-0.0 c.loop-round.invariant.goes_back c.in_err-left.ensures.fault)
+
+pub evaluate_rounds-returns-then-is_empty-clause-answer : goal.evaluate_rounds-returns-then-is_empty-clause-answer
+evaluate_rounds-returns-then-is_empty-clause-answer t c = λ m owed closed.
+    let first = c.loop-round.invariant.first closed in
+    first-done c.args.self.now c.loop-round.self m c.args.goals.now c.args.places.items c.as_slice.result.now c.in_ok-left.left.items first.2 (c.as_slice.ensures.value ∙ first.1) (left-none c.in_ok-left.left.len c.is_empty.result c.in_ok-left.left.items c.in_ok-left.left.ok.0 c.is_empty.ensures c.if-is_empty.true) (c.in_ok-left.ensures.says m owed (subst (λ (xs : List ℕ). AreClosedAt c.args.goals.now xs) (sym (c.as_slice.ensures.value ∙ first.1)) closed))
+
+pub evaluate_rounds-returns-then-is_empty-clause-closed : goal.evaluate_rounds-returns-then-is_empty-clause-closed
+evaluate_rounds-returns-then-is_empty-clause-closed t c = λ closed.
+    let first = c.loop-round.invariant.first closed in
+    c.in_ok-left.ensures.closed (subst (λ (xs : List ℕ). AreClosedAt c.args.goals.now xs) (sym (c.as_slice.ensures.value ∙ first.1)) closed) ∙ ap (λ (s : State). s.inference) first.2
+
+pub evaluate_rounds-returns-then-is_empty-clause-split : goal.evaluate_rounds-returns-then-is_empty-clause-split
+evaluate_rounds-returns-then-is_empty-clause-split t c = (c.in_ok-left.left.items, (subst (λ (xs : List ℕ). AreSplit (length c.args.goals.now) c.evaluate_round.new.taken.items xs) c.in_ok-left.ensures.split.2 c.in_ok-left.ensures.split.1), λ y. (left-none c.in_ok-left.left.len c.is_empty.result c.in_ok-left.left.items c.in_ok-left.left.ok.0 c.is_empty.ensures c.if-is_empty.true))
+
+pub evaluate_rounds-returns-then-is_empty-clause-alone : goal.evaluate_rounds-returns-then-is_empty-clause-alone
+evaluate_rounds-returns-then-is_empty-clause-alone t c = records-through c.args.self.now c.loop-round.self c.evaluate_round.new.self c.loop-round.invariant.alone c.evaluate_round.ensures.alone
+
+pub evaluate_rounds-returns-then-is_empty-clause-goes_back : goal.evaluate_rounds-returns-then-is_empty-clause-goes_back
+evaluate_rounds-returns-then-is_empty-clause-goes_back t c = goes_back-through c.args.self.now c.loop-round.self c.evaluate_round.new.self c.loop-round.invariant.goes_back c.evaluate_round.ensures.goes_back
+
+pub evaluate_rounds-returns-then-is_empty-clause-taken : goal.evaluate_rounds-returns-then-is_empty-clause-taken
+evaluate_rounds-returns-then-is_empty-clause-taken t c = begins-through c.args.taken.now.items c.loop-round.taken.items c.evaluate_round.new.taken.items c.loop-round.invariant.taken c.evaluate_round.ensures.taken
+
+pub evaluate_rounds-returns-then-is_at-clause-answer : goal.evaluate_rounds-returns-then-is_at-clause-answer
+evaluate_rounds-returns-then-is_at-clause-answer t c = λ m owed closed.
+    let first = c.loop-round.invariant.first closed in
+    first-open c.args.self.now c.loop-round.self m c.args.goals.now c.evaluate_round.new.taken.items c.args.places.items c.as_slice.result.now c.in_ok-left.left.items first.2 (c.as_slice.ensures.value ∙ first.1) (left-some c.in_ok-left.left.len c.is_empty.result c.in_ok-left.left.items c.in_ok-left.left.ok.0 c.is_empty.ensures c.if-is_empty.false) (subst (λ (xs : List ℕ). AreSplit (length c.args.goals.now) c.evaluate_round.new.taken.items xs) c.in_ok-left.ensures.split.2 c.in_ok-left.ensures.split.1) closed (c.in_ok-left.ensures.says m owed (subst (λ (xs : List ℕ). AreClosedAt c.args.goals.now xs) (sym (c.as_slice.ensures.value ∙ first.1)) closed))
+
+pub evaluate_rounds-returns-then-is_at-clause-closed : goal.evaluate_rounds-returns-then-is_at-clause-closed
+evaluate_rounds-returns-then-is_at-clause-closed t c = λ closed.
+    let first = c.loop-round.invariant.first closed in
+    c.in_ok-left.ensures.closed (subst (λ (xs : List ℕ). AreClosedAt c.args.goals.now xs) (sym (c.as_slice.ensures.value ∙ first.1)) closed) ∙ ap (λ (s : State). s.inference) first.2
+
+pub evaluate_rounds-returns-then-is_at-clause-split : goal.evaluate_rounds-returns-then-is_at-clause-split
+evaluate_rounds-returns-then-is_at-clause-split t c = (c.in_ok-left.left.items, (subst (λ (xs : List ℕ). AreSplit (length c.args.goals.now) c.evaluate_round.new.taken.items xs) c.in_ok-left.ensures.split.2 c.in_ok-left.ensures.split.1), λ y. absurd y)
+
+pub evaluate_rounds-returns-then-is_at-clause-alone : goal.evaluate_rounds-returns-then-is_at-clause-alone
+evaluate_rounds-returns-then-is_at-clause-alone t c = records-through c.args.self.now c.loop-round.self c.evaluate_round.new.self c.loop-round.invariant.alone c.evaluate_round.ensures.alone
+
+pub evaluate_rounds-returns-then-is_at-clause-goes_back : goal.evaluate_rounds-returns-then-is_at-clause-goes_back
+evaluate_rounds-returns-then-is_at-clause-goes_back t c = goes_back-through c.args.self.now c.loop-round.self c.evaluate_round.new.self c.loop-round.invariant.goes_back c.evaluate_round.ensures.goes_back
+
+pub evaluate_rounds-returns-then-is_at-clause-taken : goal.evaluate_rounds-returns-then-is_at-clause-taken
+evaluate_rounds-returns-then-is_at-clause-taken t c = begins-through c.args.taken.now.items c.loop-round.taken.items c.evaluate_round.new.taken.items c.loop-round.invariant.taken c.evaluate_round.ensures.taken
+
+pub evaluate_rounds-loop-round-preserved : goal.evaluate_rounds-loop-round-preserved
+evaluate_rounds-loop-round-preserved t c = record {
+  first = λ closed.
+      let first = c.loop-round.invariant.first closed in
+      absurd (false≢true (sym c.if-is_at.false ∙ c.is_at.ensures.1 (same-lengths c.loop-round.self c.evaluate_round.new.self c.evaluate_round.ensures.alone (c.in_ok-left.ensures.closed (subst (λ (xs : List ℕ). AreClosedAt c.args.goals.now xs) (sym (c.as_slice.ensures.value ∙ first.1)) closed)) ∙ sym c.snapshot-earlier.ensures)));
+  split = (subst (λ (xs : List ℕ). AreSplit (length c.args.goals.now) c.evaluate_round.new.taken.items xs) c.in_ok-left.ensures.split.2 c.in_ok-left.ensures.split.1);
+  taken = begins-through c.args.taken.now.items c.loop-round.taken.items c.evaluate_round.new.taken.items c.loop-round.invariant.taken c.evaluate_round.ensures.taken;
+  alone = records-through c.args.self.now c.loop-round.self c.evaluate_round.new.self c.loop-round.invariant.alone c.evaluate_round.ensures.alone;
+  faults = c.evaluate_round.ensures.faults ∙ c.loop-round.invariant.faults;
+  goes_back = goes_back-through c.args.self.now c.loop-round.self c.evaluate_round.new.self c.loop-round.invariant.goes_back c.evaluate_round.ensures.goes_back;
+}
+
+pub evaluate_rounds-returns-clause-answer : goal.evaluate_rounds-returns-clause-answer
+evaluate_rounds-returns-clause-answer t c = λ m owed closed. absurd (omega (arith, (c.loop-round.invariant.first closed).0))
+
+pub evaluate_rounds-returns-clause-closed : goal.evaluate_rounds-returns-clause-closed
+evaluate_rounds-returns-clause-closed t c = λ closed. absurd (omega (arith, (c.loop-round.invariant.first closed).0))
+
+pub evaluate_rounds-returns-clause-split : goal.evaluate_rounds-returns-clause-split
+evaluate_rounds-returns-clause-split t c = (c.loop-round.pending.items, c.loop-round.invariant.split, λ y. absurd y)
+
+pub evaluate_rounds-returns-in_err-left-clause-refused : goal.evaluate_rounds-returns-in_err-left-clause-refused
+evaluate_rounds-returns-in_err-left-clause-refused t c =
+    refused-on _ c.from_residual.result c.in_err-left.field-0.0 c.from_residual.ensures.1
+    (λ is. refuses-among c.args.self.now c.loop-round.self c.evaluate_round.new.self c.args.goals.now c.args.taken.now.items c.loop-round.taken.items c.args.places.items c.loop-round.pending.items
+    c.loop-round.invariant.alone c.requires.split c.loop-round.invariant.split c.loop-round.invariant.taken
+    (subst (RefusesListed c.loop-round.self c.evaluate_round.new.self c.args.goals.now) c.as_slice.ensures.value (c.in_err-left.ensures.refused is)))
+
+pub evaluate_added_goals-returns-in_err-pending-clause-goes_back : goal.evaluate_added_goals-returns-in_err-pending-clause-goes_back
+evaluate_added_goals-returns-in_err-pending-clause-goes_back t c = goes_back-same c.args.self.now
+
+pub evaluate_added_goals-invariant_of-self-2 : goal.evaluate_added_goals-invariant_of-self-2
+evaluate_added_goals-invariant_of-self-2 t c = (
+  c.self-2.invariant.0,
+  c.self-2.invariant.1,
+  c.self-2.invariant.2,
+  c.self-2.invariant.3,
+  c.self-2.invariant.4,
+  c.self-2.invariant.5,
+  taken-split c.replace-goals.result.items c.evaluate_rounds-answered.new.taken.items c.evaluate_rounds-answered.ensures.split.0
+      (subst (λ (us : List (GoalSource × Goal Predicate)). AreSplit (length us) c.evaluate_rounds-answered.new.taken.items c.evaluate_rounds-answered.ensures.split.0) c.as_slice.ensures.value c.evaluate_rounds-answered.ensures.split.1),
+)
+
+pub evaluate_added_goals-returns-clause-sound : goal.evaluate_added_goals-returns-clause-sound
+evaluate_added_goals-returns-clause-sound t c = λ m. aside-sound _ c.args.self.now _ c.evaluate_rounds-answered.new.self c.replace-goals.new.dest.items c.as_slice.result.now c.replace-taken.new.dest.items c.in_ok-pending.pending.items m c.evaluate_rounds-answered.result
+    c.self.view_is (c.as_slice.ensures.value ∙ ap (λ (v : Vec (GoalSource × Goal Predicate) Global). v.items) c.replace-goals.ensures.value ∙ ap (λ (s : State). s.goals) c.self.view_is) c.self-2.view_is c.in_ok-pending.ensures.split (c.evaluate_rounds-answered.ensures.answer m)
+
+pub evaluate_added_goals-returns-clause-decided : goal.evaluate_added_goals-returns-clause-decided
+evaluate_added_goals-returns-clause-decided t c = λ m. aside-decided _ c.args.self.now _ c.evaluate_rounds-answered.new.self c.replace-goals.new.dest.items c.as_slice.result.now c.replace-taken.new.dest.items c.in_ok-pending.pending.items m c.evaluate_rounds-answered.result
+    c.self.view_is (c.as_slice.ensures.value ∙ ap (λ (v : Vec (GoalSource × Goal Predicate) Global). v.items) c.replace-goals.ensures.value ∙ ap (λ (s : State). s.goals) c.self.view_is) c.self-2.view_is c.in_ok-pending.ensures.split (c.evaluate_rounds-answered.ensures.answer m)
+
+pub evaluate_added_goals-returns-clause-closed : goal.evaluate_added_goals-returns-clause-closed
+evaluate_added_goals-returns-clause-closed t c =
+    aside-closed _ c.args.self.now _ c.evaluate_rounds-answered.new.self c.as_slice.result.now c.in_ok-pending.pending.items c.evaluate_rounds-answered.result
+    c.self.view_is (c.as_slice.ensures.value ∙ ap (λ (v : Vec (GoalSource × Goal Predicate) Global). v.items) c.replace-goals.ensures.value ∙ ap (λ (s : State). s.goals) c.self.view_is) c.self-2.view_is c.in_ok-pending.ensures.split c.evaluate_rounds-answered.ensures.closed
+
+pub evaluate_added_goals-returns-clause-taken : goal.evaluate_added_goals-returns-clause-taken
+evaluate_added_goals-returns-clause-taken t c = aside-taken c.as_slice.result.now c.replace-goals.result.items c.evaluate_rounds-answered.new.taken.items c.evaluate_rounds-answered.result c.as_slice.ensures.value c.evaluate_rounds-answered.ensures.split
+
+pub evaluate_added_goals-returns-clause-refused : goal.evaluate_added_goals-returns-clause-refused
+evaluate_added_goals-returns-clause-refused t c =
+    aside-refused _ c.args.self.now c.evaluate_rounds-answered.new.self _ c.replace-goals.new.dest.items c.as_slice.result.now c.replace-taken.new.dest.items c.in_ok-pending.pending.items c.evaluate_rounds-answered.result
+    c.self.view_is (c.as_slice.ensures.value ∙ ap (λ (v : Vec (GoalSource × Goal Predicate) Global). v.items) c.replace-goals.ensures.value ∙ ap (λ (s : State). s.goals) c.self.view_is)
+    (ap (λ (s : State). s.typing_mode) c.self-2.view_is) (ap (λ (s : State). s.accesses) c.self-2.view_is) c.in_ok-pending.ensures.split c.evaluate_rounds-answered.ensures.refused
+
+pub try_evaluate_added_goals-rollback-requires : goal.try_evaluate_added_goals-rollback-requires
+try_evaluate_added_goals-rollback-requires t c = record { valid = (c.args.self.now, c.snapshot-before.ensures, c.evaluate_added_goals-answered.ensures.goes_back, c.holds_together.ensures) }
+
+pub try_evaluate_added_goals-returns-then-is_err-clause-sound : goal.try_evaluate_added_goals-returns-then-is_err-clause-sound
+try_evaluate_added_goals-returns-then-is_err-clause-sound t c = λ m owed.
+    c.evaluate_added_goals-answered.ensures.sound m
+    (restored-owed c.args.self.now c.evaluate_added_goals-answered.new.self c.rollback.new.self m
+    (c.rollback.ensures.undone c.args.self.now c.snapshot-before.ensures c.evaluate_added_goals-answered.ensures.goes_back) c.evaluate_added_goals-answered.ensures.goes_back owed)
+
+pub try_evaluate_added_goals-returns-then-is_err-clause-decided : goal.try_evaluate_added_goals-returns-then-is_err-clause-decided
+try_evaluate_added_goals-returns-then-is_err-clause-decided t c = λ m owed.
+    c.evaluate_added_goals-answered.ensures.decided m
+    (restored-owed c.args.self.now c.evaluate_added_goals-answered.new.self c.rollback.new.self m
+    (c.rollback.ensures.undone c.args.self.now c.snapshot-before.ensures c.evaluate_added_goals-answered.ensures.goes_back) c.evaluate_added_goals-answered.ensures.goes_back owed)
+
+pub try_evaluate_added_goals-returns-then-is_err-clause-closed : goal.try_evaluate_added_goals-returns-then-is_err-clause-closed
+try_evaluate_added_goals-returns-then-is_err-clause-closed t c = λ closed.
+    ap (λ (s : State). s.inference) (c.rollback.ensures.undone c.args.self.now c.snapshot-before.ensures c.evaluate_added_goals-answered.ensures.goes_back)
+
+pub try_evaluate_added_goals-returns-then-is_err-clause-alone : goal.try_evaluate_added_goals-returns-then-is_err-clause-alone
+try_evaluate_added_goals-returns-then-is_err-clause-alone t c =
+    restored-alone c.args.self.now c.evaluate_added_goals-answered.new.self c.rollback.new.self
+    (c.rollback.ensures.undone c.args.self.now c.snapshot-before.ensures c.evaluate_added_goals-answered.ensures.goes_back)
+
+pub try_evaluate_added_goals-returns-then-is_err-clause-faults : goal.try_evaluate_added_goals-returns-then-is_err-clause-faults
+try_evaluate_added_goals-returns-then-is_err-clause-faults t c =
+    undone-faults c.args.self.now c.evaluate_added_goals-answered.new.self c.rollback.new.self c.evaluate_added_goals-answered.ensures.goes_back c.evaluate_added_goals-answered.ensures.faults
+    (c.rollback.ensures.undone c.args.self.now c.snapshot-before.ensures c.evaluate_added_goals-answered.ensures.goes_back)
+
+pub try_evaluate_added_goals-returns-then-is_err-clause-unchanged : goal.try_evaluate_added_goals-returns-then-is_err-clause-unchanged
+try_evaluate_added_goals-returns-then-is_err-clause-unchanged t c =
+    on_err c.evaluate_added_goals-answered.result
+    (restored-itself c.args.self.now c.evaluate_added_goals-answered.new.self c.rollback.new.self
+    (c.rollback.ensures.undone c.args.self.now c.snapshot-before.ensures c.evaluate_added_goals-answered.ensures.goes_back))
+
+pub try_evaluate_added_goals-returns-then-is_err-clause-goes_back : goal.try_evaluate_added_goals-returns-then-is_err-clause-goes_back
+try_evaluate_added_goals-returns-then-is_err-clause-goes_back t c =
+    subst (GoesBack c.args.self.now)
+    (sym (c.rollback.ensures.undone c.args.self.now c.snapshot-before.ensures c.evaluate_added_goals-answered.ensures.goes_back))
+    (goes_back-restored c.args.self.now c.evaluate_added_goals-answered.new.self c.evaluate_added_goals-answered.ensures.goes_back)
+
+pub try_evaluate_added_goals-returns-then-is_err-clause-fault : goal.try_evaluate_added_goals-returns-then-is_err-clause-fault
+try_evaluate_added_goals-returns-then-is_err-clause-fault t c =
+    restored-fault c.args.self.now c.evaluate_added_goals-answered.new.self c.rollback.new.self c.evaluate_added_goals-answered.result
+    (c.rollback.ensures.undone c.args.self.now c.snapshot-before.ensures c.evaluate_added_goals-answered.ensures.goes_back) c.evaluate_added_goals-answered.ensures.fault
+
+pub try_evaluate_added_goals-returns-then-is_err-clause-refused : goal.try_evaluate_added_goals-returns-then-is_err-clause-refused
+try_evaluate_added_goals-returns-then-is_err-clause-refused t c =
+    restored-refused c.args.self.now c.evaluate_added_goals-answered.new.self c.rollback.new.self c.evaluate_added_goals-answered.result
+    (c.rollback.ensures.undone c.args.self.now c.snapshot-before.ensures c.evaluate_added_goals-answered.ensures.goes_back) c.evaluate_added_goals-answered.ensures.goes_back
+    c.evaluate_added_goals-answered.ensures.refused
+
+pub evaluate_added_goals_and_make_canonical_response-rollback-requires : goal.evaluate_added_goals_and_make_canonical_response-rollback-requires
+evaluate_added_goals_and_make_canonical_response-rollback-requires t c =
+    let whole = goes_back-through c.args.self.now c.try_evaluate_added_goals.new.self c.response_since_mark-response.new.self
+    c.try_evaluate_added_goals.ensures.goes_back c.response_since_mark-response.ensures.goes_back in
+    record { valid = (c.args.self.now, c.snapshot-before.ensures, whole, c.holds_together.ensures) }
+
+pub evaluate_added_goals_and_make_canonical_response-returns-then-is_err-clause-goes_back : goal.evaluate_added_goals_and_make_canonical_response-returns-then-is_err-clause-goes_back
+evaluate_added_goals_and_make_canonical_response-returns-then-is_err-clause-goes_back t c =
+    let whole = goes_back-through c.args.self.now c.try_evaluate_added_goals.new.self c.response_since_mark-response.new.self
+    c.try_evaluate_added_goals.ensures.goes_back c.response_since_mark-response.ensures.goes_back in
+    subst (GoesBack c.args.self.now) (sym (c.rollback.ensures.undone c.args.self.now c.snapshot-before.ensures whole))
+    (goes_back-restored c.args.self.now c.response_since_mark-response.new.self whole)
+
+pub evaluate_added_goals_and_make_canonical_response-returns-else-is_err-clause-listed : goal.evaluate_added_goals_and_make_canonical_response-returns-else-is_err-clause-listed
+evaluate_added_goals_and_make_canonical_response-returns-else-is_err-clause-listed t c =
+    ok-map (ListsSinceMark c.try_evaluate_added_goals.new.self c.both.result) (λ r. ListsSinceMark c.response_since_mark-response.new.self r.certainty r)
+    c.response_since_mark-response.result
+    (λ r l. lists-kept c.try_evaluate_added_goals.new.self c.response_since_mark-response.new.self c.both.result r
+    c.response_since_mark-response.ensures.unchanged (c.response_since_mark-response.ensures.goes_back).terms c.holds_together-2.ensures.solved l)
+    c.response_since_mark-response.ensures.listed
+
+pub evaluate_added_goals_and_make_canonical_response-returns-else-is_err-clause-evaluated : goal.evaluate_added_goals_and_make_canonical_response-returns-else-is_err-clause-evaluated
+evaluate_added_goals_and_make_canonical_response-returns-else-is_err-clause-evaluated t c =
+    let evaluates : Evaluates c.args.self.now c.try_evaluate_added_goals.new.self c.in_ok-evaluated.evaluated = record {
+      sound = λ m owed closed. c.in_ok-evaluated.ensures.sound m owed closed;
+      decided = λ m owed closed. c.in_ok-evaluated.ensures.decided m owed closed;
+      closed = c.try_evaluate_added_goals.ensures.closed;
+      taken = c.in_ok-evaluated.ensures.taken;
+      alone = c.try_evaluate_added_goals.ensures.alone;
+      back = c.try_evaluate_added_goals.ensures.goes_back;
+    } in
+    ok-map (ListsSinceMark c.try_evaluate_added_goals.new.self c.both.result) _ c.response_since_mark-response.result
+    (λ r l. (
+      c.in_ok-evaluated.evaluated,
+      evaluates-grown c.args.self.now c.try_evaluate_added_goals.new.self c.response_since_mark-response.new.self c.in_ok-evaluated.evaluated
+          c.response_since_mark-response.ensures.unchanged (c.response_since_mark-response.ensures.goes_back).terms evaluates,
+      l.certainty ∙ c.both.ensures,
+    ))
+    c.response_since_mark-response.ensures.listed
+
+pub evaluate_added_goals_and_make_canonical_response-returns-then-is_err-clause-refused : goal.evaluate_added_goals_and_make_canonical_response-returns-then-is_err-clause-refused
+evaluate_added_goals_and_make_canonical_response-returns-then-is_err-clause-refused t c = memory-only _ c.response_since_mark-response.result c.response_since_mark-response.ensures.only_memory
+
+pub evaluate_added_goals_and_make_canonical_response-returns-else-is_err-clause-refused : goal.evaluate_added_goals_and_make_canonical_response-returns-else-is_err-clause-refused
+evaluate_added_goals_and_make_canonical_response-returns-else-is_err-clause-refused t c = memory-only _ c.response_since_mark-response.result c.response_since_mark-response.ensures.only_memory
+
+pub evaluate_added_goals_and_make_canonical_response-returns-in_err-evaluated-clause-refused : goal.evaluate_added_goals_and_make_canonical_response-returns-in_err-evaluated-clause-refused
+evaluate_added_goals_and_make_canonical_response-returns-in_err-evaluated-clause-refused t c =
+    refused-on _ c.from_residual.result c.in_err-evaluated.field-0.0 c.from_residual.ensures.1
+    (λ is. pending-refused c.args.self.now c.try_evaluate_added_goals.new.self (c.in_err-evaluated.ensures.refused is) c.in_err-evaluated.ensures.unchanged c.try_evaluate_added_goals.ensures.goes_back)
+
+pub evaluate_pending-returns-in_err-try_evaluate_added_goals-clause-refused : goal.evaluate_pending-returns-in_err-try_evaluate_added_goals-clause-refused
+evaluate_pending-returns-in_err-try_evaluate_added_goals-clause-refused t c =
+    refused-on _ c.from_residual.result c.in_err-try_evaluate_added_goals.field-0.0 c.from_residual.ensures.1
+    (λ is. pending-refused c.args.self.now c.try_evaluate_added_goals.new.self (c.in_err-try_evaluate_added_goals.ensures.refused is) c.in_err-try_evaluate_added_goals.ensures.unchanged
+    c.try_evaluate_added_goals.ensures.goes_back)
+
+pub run_through-loop-entry-init : goal.run_through-loop-entry-init
+run_through-loop-entry-init t c = record {
+  through = through-none c.args.environment.now c.args.self.now open_start (open_progress c.new-run.result) c.new-run.ensures;
+  recorded = λ yes. All-nil (IsRecorded c.args.self.now);
+  listed = none-listed c.args.self.now c.args.self.now c.args.entries.now refl;
+  back = goes_back-same c.args.self.now;
+}
+
+pub run_through-loop-entry-preserved : goal.run_through-loop-entry-preserved
+run_through-loop-entry-preserved t c = record {
+  through = through-next c.args.environment.now c.args.entries.now c.loop-entry.entry-index c.entry-item.result c.args.self.now open_start c.loop-entry.self (open_progress c.loop-entry.run)
+      c.step_or_evaluate.new.self (open_progress c.step_or_evaluate.new.run) (omega arith) c.entry-item.is c.loop-entry.invariant.through c.in_ok-step_or_evaluate.ensures.steps;
+  recorded = open_recorded-next c.args.environment.now c.loop-entry.self c.step_or_evaluate.new.self c.args.entries.now c.loop-entry.entry-index c.entry-item.result
+      (open_progress c.loop-entry.run) (open_progress c.step_or_evaluate.new.run) c.step_or_evaluate.ensures.goes_back (omega arith) c.entry-item.is c.in_ok-step_or_evaluate.ensures.steps c.loop-entry.invariant.recorded;
+  listed = listed-next c.args.self.now c.loop-entry.self c.step_or_evaluate.new.self c.args.entries.now c.loop-entry.entry-index c.entry-item.result (omega arith) c.entry-item.is c.loop-entry.invariant.back
+      c.loop-entry.invariant.listed c.step_or_evaluate.ensures.listed;
+  back = goes_back-through c.args.self.now c.loop-entry.self c.step_or_evaluate.new.self c.loop-entry.invariant.back c.step_or_evaluate.ensures.goes_back;
+}
+
+pub run_through-returns-in_err-step_or_evaluate-clause-listed : goal.run_through-returns-in_err-step_or_evaluate-clause-listed
+run_through-returns-in_err-step_or_evaluate-clause-listed t c =
+    listed-next c.args.self.now c.loop-entry.self c.step_or_evaluate.new.self c.args.entries.now c.loop-entry.entry-index c.entry-item.result (omega arith) c.entry-item.is c.loop-entry.invariant.back
+    c.loop-entry.invariant.listed c.step_or_evaluate.ensures.listed
+
+pub run_through-returns-in_err-step_or_evaluate-clause-goes_back : goal.run_through-returns-in_err-step_or_evaluate-clause-goes_back
+run_through-returns-in_err-step_or_evaluate-clause-goes_back t c =
+    goes_back-through c.args.self.now c.loop-entry.self c.step_or_evaluate.new.self c.loop-entry.invariant.back c.step_or_evaluate.ensures.goes_back
+
+pub run_through-returns-clause-through : goal.run_through-returns-clause-through
+run_through-returns-clause-through t c = (
+  open_progress c.loop-entry.run,
+  through-all c.args.environment.now c.args.entries.now c.loop-entry.entry-index c.args.self.now open_start c.loop-entry.self (open_progress c.loop-entry.run) (omega arith) c.loop-entry.invariant.through,
+  refl,
+)
+
+pub run_through-returns-clause-recorded : goal.run_through-returns-clause-recorded
+run_through-returns-clause-recorded t c = λ yes. recorded-end c.loop-entry.self c.args.entries.now c.loop-entry.entry-index (omega arith) (c.loop-entry.invariant.recorded yes)
+
+pub run_through-returns-in_err-step_or_evaluate-clause-refused : goal.run_through-returns-in_err-step_or_evaluate-clause-refused
+run_through-returns-in_err-step_or_evaluate-clause-refused t c =
+    refused-on _ c.from_residual.result c.in_err-step_or_evaluate.field-0.0 c.from_residual.ensures.1
+    (λ is. stops-at c.args.environment.now c.args.entries.now c.loop-entry.entry-index c.entry-item.result c.args.self.now c.loop-entry.self (open_progress c.loop-entry.run) c.step_or_evaluate.new.self
+    (omega arith) c.entry-item.is c.loop-entry.invariant.through (c.in_err-step_or_evaluate.ensures.refused is))
+
+pub answer_open-returns-clause-answered : goal.answer_open-returns-clause-answered
+answer_open-returns-clause-answered t c =
+    closing-answers c.args.environment.now c.args.entries.now c.args.self.now c.run_through.new.self c.evaluate_added_goals_and_make_canonical_response.new.self c.in_ok-certainty.certainty
+    c.evaluate_added_goals_and_make_canonical_response.result c.in_ok-certainty.ensures.through
+    c.evaluate_added_goals_and_make_canonical_response.ensures.listed c.evaluate_added_goals_and_make_canonical_response.ensures.evaluated
+
+pub answer_open-returns-clause-recorded : goal.answer_open-returns-clause-recorded
+answer_open-returns-clause-recorded t c =
+    ok-map _ (IsRecordedAnswer c.evaluate_added_goals_and_make_canonical_response.new.self c.args.entries.now) c.evaluate_added_goals_and_make_canonical_response.result
+    (λ r h. closing-recorded c.in_ok-certainty.certainty c.run_through.new.self c.evaluate_added_goals_and_make_canonical_response.new.self c.args.entries.now r h
+    c.in_ok-certainty.ensures.recorded c.evaluate_added_goals_and_make_canonical_response.ensures.goes_back)
+    c.evaluate_added_goals_and_make_canonical_response.ensures.evaluated
+
+pub answer_open-returns-clause-listed : goal.answer_open-returns-clause-listed
+answer_open-returns-clause-listed t c =
+    listed-caused c.args.self.now c.run_through.new.self c.evaluate_added_goals_and_make_canonical_response.new.self c.args.entries.now
+    c.run_through.ensures.goes_back c.evaluate_added_goals_and_make_canonical_response.ensures.goes_back.tables c.evaluate_added_goals_and_make_canonical_response.ensures.faults c.run_through.ensures.listed
+
+pub answer_open-returns-clause-goes_back : goal.answer_open-returns-clause-goes_back
+answer_open-returns-clause-goes_back t c =
+    goes_back-through c.args.self.now c.run_through.new.self c.evaluate_added_goals_and_make_canonical_response.new.self
+    c.run_through.ensures.goes_back c.evaluate_added_goals_and_make_canonical_response.ensures.goes_back
+
+pub answer_open-returns-in_err-certainty-clause-refused : goal.answer_open-returns-in_err-certainty-clause-refused
+answer_open-returns-in_err-certainty-clause-refused t c =
+    refused-on _ c.from_residual.result c.in_err-certainty.field-0.0 c.from_residual.ensures.1 (λ is. inl (c.in_err-certainty.ensures.refused is))
+
+pub answer_open-returns-clause-refused : goal.answer_open-returns-clause-refused
+answer_open-returns-clause-refused t c =
+    refused-map c.evaluate_added_goals_and_make_canonical_response.result
+    (λ h. stops-last c.args.environment.now c.args.entries.now c.args.self.now c.run_through.new.self c.evaluate_added_goals_and_make_canonical_response.new.self c.in_ok-certainty.certainty
+    c.in_ok-certainty.ensures.through h)
+    c.evaluate_added_goals_and_make_canonical_response.ensures.refused
+
+pub run_open-rollback-requires : goal.run_open-rollback-requires
+run_open-rollback-requires t c =
+    let back : GoesBack (begun c.args.self.now) c.answer_open-response.new.self =
+    subst (λ (z : State). GoesBack z c.answer_open-response.new.self) c.begin-around.ensures.began c.answer_open-response.ensures.goes_back in
+    record { valid = (begun c.args.self.now, c.snapshot-before.ensures, back, valid-begun c.args.self.now c.holds_together.ensures) }
+
+pub run_open-returns-clause-chain : goal.run_open-returns-clause-chain
+run_open-returns-clause-chain t c =
+    let back : GoesBack (begun c.args.self.now) c.answer_open-response.new.self =
+    subst (λ (z : State). GoesBack z c.answer_open-response.new.self) c.begin-around.ensures.began c.answer_open-response.ensures.goes_back in
+    let undone : c.end.new.self ≡ restored c.args.self.now c.answer_open-response.new.self =
+    c.end.ensures ∙ ap (λ (z : State). record z { mark = c.begin-around.result }) (c.rollback.ensures.undone (begun c.args.self.now) c.snapshot-before.ensures back)
+    ∙ ap (λ m. record (restored (begun c.args.self.now) c.answer_open-response.new.self) { mark = m }) c.begin-around.ensures.around in
+    ok-map _ (RunsOpen c.args.environment.now c.args.entries.now c.args.self.now c.end.new.self) c.answer_open-response.result
+    (λ r h. record {
+      last = h.0;
+      progress = h.1;
+      through = subst (λ (z : State). RunsThrough c.args.environment.now c.args.entries.now z open_start h.0 h.1) c.begin-around.ensures.began h.2;
+      closed = c.answer_open-response.new.self;
+      closes = h.3;
+      back = undone;
+    })
+    c.answer_open-response.ensures.answered
+
+pub run_open-returns-clause-recorded : goal.run_open-returns-clause-recorded
+run_open-returns-clause-recorded t c =
+    let back : GoesBack (begun c.args.self.now) c.answer_open-response.new.self =
+    subst (λ (z : State). GoesBack z c.answer_open-response.new.self) c.begin-around.ensures.began c.answer_open-response.ensures.goes_back in
+    let undone : c.end.new.self ≡ restored c.args.self.now c.answer_open-response.new.self =
+    c.end.ensures ∙ ap (λ (z : State). record z { mark = c.begin-around.result }) (c.rollback.ensures.undone (begun c.args.self.now) c.snapshot-before.ensures back)
+    ∙ ap (λ m. record (restored (begun c.args.self.now) c.answer_open-response.new.self) { mark = m }) c.begin-around.ensures.around in
+    ok-map (IsRecordedAnswer c.answer_open-response.new.self c.args.entries.now) (IsRecordedAnswer c.end.new.self c.args.entries.now) c.answer_open-response.result
+    (λ r h yes. tried-recorded c.args.self.now c.answer_open-response.new.self c.end.new.self c.args.entries.now undone (h yes))
+    c.answer_open-response.ensures.recorded
+
+pub run_open-returns-clause-listed : goal.run_open-returns-clause-listed
+run_open-returns-clause-listed t c =
+    let back : GoesBack (begun c.args.self.now) c.answer_open-response.new.self =
+    subst (λ (z : State). GoesBack z c.answer_open-response.new.self) c.begin-around.ensures.began c.answer_open-response.ensures.goes_back in
+    let undone : c.end.new.self ≡ restored c.args.self.now c.answer_open-response.new.self =
+    c.end.ensures ∙ ap (λ (z : State). record z { mark = c.begin-around.result }) (c.rollback.ensures.undone (begun c.args.self.now) c.snapshot-before.ensures back)
+    ∙ ap (λ m. record (restored (begun c.args.self.now) c.answer_open-response.new.self) { mark = m }) c.begin-around.ensures.around in
+    tried-listed c.args.self.now c.begin-around.new.self c.answer_open-response.new.self c.end.new.self c.args.entries.now c.begin-around.ensures.began undone c.answer_open-response.ensures.listed
+
+pub run_open-returns-clause-unchanged : goal.run_open-returns-clause-unchanged
+run_open-returns-clause-unchanged t c =
+    let back : GoesBack (begun c.args.self.now) c.answer_open-response.new.self =
+    subst (λ (z : State). GoesBack z c.answer_open-response.new.self) c.begin-around.ensures.began c.answer_open-response.ensures.goes_back in
+    let undone : c.end.new.self ≡ restored c.args.self.now c.answer_open-response.new.self =
+    c.end.ensures ∙ ap (λ (z : State). record z { mark = c.begin-around.result }) (c.rollback.ensures.undone (begun c.args.self.now) c.snapshot-before.ensures back)
+    ∙ ap (λ m. record (restored (begun c.args.self.now) c.answer_open-response.new.self) { mark = m }) c.begin-around.ensures.around in
+    undone ∙ sym (ap (restored c.args.self.now) undone)
+
+pub run_open-returns-clause-goes_back : goal.run_open-returns-clause-goes_back
+run_open-returns-clause-goes_back t c =
+    let back : GoesBack (begun c.args.self.now) c.answer_open-response.new.self =
+    subst (λ (z : State). GoesBack z c.answer_open-response.new.self) c.begin-around.ensures.began c.answer_open-response.ensures.goes_back in
+    let undone : c.end.new.self ≡ restored c.args.self.now c.answer_open-response.new.self =
+    c.end.ensures ∙ ap (λ (z : State). record z { mark = c.begin-around.result }) (c.rollback.ensures.undone (begun c.args.self.now) c.snapshot-before.ensures back)
+    ∙ ap (λ m. record (restored (begun c.args.self.now) c.answer_open-response.new.self) { mark = m }) c.begin-around.ensures.around in
+    subst (GoesBack c.args.self.now) (sym undone) (goes_back-tried c.args.self.now c.answer_open-response.new.self back)
+
+pub run_open-returns-clause-fault : goal.run_open-returns-clause-fault
+run_open-returns-clause-fault t c =
+    let back : GoesBack (begun c.args.self.now) c.answer_open-response.new.self =
+    subst (λ (z : State). GoesBack z c.answer_open-response.new.self) c.begin-around.ensures.began c.answer_open-response.ensures.goes_back in
+    let undone : c.end.new.self ≡ restored c.args.self.now c.answer_open-response.new.self =
+    c.end.ensures ∙ ap (λ (z : State). record z { mark = c.begin-around.result }) (c.rollback.ensures.undone (begun c.args.self.now) c.snapshot-before.ensures back)
+    ∙ ap (λ m. record (restored (begun c.args.self.now) c.answer_open-response.new.self) { mark = m }) c.begin-around.ensures.around in
+    fault-tried c.args.self.now c.begin-around.new.self c.answer_open-response.new.self c.end.new.self c.answer_open-response.result c.begin-around.ensures.began undone c.answer_open-response.ensures.fault
+
+pub run_open-returns-clause-applies : goal.run_open-returns-clause-applies
+run_open-returns-clause-applies t c =
+    let back : GoesBack (begun c.args.self.now) c.answer_open-response.new.self =
+    subst (λ (z : State). GoesBack z c.answer_open-response.new.self) c.begin-around.ensures.began c.answer_open-response.ensures.goes_back in
+    let undone : c.end.new.self ≡ restored c.args.self.now c.answer_open-response.new.self =
+    c.end.ensures ∙ ap (λ (z : State). record z { mark = c.begin-around.result }) (c.rollback.ensures.undone (begun c.args.self.now) c.snapshot-before.ensures back)
+    ∙ ap (λ m. record (restored (begun c.args.self.now) c.answer_open-response.new.self) { mark = m }) c.begin-around.ensures.around in
+    ok-map _ (IsApplicable c.end.new.self) c.answer_open-response.result
+    (λ r h. listed-applies c.args.self.now c.answer_open-response.new.self c.end.new.self r.certainty r back undone
+    c.holds_together.ensures.solved c.holds_together-2.ensures.solved c.is_well_formed.ensures.storage h.3.lists)
+    c.answer_open-response.ensures.answered
+
+pub run_open-returns-clause-refused : goal.run_open-returns-clause-refused
+run_open-returns-clause-refused t c =
+    let back : GoesBack (begun c.args.self.now) c.answer_open-response.new.self =
+    subst (λ (z : State). GoesBack z c.answer_open-response.new.self) c.begin-around.ensures.began c.answer_open-response.ensures.goes_back in
+    let undone : c.end.new.self ≡ restored c.args.self.now c.answer_open-response.new.self =
+    c.end.ensures ∙ ap (λ (z : State). record z { mark = c.begin-around.result }) (c.rollback.ensures.undone (begun c.args.self.now) c.snapshot-before.ensures back)
+    ∙ ap (λ m. record (restored (begun c.args.self.now) c.answer_open-response.new.self) { mark = m }) c.begin-around.ensures.around in
+    open-refused c.args.environment.now c.args.entries.now c.args.self.now c.begin-around.new.self c.answer_open-response.new.self c.end.new.self c.answer_open-response.result
+    c.begin-around.ensures.began undone c.answer_open-response.ensures.refused
+
+pub run_unrefused-returns-in-Err-NoSolution-clause-runs : goal.run_unrefused-returns-in-Err-NoSolution-clause-runs
+run_unrefused-returns-in-Err-NoSolution-clause-runs t c =
+    subst (λ es. IsRefusedOpen c.args.environment.now es c.args.self.now c.run_open.new.self) c.deref.ensures.value
+    (c.in-Err-NoSolution.ensures.refused c.in-Err-NoSolution.field-0-is)
+
+pub merge_next-returns-in-None-clause-applies : goal.merge_next-returns-in-None-clause-applies
+merge_next-returns-in-None-clause-applies t c =
+    merged-later c.args.self.now c.run_unrefused.new.self c.args.merged c.run_unrefused.ensures.unchanged c.run_unrefused.ensures.goes_back.terms c.holds_together.ensures.solved c.requires.applies
+
+pub merge_next-returns-in-Some-clause-applies : goal.merge_next-returns-in-Some-clause-applies
+merge_next-returns-in-Some-clause-applies t c =
+    c.with.ensures.applies c.run_unrefused.new.self
+    (merged-later c.args.self.now c.run_unrefused.new.self c.args.merged c.run_unrefused.ensures.unchanged c.run_unrefused.ensures.goes_back.terms c.holds_together.ensures.solved c.requires.applies)
+    (subst (λ o. IfSome o (IsApplicable c.run_unrefused.new.self)) c.in-Some.is c.in_ok-run_unrefused.ensures.applies)
+
+pub merge_rules-loop-rule-init : goal.merge_rules-loop-rule-init
+merge_rules-loop-rule-init t c = record { merges = runs-none c.args.environment.now c.args.self.now; applies = tt; unchanged = refl; back = goes_back-same c.args.self.now }
+
+pub merge_rules-loop-rule-preserved : goal.merge_rules-loop-rule-preserved
+merge_rules-loop-rule-preserved t c = record {
+  merges = merged-next c.args.environment.now c.args.rules.now c.loop-rule.rule-index c.rule-item.result c.args.self.now c.loop-rule.self c.merge_next.new.self
+      c.loop-rule.merged c.in_ok-merged.merged c.in_ok-merged.ensures.joins.0 (omega arith) c.rule-item.is c.loop-rule.invariant.merges c.in_ok-merged.ensures.joins.1 c.in_ok-merged.ensures.joins.2;
+  applies = c.in_ok-merged.ensures.applies;
+  unchanged = c.merge_next.ensures.unchanged ∙ ap (λ (z : State). restored z c.merge_next.new.self) c.loop-rule.invariant.unchanged;
+  back = goes_back-through c.args.self.now c.loop-rule.self c.merge_next.new.self c.loop-rule.invariant.back c.merge_next.ensures.goes_back;
+}
+
+pub merge_below-returns-clause-merges : goal.merge_below-returns-clause-merges
+merge_below-returns-clause-merges t c = λ n depth.
+    merges-below _ c.args.self.now _ c.merge_trait-answer.new.self n c.args.goal.now c.merge_trait-answer.result c.self.view_is c.self-2.view_is c.merge_trait-answer.ensures.unchanged depth
+    c.merge_trait-answer.ensures.merges
+
+pub merge_below-returns-clause-applies : goal.merge_below-returns-clause-applies
+merge_below-returns-clause-applies t c =
+    applies-below _ c.args.self.now _ c.merge_trait-answer.new.self _ c.self.inside.remaining_depth c.merge_trait-answer.result c.self.view_is c.self-2.view_is c.merge_trait-answer.ensures.unchanged
+    c.merge_trait-answer.ensures.goes_back c.holds_together.ensures.solved c.merge_trait-answer.ensures.applies
+
+pub class_answer-returns-in-Split-clause-applies : goal.class_answer-returns-in-Split-clause-applies
+class_answer-returns-in-Split-clause-applies t c =
+    nothing-applies-after c.args.self.now c.merge_rules.new.self c.respond.result c.merge_rules.ensures.unchanged c.is_well_formed.ensures.storage
+    (subst (λ (s : State). IsQuiet (length (kinds_of s)) c.respond.result) c.merge_rules.ensures.unchanged c.respond.ensures.quiet) c.respond.ensures.values
+
+pub class_answer-returns-in-Refuted-clause-answers : goal.class_answer-returns-in-Refuted-clause-answers
+class_answer-returns-in-Refuted-clause-answers t c =
+    class-answers (AreOfClass c.args.self.now.typing_mode c.args.rules.now) c.args.rules.now.param_env.items c.deref.result.now c.args.class c.args.self.now c.merge_rules.new.self
+    (rules_of_class c.args.rules.now c.args.class) c.of_class.result.now c.in_ok-merge_rules.field-0 merged.Refuted None c.deref.ensures.value c.of_class.ensures (refl, refl)
+    c.in_ok-merge_rules.ensures.merges c.in-Refuted.is refl
+
+pub class_answer-returns-in-Answered-clause-answers : goal.class_answer-returns-in-Answered-clause-answers
+class_answer-returns-in-Answered-clause-answers t c =
+    class-answers (AreOfClass c.args.self.now.typing_mode c.args.rules.now) c.args.rules.now.param_env.items c.deref.result.now c.args.class c.args.self.now c.merge_rules.new.self
+    (rules_of_class c.args.rules.now c.args.class) c.of_class.result.now c.in_ok-merge_rules.field-0 (merged.Answered c.in-Answered.response) (Some c.proven_by.result) c.deref.ensures.value c.of_class.ensures (refl, refl)
+    c.in_ok-merge_rules.ensures.merges c.in-Answered.is (ap (λ (x : Response). Some x) c.proven_by.ensures)
+
+pub class_answer-returns-in-Split-clause-answers : goal.class_answer-returns-in-Split-clause-answers
+class_answer-returns-in-Split-clause-answers t c =
+    class-answers (AreOfClass c.args.self.now.typing_mode c.args.rules.now) c.args.rules.now.param_env.items c.deref.result.now c.args.class c.args.self.now c.merge_rules.new.self
+    (rules_of_class c.args.rules.now c.args.class) c.of_class.result.now c.in_ok-merge_rules.field-0 merged.Split (Some c.respond.result) c.deref.ensures.value c.of_class.ensures (refl, refl)
+    c.in_ok-merge_rules.ensures.merges c.in-Split.is c.respond.ensures.certainty
+
+pub merge_classes-returns-in-Some-clause-decides : goal.merge_classes-returns-in-Some-clause-decides
+merge_classes-returns-in-Some-clause-decides t c =
+    first-answers (AreOfClass c.args.self.now.typing_mode c.args.rules.now) c.args.rules.now.param_env.items class.ParamEnv (class.AliasBound ∷ class.Misc ∷ []) c.args.self.now c.class_answer.new.self c.in-Some.answer
+    (answered-in c.args.self.now.typing_mode c.args.rules.now class.ParamEnv c.args.self.now c.class_answer.new.self c.in_ok-answer.field-0 (Some c.in-Some.answer) refl c.in-Some.is c.in_ok-answer.ensures.answers)
+
+pub merge_classes-returns-in-Some-2-clause-decides : goal.merge_classes-returns-in-Some-2-clause-decides
+merge_classes-returns-in-Some-2-clause-decides t c =
+    next-answers (AreOfClass c.args.self.now.typing_mode c.args.rules.now) c.args.rules.now.param_env.items class.ParamEnv (class.AliasBound ∷ class.Misc ∷ []) c.args.self.now c.class_answer.new.self c.class_answer-2.new.self (Ok c.in-Some-2.answer)
+    (answered-in c.args.self.now.typing_mode c.args.rules.now class.ParamEnv c.args.self.now c.class_answer.new.self c.in_ok-answer.field-0 None refl (none-left c.in_ok-answer.field-0 c.in_default.not-Some) c.in_ok-answer.ensures.answers)
+    (first-answers (AreOfClass c.args.self.now.typing_mode c.args.rules.now) c.args.rules.now.param_env.items class.AliasBound (class.Misc ∷ []) c.class_answer.new.self c.class_answer-2.new.self c.in-Some-2.answer
+    (answered-in c.args.self.now.typing_mode c.args.rules.now class.AliasBound c.class_answer.new.self c.class_answer-2.new.self c.in_ok-answer-2.field-0 (Some c.in-Some-2.answer) (ap (λ (s : State). s.typing_mode) c.class_answer.ensures.unchanged) c.in-Some-2.is c.in_ok-answer-2.ensures.answers))
+
+pub merge_classes-returns-in-Some-3-clause-decides : goal.merge_classes-returns-in-Some-3-clause-decides
+merge_classes-returns-in-Some-3-clause-decides t c =
+    next-answers (AreOfClass c.args.self.now.typing_mode c.args.rules.now) c.args.rules.now.param_env.items class.ParamEnv (class.AliasBound ∷ class.Misc ∷ []) c.args.self.now c.class_answer.new.self c.class_answer-3.new.self (Ok c.in-Some-3.answer)
+    (answered-in c.args.self.now.typing_mode c.args.rules.now class.ParamEnv c.args.self.now c.class_answer.new.self c.in_ok-answer.field-0 None refl (none-left c.in_ok-answer.field-0 c.in_default.not-Some) c.in_ok-answer.ensures.answers)
+    (next-answers (AreOfClass c.args.self.now.typing_mode c.args.rules.now) c.args.rules.now.param_env.items class.AliasBound (class.Misc ∷ []) c.class_answer.new.self c.class_answer-2.new.self c.class_answer-3.new.self (Ok c.in-Some-3.answer)
+    (answered-in c.args.self.now.typing_mode c.args.rules.now class.AliasBound c.class_answer.new.self c.class_answer-2.new.self c.in_ok-answer-2.field-0 None (ap (λ (s : State). s.typing_mode) c.class_answer.ensures.unchanged) (none-left c.in_ok-answer-2.field-0 c.in_default-2.not-Some) c.in_ok-answer-2.ensures.answers)
+    (first-answers (AreOfClass c.args.self.now.typing_mode c.args.rules.now) c.args.rules.now.param_env.items class.Misc [] c.class_answer-2.new.self c.class_answer-3.new.self c.in-Some-3.answer
+    (answered-in c.args.self.now.typing_mode c.args.rules.now class.Misc c.class_answer-2.new.self c.class_answer-3.new.self c.in_ok-answer-3.field-0 (Some c.in-Some-3.answer) (ap (λ (s : State). s.typing_mode) c.class_answer-2.ensures.unchanged ∙ ap (λ (s : State). s.typing_mode) c.class_answer.ensures.unchanged) c.in-Some-3.is c.in_ok-answer-3.ensures.answers)))
+
+pub merge_classes-returns-clause-decides : goal.merge_classes-returns-clause-decides
+merge_classes-returns-clause-decides t c =
+    next-answers (AreOfClass c.args.self.now.typing_mode c.args.rules.now) c.args.rules.now.param_env.items class.ParamEnv (class.AliasBound ∷ class.Misc ∷ []) c.args.self.now c.class_answer.new.self c.class_answer-3.new.self (Err fault.NoSolution)
+    (answered-in c.args.self.now.typing_mode c.args.rules.now class.ParamEnv c.args.self.now c.class_answer.new.self c.in_ok-answer.field-0 None refl (none-left c.in_ok-answer.field-0 c.in_default.not-Some) c.in_ok-answer.ensures.answers)
+    (next-answers (AreOfClass c.args.self.now.typing_mode c.args.rules.now) c.args.rules.now.param_env.items class.AliasBound (class.Misc ∷ []) c.class_answer.new.self c.class_answer-2.new.self c.class_answer-3.new.self (Err fault.NoSolution)
+    (answered-in c.args.self.now.typing_mode c.args.rules.now class.AliasBound c.class_answer.new.self c.class_answer-2.new.self c.in_ok-answer-2.field-0 None (ap (λ (s : State). s.typing_mode) c.class_answer.ensures.unchanged) (none-left c.in_ok-answer-2.field-0 c.in_default-2.not-Some) c.in_ok-answer-2.ensures.answers)
+    (next-answers (AreOfClass c.args.self.now.typing_mode c.args.rules.now) c.args.rules.now.param_env.items class.Misc [] c.class_answer-2.new.self c.class_answer-3.new.self c.class_answer-3.new.self (Err fault.NoSolution)
+    (answered-in c.args.self.now.typing_mode c.args.rules.now class.Misc c.class_answer-2.new.self c.class_answer-3.new.self c.in_ok-answer-3.field-0 None (ap (λ (s : State). s.typing_mode) c.class_answer-2.ensures.unchanged ∙ ap (λ (s : State). s.typing_mode) c.class_answer.ensures.unchanged) (none-left c.in_ok-answer-3.field-0 c.in_default-3.not-Some) c.in_ok-answer-3.ensures.answers)
+    (none-answers (AreOfClass c.args.self.now.typing_mode c.args.rules.now) c.args.rules.now.param_env.items c.class_answer-3.new.self c.class_answer-3.new.self (Err fault.NoSolution) refl refl)))
+
+pub merge_classes-returns-in_err-answer-3-clause-goes_back : goal.merge_classes-returns-in_err-answer-3-clause-goes_back
+merge_classes-returns-in_err-answer-3-clause-goes_back t c =
+    goes_back-through c.args.self.now c.class_answer-2.new.self c.class_answer-3.new.self (goes_back-through c.args.self.now c.class_answer.new.self c.class_answer-2.new.self c.class_answer.ensures.goes_back c.class_answer-2.ensures.goes_back) c.class_answer-3.ensures.goes_back
+
+pub merge_classes-returns-in-Some-3-clause-goes_back : goal.merge_classes-returns-in-Some-3-clause-goes_back
+merge_classes-returns-in-Some-3-clause-goes_back t c =
+    goes_back-through c.args.self.now c.class_answer-2.new.self c.class_answer-3.new.self (goes_back-through c.args.self.now c.class_answer.new.self c.class_answer-2.new.self c.class_answer.ensures.goes_back c.class_answer-2.ensures.goes_back) c.class_answer-3.ensures.goes_back
+
+pub merge_classes-returns-clause-goes_back : goal.merge_classes-returns-clause-goes_back
+merge_classes-returns-clause-goes_back t c =
+    goes_back-through c.args.self.now c.class_answer-2.new.self c.class_answer-3.new.self (goes_back-through c.args.self.now c.class_answer.new.self c.class_answer-2.new.self c.class_answer.ensures.goes_back c.class_answer-2.ensures.goes_back) c.class_answer-3.ensures.goes_back
+
+pub merge_trait-returns-in-None-clause-applies : goal.merge_trait-returns-in-None-clause-applies
+merge_trait-returns-in-None-clause-applies t c =
+    nothing-applies-after c.args.self.now c.considered_rules.new.self c.respond.result c.considered_rules.ensures.unchanged c.is_well_formed.ensures.storage
+    (subst (λ (s : State). IsQuiet (length (kinds_of s)) c.respond.result) c.considered_rules.ensures.unchanged c.respond.ensures.quiet) c.respond.ensures.values
+
+pub merge_trait-returns-in-Some-clause-merges : goal.merge_trait-returns-in-Some-clause-merges
+merge_trait-returns-in-Some-clause-merges t c =
+    by-classes trait_words c.args.goal.now c.args.self.now c.considered_rules.new.self c.merge_classes.new.self c.merge_classes.result c.in_ok-considered_rules.field-0 c.in-Some.rules
+    c.in_ok-considered_rules.ensures.considers c.in-Some.is c.considered_rules.ensures.unchanged c.merge_classes.ensures.decides
+
+pub evaluate_goal-returns-in-Some-clause-answer : goal.evaluate_goal-returns-in-Some-clause-answer
+evaluate_goal-returns-in-Some-clause-answer t c = λ m owed closed.
+    absurd (some-unless (IsClosedGoal c.args.goal.now.predicate c.args.goal.now.param_env.items) c.in_ok-asked.field-0 c.in-Some.asked c.in_ok-asked.ensures.closed c.in-Some.is closed)
+
+pub evaluate_goal-returns-in-Some-clause-closed : goal.evaluate_goal-returns-in-Some-clause-closed
+evaluate_goal-returns-in-Some-clause-closed t c = λ closed.
+    absurd (some-unless (IsClosedGoal c.args.goal.now.predicate c.args.goal.now.param_env.items) c.in_ok-asked.field-0 c.in-Some.asked c.in_ok-asked.ensures.closed c.in-Some.is closed)
+
+pub evaluate_goal-returns-in-Some-clause-refused : goal.evaluate_goal-returns-in-Some-clause-refused
+evaluate_goal-returns-in-Some-clause-refused t c =
+    open-goal-refused c.args.self.now c.evaluate_open_trait.new.self c.args.goal.now c.evaluate_open_trait.result
+    (some-unless (IsClosedGoal c.args.goal.now.predicate c.args.goal.now.param_env.items) c.in_ok-asked.field-0 c.in-Some.asked c.in_ok-asked.ensures.closed c.in-Some.is)
+
+pub evaluate_goal-returns-in-Some-clause-alone : goal.evaluate_goal-returns-in-Some-clause-alone
+evaluate_goal-returns-in-Some-clause-alone t c =
+    records-through c.args.self.now c.open_trait_goal.new.self c.evaluate_open_trait.new.self (grown-records c.args.self.now c.open_trait_goal.new.self c.open_trait_goal.ensures.unchanged) c.evaluate_open_trait.ensures.alone
+
+pub evaluate_goal-returns-in-Some-clause-faults : goal.evaluate_goal-returns-in-Some-clause-faults
+evaluate_goal-returns-in-Some-clause-faults t c = c.evaluate_open_trait.ensures.faults ∙ grown-faults c.args.self.now c.open_trait_goal.new.self c.open_trait_goal.ensures.unchanged
+
+pub evaluate_goal-returns-in-Some-clause-goes_back : goal.evaluate_goal-returns-in-Some-clause-goes_back
+evaluate_goal-returns-in-Some-clause-goes_back t c =
+    goes_back-through c.args.self.now c.open_trait_goal.new.self c.evaluate_open_trait.new.self (goes_back-grown c.args.self.now c.open_trait_goal.new.self c.open_trait_goal.ensures.unchanged c.open_trait_goal.ensures.kept) c.evaluate_open_trait.ensures.goes_back
+
+pub evaluate_goal-returns-in-Some-clause-fault : goal.evaluate_goal-returns-in-Some-clause-fault
+evaluate_goal-returns-in-Some-clause-fault t c =
+    fault-later c.args.self.now c.open_trait_goal.new.self c.evaluate_open_trait.new.self c.evaluate_open_trait.result (goes_back-grown c.args.self.now c.open_trait_goal.new.self c.open_trait_goal.ensures.unchanged c.open_trait_goal.ensures.kept) c.evaluate_open_trait.ensures.fault
+
+pub evaluate_goal-returns-in_err-asked-clause-goes_back : goal.evaluate_goal-returns-in_err-asked-clause-goes_back
+evaluate_goal-returns-in_err-asked-clause-goes_back t c =
+    goes_back-grown c.args.self.now c.open_trait_goal.new.self c.open_trait_goal.ensures.unchanged c.open_trait_goal.ensures.kept
+
+pub evaluate_goal-returns-in-None-clause-answer : goal.evaluate_goal-returns-in-None-clause-answer
+evaluate_goal-returns-in-None-clause-answer t c = λ m owed closed.
+    answer-before c.args.self.now c.open_trait_goal.new.self m c.args.goal.now c.evaluate_other.result (grown-records c.args.self.now c.open_trait_goal.new.self c.open_trait_goal.ensures.unchanged)
+    (c.evaluate_other.ensures.answer m owed closed)
+
+pub evaluate_goal-returns-in-None-clause-refused : goal.evaluate_goal-returns-in-None-clause-refused
+evaluate_goal-returns-in-None-clause-refused t c =
+    refused-map c.evaluate_other.result
+    (λ h. refuses-later c.args.self.now c.open_trait_goal.new.self c.evaluate_other.new.self c.args.goal.now
+    (grown-records c.args.self.now c.open_trait_goal.new.self c.open_trait_goal.ensures.unchanged) h)
+    c.evaluate_other.ensures.refused
+
+pub evaluate_goal-returns-in-None-clause-closed : goal.evaluate_goal-returns-in-None-clause-closed
+evaluate_goal-returns-in-None-clause-closed t c = λ h. c.evaluate_other.ensures.closed h ∙ ap (λ (s : State). s.inference) c.open_trait_goal.ensures.unchanged
+
+pub evaluate_goal-returns-in-None-clause-alone : goal.evaluate_goal-returns-in-None-clause-alone
+evaluate_goal-returns-in-None-clause-alone t c =
+    records-through c.args.self.now c.open_trait_goal.new.self c.evaluate_other.new.self (grown-records c.args.self.now c.open_trait_goal.new.self c.open_trait_goal.ensures.unchanged) c.evaluate_other.ensures.alone
+
+pub evaluate_goal-returns-in-None-clause-faults : goal.evaluate_goal-returns-in-None-clause-faults
+evaluate_goal-returns-in-None-clause-faults t c = c.evaluate_other.ensures.faults ∙ grown-faults c.args.self.now c.open_trait_goal.new.self c.open_trait_goal.ensures.unchanged
+
+pub evaluate_goal-returns-in-None-clause-goes_back : goal.evaluate_goal-returns-in-None-clause-goes_back
+evaluate_goal-returns-in-None-clause-goes_back t c =
+    goes_back-through c.args.self.now c.open_trait_goal.new.self c.evaluate_other.new.self (goes_back-grown c.args.self.now c.open_trait_goal.new.self c.open_trait_goal.ensures.unchanged c.open_trait_goal.ensures.kept) c.evaluate_other.ensures.goes_back
+
+pub evaluate_goal-returns-in-None-clause-fault : goal.evaluate_goal-returns-in-None-clause-fault
+evaluate_goal-returns-in-None-clause-fault t c =
+    fault-later c.args.self.now c.open_trait_goal.new.self c.evaluate_other.new.self c.evaluate_other.result (goes_back-grown c.args.self.now c.open_trait_goal.new.self c.open_trait_goal.ensures.unchanged c.open_trait_goal.ensures.kept) c.evaluate_other.ensures.fault
+
+pub evaluate_open_trait-returns-then-self-eq0-clause-goes_back : goal.evaluate_open_trait-returns-then-self-eq0-clause-goes_back
+evaluate_open_trait-returns-then-self-eq0-clause-goes_back t c =
+    goes_back-same c.args.self.now
+
+pub evaluate_open_trait-returns-clause-alone : goal.evaluate_open_trait-returns-clause-alone
+evaluate_open_trait-returns-clause-alone t c =
+    let-go c.args.self.now c.apply_below-answered.new.self c.keep_caused_faults.new.self c.apply_below-answered.ensures.alone c.keep_caused_faults.ensures.unchanged
+
+pub evaluate_open_trait-returns-clause-faults : goal.evaluate_open_trait-returns-clause-faults
+evaluate_open_trait-returns-clause-faults t c =
+    let-go-caused c.args.self.now c.apply_below-answered.new.self c.keep_caused_faults.new.self c.len-known.result (c.len-known.ensures ∙ c.self.inside.delayed_faults.ok.0 ∙ ap (λ (s : State). length s.delayed_faults) c.self.view_is) c.apply_below-answered.ensures.goes_back c.keep_caused_faults.ensures.caused
+
+pub evaluate_open_trait-returns-clause-goes_back : goal.evaluate_open_trait-returns-clause-goes_back
+evaluate_open_trait-returns-clause-goes_back t c =
+    let-go-back c.args.self.now c.apply_below-answered.new.self c.keep_caused_faults.new.self c.len-known.result (c.len-known.ensures ∙ c.self.inside.delayed_faults.ok.0 ∙ ap (λ (s : State). length s.delayed_faults) c.self.view_is) c.apply_below-answered.ensures.goes_back c.keep_caused_faults.ensures.unchanged c.keep_caused_faults.ensures.kept
+
+pub evaluate_open_trait-returns-clause-fault : goal.evaluate_open_trait-returns-clause-fault
+evaluate_open_trait-returns-clause-fault t c =
+    let-go-fault Certainty c.args.self.now c.apply_below-answered.new.self c.keep_caused_faults.new.self c.apply_below-answered.result c.keep_caused_faults.ensures.unchanged c.apply_below-answered.ensures.fault
+
+pub apply_below-returns-in_err-response-clause-alone : goal.apply_below-returns-in_err-response-clause-alone
+apply_below-returns-in_err-response-clause-alone t c =
+    restored-records c.args.self.now c.merge_below.new.self c.merge_below.ensures.unchanged
+
+pub apply_below-returns-clause-alone : goal.apply_below-returns-clause-alone
+apply_below-returns-clause-alone t c =
+    records-through c.args.self.now c.merge_below.new.self c.apply_sure.new.self (restored-records c.args.self.now c.merge_below.new.self c.merge_below.ensures.unchanged) c.apply_sure.ensures.alone
+
+pub apply_below-returns-clause-goes_back : goal.apply_below-returns-clause-goes_back
+apply_below-returns-clause-goes_back t c =
+    goes_back-through c.args.self.now c.merge_below.new.self c.apply_sure.new.self c.merge_below.ensures.goes_back c.apply_sure.ensures.goes_back
+
+pub step_or_evaluate-returns-in-Evaluation-clause-steps : goal.step_or_evaluate-returns-in-Evaluation-clause-steps
+step_or_evaluate-returns-in-Evaluation-clause-steps t c =
+    on_ok-map c.evaluate_pending.result
+    (λ h. evaluation-step c.args.environment.now c.args.entry.now c.args.self.now (open_progress c.args.run.now) c.evaluate_pending.new.self c.in-Evaluation.is h)
+    c.evaluate_pending.ensures.evaluates
+
+pub step_or_evaluate-returns-in-Evaluation-clause-refused : goal.step_or_evaluate-returns-in-Evaluation-clause-refused
+step_or_evaluate-returns-in-Evaluation-clause-refused t c =
+    refused-map c.evaluate_pending.result
+    (λ h. evaluation-refused c.args.environment.now c.args.entry.now c.args.self.now (open_progress c.args.run.now) c.evaluate_pending.new.self c.in-Evaluation.is h)
+    c.evaluate_pending.ensures.refused
+
+pub step_or_evaluate-returns-in-Evaluation-clause-listed : goal.step_or_evaluate-returns-in-Evaluation-clause-listed
+step_or_evaluate-returns-in-Evaluation-clause-listed t c =
+    step-caused c.args.self.now c.evaluate_pending.new.self (c.args.entry.now ∷ []) c.evaluate_pending.ensures.goes_back c.evaluate_pending.ensures.faults

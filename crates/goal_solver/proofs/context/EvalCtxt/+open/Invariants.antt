@@ -1,0 +1,110 @@
+use Rattle.std.proofs.Common.{◌+◌, ◌*◌, ◌≡◌, ◌++◌, length, drop, take}
+use Rattle.goal_terms.specs.declared.modes.TypingMode.{TypingMode}
+use Rattle.goal_solver.specs.Accesses.{RecordsCausedFaults}
+use Rattle.goal_solver.specs.AddedGoals.{AreSplit, AreClosedAt, LeavesUndecided}
+use Rattle.goal_solver.specs.Answers.{IsOwed}
+use Rattle.goal_solver.specs.GoingBack.{BeginsWith, GoesBack, restored}
+use Rattle.goal_solver.specs.Relating.{ChangesRecords}
+use Rattle.goal_solver.specs.OpenRuns.{RunsThrough, open_progress, open_start}
+use Rattle.goal_solver.specs.RunRules.{AreListed, AreRecorded}
+use Rattle.goal_solver.specs.Binding.{IsApplicable}
+use Rattle.goal_solver.specs.MergedRules.{MergesRules, IfAnswered}
+use Rattle.goal_terms.specs.declared.answers.Certainty.TheVariants as certainty
+use Rattle.goal_solver.proofs.context.EvalCtxt.+open.Given as goal
+
+abbrev pub decreases-merge_below : goal.decreases-merge_below
+decreases-merge_below l = 20 * l.self.now.remaining_depth + 0
+
+abbrev pub decreases-apply_below : goal.decreases-apply_below
+decreases-apply_below l = 20 * l.self.now.remaining_depth + 1
+
+abbrev pub decreases-evaluate_open_trait : goal.decreases-evaluate_open_trait
+decreases-evaluate_open_trait l = 20 * l.self.now.remaining_depth + 2
+
+abbrev pub decreases-evaluate_goal : goal.decreases-evaluate_goal
+decreases-evaluate_goal l = 20 * l.self.now.remaining_depth + 3
+
+abbrev pub decreases-evaluate_round : goal.decreases-evaluate_round
+decreases-evaluate_round l = 20 * l.self.now.remaining_depth + 4
+
+abbrev pub decreases-evaluate_rounds : goal.decreases-evaluate_rounds
+decreases-evaluate_rounds l = 20 * l.self.now.remaining_depth + 5
+
+abbrev pub decreases-evaluate_added_goals : goal.decreases-evaluate_added_goals
+decreases-evaluate_added_goals l = 20 * l.self.now.remaining_depth + 6
+
+abbrev pub decreases-try_evaluate_added_goals : goal.decreases-try_evaluate_added_goals
+decreases-try_evaluate_added_goals l = 20 * l.self.now.remaining_depth + 7
+
+abbrev pub decreases-evaluate_added_goals_and_make_canonical_response : goal.decreases-evaluate_added_goals_and_make_canonical_response
+decreases-evaluate_added_goals_and_make_canonical_response l = 20 * l.self.now.remaining_depth + 8
+
+abbrev pub decreases-evaluate_pending : goal.decreases-evaluate_pending
+decreases-evaluate_pending l = 20 * l.self.now.remaining_depth + 9
+
+abbrev pub decreases-step_or_evaluate : goal.decreases-step_or_evaluate
+decreases-step_or_evaluate l = 20 * l.self.now.remaining_depth + 10
+
+abbrev pub decreases-run_through : goal.decreases-run_through
+decreases-run_through l = 20 * l.self.now.remaining_depth + 11
+
+abbrev pub decreases-answer_open : goal.decreases-answer_open
+decreases-answer_open l = 20 * l.self.now.remaining_depth + 12
+
+abbrev pub decreases-run_open : goal.decreases-run_open
+decreases-run_open l = 20 * l.self.now.remaining_depth + 13
+
+abbrev pub decreases-run_unrefused : goal.decreases-run_unrefused
+decreases-run_unrefused l = 20 * l.self.now.remaining_depth + 14
+
+abbrev pub decreases-merge_next : goal.decreases-merge_next
+decreases-merge_next l = 20 * l.self.now.remaining_depth + 15
+
+abbrev pub decreases-merge_rules : goal.decreases-merge_rules
+decreases-merge_rules l = 20 * l.self.now.remaining_depth + 16
+
+abbrev pub decreases-class_answer : goal.decreases-class_answer
+decreases-class_answer l = 20 * l.self.now.remaining_depth + 17
+
+abbrev pub decreases-merge_classes : goal.decreases-merge_classes
+decreases-merge_classes l = 20 * l.self.now.remaining_depth + 18
+
+abbrev pub decreases-merge_trait : goal.decreases-merge_trait
+decreases-merge_trait l = 20 * l.self.now.remaining_depth + 19
+
+abbrev pub invariant-evaluate_round-loop-i : goal.invariant-evaluate_round-loop-i
+invariant-evaluate_round-loop-i l = record {
+  says : (m : TypingMode) → IsOwed l.self m → AreClosedAt l.goals l.places → LeavesUndecided l.fn.self m l.goals l.places (drop l.i l.places) l.left.items;
+  closed : AreClosedAt l.goals l.places → l.self.inference ≡ l.fn.self.inference;
+  split : AreSplit (length l.goals) l.taken.items (l.left.items ++ drop l.i l.places);
+  taken : BeginsWith l.taken.items l.fn.taken.items;
+  alone : ChangesRecords l.fn.self l.self;
+  faults : RecordsCausedFaults l.fn.self l.self;
+  goes_back : GoesBack l.fn.self l.self;
+}
+
+abbrev pub invariant-evaluate_rounds-loop-round : goal.invariant-evaluate_rounds-loop-round
+invariant-evaluate_rounds-loop-round l = record {
+  first : AreClosedAt l.goals l.fn.places.items → (l.round ≡ 0) × (l.pending.items ≡ l.fn.places.items) × (l.self ≡ l.fn.self);
+  split : AreSplit (length l.goals) l.taken.items l.pending.items;
+  taken : BeginsWith l.taken.items l.fn.taken.items;
+  alone : ChangesRecords l.fn.self l.self;
+  faults : RecordsCausedFaults l.fn.self l.self;
+  goes_back : GoesBack l.fn.self l.self;
+}
+
+abbrev pub invariant-run_through-loop-entry : goal.invariant-run_through-loop-entry
+invariant-run_through-loop-entry l = record {
+  through : RunsThrough l.environment (take l.entry-index l.entries) l.fn.self open_start l.self (open_progress l.run);
+  recorded : l.run.certainty ≡ certainty.Yes → AreRecorded l.self (take l.entry-index l.entries);
+  listed : AreListed l.entries l.fn.self l.self;
+  back : GoesBack l.fn.self l.self;
+}
+
+abbrev pub invariant-merge_rules-loop-rule : goal.invariant-merge_rules-loop-rule
+invariant-merge_rules-loop-rule l = record {
+  merges : MergesRules l.environment (take l.rule-index l.rules) l.fn.self l.merged l.self;
+  applies : IfAnswered l.merged (IsApplicable l.self);
+  unchanged : l.self ≡ restored l.fn.self l.self;
+  back : GoesBack l.fn.self l.self;
+}
