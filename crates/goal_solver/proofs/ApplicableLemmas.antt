@@ -1,5 +1,5 @@
 -- What a computing call answers to an accepted goal can be applied.
-use Rattle.std.proofs.Common.{◌≡◌, ℕ, Bool, true, false, ◌||◌, not, List, [], ◌∷◌, ◌++◌, length, ◌<◌, Option, Some, None, Result, Ok, Err, inl, inr, refl, sym, ap, ◌∙◌, subst}
+use Rattle.std.proofs.Common.{◌≡◌, ℕ, Bool, true, false, ◌||◌, not, List, [], ◌∷◌, ◌++◌, length, replicate, ◌<◌, Option, Some, None, Result, Ok, Err, inl, inr, refl, sym, ap, ◌∙◌, subst}
 use Rattle.std.specs.Prelude.{IsTrue, is_some, IfOk}
 use Rattle.goal_terms.specs.Erased.{erased}
 use Rattle.goal_terms.specs.Kinds.{same_kind, kind_of, kind_of_alias}
@@ -10,6 +10,8 @@ use Rattle.goal_terms.specs.Tree.{Tree, Trees, node, alias, variable, none, more
 use Rattle.goal_terms.specs.TreeOf.{tree_of_alias, tree_of_term, is_type_kind}
 use Rattle.goal_terms.specs.declared.answers.Certainty.TheVariants as certainty
 use Rattle.goal_terms.specs.declared.answers.Response.{Response}
+use Rattle.goal_terms.specs.declared.answers.VarKind.{VarKind}
+use Rattle.goal_terms.specs.declared.answers.VarKind.TheVariants as kind
 use Rattle.goal_terms.specs.declared.heads.Node.{Node}
 use Rattle.goal_terms.specs.declared.heads.Node.TheVariants as nodes
 use Rattle.goal_terms.specs.declared.heads.Variable.{Variable}
@@ -45,7 +47,7 @@ use Rattle.goal_kinds.specs.Settings.{is_headline}
 use Rattle.goal_kinds.specs.declared.faults.Fault.{Fault}
 use Rattle.goal_kinds.proofs.ClosedLevels.{closed-public_given}
 use Rattle.goal_kinds.proofs.PlacedLevels.{placed-given}
-use Rattle.goal_solver.specs.Answers.{IsQuiet, AnswersQuietly, ListsNothing, GivesTo, expected_variable, is_closed_alias, erased_args, IsAliasOpen}
+use Rattle.goal_solver.specs.Answers.{IsQuiet, IsQuietAside, AnswersQuietly, AnswersAside, ListsNothing, GivesTo, expected_variable, is_closed_alias, erased_args, IsAliasOpen}
 use Rattle.goal_solver.specs.Binding.{IsApplicable, IsFreeFor, CanBeListed, bound_term}
 use Rattle.goal_solver.specs.FreeVariables.{general_variable, reaches, is_bound, stands_in_storage, is_taken, lacks_free_variable}
 use Rattle.goal_solver.specs.GoingBack.{restored}
@@ -55,8 +57,9 @@ use Rattle.goal_solver.specs.Recording.{FitsKind}
 use Rattle.goal_solver.specs.declared.eval.outcomes.Found.TheVariants as founds
 use Rattle.goal_solver.specs.State.{State, kinds_in, kinds_of}
 use Rattle.goal_solver.specs.Stored.{HasOneTypeAKey}
-use Rattle.goal_solver.specs.Variables.{with_variables}
+use Rattle.goal_solver.specs.Variables.{with_kinds, with_variables}
 use Rattle.goal_solver.proofs.FoundAnswers.{sort-erased}
+use Rattle.goal_solver.proofs.RegionLemmas.{is-aside, answers-aside, made-with, unbound-with}
 use Rattle.goal_solver.specs.declared.eval.goals.GoalFault.TheVariants.{UnknownItem, WrongArgumentCount, WrongArgumentKind, UnknownVariable, ExpectedTermNotFree}
 
 -- nothing lies in the alias of an accepted goal, nor in its environment
@@ -208,16 +211,23 @@ append-nothing : {A : Type 0} (xs : List A) → xs ++ [] ≡ xs
 append-nothing [] = refl
 append-nothing (x ∷ xs) = ap (λ ys. x ∷ ys) (append-nothing xs)
 
-pub quiet-applies : (s : State) (r : Response) → HasOneTypeAKey s.storage → IsQuiet (length (kinds_of s)) r → CanBeListed (with_variables [] s) r.var_values.items → IsApplicable s r
-quiet-applies s r keyed quiet values = record {
+aside-applies : (s : State) (r : Response) → HasOneTypeAKey s.storage → IsQuietAside (length (kinds_of s)) r → CanBeListed (with_variables r.vars.items s) r.var_values.items → IsApplicable s r
+aside-applies s r keyed quiet values = record {
   base = quiet.0;
-  values = subst (λ vs. CanBeListed (with_variables vs s) r.var_values.items) (sym quiet.1) values;
-  entries = subst HasOneTypeAKey (sym (ap (λ es. s.storage ++ es) quiet.3 ∙ append-nothing s.storage)) keyed;
+  values = values;
+  entries = subst HasOneTypeAKey (sym (ap (λ es. s.storage ++ es) quiet.2 ∙ append-nothing s.storage)) keyed;
 }
 
-pub nothing-applies : (s : State) (r : Response) → HasOneTypeAKey s.storage → IsQuiet (length (kinds_of s)) r → r.var_values.items ≡ [] → IsApplicable s r
+pub quiet-applies : (s : State) (r : Response) → HasOneTypeAKey s.storage → IsQuiet (length (kinds_of s)) r → CanBeListed (with_variables [] s) r.var_values.items → IsApplicable s r
+quiet-applies s r keyed quiet values =
+    aside-applies s r keyed (is-aside (length (kinds_of s)) r quiet) (subst (λ vs. CanBeListed (with_variables vs s) r.var_values.items) (sym quiet.1) values)
+
+pub unvalued-applies : (s : State) (r : Response) → HasOneTypeAKey s.storage → IsQuietAside (length (kinds_of s)) r → r.var_values.items ≡ [] → IsApplicable s r
 unfolding CanBeListed
-nothing-applies s r keyed quiet empty = quiet-applies s r keyed quiet (subst (CanBeListed (with_variables [] s)) (sym empty) tt)
+unvalued-applies s r keyed quiet empty = aside-applies s r keyed quiet (subst (CanBeListed (with_variables r.vars.items s)) (sym empty) tt)
+
+pub nothing-applies : (s : State) (r : Response) → HasOneTypeAKey s.storage → IsQuiet (length (kinds_of s)) r → r.var_values.items ≡ [] → IsApplicable s r
+nothing-applies s r keyed quiet empty = unvalued-applies s r keyed (is-aside (length (kinds_of s)) r quiet) empty
 
 pub with_nothing : (s : State) → with_variables [] s ≡ s
 with_nothing s = ap (λ vs. record s { inference = record s.inference { variables = vs } }) (append-nothing s.inference.variables)
@@ -236,18 +246,19 @@ unfolding kinds_differ
 differ-at q v at h = subst (λ (x : Node). not (same_kind (kind_of_alias q.alias.kind) (kind_of x)) ≡ false) at h
 
 -- the variable that an accepted goal expects its term for may be given a closed term of the alias's sort
-expected-free : (a z : State) (q : NormalizesTo) (env : List Clause) (n : ℕ) (u : Term) (t : Tree) → z.inference ≡ a.inference → IsAcceptedNormalization a q env →
-    some_node is_any_infer t ≡ false → sort_of (node_of t) ≡ sort_of (nodes.Alias q.alias.kind) → expected_variable q.term ≡ Some n → erased (tree_of_term u) ≡ t →
+expected-free : (a z : State) (ks : List VarKind) (q : NormalizesTo) (env : List Clause) (n : ℕ) (u : Term) (t : Tree) → z.inference ≡ with_kinds ks a.inference → ks ≡ replicate (length ks) kind.Region →
+    IsAcceptedNormalization a q env → some_node is_any_infer t ≡ false → sort_of (node_of t) ≡ sort_of (nodes.Alias q.alias.kind) → expected_variable q.term ≡ Some n → erased (tree_of_term u) ≡ t →
     (v : Variable) × (number_of v ≡ n) × IsFreeFor z (tree_of_term u) v
-expected-free a z q env n u t e ok closed sort expected same =
+expected-free a z ks q env n u t e regions ok closed sort expected same =
     let asked : IsGeneral (node_of (tree_of_term q.term)) n = node-general (node_of (tree_of_term q.term)) n expected in
     let untaken : is_taken a asked.v q.alias env ≡ false = not_taken a (general_variable (node_of (tree_of_term q.term))) asked.v q.alias env (ap general_variable asked.at ∙ general-at asked) (ok ExpectedTermNotFree) in
     let stays : bound_term z (tree_of_term u) ≡ t = ap (replaced (resolution z.terms z.inference)) same ∙ closed-replaced (resolution z.terms z.inference) t closed in (
       asked.v,
       asked.number,
       record {
-        made = subst (λ (i : Inference). IsTrue (is_made_in i asked.v)) (sym e) (made-by a asked.v (general-at asked) (subst (λ (x : Node). is_unmade (kinds_of a) x ≡ false) asked.at (top-fails (is_unmade (kinds_of a)) (tree_of_term q.term) (unmade-term a q env ok))));
-        unbound = subst (λ (i : Inference). binding_of i asked.v ≡ None) (sym e) (taken-bound a asked.v q.alias env untaken);
+        made = subst (λ (i : Inference). IsTrue (is_made_in i asked.v)) (sym e)
+            (made-with a.inference ks asked.v (made-by a asked.v (general-at asked) (subst (λ (x : Node). is_unmade (kinds_of a) x ≡ false) asked.at (top-fails (is_unmade (kinds_of a)) (tree_of_term q.term) (unmade-term a q env ok)))));
+        unbound = subst (λ (i : Inference). binding_of i asked.v ≡ None) (sym e) (unbound-with a.inference ks asked.v regions (taken-bound a asked.v q.alias env untaken));
         takes = subst (λ (x : Tree). IsTrue (takes asked.v (node_of x))) (sym stays)
             (takes-by asked.v q.alias.kind (is_type_kind q.alias.kind) (node_of t) refl (general-at asked) (differ-at q asked.v asked.at (no_fault-kinds a.tables lies.WrongArgumentKind q.alias q.term env (ok WrongArgumentKind))) sort);
         absent = subst (λ (x : Tree). place_of asked.v x ≡ Nowhere) (sym stays) (closed-nowhere asked.v t closed);
@@ -256,20 +267,22 @@ expected-free a z q env n u t e ok closed sort expected same =
 
 -- an answer that gives such a term to an accepted goal can be applied
 alias-applies : (a z : State) (q : NormalizesTo) (env : List Clause) (n : ℕ) (r : Response) (t : Tree) → z ≡ restored a z → HasOneTypeAKey a.storage → IsAcceptedNormalization a q env →
-    IsQuiet (length (kinds_of a)) r → some_node is_any_infer t ≡ false → sort_of (node_of t) ≡ sort_of (nodes.Alias q.alias.kind) →
+    IsQuietAside (length (kinds_of a)) r → some_node is_any_infer t ≡ false → sort_of (node_of t) ≡ sort_of (nodes.Alias q.alias.kind) →
     expected_variable q.term ≡ Some n → GivesTo n t r → IsApplicable z r
 unfolding CanBeListed
 alias-applies a z q env n r t e keyed ok quiet closed sort expected gives =
     let inferred : z.inference ≡ a.inference = ap (λ (s : State). s.inference) e in
     let stored : z.storage ≡ a.storage = ap (λ (s : State). s.storage) e in
-    let free : (v : Variable) × (number_of v ≡ n) × IsFreeFor z (tree_of_term gives.0) v = expected-free a z q env n gives.0 t inferred ok closed sort expected gives.2 in
-    quiet-applies z r (subst HasOneTypeAKey (sym stored) keyed)
-    (subst (λ (i : Inference). IsQuiet (length (kinds_in i.variables)) r) (sym inferred) quiet)
-    (subst (CanBeListed (with_variables [] z)) (sym gives.1) (free.0, free.1, subst (λ (s : State). IsFreeFor s (tree_of_term gives.0) free.0) (sym (with_nothing z)) free.2, (λ w b. tt)))
+    let later : State = with_variables r.vars.items z in
+    let free : (v : Variable) × (number_of v ≡ n) × IsFreeFor later (tree_of_term gives.0) v =
+    expected-free a later r.vars.items q env n gives.0 t (ap (with_kinds r.vars.items) inferred) quiet.1 ok closed sort expected gives.2 in
+    aside-applies z r (subst HasOneTypeAKey (sym stored) keyed)
+    (subst (λ (i : Inference). IsQuietAside (length (kinds_in i.variables)) r) (sym inferred) quiet)
+    (subst (CanBeListed later) (sym gives.1) (free.0, free.1, free.2, (λ w b. tt)))
 
 -- the answer that is given to what is found can be applied, if that fits the alias
 pub fitting-applies : (a z : State) (q : NormalizesTo) (env : List Clause) (T : List Tree) (id : TermId) (n : ℕ) (r : Result Response Fault) → z ≡ restored a z →
-    HasOneTypeAKey a.storage → IsAcceptedNormalization a q env → AnswersQuietly (length (kinds_of a)) r → id.0 < length T →
+    HasOneTypeAKey a.storage → IsAcceptedNormalization a q env → AnswersAside (length (kinds_of a)) r → id.0 < length T →
     FitsKind q.alias.kind T (founds.Is id) → expected_variable q.term ≡ Some n →
     (HasTerm T id → IfOk r (λ x. (x.certainty ≡ certainty.Yes) × GivesTo n (erased_at T id) x)) → IfOk r (IsApplicable z)
 fitting-applies a z q env T id n (Ok x) e keyed ok quiet l fits expected says =
@@ -289,20 +302,26 @@ nothing-applies-after a z r e keyed quiet empty =
     nothing-applies z r (subst HasOneTypeAKey (sym (ap (λ (s : State). s.storage) e)) keyed)
     (subst (λ (i : Inference). IsQuiet (length (kinds_in i.variables)) r) (sym (ap (λ (s : State). s.inference) e)) quiet) empty
 
--- so can what lists nothing, if it is an answer
-pub nothing-applies-of : (a z : State) (r : Result Response Fault) → z ≡ restored a z → HasOneTypeAKey a.storage → AnswersQuietly (length (kinds_of a)) r →
+-- so can what lists lifetimes alone, if it is an answer
+unvalued-applies-of : (a z : State) (r : Result Response Fault) → z ≡ restored a z → HasOneTypeAKey a.storage → AnswersAside (length (kinds_of a)) r →
     IfOk r (λ x. x.var_values.items ≡ []) → IfOk r (IsApplicable z)
-nothing-applies-of a z (Ok x) e keyed quiet empty = nothing-applies-after a z x e keyed quiet empty
-nothing-applies-of a z (Err f) e keyed quiet empty = tt
+unvalued-applies-of a z (Ok x) e keyed quiet empty =
+    unvalued-applies z x (subst HasOneTypeAKey (sym (ap (λ (s : State). s.storage) e)) keyed)
+    (subst (λ (i : Inference). IsQuietAside (length (kinds_in i.variables)) x) (sym (ap (λ (s : State). s.inference) e)) quiet) empty
+unvalued-applies-of a z (Err f) e keyed quiet empty = tt
 
 pub nothing-listed : (r : Result Response Fault) → ListsNothing r → IfOk r (λ x. x.var_values.items ≡ [])
 nothing-listed (Ok x) h = h.1
 nothing-listed (Err f) h = tt
 
 -- an answer without values can be applied to what a call left, where only an evaluation came before it
+pub unvalued-applies-later : (a b z : State) (r : Result Response Fault) → b ≡ restored a b → z ≡ restored b z → HasOneTypeAKey a.storage →
+    AnswersAside (length (kinds_of b)) r → IfOk r (λ x. x.var_values.items ≡ []) → IfOk r (IsApplicable z)
+unvalued-applies-later a b z r e f keyed quiet empty = unvalued-applies-of b z r f (subst HasOneTypeAKey (sym (ap (λ (s : State). s.storage) e)) keyed) quiet empty
+
 pub nothing-applies-later : (a b z : State) (r : Result Response Fault) → b ≡ restored a b → z ≡ restored b z → HasOneTypeAKey a.storage →
     AnswersQuietly (length (kinds_of b)) r → IfOk r (λ x. x.var_values.items ≡ []) → IfOk r (IsApplicable z)
-nothing-applies-later a b z r e f keyed quiet empty = nothing-applies-of b z r f (subst HasOneTypeAKey (sym (ap (λ (s : State). s.storage) e)) keyed) quiet empty
+nothing-applies-later a b z r e f keyed quiet empty = unvalued-applies-later a b z r e f keyed (answers-aside (length (kinds_of b)) r quiet) empty
 
 -- each run stands for some mode
 pub stands-for-some : (run : TypingMode) (b : Bool) → is_headline run ≡ b → (m : TypingMode) × StandsFor run m

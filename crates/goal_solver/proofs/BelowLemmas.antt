@@ -4,6 +4,7 @@ use Rattle.std.specs.Prelude.{IfOk}
 use Rattle.goal_terms.specs.declared.answers.Response.{Response}
 use Rattle.goal_terms.specs.declared.predicates.Goal.{Goal}
 use Rattle.goal_terms.specs.declared.predicates.NormalizesTo.{NormalizesTo}
+use Rattle.goal_terms.specs.declared.predicates.ProjectionPredicate.{ProjectionPredicate}
 use Rattle.goal_terms.specs.declared.predicates.TraitPredicate.{TraitPredicate}
 use Rattle.goal_terms.proofs.InternLemmas.{keeps-refl}
 use Rattle.goal_infer.specs.Resolution.{IsSolved}
@@ -11,7 +12,7 @@ use Rattle.goal_kinds.specs.declared.faults.Fault.{Fault}
 use Rattle.goal_solver.specs.Binding.{IsApplicable}
 use Rattle.goal_solver.specs.GoingBack.{GoesBack, restored}
 use Rattle.goal_solver.specs.OpenGoals.{MergesTrait, WhenAnswered, at_depth}
-use Rattle.goal_solver.specs.OpenProjections.{MergesProjection}
+use Rattle.goal_solver.specs.OpenProjections.{MergesProjection, RunsEquation}
 use Rattle.goal_solver.specs.State.{State}
 use Rattle.goal_solver.proofs.GoingBackLemmas.{solved-grown}
 use Rattle.goal_solver.proofs.LaterLemmas.{applies-later}
@@ -54,3 +55,8 @@ merges-below x a v w n g r e f back depth h = said-below (λ s u. MergesTrait g 
 pub projects-below : (x a v w : State) (n : ℕ) (g : Goal NormalizesTo) (r : Result Response Fault) → x ≡ a → v ≡ w → w ≡ restored (at_depth (x.remaining_depth - 1) x) w →
     a.remaining_depth ≡ suc n → WhenAnswered r (MergesProjection g (at_depth (x.remaining_depth - 1) x) r w) → WhenAnswered r (MergesProjection g (at_depth n a) r (at_depth n v))
 projects-below x a v w n g r e f back depth h = said-below (λ s u. MergesProjection g s r u) x a v w n r e f back depth h
+
+-- and an equation
+pub equates-below : (x a v w : State) (n : ℕ) (g : Goal ProjectionPredicate) (r : Result Response Fault) → x ≡ a → v ≡ w → w ≡ restored (at_depth (x.remaining_depth - 1) x) w →
+    a.remaining_depth ≡ suc n → WhenAnswered r (RunsEquation g (at_depth (x.remaining_depth - 1) x) r w) → WhenAnswered r (RunsEquation g (at_depth n a) r (at_depth n v))
+equates-below x a v w n g r e f back depth h = said-below (λ s u. RunsEquation g s r u) x a v w n r e f back depth h

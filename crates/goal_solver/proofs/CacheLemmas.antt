@@ -26,7 +26,7 @@ use Rattle.goal_kinds.specs.Settings.{Setting}
 use Rattle.goal_kinds.proofs.InternedLemmas.{same-grown, in-grown}
 use Rattle.goal_kinds.proofs.WithinLevels.{within-level}
 use Rattle.goal_solver.specs.CacheEntries.{IsKnownAt, entry_of, kept, Enters, trait_decided, outcome_decided, found_decided}
-use Rattle.goal_solver.specs.Effects.{AreSound, AreNone, Soundness}
+use Rattle.goal_solver.specs.Effects.{AreSound, AreNone, KeepsButRegions, Soundness}
 use Rattle.goal_solver.specs.EvaluationCache.{SaysTraitAt, SaysConstAt, SaysAliasAt, IsRight, AreRight, IsValidCache, IsEmptyCache, consts_of, KeepsButConsts}
 use Rattle.goal_solver.specs.Outcomes.{RunsFor, setting_in, level_in, Says, SaysThrough, SaysWhich, FoundIn}
 use Rattle.goal_solver.specs.declared.eval.effects.Effects.{Effects}
@@ -252,7 +252,24 @@ sound-new c T e none = record {
   faults = All-same (IsFaultCaused c.rows.now) e.delayed_faults.items [] none.delayed_faults (All-nil (IsFaultCaused c.rows.now));
 }
 
-pub ruleset caching = (sound-grown, cache-grown)
+-- what is listed of lifetimes says nothing of them
+pub sound-aside : (c : over.Setting) (T : List Tree) (e n : Effects) → KeepsButRegions e n → AreSound c T e → AreSound c T n
+unfolding AreSound KeepsButRegions
+sound-aside c T e n k s = subst (λ (x : Effects). Soundness c T x) (sym k) (record { answers = s.answers; causes = s.causes; faults = s.faults })
+
+pub aside-refl : (e : Effects) → KeepsButRegions e e
+unfolding KeepsButRegions
+aside-refl e = refl
+
+pub aside-chain : (e f n : Effects) → KeepsButRegions e f → KeepsButRegions f n → KeepsButRegions e n
+unfolding KeepsButRegions
+aside-chain e f n k l = l ∙ ap (λ (x : Effects). record x { regions = n.regions }) k
+
+pub aside-cache : (e n : Effects) → KeepsButRegions e n → n.cache ≡ e.cache
+unfolding KeepsButRegions
+aside-cache e n k = ap (λ (x : Effects). x.cache) k
+
+pub ruleset caching = (sound-grown, sound-aside, cache-grown)
 
 -- what is known of a trait goal is so
 pub known-trait : (c : over.Setting) (T : List Tree) (k : Cache) (id : TermId) (i : TraitId) (n : ℕ) (xs : List Tree) (d : ℕ) (o : TraitOutcome) →

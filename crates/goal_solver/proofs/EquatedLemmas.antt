@@ -58,7 +58,7 @@ regions-unbound zero (suc n) k = refl
 regions-unbound (suc c) zero k = region-unbound k
 regions-unbound (suc c) (suc n) k = regions-unbound c n k
 
-binding-added : (vs : List InferVariable) (c n : ℕ) (k : VarKind) → binding_in (slice_get (vs ++ replicate c region_variable) n) k ≡ binding_in (slice_get vs n) k
+pub binding-added : (vs : List InferVariable) (c n : ℕ) (k : VarKind) → binding_in (slice_get (vs ++ replicate c region_variable) n) k ≡ binding_in (slice_get vs n) k
 binding-added [] c zero k = regions-unbound c zero k
 binding-added [] c (suc n) k = regions-unbound c (suc n) k
 binding-added (v ∷ vs) c zero k = refl

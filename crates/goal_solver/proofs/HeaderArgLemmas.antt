@@ -2,27 +2,30 @@
 use Rattle.std.proofs.Common.{◌≡◌, ℕ, zero, suc, ◌+◌, ◌<◌, ◌≤◌, Bool, true, false, ◌||◌, ◌&&◌, List, [], ◌∷◌, ◌++◌, length, map, drop, take, get_or, Option, Some, None, refl, sym, ap, ap₂, ◌∙◌, subst, add-one, arith}
 use Rattle.std.specs.Prelude.{is_some, Result, Ok, Err, IfOk}
 use Rattle.std.specs.Option.{option_map}
-use Rattle.std.proofs.lemmas.List.{drop_all}
+use Rattle.std.proofs.lemmas.List.{drop_all, take_more}
 use Rattle.std.proofs.lemmas.Option.{slice_get_past}
-use Rattle.std.proofs.lemmas.List.Elements.{All-head, All-tail, All-cons, All-nil}
+use Rattle.std.proofs.lemmas.List.Elements.{All-head, All-tail}
+use Rattle.std.proofs.lemmas.Slice.Zip.{all_zipped_more}
 use Rattle.goal_terms.specs.Erased.{erased}
 use Rattle.goal_terms.specs.Folding.{instance}
 use Rattle.goal_terms.specs.NodeTests.{some_node}
 use Rattle.goal_terms.specs.Sorts.{IsArgument}
 use Rattle.goal_terms.specs.TableMeaning.{tree_at, Keeps}
 use Rattle.goal_terms.specs.Tree.{Tree, node_of, parts_of}
-use Rattle.goal_terms.specs.TreeOf.{trees_of, tree_of_arg}
+use Rattle.goal_terms.specs.TreeOf.{trees_of, tree_of_arg, leaf}
 use Rattle.goal_terms.specs.declared.answers.ParamKind.{ParamKind}
+use Rattle.goal_terms.specs.declared.heads.Head.TheVariants as head
 use Rattle.goal_terms.specs.declared.heads.Node.{Node}
 use Rattle.goal_terms.specs.declared.node_tests.Within.TheVariants.{Everything}
 use Rattle.goal_terms.specs.declared.term_nodes.TermId.{TermId}
 use Rattle.goal_terms.specs.declared.terms.GenericArg.{GenericArg}
+use Rattle.goal_terms.specs.declared.terms.Region.{Region}
 use Rattle.goal_terms.proofs.NodeTestLemmas.{some_from, some_node-walk}
 use Rattle.goal_kinds.specs.Headers.{under, no_lifetime}
 use Rattle.goal_kinds.specs.Interned.{erased_at, erased_all, IsIn, AreIn}
 use Rattle.goal_kinds.proofs.InternedLemmas.{all-grow, map-same, in-grown, same-grown, all_same-grown}
 use Rattle.goal_kinds.proofs.UnderLemmas.{under-erased_term, under-at, instance-argument, are_in-arguments}
-use Rattle.goal_solver.specs.HeaderWords.{known_trees, OptionIn, KnownIn, is_unfilled, is_missing, is_unknown, parameter_at, fill_with, is_settled, is_complete}
+use Rattle.goal_solver.specs.HeaderWords.{known_trees, OptionIn, KnownIn, is_unfilled, is_missing, is_unknown, parameter_at, IsFilled, AreFilled, is_settled, is_complete}
 use Rattle.goal_solver.specs.Outcomes.{header_terms}
 
 -- what is known at a place of a list
@@ -73,13 +76,6 @@ complete_nothing (p ∷ ps) os e = absurd (cc)
 pub complete-end : {A : Type 0} (ps : List ParamKind) (os : List (Option A)) (i : ℕ) (b : Bool) → length ps ≤ i → is_complete (drop i ps) (drop i os) ≡ b → true ≡ b
 complete-end ps os i b l h = complete_nothing (drop i ps) (drop i os) (drop_all i ps l) ∙ h
 
--- the numbers that stand for what is known, and for the rest, are in the table
-pub filled-in : (T : List Tree) (rest : TermId) (known : List (Option TermId)) → IsIn T rest → KnownIn T known → AreIn T (map (fill_with rest) known)
-filled-in T rest [] r all = All-nil (IsIn T)
-filled-in T rest (None ∷ known) r all = All-cons (IsIn T) rest (map (fill_with rest) known) r (filled-in T rest known r (All-tail (OptionIn T) None known all))
-filled-in T rest (Some id ∷ known) r all =
-    All-cons (IsIn T) id (map (fill_with rest) known) (All-head (OptionIn T) (Some id) known all) (filled-in T rest known r (All-tail (OptionIn T) (Some id) known all))
-
 -- what is known stays in a growing table, and stays the same
 option_in-grown : (T U : List Tree) → Keeps T U → (o : Option TermId) → OptionIn T o → OptionIn U o
 option_in-grown T U k None h = h
@@ -95,10 +91,29 @@ known_in-grown T U k known h = all-grow (OptionIn T) (OptionIn U) (option_in-gro
 pub known_same-grown : (T U : List Tree) → Keeps T U → (known : List (Option TermId)) → KnownIn T known → known_trees U known ≡ known_trees T known
 known_same-grown T U k known h = map-same (OptionIn T) (option_map (erased_at U)) (option_map (erased_at T)) (option_same-grown T U k) known h
 
--- the argument without a lifetime
-pub lifetime-erased : (T : List Tree) (id : TermId) → tree_at T id ≡ no_lifetime → erased_at T id ≡ no_lifetime
+-- an argument that is a lifetime
+pub lifetime-erased : (T : List Tree) (id : TermId) (r : Region) → tree_at T id ≡ leaf (head.Lifetime r) → erased_at T id ≡ no_lifetime
 unfolding erased
-lifetime-erased T id e = ap erased e
+lifetime-erased T id r e = ap erased e
+
+-- the arguments of parameters stay so in a growing table
+filled_one-grown : (T U : List Tree) → Keeps T U → (o : Option TermId) (id : TermId) → IsIn T id → IsFilled T o id → IsFilled U o id
+filled_one-grown T U k None id i h = same-grown T U k id i ∙ h
+filled_one-grown T U k (Some x) id i h = h
+
+filled-grown : (T U : List Tree) → Keeps T U → (known : List (Option TermId)) (args : List TermId) → AreIn T args → AreFilled T known args → AreFilled U known args
+filled-grown T U k [] [] all h = tt
+filled-grown T U k [] (id ∷ args) all h = absurd h
+filled-grown T U k (o ∷ known) [] all h = absurd h
+filled-grown T U k (o ∷ known) (id ∷ args) all h =
+    (filled_one-grown T U k o id (All-head (IsIn T) id args all) h.0, filled-grown T U k known args (All-tail (IsIn T) id args all) h.1)
+
+-- one more argument
+pub filled-more : (T U : List Tree) (known : List (Option TermId)) (args : List TermId) (i : ℕ) (d : Option TermId) (id : TermId) → Keeps T U → AreIn T args → i < length known →
+    AreFilled T (take i known) args → IsFilled U (get_or known i d) id → AreFilled U (take (i + 1) known) (args ++ id ∷ [])
+filled-more T U known args i d id k all l h here =
+    subst (λ os. AreFilled U os (args ++ id ∷ [])) (sym (take_more known i d l))
+    (all_zipped_more (IsFilled U) (take i known) args (get_or known i d) id (filled-grown T U k (take i known) args all h) here)
 
 -- the instance of a term, by its number
 pub instance-tree : (T U : List Tree) (args : List TermId) (t : Tree) (id : TermId) → tree_at U id ≡ instance (map (tree_at T) args) t →

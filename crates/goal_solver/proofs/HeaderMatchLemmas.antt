@@ -4,7 +4,7 @@ use Rattle.std.specs.Prelude.{◌↔◌, Result, Ok, Err, IfOk, slice_get, Vec}
 use Rattle.std.specs.Global.{Global}
 use Rattle.std.specs.Option.{option_map}
 use Rattle.std.proofs.lemmas.Bool.{false≢true}
-use Rattle.std.proofs.lemmas.Option.{slice_get-map}
+use Rattle.std.proofs.lemmas.Option.{same_Some}
 use Rattle.goal_terms.specs.TableMeaning.{Keeps}
 use Rattle.goal_terms.specs.Tree.{Tree}
 use Rattle.goal_terms.specs.declared.answers.ParamKind.{ParamKind}
@@ -24,7 +24,7 @@ use Rattle.goal_kinds.proofs.InternedLemmas.{all_same-grown}
 use Rattle.goal_kinds.proofs.SubstitutionLemmas.{one_part_among}
 use Rattle.goal_kinds.proofs.WithinLevels.{within-level_itself}
 use Rattle.goal_kinds.proofs.WithinWords.{some_pair-map}
-use Rattle.goal_solver.specs.HeaderWords.{IsKnown, known_trees, KnownIn, fill_with, AreFilled, Fills, is_complete, SaysPart, KnownFrom, Answers, TestOutcome, KnownOutcome, MatchOutcome}
+use Rattle.goal_solver.specs.HeaderWords.{IsKnown, known_trees, KnownIn, IsFilled, AreFilled, Fills, is_complete, SaysPart, KnownFrom, Answers, TestOutcome, KnownOutcome, MatchOutcome}
 use Rattle.goal_solver.specs.Outcomes.{RunsFor, Says, SaysMatch, setting_in, level_in}
 use Rattle.goal_solver.specs.declared.eval.outcomes.HeaderMatch.{HeaderMatch}
 use Rattle.goal_solver.specs.declared.eval.outcomes.HeaderMatch.TheVariants as match
@@ -35,30 +35,38 @@ use Rattle.goal_solver.specs.declared.eval.outcomes.Stop.{Stop}
 use Rattle.goal_solver.proofs.HeaderArgLemmas.{known_same-grown}
 
 -- a filled list has the known terms at their places
-pub filled-fills : (T : List Tree) (known : List (Option TermId)) (args : List TermId) → AreFilled T known args → Fills known args
-filled-fills T known args f n id e = ap (λ xs. slice_get xs n) f.all ∙ slice_get-map (fill_with f.rest) known n ∙ ap (option_map (fill_with f.rest)) e
+filled_at : (T : List Tree) (o : Option TermId) (x id : TermId) → IsFilled T o x → Some o ≡ Some (Some id) → Some x ≡ Some id
+filled_at T None x id f e = let none : None ≡ Some id = same_Some None (Some id) e in absurd (cc)
+filled_at T (Some y) x id f e = ap Some f ∙ same_Some (Some y) (Some id) e
 
--- and stays one in a growing table
-pub filled-grown : (T U : List Tree) (known : List (Option TermId)) (args : List TermId) (f : AreFilled T known args) → erased_at U f.rest ≡ erased_at T f.rest → AreFilled U known args
-filled-grown T U known args f e = record { rest = f.rest; lifetime = e ∙ f.lifetime; all = f.all }
+pub filled-fills : (T : List Tree) (known : List (Option TermId)) (args : List TermId) → AreFilled T known args → Fills known args
+filled-fills T [] [] f n id e = absurd (cc)
+filled-fills T [] (x ∷ args) f n id e = absurd f
+filled-fills T (o ∷ known) [] f n id e = absurd f
+filled-fills T (o ∷ known) (x ∷ args) f zero id e = filled_at T o x id f.0 e
+filled-fills T (o ∷ known) (x ∷ args) f (suc n) id e = filled-fills T known args f.1 n id e
 
 both_true : (a b : Bool) → a && b ≡ true → (a ≡ true) × (b ≡ true)
 both_true true b e = (refl, e)
 both_true false b e = absurd (false≢true e)
 
 -- where all parameters are known, the filled list has their terms
-parts-complete : (L : Level) (hs gs T : List Tree) (n : ℕ) (params : List ParamKind) (known : List (Option TermId)) (rest : TermId) → erased_at T rest ≡ no_lifetime →
-    is_complete params known ≡ true → KnownFrom L hs gs n params (known_trees T known) → PartsFrom L hs gs n params (erased_all T (map (fill_with rest) known))
+parts-complete : (L : Level) (hs gs T : List Tree) (n : ℕ) (params : List ParamKind) (known : List (Option TermId)) (args : List TermId) → AreFilled T known args →
+    is_complete params known ≡ true → KnownFrom L hs gs n params (known_trees T known) → PartsFrom L hs gs n params (erased_all T args)
 unfolding KnownFrom PartsFrom is_complete
-parts-complete L hs gs T n [] [] rest e w k = tt
-parts-complete L hs gs T n [] (o ∷ os) rest e w k = absurd k
-parts-complete L hs gs T n (p ∷ ps) [] rest e w k = absurd k
-parts-complete L hs gs T n (kind.Lifetime ∷ ps) (None ∷ os) rest e w k = (e, parts-complete L hs gs T (suc n) ps os rest e w k.1)
-parts-complete L hs gs T n (kind.Lifetime ∷ ps) (Some id ∷ os) rest e w k = let impossible : Some (erased_at T id) ≡ None = k.0 in absurd (cc)
-parts-complete L hs gs T n (kind.Ty ∷ ps) (None ∷ os) rest e w k = absurd (false≢true w)
-parts-complete L hs gs T n (kind.Ty ∷ ps) (Some id ∷ os) rest e w k = (k.0, parts-complete L hs gs T (suc n) ps os rest e w k.1)
-parts-complete L hs gs T n (kind.Const ∷ ps) (None ∷ os) rest e w k = absurd (false≢true w)
-parts-complete L hs gs T n (kind.Const ∷ ps) (Some id ∷ os) rest e w k = (k.0, parts-complete L hs gs T (suc n) ps os rest e w k.1)
+parts-complete L hs gs T n [] [] [] f w k = tt
+parts-complete L hs gs T n [] [] (x ∷ xs) f w k = absurd f
+parts-complete L hs gs T n [] (o ∷ os) xs f w k = absurd k
+parts-complete L hs gs T n (p ∷ ps) [] xs f w k = absurd k
+parts-complete L hs gs T n (p ∷ ps) (o ∷ os) [] f w k = absurd f
+parts-complete L hs gs T n (kind.Lifetime ∷ ps) (None ∷ os) (x ∷ xs) f w k = (f.0, parts-complete L hs gs T (suc n) ps os xs f.1 w k.1)
+parts-complete L hs gs T n (kind.Lifetime ∷ ps) (Some id ∷ os) (x ∷ xs) f w k = let impossible : Some (erased_at T id) ≡ None = k.0 in absurd (cc)
+parts-complete L hs gs T n (kind.Ty ∷ ps) (None ∷ os) (x ∷ xs) f w k = absurd (false≢true w)
+parts-complete L hs gs T n (kind.Ty ∷ ps) (Some id ∷ os) (x ∷ xs) f w k =
+    (subst (PartAmong L n hs gs) (sym (ap (erased_at T) f.0)) k.0, parts-complete L hs gs T (suc n) ps os xs f.1 w k.1)
+parts-complete L hs gs T n (kind.Const ∷ ps) (None ∷ os) (x ∷ xs) f w k = absurd (false≢true w)
+parts-complete L hs gs T n (kind.Const ∷ ps) (Some id ∷ os) (x ∷ xs) f w k =
+    (subst (PartAmong L n hs gs) (sym (ap (erased_at T) f.0)) k.0, parts-complete L hs gs T (suc n) ps os xs f.1 w k.1)
 
 -- else no list has
 parts-incomplete : (L : Level) (hs gs T : List Tree) (n : ℕ) (params : List ParamKind) (known : List (Option TermId)) (s : List Tree) →
@@ -150,8 +158,8 @@ all_known_by : (c : over.Setting) (depth : ℕ) (T U : List Tree) (params : List
     AllKnown (level_in c m depth) params hs gs (erased_all U args)
 unfolding AllKnown
 all_known_by c depth T U params hs gs known args keeps within f w m k =
-    subst (PartsFrom (level_in c m depth) hs gs 0 params) (sym (all_same-grown T U keeps args within ∙ ap (erased_all T) f.all))
-    (parts-complete (level_in c m depth) hs gs T 0 params known f.rest f.lifetime w k)
+    subst (PartsFrom (level_in c m depth) hs gs 0 params) (sym (all_same-grown T U keeps args within))
+    (parts-complete (level_in c m depth) hs gs T 0 params known args f w k)
 
 -- the header fits
 pub match-fits : (c : over.Setting) (depth : ℕ) (T U : List Tree) (params : List ParamKind) (hs gs : List Tree) (known : List (Option TermId)) (v : Vec TermId Global) (args : List TermId) (b : Bool) → Keeps T U → AreIn T v.items →

@@ -16,7 +16,7 @@ use Rattle.goal_kinds.specs.declared.faults.Fault.{Fault}
 use Rattle.goal_kinds.specs.declared.faults.Fault.TheVariants as fault
 use Rattle.goal_kinds.specs.declared.goal_kind.TraitView.{TraitView}
 use Rattle.goal_kinds.proofs.WithinLevels.{within-level}
-use Rattle.goal_solver.specs.Answers.{IsOwed, level_over, IsPredicateAnswer, IsUndecided, IsMaybe, AnswersQuietly}
+use Rattle.goal_solver.specs.Answers.{IsOwed, level_over, IsPredicateAnswer, IsUndecided, IsMaybe, AnswersAside}
 use Rattle.goal_solver.specs.Assembled.{level_above}
 use Rattle.goal_solver.specs.GoingBack.{GoesBack, restored}
 use Rattle.goal_solver.specs.HostGoals.{HostThrough, HoldsThroughClass, SaysHostAt, host_asked, AnswersHostThrough, AnswersHostGiven, host_with, host_through}
@@ -28,7 +28,7 @@ use Rattle.goal_solver.specs.declared.eval.outcomes.Outcome.TheVariants as outco
 use Rattle.goal_solver.specs.declared.eval.outcomes.Stop.{Stop}
 use Rattle.goal_solver.specs.declared.eval.outcomes.Stop.TheVariants as stop
 use Rattle.goal_solver.proofs.AnswerLemmas.{owed-before, answered-soundly, concluded-open, stops-later, IsConcluded}
-use Rattle.goal_solver.proofs.PromiseLemmas.{whether-right, whether-lasts, changes-nothing}
+use Rattle.goal_solver.proofs.PromiseLemmas.{whether-right, whether-lasts, changes-lifetimes}
 
 -- an evaluation, and what is concluded from it
 module _ (a b z : State) (env : List Clause) (q : HostThrough) (o : Result Outcome Stop) (r : Result Response Fault) (g : GoesBack b z)
@@ -50,11 +50,11 @@ module _ (a b z : State) (env : List Clause) (q : HostThrough) (o : Result Outco
 pub answers-host_through : (before after : State) (env : List Clause) (q : HostThrough) (r : Result Response Fault) →
     ((m : TypingMode) → IsOwed after m → HoldsThroughClass (level_over before m env) q → IsPredicateAnswer (level_above before m env) (host_asked q) r) →
     ((m : TypingMode) → IsOwed after m → HoldsThroughClass (level_over before m env) q → IsMaybe r → IsUndecided (level_above before m env) (host_asked q)) →
-    AnswersQuietly (length (kinds_of before)) r → IfOk r (λ x. x.var_values.items ≡ []) → IfOk r NamesNoClass → AnswersHostThrough before after env q r
+    AnswersAside (length (kinds_of before)) r → IfOk r (λ x. x.var_values.items ≡ []) → IfOk r NamesNoClass → AnswersHostThrough before after env q r
 answers-host_through before after env q r sound decided quiet values unnamed = record {
   exact = λ m owed h. whether-right (level_above before m env) (host_asked q) r (sound m owed h) (decided m owed h);
   lasts = λ m n owed h le. whether-lasts (within-level (setting_of before.tables m env) (suc before.remaining_depth) n (omega arith)) (host_asked q) r (sound m owed h);
-  quiet = changes-nothing before r quiet values;
+  quiet = changes-lifetimes before r quiet values;
   no_class = unnamed;
 }
 

@@ -46,6 +46,7 @@ pub mod RelatedLemmas
 pub mod EquatedLemmas
 pub mod LifetimeLemmas
 pub mod FreeVariableLemmas
+pub mod RegionLemmas
 pub mod ApplicableLemmas
 pub mod PlaceLemmas
 pub mod AddedGoalLemmas
@@ -77,6 +78,7 @@ pub mod CollectingLemmas
 pub mod CollectedTermLemmas
 pub mod CollectedObjectLemmas
 mod OpenProjectionLemmas
+mod OpenHostLemmas
 pub mod PromiseLemmas
 pub mod ListRunLemmas
 pub mod ListEntryLemmas

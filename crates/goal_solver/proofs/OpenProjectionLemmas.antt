@@ -1,8 +1,10 @@
 -- Projections with inference variables.
 use Rattle.std.proofs.Common.{◌≡◌, ℕ, ◌+◌, ◌<◌, Bool, true, false, ◌&&◌, List, [], ◌∷◌, ◌++◌, length, take, drop, get_or, Option, Some, None, Result, Ok, Err, inl, inr, refl, sym, ap, ◌∙◌, subst, append_assoc}
-use Rattle.std.specs.Prelude.{IfOk, MatchOption}
+use Rattle.std.specs.Prelude.{IfOk, MatchOption, is_some, if◌then◌else◌}
 use Rattle.std.proofs.lemmas.List.{take-append-drop}
+use Rattle.goal_terms.specs.Erased.{erased}
 use Rattle.goal_terms.specs.Tree.{Tree}
+use Rattle.goal_terms.specs.TreeOf.{tree_of_alias, tree_of_term}
 use Rattle.goal_terms.specs.declared.answers.Certainty as certainties
 use Rattle.goal_terms.specs.declared.answers.Certainty.TheVariants as certainty
 use Rattle.goal_terms.specs.declared.answers.Response.{Response}
@@ -12,11 +14,15 @@ use Rattle.goal_terms.specs.declared.modes.TypingMode.{TypingMode}
 use Rattle.goal_terms.specs.declared.predicates.Clause.{Clause}
 use Rattle.goal_terms.specs.declared.predicates.Goal.{Goal}
 use Rattle.goal_terms.specs.declared.predicates.NormalizesTo.{NormalizesTo}
+use Rattle.goal_terms.specs.declared.predicates.ProjectionPredicate.{ProjectionPredicate}
 use Rattle.goal_terms.specs.declared.predicates.TraitPredicate.{TraitPredicate}
 use Rattle.goal_terms.specs.declared.terms.GenericArg.{GenericArg}
 use Rattle.goal_terms.specs.declared.terms.Term.{Term}
 use Rattle.goal_tables.specs.declared.rows.Tables.{Tables}
 use Rattle.goal_kinds.specs.ProjectionKind.{projected_trait}
+use Rattle.goal_kinds.specs.ProjectionLists.{equation_list}
+use Rattle.goal_kinds.specs.Projections.{projected_item}
+use Rattle.goal_kinds.specs.RuleLists.{IsListed}
 use Rattle.goal_kinds.specs.declared.faults.Fault.{Fault}
 use Rattle.goal_kinds.specs.declared.faults.Fault.TheVariants as fault
 use Rattle.goal_kinds.specs.declared.rules.Rule.{Rule}
@@ -28,13 +34,14 @@ use Rattle.goal_solver.specs.Collecting.{KindWords, CollectsFor}
 use Rattle.goal_solver.specs.MergedRules.{MergesRules}
 use Rattle.goal_solver.specs.HiddenTypes.{AsksForm, tree_in}
 use Rattle.goal_solver.specs.OpenGoals.{Considers, FormsGoal, IsFormless, IsLeft, WhenAnswered, has_kind_fault}
-use Rattle.goal_solver.specs.OpenProjections.{CollectsAll, is_formed, Forms, FormsAll, RefusesForm, LacksForm, WithForms, IsRigidList, IsRigid, own_args, proven_class, MergesGroup, ByBounds, ByRest, ByLater, ByGroups, alias_words, ByClass, MergesThrough, MergesProjection, AsksItsTrait, AnswersTrait}
+use Rattle.goal_solver.specs.OpenProjections.{CollectsAll, is_formed, Forms, FormsAll, RefusesForm, LacksForm, WithForms, IsRigidList, IsRigid, own_args, proven_class, classes_behind, CollectsGroups, ConsidersGroups, MergesGroup, ByBounds, ByRest, ByLater, ByGroups, alias_words, ByClass, MergesThrough, MergesProjection, IsAliasRule, RunsAlias, RunsEquation, AsksItsTrait, AnswersTrait}
 use Rattle.goal_solver.specs.OpenRuns.{RunsOpen}
 use Rattle.goal_solver.specs.Refusals.{WhenRefused, IsRefusedOpen}
 use Rattle.goal_solver.specs.Relating.{IsFaultFor}
 use Rattle.goal_solver.specs.State.{State}
 use Rattle.goal_solver.specs.declared.assembly.merged_rules.Merged.{Merged}
 use Rattle.goal_solver.specs.declared.assembly.merged_rules.Merged.TheVariants as merged
+use Rattle.goal_solver.specs.declared.normalizes_to.groups.GroupRules.{GroupRules}
 use Rattle.goal_solver.proofs.LaterLemmas.{applies-later}
 use Rattle.goal_solver.proofs.OpenClassLemmas.{when-refused}
 use Rattle.goal_solver.proofs.VariableLemmas.{take-more}
@@ -245,6 +252,22 @@ by-later-bounds class.ParamEnv C env own p s u r n h = h
 by-later-bounds class.AliasBound C env own p s u r n h = h
 by-later-bounds class.Misc C env own p s u r n h = absurd (n refl)
 
+-- the rules of the groups of a goal that is considered are collected
+pub collects-groups : {P : Type 0} (K : KindWords P) (c : TraitGoalProvenVia) (g h : Goal P) (s x z : State) (w : GroupRules) (o : Option (Goal P)) →
+    FormsGoal K.self_type K.is_with_self (has_kind_fault K.has_fault s.tables) g s z o → o ≡ Some h → x ≡ z → z ≡ restored s z → w.param_env.items ≡ h.param_env.items →
+    CollectsAll (CollectsFor K x.tables h x.typing_mode) (class.ParamEnv ∷ []) w.environment.items → CollectsAll (CollectsFor K x.tables h x.typing_mode) (classes_behind c) w.later.items →
+    CollectsGroups K c g s z w
+collects-groups K c g h s x z w o forms is same back env first later =
+    let f = subst (λ y. FormsGoal K.self_type K.is_with_self (has_kind_fault K.has_fault s.tables) g s z y) is forms in
+    record {
+      considered = h;
+      considers = f.0;
+      accepted = f.1;
+      environment = env;
+      first = subst (λ (y : State). CollectsAll (CollectsFor K y.tables h y.typing_mode) (class.ParamEnv ∷ []) w.environment.items) (same ∙ back) first;
+      later = subst (λ (y : State). CollectsAll (CollectsFor K y.tables h y.typing_mode) (classes_behind c) w.later.items) (same ∙ back) later;
+    }
+
 -- a goal is answered through a class
 pub through-left : {P : Type 0} (K : KindWords P) (p : NormalizesTo) (c : TraitGoalProvenVia) (g : Goal P) (s u : State) (r : Response) →
     IsLeft K.self_type K.is_with_self (has_kind_fault K.has_fault s.tables) g s u → r.certainty ≡ certainty.Maybe → MergesThrough K p c g s (Ok r) u
@@ -274,9 +297,42 @@ pub asks-its-trait : (s a : State) (g : Goal NormalizesTo) (o : Option (Goal Tra
 asks-its-trait s a g o q e is h =
     subst (λ (x : State). AsksItsTrait x.tables g q) e (subst (λ x. MatchOption x (projected_trait s.tables g.predicate.alias ≡ None) (AsksItsTrait s.tables g)) is h)
 
+-- or there is none
+pub no-trait : (s a : State) (g : Goal NormalizesTo) (o : Option (Goal TraitPredicate)) → s ≡ a → o ≡ None →
+    MatchOption o (projected_trait s.tables g.predicate.alias ≡ None) (AsksItsTrait s.tables g) → projected_trait a.tables g.predicate.alias ≡ None
+no-trait s a g o e is h =
+    subst (λ (x : State). projected_trait x.tables g.predicate.alias ≡ None) e (subst (λ x. MatchOption x (projected_trait s.tables g.predicate.alias ≡ None) (AsksItsTrait s.tables g)) is h)
+
+pub none-left : {A : Type 0} (o : Option A) → ((x : A) → o ≡ Some x → ⊥) → o ≡ None
+none-left None n = refl
+none-left (Some x) n = absurd (n x refl)
+
 -- a projection is answered by its trait goal
-pub projects-nothing : (g : Goal NormalizesTo) (s : State) (r : Response) → projected_trait s.tables g.predicate.alias ≡ None → r.certainty ≡ certainty.Maybe → MergesProjection g s (Ok r) s
-projects-nothing g s r e h = inl (e, h, refl)
+pub projects-alias : (g : Goal NormalizesTo) (s u : State) (r : Result Response Fault) → projected_trait s.tables g.predicate.alias ≡ None → WhenAnswered r (RunsAlias g s r u) →
+    WhenAnswered r (MergesProjection g s r u)
+projects-alias g s u r e h = when-map (RunsAlias g s r u) (MergesProjection g s r u) r (λ k. inl (e, k)) h
+
+-- the list of an alias is run
+pub alias-run : (g : Goal NormalizesTo) (s u : State) (rule : Rule) (env : List Clause) (es : List RuleEntry) (r : Result Response Fault) → env ≡ g.param_env.items → es ≡ rule.entries.items →
+    IsAliasRule s.tables s.typing_mode g rule → IfOk r (RunsOpen env es s u) → WhenRefused r (IsRefusedOpen env es s u) → WhenAnswered r (RunsAlias g s r u)
+alias-run g s u rule env es (Ok q) d e l h k = inr (rule, l, subst (λ xs. RunsOpen g.param_env.items xs s u q) e (subst (λ xs. RunsOpen xs es s u q) d h))
+alias-run g s u rule env es (Err f) d e l h k =
+    when-refused (RunsAlias g s (Err f) u) f (λ is. inr (rule, l, subst (λ xs. IsRefusedOpen g.param_env.items xs s u) e (subst (λ xs. IsRefusedOpen xs es s u) d (k is))))
+
+pub alias-none : (g : Goal NormalizesTo) (s : State) (f : Fault) (r : Response) → f ≡ (if is_some (projected_item g.predicate.alias.kind) then fault.NotForThisKind else fault.OutOfMemory) → f ≡ fault.NotForThisKind →
+    r.certainty ≡ certainty.Maybe → RunsAlias g s (Ok r) s
+alias-none g s f r e is maybe = inl (not-memory (is_some (projected_item g.predicate.alias.kind)) (sym e ∙ is), maybe, refl) where
+  not-memory : (b : Bool) → (if b then fault.NotForThisKind else fault.OutOfMemory) ≡ fault.NotForThisKind → b ≡ true
+  not-memory true h = refl
+  not-memory false h = absurd (cc)
+
+-- so is that of an equation
+pub equation-run : (g : Goal ProjectionPredicate) (s u : State) (rule : Rule) (env : List Clause) (es : List RuleEntry) (r : Result Response Fault) → env ≡ g.param_env.items → es ≡ rule.entries.items →
+    IsListed s.tables rule (Some (equation_list (erased (tree_of_alias g.predicate.projection_term)) (erased (tree_of_term g.predicate.term)))) →
+    IfOk r (RunsOpen env es s u) → WhenRefused r (IsRefusedOpen env es s u) → WhenAnswered r (RunsEquation g s r u)
+equation-run g s u rule env es (Ok q) d e l h k = (rule, l, subst (λ xs. RunsOpen g.param_env.items xs s u q) e (subst (λ xs. RunsOpen xs es s u q) d h))
+equation-run g s u rule env es (Err f) d e l h k =
+    when-refused (RunsEquation g s (Err f) u) f (λ is. (rule, l, subst (λ xs. IsRefusedOpen g.param_env.items xs s u) e (subst (λ xs. IsRefusedOpen xs es s u) d (k is))))
 
 pub projects-refused : (g : Goal NormalizesTo) (q : Goal TraitPredicate) (s z : State) (f : Fault) → AsksItsTrait s.tables g q → (f ≡ fault.NoSolution → AnswersTrait q s z (Err f)) →
     WhenAnswered (Err f) (MergesProjection g s (Err f) z)

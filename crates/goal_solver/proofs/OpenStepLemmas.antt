@@ -7,7 +7,7 @@ use Rattle.std.proofs.lemmas.List.{append-nil, map-append, take_all}
 use Rattle.std.proofs.lemmas.List.Elements.{Contains-push_cases}
 use Rattle.std.proofs.lemmas.Option.{slice_get-map}
 use Rattle.goal_terms.specs.Folding.{instance, instantiating}
-use Rattle.goal_terms.specs.PredicateTrees.{PredicateTree, ClauseTree, tree_of_kind, tree_of_whole_clause, folded_predicate}
+use Rattle.goal_terms.specs.PredicateTrees.{PredicateTree, holds, holds_const, ClauseTree, tree_of_kind, tree_of_trait_ref, tree_of_whole_clause, folded_predicate}
 use Rattle.goal_terms.specs.Tree.{Tree}
 use Rattle.goal_terms.specs.TreeOf.{trees_of, tree_of_term}
 use Rattle.goal_terms.specs.contracts.predicates.ClauseClone.TheImpl.{is_clone-value}
@@ -15,6 +15,7 @@ use Rattle.goal_terms.specs.declared.answers.Certainty.{Certainty}
 use Rattle.goal_terms.specs.declared.answers.Certainty.TheVariants as certainty
 use Rattle.goal_terms.specs.declared.answers.DelayedFault.{DelayedFault}
 use Rattle.goal_terms.specs.declared.answers.GoalSource.{GoalSource}
+use Rattle.goal_terms.specs.declared.answers.GoalSource.TheVariants as source
 use Rattle.goal_terms.specs.declared.answers.OpaqueAccess.{OpaqueAccess}
 use Rattle.goal_terms.specs.declared.answers.OpaqueTypeKey.{OpaqueTypeKey}
 use Rattle.goal_terms.specs.declared.ids.ImplId.{ImplId}
@@ -22,10 +23,11 @@ use Rattle.goal_terms.specs.declared.predicates.BoundConstness.{BoundConstness}
 use Rattle.goal_terms.specs.declared.predicates.Clause.{Clause}
 use Rattle.goal_terms.specs.declared.predicates.ClauseKind.{ClauseKind}
 use Rattle.goal_terms.specs.declared.predicates.Predicate.{Predicate}
+use Rattle.goal_terms.specs.declared.predicates.TraitRef.{TraitRef}
 use Rattle.goal_terms.specs.declared.terms.GenericArg.{GenericArg}
 use Rattle.goal_terms.specs.declared.terms.Term.{Term}
 use Rattle.goal_tables.specs.declared.rows.ImplRow.{ImplRow}
-use Rattle.goal_kinds.specs.Rules.{MatchedHeader, clauses_in}
+use Rattle.goal_kinds.specs.Rules.{MatchedHeader, clauses_in, conditions_in}
 use Rattle.goal_kinds.specs.declared.faults.Fault.{Fault}
 use Rattle.goal_kinds.specs.declared.rules.FirstUse.{FirstUse}
 use Rattle.goal_kinds.specs.declared.rules.RowClauses.{RowClauses}
@@ -36,7 +38,7 @@ use Rattle.goal_kinds.specs.declared.rules.RuleTerm.{RuleTerm}
 use Rattle.goal_solver.specs.Accesses.{uncaused_faults, RecordsCausedFaults}
 use Rattle.goal_solver.specs.Added.{with_goals, Enters, RecordsFault}
 use Rattle.goal_solver.specs.GoingBack.{GoesBack}
-use Rattle.goal_solver.specs.OpenRuns.{OpenProgress, named_trees, after_entry, after_naming, clauses_with, predicate_of, other_header, source_of, AddsGoals, AddsRow, Defines, Equates, Evaluates, Follows, GivesForm, GivesTerm, GivesValue, IsGoalOf, Matches, MatchesIf, NamesOpen, ReadsMode, Steps}
+use Rattle.goal_solver.specs.OpenRuns.{OpenProgress, named_trees, after_entry, after_naming, clauses_with, conditions_with, predicate_of, other_header, source_of, AddsGoals, AddsRow, Defines, Equates, Evaluates, Follows, GivesForm, GivesTerm, GivesValue, IsGoalOf, Matches, MatchesIf, NamesOpen, ReadsMode, Steps}
 use Rattle.goal_solver.specs.RunRules.{AreListed}
 use Rattle.goal_solver.specs.State.{State}
 use Rattle.goal_solver.proofs.BindingLemmas.{zip-map}
@@ -80,28 +82,33 @@ zip-join R [] (y ∷ ys) us vs p q = absurd p
 zip-join R (x ∷ xs) [] us vs p q = absurd p
 zip-join R (x ∷ xs) (y ∷ ys) us vs p q = (p.0, zip-join R xs ys us vs p.1 q)
 
--- the goal for one more clause is added
-clauses-more : (ts : List Tree) (cs : List Clause) (i : ℕ) (d : Clause) → i < length cs → d ≡ get_or cs i d →
-    clauses_with ts (take (i + 1) cs) ≡ clauses_with ts (take i cs) ++ folded_predicate (instantiating ts) 0 (tree_of_kind d.kind) ∷ []
-clauses-more ts cs i d l at =
-    ap (clauses_with ts) (take-more cs i d l)
-    ∙ map-append (λ (k : Clause). folded_predicate (instantiating ts) 0 (tree_of_kind k.kind)) (take i cs) (get_or cs i d ∷ [])
-    ∙ ap (λ (x : Clause). clauses_with ts (take i cs) ++ folded_predicate (instantiating ts) 0 (tree_of_kind x.kind) ∷ []) (sym at)
+-- the goal for one more thing that is listed is added
+listed-more : {A : Type 0} (f : A → PredicateTree) (xs : List A) (i : ℕ) (x : A) → i < length xs → x ≡ get_or xs i x → map f (take (i + 1) xs) ≡ map f (take i xs) ++ f x ∷ []
+listed-more f xs i x l at = ap (map f) (take-more xs i x l) ∙ map-append f (take i xs) (get_or xs i x ∷ []) ∙ ap (λ y. map f (take i xs) ++ f y ∷ []) (sym at)
 
-pub more-added : (from : GoalSource) (env : List Clause) (ts : List Tree) (cs : List Clause) (i : ℕ) (d : Clause) (k : ClauseKind) (s a b : State) → i < length cs → d ≡ get_or cs i d →
-    tree_of_kind k ≡ folded_predicate (instantiating ts) 0 (tree_of_kind d.kind) → AddsGoals from env (clauses_with ts (take i cs)) s a → AddsGoals from env (tree_of_kind k ∷ []) a b →
-    AddsGoals from env (clauses_with ts (take (i + 1) cs)) s b
-more-added from env ts cs i d k s a b l at same before here = record {
+pub more-added : {A : Type 0} (f : A → PredicateTree) (from : GoalSource) (env : List Clause) (xs : List A) (i : ℕ) (x : A) (q : PredicateTree) (s a b : State) → i < length xs → x ≡ get_or xs i x →
+    q ≡ f x → AddsGoals from env (map f (take i xs)) s a → AddsGoals from env (q ∷ []) a b → AddsGoals from env (map f (take (i + 1) xs)) s b
+more-added f from env xs i x q s a b l at same before here = record {
   added = before.added ++ here.added;
-  asked = subst (λ qs. AllZip (IsGoalOf from env) qs (before.added ++ here.added)) (sym (clauses-more ts cs i d l at))
-      (zip-join (IsGoalOf from env) (clauses_with ts (take i cs)) before.added (folded_predicate (instantiating ts) 0 (tree_of_kind d.kind) ∷ []) here.added before.asked
-      (subst (λ q. AllZip (IsGoalOf from env) (q ∷ []) here.added) same here.asked));
+  asked = subst (λ qs. AllZip (IsGoalOf from env) qs (before.added ++ here.added)) (sym (listed-more f xs i x l at))
+      (zip-join (IsGoalOf from env) (map f (take i xs)) before.added (f x ∷ []) here.added before.asked
+      (subst (λ y. AllZip (IsGoalOf from env) (y ∷ []) here.added) same here.asked));
   is = here.is ∙ ap (with_goals here.added) before.is ∙ ap (λ gs. record s { goals = gs }) (append_assoc s.goals before.added here.added);
 }
 
-pub all-added : (from : GoalSource) (env : List Clause) (ts : List Tree) (cs : List Clause) (i : ℕ) (s a : State) → length cs ≤ i → AddsGoals from env (clauses_with ts (take i cs)) s a →
-    AddsGoals from env (clauses_with ts cs) s a
-all-added from env ts cs i s a l h = subst (λ ds. AddsGoals from env (clauses_with ts ds) s a) (take_all i cs l) h
+pub all-added : {A : Type 0} (f : A → PredicateTree) (from : GoalSource) (env : List Clause) (xs : List A) (i : ℕ) (s a : State) → length xs ≤ i → AddsGoals from env (map f (take i xs)) s a →
+    AddsGoals from env (map f xs) s a
+all-added f from env xs i s a l h = subst (λ ys. AddsGoals from env (map f ys) s a) (take_all i xs l) h
+
+-- a trait under arguments, as a const trait
+held_const : BoundConstness → PredicateTree → PredicateTree
+held_const b (holds i ts) = holds_const b i ts
+held_const b q = q
+
+pub condition-under : (b : BoundConstness) (ts : List Tree) (r q : TraitRef) → tree_of_trait_ref q ≡ folded_predicate (instantiating ts) 0 (tree_of_trait_ref r) →
+    holds_const b q.def_id (trees_of q.args.items) ≡ holds_const b r.def_id (map (instance ts) (trees_of r.args.items))
+unfolding held_const
+condition-under b ts r q e = ap (held_const b) e
 
 -- the arguments of a number
 pub number-named : (named : List (Vec GenericArg Global)) (n : ℕ) (args : Vec GenericArg Global) → Some args ≡ slice_get named n → Some (trees_of args.items) ≡ slice_get (named_trees named) n
@@ -112,21 +119,23 @@ pub number-unnamed : (named : List (Vec GenericArg Global)) (n : ℕ) → None �
 number-unnamed named n e =
     ap (option_map (λ (xs : Vec GenericArg Global). trees_of xs.items)) e ∙ sym (slice_get-map (λ (xs : Vec GenericArg Global). trees_of xs.items) named n)
 
--- goals for a row's clauses
-pub row-missing : (from : GoalSource) (env : List Clause) (o : Option (List Clause)) (p : Option (List Tree)) (s : State) → None ≡ o → AddsRow from env o p s certainty.Maybe s
-row-missing from env o p s e = subst (λ x. AddsRow from env x p s certainty.Maybe s) e (refl, refl)
+-- goals for what a row lists
+pub row-missing : {A : Type 0} (under : List Tree → List A → List PredicateTree) (from : GoalSource) (env : List Clause) (o : Option (List A)) (p : Option (List Tree)) (s : State) → None ≡ o →
+    AddsRow under from env o p s certainty.Maybe s
+row-missing under from env o p s e = subst (λ x. AddsRow under from env x p s certainty.Maybe s) e (refl, refl)
 
-row-lacking : (from : GoalSource) (env : List Clause) (o : Option (List Clause)) (s : State) → AddsRow from env o None s certainty.Maybe s
-row-lacking from env None s = (refl, refl)
-row-lacking from env (Some cs) s = (refl, refl)
+row-lacking : {A : Type 0} (under : List Tree → List A → List PredicateTree) (from : GoalSource) (env : List Clause) (o : Option (List A)) (s : State) → AddsRow under from env o None s certainty.Maybe s
+row-lacking under from env None s = (refl, refl)
+row-lacking under from env (Some xs) s = (refl, refl)
 
-pub row-unnamed : (from : GoalSource) (env : List Clause) (o : Option (List Clause)) (p : Option (List Tree)) (s : State) → None ≡ p → AddsRow from env o p s certainty.Maybe s
-row-unnamed from env o p s e = subst (λ x. AddsRow from env o x s certainty.Maybe s) e (row-lacking from env o s)
+pub row-unnamed : {A : Type 0} (under : List Tree → List A → List PredicateTree) (from : GoalSource) (env : List Clause) (o : Option (List A)) (p : Option (List Tree)) (s : State) → None ≡ p →
+    AddsRow under from env o p s certainty.Maybe s
+row-unnamed under from env o p s e = subst (λ x. AddsRow under from env o x s certainty.Maybe s) e (row-lacking under from env o s)
 
-pub row-added : (from : GoalSource) (env cs : List Clause) (ts : List Tree) (o : Option (List Clause)) (p : Option (List Tree)) (s z : State) → Some cs ≡ o → Some ts ≡ p →
-    AddsGoals from env (clauses_with ts cs) s z → AddsRow from env o p s certainty.Yes z
-row-added from env cs ts o p s z e f h =
-    subst (λ x. AddsRow from env x p s certainty.Yes z) e (subst (λ x. AddsRow from env (Some cs) x s certainty.Yes z) f (h, refl))
+pub row-added : {A : Type 0} (under : List Tree → List A → List PredicateTree) (from : GoalSource) (env : List Clause) (xs : List A) (ts : List Tree) (o : Option (List A)) (p : Option (List Tree)) (s z : State) →
+    Some xs ≡ o → Some ts ≡ p → AddsGoals from env (under ts xs) s z → AddsRow under from env o p s certainty.Yes z
+row-added under from env xs ts o p s z e f h =
+    subst (λ x. AddsRow under from env x p s certainty.Yes z) e (subst (λ x. AddsRow under from env (Some xs) x s certainty.Yes z) f (h, refl))
 
 -- the value of a row
 value-here : (env : List Clause) (v : Tree) (o : Option Tree) (ts : List Tree) (t : Tree) (s : State) (c : Certainty) (u : State) → Some t ≡ option_map (instance ts) o →
@@ -210,9 +219,14 @@ unfolding Steps
 clause-step env e g k s p u q is adds after = subst (λ x. Steps env x s p u q) (sym is) (certainty.Yes, (adds, refl), after)
 
 pub row-step : (env : List Clause) (e : RuleEntry) (w : RowClauses) (n : ℕ) (s : State) (p : OpenProgress) (u : State) (q : OpenProgress) (c : Certainty) → e ≡ entry.RowClauses w n →
-    AddsRow (source_of w) env (clauses_in s.tables w) (slice_get p.named n) s c u → q ≡ after_entry p c → Steps env e s p u q
+    AddsRow clauses_with (source_of w) env (clauses_in s.tables w) (slice_get p.named n) s c u → q ≡ after_entry p c → Steps env e s p u q
 unfolding Steps
 row-step env e w n s p u q c is adds after = subst (λ x. Steps env x s p u q) (sym is) (c, adds, after)
+
+pub conditions-step : (env : List Clause) (e : RuleEntry) (b : BoundConstness) (i : ImplId) (n : ℕ) (s : State) (p : OpenProgress) (u : State) (q : OpenProgress) (c : Certainty) → e ≡ entry.RowConditions b i n →
+    AddsRow (conditions_with b) source.ImplWhereBound env (conditions_in s.tables i) (slice_get p.named n) s c u → q ≡ after_entry p c → Steps env e s p u q
+unfolding Steps
+conditions-step env e b i n s p u q c is adds after = subst (λ x. Steps env x s p u q) (sym is) (c, adds, after)
 
 pub term-step : (env : List Clause) (e : RuleEntry) (v : Term) (t : RuleTerm) (s : State) (p : OpenProgress) (u : State) (q : OpenProgress) (c : Certainty) → e ≡ entry.Term v t →
     GivesTerm env p.named (tree_of_term v) t s c u → q ≡ after_entry p c → Steps env e s p u q
@@ -239,13 +253,12 @@ evaluation-step env e s p u is h = subst (λ x. Steps env x s p u p) (sym is) (h
 
 -- an entry that such a list leaves undecided
 abbrev pub StaysOpen : RuleEntry → Type 0
-StaysOpen e = (e ≡ entry.Ambiguous) ⊎ ((e ≡ entry.Undecided) ⊎ ((b : BoundConstness) × (i : ImplId) × (n : ℕ) × (e ≡ entry.RowConditions b i n)))
+StaysOpen e = (e ≡ entry.Ambiguous) ⊎ (e ≡ entry.Undecided)
 
 pub undecided-step : (env : List Clause) (e : RuleEntry) (s : State) (p q : OpenProgress) → StaysOpen e → q ≡ after_entry p certainty.Maybe → Steps env e s p s q
 unfolding Steps
 undecided-step env e s p q stays after =
-    ⊎_elim (λ is. subst (λ x. Steps env x s p s q) (sym is) (refl, after))
-    (λ more. ⊎_elim (λ is. subst (λ x. Steps env x s p s q) (sym is) (refl, after)) (λ w. subst (λ x. Steps env x s p s q) (sym w.3) (refl, after)) more) stays
+    ⊎_elim (λ is. subst (λ x. Steps env x s p s q) (sym is) (refl, after)) (λ is. subst (λ x. Steps env x s p s q) (sym is) (refl, after)) stays
 
 -- only the fault of its entry comes with the step
 entered-one : {A : Type 0} (x y : A) (old new : List A) → Enters x old new → Contains new y → Contains old y ⊎ (x ≡ y)

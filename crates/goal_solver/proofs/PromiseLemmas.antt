@@ -38,14 +38,14 @@ use Rattle.goal_kinds.specs.declared.goal_kind.MergeRule.TheVariants as merge
 use Rattle.goal_kinds.specs.Settings.{Setting, is_headline}
 use Rattle.goal_kinds.proofs.AnswerLaws.{answer-within, answers-agree, const-agrees, const-plain}
 use Rattle.goal_kinds.proofs.WithinLevels.{within-level}
-use Rattle.goal_solver.specs.Answers.{IsOwed, level_over, erased_args, IsMaybe, IsOpen, IsUndecided, IsTraitResponse, IsTraitAnswer, IsHoldingResponse, IsPredicateAnswer, IsAliasResponse, IsAliasAnswer, AnswersQuietly, IsQuiet, ListsNothing, expected_variable, is_closed_alias, IsAliasOpen}
+use Rattle.goal_solver.specs.Answers.{IsOwed, level_over, erased_args, IsMaybe, IsOpen, IsUndecided, IsTraitResponse, IsTraitAnswer, IsHoldingResponse, IsPredicateAnswer, IsAliasResponse, IsAliasAnswer, AnswersAside, IsQuiet, ListsNothing, expected_variable, is_closed_alias, IsAliasOpen}
 use Rattle.goal_solver.specs.Assembled.{level_above}
 use Rattle.goal_solver.specs.Binding.{IsApplicable}
 use Rattle.goal_solver.specs.FreeVariables.{general_variable, lacks_free_variable}
 use Rattle.goal_solver.specs.GoingBack.{restored}
 use Rattle.goal_solver.specs.Goals.{IsAcceptedNormalization}
 use Rattle.goal_solver.specs.Outcomes.{StandsFor}
-use Rattle.goal_solver.specs.Promises.{whether_answered, said_of_whether, term_answered, said_of_term, listed_term, if_decided, decided_in, IsYes, LeavesUndecided, ChangesNothing, AnswersPredicate, NamesClass, NamesNoClass, AnswersTrait, AnswersProjection, AnswersHostEffect, ListsTerm, GivesTermAlone, AnswersAlias, NoTwoDisagree, equation_asked, const_asked, term_asked, one_deeper, AnswersTraitAbove, Through, given_through, asked_through, through_level, IsProven, AnswersThrough, AnswersGiven, AppliesProven, AppliesGiven}
+use Rattle.goal_solver.specs.Promises.{whether_answered, said_of_whether, term_answered, said_of_term, listed_term, if_decided, decided_in, IsYes, LeavesUndecided, ChangesLifetimes, AnswersPredicate, NamesClass, NamesNoClass, AnswersTrait, AnswersProjection, AnswersHostEffect, ListsTerm, GivesTermAlone, AnswersAlias, NoTwoDisagree, equation_asked, const_asked, term_asked, one_deeper, AnswersTraitAbove, Through, given_through, asked_through, through_level, IsProven, AnswersThrough, AnswersGiven, AppliesProven, AppliesGiven}
 use Rattle.goal_solver.specs.State.{State, kinds_of}
 use Rattle.goal_solver.specs.declared.eval.goals.GoalFault.TheVariants.{ExpectedTermNotFree}
 use Rattle.goal_solver.proofs.CollectedTermLemmas.{some-same}
@@ -91,21 +91,21 @@ whether-lasts w p (Err fault.RerunNonErased) h = tt
 whether-lasts w p (Err fault.OutOfMemory) h = tt
 whether-lasts w p (Err fault.NotForThisKind) h = tt
 
--- nothing is changed where no value is listed
-pub changes-nothing : (s : State) (r : Result Response Fault) → AnswersQuietly (length (kinds_of s)) r → IfOk r (λ x. x.var_values.items ≡ []) → IfOk r (ChangesNothing s)
-changes-nothing s (Ok x) quiet values = record { quiet = quiet; values = values }
-changes-nothing s (Err f) quiet values = tt
+-- nothing but lifetimes is changed where no value is listed
+pub changes-lifetimes : (s : State) (r : Result Response Fault) → AnswersAside (length (kinds_of s)) r → IfOk r (λ x. x.var_values.items ≡ []) → IfOk r (ChangesLifetimes s)
+changes-lifetimes s (Ok x) quiet values = record { quiet = quiet; values = values }
+changes-lifetimes s (Err f) quiet values = tt
 
 -- what a body says of a predicate
 module _ (before after : State) (env : List Clause) where
   pub answers-predicate : (p : PredicateTree) (r : Result Response Fault) →
       ((m : TypingMode) → IsOwed after m → IsPredicateAnswer (level_over before m env) p r) →
       ((m : TypingMode) → IsOwed after m → IsMaybe r → IsUndecided (level_over before m env) p) →
-      AnswersQuietly (length (kinds_of before)) r → IfOk r (λ x. x.var_values.items ≡ []) → AnswersPredicate before after env p r
+      AnswersAside (length (kinds_of before)) r → IfOk r (λ x. x.var_values.items ≡ []) → AnswersPredicate before after env p r
   answers-predicate p r sound decided quiet values = record {
     exact = λ m owed. whether-right (level_over before m env) p r (sound m owed) (decided m owed);
     lasts = λ m n stands le. whether-lasts (within-level (setting_of before.tables m env) before.remaining_depth n le) p r (sound m stands);
-    quiet = changes-nothing before r quiet values;
+    quiet = changes-lifetimes before r quiet values;
   }
 
 -- an answer to a trait goal is one to its predicate
@@ -139,7 +139,7 @@ names-class w i ts (Err f) h k = tt
 pub answers-trait : (before after : State) (env : List Clause) (q : TraitTree) (r : Result Response Fault) →
     ((m : TypingMode) → IsOwed after m → IsTraitAnswer (level_over before m env) q.def_id q.args r) →
     ((m : TypingMode) → IsOwed after m → IsMaybe r → IsOpen (level_over before m env) q.def_id q.args) →
-    AnswersQuietly (length (kinds_of before)) r → IfOk r (λ x. x.var_values.items ≡ []) → IfOk r (λ x. x.certainty ≡ certainty.Maybe → x.proven_via ≡ None) →
+    AnswersAside (length (kinds_of before)) r → IfOk r (λ x. x.var_values.items ≡ []) → IfOk r (λ x. x.certainty ≡ certainty.Maybe → x.proven_via ≡ None) →
     AnswersTrait before after env q r
 answers-trait before after env q r sound decided quiet values class = record {
   answers = answers-predicate before after env (holds q.def_id q.args) r
@@ -151,7 +151,7 @@ answers-trait before after env q r sound decided quiet values class = record {
 pub answers-projection : (before after : State) (env : List Clause) (p : ProjectionPredicate) (r : Result Response Fault) →
     ((m : TypingMode) → IsOwed after m → IsPredicateAnswer (level_over before m env) (equation_asked p) r) →
     ((m : TypingMode) → IsOwed after m → IsMaybe r → IsUndecided (level_over before m env) (equation_asked p)) →
-    AnswersQuietly (length (kinds_of before)) r → IfOk r (λ x. x.var_values.items ≡ []) → IfOk r NamesNoClass → AnswersProjection before after env p r
+    AnswersAside (length (kinds_of before)) r → IfOk r (λ x. x.var_values.items ≡ []) → IfOk r NamesNoClass → AnswersProjection before after env p r
 answers-projection before after env p r sound decided quiet values unnamed = record {
   answers = answers-predicate before after env (equation_asked p) r sound decided quiet values;
   no_class = unnamed;
@@ -187,7 +187,7 @@ never-refuted S n k c i ts e h j = const-agrees S n k i ts (subst (λ (x : Bound
 pub answers-host_effect : (before after : State) (env : List Clause) (p : HostEffectPredicate) (r : Result Response Fault) →
     ((m : TypingMode) → IsOwed after m → IsPredicateAnswer (level_over before m env) (const_asked p) r) →
     ((m : TypingMode) → IsOwed after m → IsMaybe r → IsUndecided (level_over before m env) (const_asked p)) →
-    AnswersQuietly (length (kinds_of before)) r → IfOk r (λ x. x.var_values.items ≡ []) → IfOk r NamesNoClass → AnswersHostEffect before after env p r
+    AnswersAside (length (kinds_of before)) r → IfOk r (λ x. x.var_values.items ≡ []) → IfOk r NamesNoClass → AnswersHostEffect before after env p r
 answers-host_effect before after env p r sound decided quiet values unnamed = record {
   answers = answers-predicate before after env (const_asked p) r sound decided quiet values;
   no_class = unnamed;
@@ -244,7 +244,7 @@ lists-term : (e : Term) (x : Certainty) (vs : List (ℕ × Term)) → (x ≡ cer
 lists-term e certainty.Yes vs h u = h refl
 lists-term e certainty.Maybe vs h u = u refl
 
-gives-alone : (s : State) (e : Term) (r : Result Response Fault) → AnswersQuietly (length (kinds_of s)) r → IfOk r (λ x. x.certainty ≡ certainty.Yes → ListsTerm e certainty.Yes x.var_values.items) →
+gives-alone : (s : State) (e : Term) (r : Result Response Fault) → AnswersAside (length (kinds_of s)) r → IfOk r (λ x. x.certainty ≡ certainty.Yes → ListsTerm e certainty.Yes x.var_values.items) →
     IfOk r (λ x. x.certainty ≡ certainty.Maybe → x.var_values.items ≡ []) → IfOk r (GivesTermAlone s e)
 gives-alone s e (Ok x) quiet h u = record { quiet = quiet; values = lists-term e x.certainty x.var_values.items h u }
 gives-alone s e (Err f) quiet h u = tt
@@ -278,7 +278,7 @@ accepted-expected s p env ok = node-expected s p.alias env (node_of (tree_of_ter
 pub answers-alias : (before after : State) (env : List Clause) (p : NormalizesTo) (r : Result Response Fault) →
     ((m : TypingMode) → IsOwed after m → IsAliasAnswer (level_over before m env) p.alias.kind (erased_args p.alias.args.items) p.term r) →
     ((m : TypingMode) (n : ℕ) → IsOwed after m → IsAcceptedNormalization before p env → expected_variable p.term ≡ Some n → IsMaybe r → IsAnswer (level_over before m env) (term_asked p) maybe) →
-    AnswersQuietly (length (kinds_of before)) r → IfOk r (λ x. x.certainty ≡ certainty.Yes → ListsTerm p.term certainty.Yes x.var_values.items) →
+    AnswersAside (length (kinds_of before)) r → IfOk r (λ x. x.certainty ≡ certainty.Yes → ListsTerm p.term certainty.Yes x.var_values.items) →
     IfOk r (λ x. x.certainty ≡ certainty.Maybe → x.var_values.items ≡ []) → IfOk r NamesNoClass → AnswersAlias before after env p r
 answers-alias before after env p r sound whole quiet given values unnamed =
     record {
@@ -315,7 +315,7 @@ leaves-undecided s x e p v q = record { certainty = e; no_class = p; changes = r
 pub answers-trait_above : (before after : State) (env : List Clause) (o : Option TraitTree) (r : Result Response Fault) →
     ((m : TypingMode) (q : TraitTree) → IsOwed after m → o ≡ Some q → IsTraitAnswer (level_above before m env) q.def_id q.args r) →
     ((m : TypingMode) (q : TraitTree) → IsOwed after m → o ≡ Some q → IsMaybe r → IsOpen (level_above before m env) q.def_id q.args) →
-    AnswersQuietly (length (kinds_of before)) r → IfOk r (λ x. x.var_values.items ≡ []) → IfOk r (λ x. x.certainty ≡ certainty.Maybe → x.proven_via ≡ None) →
+    AnswersAside (length (kinds_of before)) r → IfOk r (λ x. x.var_values.items ≡ []) → IfOk r (λ x. x.certainty ≡ certainty.Maybe → x.proven_via ≡ None) →
     (o ≡ None → LeavesUndecided before r) → AnswersTraitAbove before after env o r
 answers-trait_above before after env None r sound decided quiet values class missing = missing refl
 answers-trait_above before after env (Some q) r sound decided quiet values class missing =
@@ -328,7 +328,7 @@ pub answers-through : (before after : State) (env : List Clause) (a : Through) (
     ((m : TypingMode) → IsOwed after m → IsProven before m env a → IsAliasAnswer (level_above before m env) a.asked.alias.kind (erased_args a.asked.alias.args.items) a.asked.term r) →
     ((m : TypingMode) (n : ℕ) → IsOwed after m → IsProven before m env a → IsAcceptedNormalization before a.asked env → expected_variable a.asked.term ≡ Some n → IsMaybe r →
     IsAnswer (level_above before m env) (term_asked a.asked) maybe) →
-    AnswersQuietly (length (kinds_of before)) r → IfOk r (λ x. x.certainty ≡ certainty.Yes → ListsTerm a.asked.term certainty.Yes x.var_values.items) →
+    AnswersAside (length (kinds_of before)) r → IfOk r (λ x. x.certainty ≡ certainty.Yes → ListsTerm a.asked.term certainty.Yes x.var_values.items) →
     IfOk r (λ x. x.certainty ≡ certainty.Maybe → x.var_values.items ≡ []) → IfOk r NamesNoClass → AnswersThrough before after env a r
 answers-through before after env a r sound decided above whole quiet given values unnamed =
     record {

@@ -1,5 +1,5 @@
 -- When an answer to a goal is justified, and what it leaves undecided.
-use Rattle.std.specs.Prelude.{◌≡◌, ◌⊎◌, ◌<◌, ℕ, Bool, true, false, not, ◌||◌, ◌&&◌, List, [], ◌∷◌, length, map, Option, Some, None, Result, Ok, Err, IfOk, IsOk}
+use Rattle.std.specs.Prelude.{◌≡◌, ◌⊎◌, ◌<◌, ℕ, Bool, true, false, not, ◌||◌, ◌&&◌, List, [], ◌∷◌, length, map, replicate, Option, Some, None, Result, Ok, Err, IfOk, IsOk}
 use Rattle.goal_terms.specs.Closed.{is_closed}
 use Rattle.goal_terms.specs.Erased.{erased}
 use Rattle.goal_terms.specs.NodeTests.{is_any_infer, general_variable_at}
@@ -11,6 +11,7 @@ use Rattle.goal_terms.specs.declared.answers.Certainty.{Certainty}
 use Rattle.goal_terms.specs.declared.answers.Certainty.TheVariants as certainty
 use Rattle.goal_terms.specs.declared.answers.Response.{Response}
 use Rattle.goal_terms.specs.declared.answers.TraitGoalProvenVia.{TraitGoalProvenVia}
+use Rattle.goal_terms.specs.declared.answers.VarKind.TheVariants as kind
 use Rattle.goal_terms.specs.declared.ids.TraitId.{TraitId}
 use Rattle.goal_terms.specs.declared.modes.TypingMode.{TypingMode}
 use Rattle.goal_terms.specs.declared.modes.TypingMode.TheVariants as mode
@@ -116,6 +117,14 @@ IsAliasOpen L k ts = ((t : Tree) → IsTerm t → L.gives k ts t → ⊥) × (L.
 -- a response that changes nothing, but for values of variables; only a yes names a class
 abbrev pub IsQuiet : ℕ → Response → Type 0
 IsQuiet base r = (r.base ≡ base) × (r.vars.items ≡ []) × (r.region_equations.items ≡ []) × (r.opaque_entries.items ≡ [])
+
+-- one that changes nothing but values and lifetimes: all variables that it lists stand for lifetimes
+abbrev pub IsQuietAside : ℕ → Response → Type 0
+IsQuietAside base r = (r.base ≡ base) × (r.vars.items ≡ replicate (length r.vars.items) kind.Region) × (r.opaque_entries.items ≡ [])
+
+abbrev pub AnswersAside : ℕ → Result Response Fault → Type 0
+AnswersAside base (Ok r) = IsQuietAside base r
+AnswersAside base (Err f) = Unit {0}
 
 abbrev pub AnswersQuietly : ℕ → Result Response Fault → Type 0
 AnswersQuietly base (Ok r) = IsQuiet base r

@@ -23,6 +23,10 @@ pub record Soundness (c : over.Setting) (T : List Tree) (e : Effects) : Type 0 w
 unfoldable pub AreSound : over.Setting → List Tree → Effects → Type 0
 AreSound c T e = Soundness c T e
 
+-- an evaluation's effects are as they were, but for what is listed of lifetimes
+unfoldable pub KeepsButRegions : Effects → Effects → Type 0
+KeepsButRegions e new = new ≡ record e { regions = new.regions }
+
 -- nothing is kept, and nothing recorded
 pub record AreNone (e : Effects) : Type 0 where
   pub answers : IsEmptyCache e.cache

@@ -1,6 +1,6 @@
 -- Where the parameters of a header stand in given terms, and where a header may clash with them.
 use Rattle.std.specs.Prelude.{◌≡◌, ◌&&◌, ℕ, suc, Bool, true, false, List, [], ◌∷◌, map, slice_get, Option, Some, None, is_some}
-use Rattle.std.specs.List.{All}
+use Rattle.std.specs.List.{All, AllZip}
 use Rattle.std.specs.Option.{option_map}
 use Rattle.goal_terms.specs.Erased.{erased}
 use Rattle.goal_terms.specs.Sorts.{IsArgument}
@@ -145,16 +145,14 @@ is_missing ks (Some n) = is_unfilled (slice_get ks n)
 abbrev pub is_unknown : {A : Type 0} → List (Option A) → Node → Bool
 is_unknown ks m = is_missing ks (parameter_at m)
 
--- a list of what is known, with a number for the rest
-abbrev pub fill_with : TermId → Option TermId → TermId
-fill_with rest None = rest
-fill_with rest (Some id) = id
+-- an argument is what is known of its parameter, or a lifetime where nothing is
+abbrev pub IsFilled : List Tree → Option TermId → TermId → Type 0
+IsFilled T None id = erased_at T id ≡ no_lifetime
+IsFilled T (Some x) id = id ≡ x
 
--- a list has the known terms of all parameters that are known, and the argument without a lifetime for the others
-pub record AreFilled (T : List Tree) (known : List (Option TermId)) (args : List TermId) : Type 0 where
-  pub rest : TermId
-  pub lifetime : erased_at T rest ≡ no_lifetime
-  pub all : args ≡ map (fill_with rest) known
+-- a list has the known terms of all parameters that are known, and lifetimes for the others
+abbrev pub AreFilled : List Tree → List (Option TermId) → List TermId → Type 0
+AreFilled T known args = AllZip (IsFilled T) known args
 
 -- whether a parameter of a kind is known, or is a lifetime
 abbrev pub is_settled : {A : Type 0} → ParamKind → Option A → Bool

@@ -17,7 +17,7 @@ use Rattle.goal_kinds.specs.declared.faults.Fault.{Fault}
 use Rattle.goal_solver.specs.Answers.{IsOwed, level_over}
 use Rattle.goal_solver.specs.Assembled.{level_above}
 use Rattle.goal_solver.specs.Outcomes.{Says}
-use Rattle.goal_solver.specs.Promises.{whether_answered, decided_in, ChangesNothing, NamesNoClass, LeavesUndecided}
+use Rattle.goal_solver.specs.Promises.{whether_answered, decided_in, ChangesLifetimes, NamesNoClass, LeavesUndecided}
 use Rattle.goal_solver.specs.State.{State}
 use Rattle.goal_solver.specs.declared.effect_goals.proven_via.HostEffectThrough.{HostEffectThrough}
 use Rattle.goal_solver.specs.declared.eval.outcomes.Outcome.{Outcome}
@@ -44,12 +44,12 @@ HoldsThroughClass L a = L.through a.class a.asked.def_id a.asked.args
 abbrev pub SaysHostAt : Setting → ℕ → HostThrough → Outcome → Type 0
 SaysHostAt S n a o = Says ((level S n).const_holds a.constness a.asked.def_id a.asked.args) ((level S n).const_refuted a.constness a.asked.def_id a.asked.args) o
 
--- where the plain goal holds through the class at the remaining depth, the candidates answer the goal as it is answered one above; what is decided lasts, and nothing is changed
+-- where the plain goal holds through the class at the remaining depth, the candidates answer the goal as it is answered one above; what is decided lasts, and nothing but lifetimes is changed
 pub record AnswersHostThrough (before after : State) (env : List Clause) (a : HostThrough) (r : Result Response Fault) : Type 0 where
   pub exact : (m : TypingMode) → IsOwed after m → HoldsThroughClass (level_over before m env) a → IfSome (whether_answered r) (IsAnswer (level_above before m env) (whether (host_asked a)))
   pub lasts : (m : TypingMode) (n : ℕ) → IsOwed after m → HoldsThroughClass (level_over before m env) a → before.remaining_depth < n →
       IfSome (decided_in (whether_answered r)) (IsAnswer (level (setting_of before.tables m env) n) (whether (host_asked a)))
-  pub quiet : IfOk r (ChangesNothing before)
+  pub quiet : IfOk r (ChangesLifetimes before)
   pub no_class : IfOk r NamesNoClass
 
 -- a goal that is asked with a class, a constness and a trait

@@ -36,6 +36,7 @@ pub mod TranslatedArgs
 pub mod Collecting
 pub mod OpenGoals
 pub mod OpenProjections
+pub mod OpenHostGoals
 pub mod Recording
 pub mod Promises
 pub mod Evaluations

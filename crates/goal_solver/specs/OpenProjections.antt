@@ -1,5 +1,6 @@
 -- How the goal of a projection with inference variables is answered: by its trait goal, and then by its candidates, group by group.
-use Rattle.std.specs.Prelude.{◌≡◌, ◌⊎◌, ℕ, suc, Bool, true, false, ◌&&◌, is_none, List, [], ◌∷◌, ◌++◌, length, drop, Option, Some, None, Result, Ok, Err}
+use Rattle.std.specs.Prelude.{◌≡◌, ◌⊎◌, ℕ, suc, Bool, true, false, ◌&&◌, is_none, is_some, List, [], ◌∷◌, ◌++◌, length, drop, Option, Some, None, Result, Ok, Err}
+use Rattle.goal_terms.specs.Erased.{erased}
 use Rattle.goal_terms.specs.NodeTests.{general_variable_at}
 use Rattle.goal_terms.specs.Tree.{Tree, node_of}
 use Rattle.goal_terms.specs.TreeOf.{tree_of_alias, tree_of_term}
@@ -12,15 +13,23 @@ use Rattle.goal_terms.specs.declared.modes.TypingMode.{TypingMode}
 use Rattle.goal_terms.specs.declared.predicates.Clause.{Clause}
 use Rattle.goal_terms.specs.declared.predicates.Goal.{Goal}
 use Rattle.goal_terms.specs.declared.predicates.NormalizesTo.{NormalizesTo}
+use Rattle.goal_terms.specs.declared.predicates.ProjectionPredicate.{ProjectionPredicate}
 use Rattle.goal_terms.specs.declared.predicates.TraitPredicate.{TraitPredicate}
 use Rattle.goal_terms.specs.declared.terms.AliasTerm.{AliasTerm}
 use Rattle.goal_terms.specs.declared.terms.GenericArg.{GenericArg}
 use Rattle.goal_terms.specs.declared.terms.Term.{Term}
 use Rattle.goal_tables.specs.Clauses.{lies_in_equation}
 use Rattle.goal_tables.specs.declared.rows.Tables.{Tables}
+use Rattle.goal_kinds.specs.AliasLists.{alias_list}
+use Rattle.goal_kinds.specs.Answers.{setting_of}
 use Rattle.goal_kinds.specs.CandidateRules.{first_type}
 use Rattle.goal_kinds.specs.Premises.{TraitTree}
 use Rattle.goal_kinds.specs.ProjectionKind.{ProjectionCandidateGives, ProjectionCandidateRefuted, IsImplForItem, projected_trait, lang_of_alias, is_for_alias, IsAliasWithSelf, may_match_term}
+use Rattle.goal_kinds.specs.ProjectionLists.{equation_list}
+use Rattle.goal_kinds.specs.Projections.{projected_item}
+use Rattle.goal_kinds.specs.RuleLists.{IsListed}
+use Rattle.goal_kinds.specs.Rules.{given as given_args}
+use Rattle.goal_kinds.specs.RuleWords.{TermsAreFor}
 use Rattle.goal_kinds.specs.declared.goal_kind.MergeRule.TheVariants as merge
 use Rattle.goal_kinds.specs.declared.faults.Fault.{Fault}
 use Rattle.goal_kinds.specs.declared.faults.Fault.TheVariants as fault
@@ -40,6 +49,7 @@ use Rattle.goal_solver.specs.State.{State}
 use Rattle.goal_solver.specs.TranslatedArgs.{IsSameEnvironment}
 use Rattle.goal_solver.specs.declared.assembly.merged_rules.Merged.{Merged}
 use Rattle.goal_solver.specs.declared.assembly.merged_rules.Merged.TheVariants as merged
+use Rattle.goal_solver.specs.declared.normalizes_to.groups.GroupRules.{GroupRules}
 
 -- a class, if something is certain
 abbrev pub class_if : Certainty → Option TraitGoalProvenVia → Option TraitGoalProvenVia
@@ -78,6 +88,12 @@ own_args t a = args_behind (projected_trait t a) a.args.items
 unfoldable pub CollectsAll : (TraitGoalProvenVia → List Rule → Type 0) → List TraitGoalProvenVia → List Rule → Type 0
 CollectsAll Collects [] rs = rs ≡ []
 CollectsAll Collects (c ∷ cs) rs = (ps : List Rule) × (qs : List Rule) × Collects c ps × CollectsAll Collects cs qs × (rs ≡ ps ++ qs)
+
+-- the classes whose candidates are looked at after the environment, by the class through which the trait goal holds
+abbrev pub classes_behind : TraitGoalProvenVia → List TraitGoalProvenVia
+classes_behind class.ParamEnv = class.AliasBound ∷ []
+classes_behind class.AliasBound = class.AliasBound ∷ []
+classes_behind class.Misc = class.AliasBound ∷ class.Misc ∷ []
 
 -- they are run and merged
 abbrev pub MergesGroup : (TypingMode → TraitGoalProvenVia → List Rule → Type 0) → List Clause → List TraitGoalProvenVia → State → Merged → State → Type 0
@@ -174,6 +190,20 @@ ByGroups Collects c env own p s r u =
     ((m : Merged) × (z : State) × MergesGroup Collects env (class.ParamEnv ∷ []) s m z × IsGiven env own m z r u)
     ⊎ ((z : State) × MergesGroup Collects env (class.ParamEnv ∷ []) s merged.Refuted z × ByLater c Collects env own p z r u)
 
+-- the rules of a goal's candidates are collected, group by group, for the goal that is considered in its place
+pub record CollectsGroups {P : Type 0} (K : KindWords P) (c : TraitGoalProvenVia) (g : Goal P) (s z : State) (w : GroupRules) : Type 0 where
+  pub considered : Goal P
+  pub considers : Considers K.self_type K.is_with_self g considered s z
+  pub accepted : has_kind_fault K.has_fault s.tables considered ≡ false
+  pub environment : w.param_env.items ≡ considered.param_env.items
+  pub first : CollectsAll (CollectsFor K s.tables considered s.typing_mode) (class.ParamEnv ∷ []) w.environment.items
+  pub later : CollectsAll (CollectsFor K s.tables considered s.typing_mode) (classes_behind c) w.later.items
+
+-- there are none where no goal is considered
+abbrev pub ConsidersGroups : {P : Type 0} → KindWords P → TraitGoalProvenVia → Goal P → State → Option GroupRules → State → Type 0
+ConsidersGroups K c g s None z = IsLeft K.self_type K.is_with_self (has_kind_fault K.has_fault s.tables) g s z
+ConsidersGroups K c g s (Some w) z = CollectsGroups K c g s z w
+
 -- a projection whose trait goal holds through a class is answered by its candidates: undecided where it isn't considered, refused where it is refuted that its self type has a head form, and else by its groups
 abbrev pub MergesThrough : {P : Type 0} → KindWords P → NormalizesTo → TraitGoalProvenVia → Goal P → State → Result Response Fault → State → Type 0
 MergesThrough {P} K p c g s r u =
@@ -202,8 +232,26 @@ abbrev pub ByTrait : Result Response Fault → Goal NormalizesTo → State → R
 ByTrait (Ok a) g s r u = ByClass (proven_class a) g s r u
 ByTrait (Err f) g s r u = (r ≡ Err f) × (u ≡ s)
 
--- the goal of a projection's term is answered: by the trait goal, and then by its candidates. That of another alias is undecided
+-- a rule's list is that of an alias which is no projection, and gives its terms to the one that a goal expects
+pub record IsAliasRule (t : Tables) (m : TypingMode) (g : Goal NormalizesTo) (rule : Rule) : Type 0 where
+  pub list : IsListed t rule (Some (alias_list (setting_of t m g.param_env.items) g.predicate.alias.kind (given_args g.predicate.alias.args)))
+  pub expected : TermsAreFor (λ x. x ≡ tree_of_term g.predicate.term) rule.entries.items
+
+-- it is run, and what comes of it is answered; a projection has none
+abbrev pub RunsAlias : Goal NormalizesTo → State → Result Response Fault → State → Type 0
+RunsAlias g s r u =
+    ((is_some (projected_item g.predicate.alias.kind) ≡ true) × IsMaybe r × (u ≡ s))
+    ⊎ ((rule : Rule) × IsAliasRule s.tables s.typing_mode g rule × AnswersRun g.param_env.items rule.entries.items s r u)
+
+-- so is the list of a goal that an alias and a term are equal
+abbrev pub RunsEquation : Goal ProjectionPredicate → State → Result Response Fault → State → Type 0
+RunsEquation g s r u =
+    (rule : Rule)
+    × IsListed s.tables rule (Some (equation_list (erased (tree_of_alias g.predicate.projection_term)) (erased (tree_of_term g.predicate.term))))
+    × AnswersRun g.param_env.items rule.entries.items s r u
+
+-- the goal of a projection's term is answered: by the trait goal, and then by its candidates. That of another alias is answered by its list
 abbrev pub MergesProjection : Goal NormalizesTo → State → Result Response Fault → State → Type 0
 MergesProjection g s r u =
-    ((projected_trait s.tables g.predicate.alias ≡ None) × IsMaybe r × (u ≡ s))
+    ((projected_trait s.tables g.predicate.alias ≡ None) × RunsAlias g s r u)
     ⊎ ((q : Goal TraitPredicate) × (a : Result Response Fault) × (z : State) × AsksItsTrait s.tables g q × AnswersTrait q s z a × ByTrait a g z r u)

@@ -3,7 +3,7 @@ use Rattle.std.specs.Prelude.{◌≡◌, ◌⊎◌, true, false, List, [], ◌�
 use Rattle.std.specs.Global.{Global}
 use Rattle.std.specs.List.{AllZip}
 use Rattle.goal_terms.specs.Folding.{instance, instantiating}
-use Rattle.goal_terms.specs.PredicateTrees.{PredicateTree, tree_of_kind, tree_of_whole_clause, folded_predicate}
+use Rattle.goal_terms.specs.PredicateTrees.{PredicateTree, holds_const, tree_of_kind, tree_of_whole_clause, folded_predicate}
 use Rattle.goal_terms.specs.Tree.{Tree, node_of}
 use Rattle.goal_terms.specs.TreeOf.{trees_of, tree_of_ty, tree_of_term}
 use Rattle.goal_terms.specs.declared.answers.Certainty.{Certainty}
@@ -15,12 +15,14 @@ use Rattle.goal_terms.specs.declared.answers.OpaqueTypeKey.{OpaqueTypeKey}
 use Rattle.goal_terms.specs.declared.answers.Response.{Response}
 use Rattle.goal_terms.specs.declared.ids.OpaqueId.{OpaqueId}
 use Rattle.goal_terms.specs.declared.modes.TypingMode.{TypingMode}
+use Rattle.goal_terms.specs.declared.predicates.BoundConstness.{BoundConstness}
 use Rattle.goal_terms.specs.declared.predicates.Clause.{Clause}
 use Rattle.goal_terms.specs.declared.predicates.ClauseKind.{ClauseKind}
 use Rattle.goal_terms.specs.declared.predicates.ClauseKind.TheVariants as clause
 use Rattle.goal_terms.specs.declared.predicates.Goal.{Goal}
 use Rattle.goal_terms.specs.declared.predicates.Predicate.{Predicate}
 use Rattle.goal_terms.specs.declared.predicates.Predicate.TheVariants as predicate
+use Rattle.goal_terms.specs.declared.predicates.TraitRef.{TraitRef}
 use Rattle.goal_terms.specs.declared.terms.GenericArg.{GenericArg}
 use Rattle.goal_terms.specs.declared.terms.Term.{Term}
 use Rattle.goal_terms.specs.declared.terms.Term.TheVariants as expected
@@ -28,7 +30,7 @@ use Rattle.goal_terms.specs.declared.terms.Ty.{Ty}
 use Rattle.goal_tables.specs.Rows.{impl_of, inherent_impl_of}
 use Rattle.goal_tables.specs.declared.rows.ImplRow.{ImplRow}
 use Rattle.goal_tables.specs.declared.rows.Tables.{Tables}
-use Rattle.goal_kinds.specs.Rules.{MatchedHeader, clauses_in, value_in}
+use Rattle.goal_kinds.specs.Rules.{MatchedHeader, clauses_in, conditions_in, value_in}
 use Rattle.goal_kinds.specs.Settings.{is_headline}
 use Rattle.goal_kinds.specs.declared.faults.Fault.{Fault}
 use Rattle.goal_kinds.specs.declared.faults.Fault.TheVariants as fault
@@ -167,11 +169,15 @@ source_of (clauses.Inherent i) = source.Misc
 abbrev pub clauses_with : List Tree → List Clause → List PredicateTree
 clauses_with ts cs = map (λ (k : Clause). folded_predicate (instantiating ts) 0 (tree_of_kind k.kind)) cs
 
--- goals for the clauses of a row under earlier arguments are added
-abbrev pub AddsRow : GoalSource → List Clause → Option (List Clause) → Option (List Tree) → State → Certainty → State → Type 0
-AddsRow from env (Some cs) (Some ts) s c u = AddsGoals from env (clauses_with ts cs) s u × (c ≡ certainty.Yes)
-AddsRow from env (Some cs) None s c u = StaysUndecided s c u
-AddsRow from env None o s c u = StaysUndecided s c u
+-- and its const conditions, of a constness
+abbrev pub conditions_with : BoundConstness → List Tree → List TraitRef → List PredicateTree
+conditions_with b ts rs = map (λ (r : TraitRef). holds_const b r.def_id (map (instance ts) (trees_of r.args.items))) rs
+
+-- goals for what a row lists, under earlier arguments, are added
+abbrev pub AddsRow : {A : Type 0} → (List Tree → List A → List PredicateTree) → GoalSource → List Clause → Option (List A) → Option (List Tree) → State → Certainty → State → Type 0
+AddsRow under from env (Some xs) (Some ts) s c u = AddsGoals from env (under ts xs) s u × (c ≡ certainty.Yes)
+AddsRow under from env (Some xs) None s c u = StaysUndecided s c u
+AddsRow under from env None o s c u = StaysUndecided s c u
 
 -- the expected term is given a head form: the goal is added that an alias normalizes to it, and any other term is made equal to it
 abbrev pub GivesForm : List Clause → Tree → Tree → State → Certainty → State → Type 0
@@ -228,13 +234,13 @@ ReadsMode a s c u =
 abbrev pub Joins : OpenProgress → OpenProgress → (Certainty → Type 0) → Type 0
 Joins p q Does = (c : Certainty) × Does c × (q ≡ after_entry p c)
 
--- the step of an entry: what the call that it stands for may do to a context, and how far the list was run then; const conditions stay undecided
+-- the step of an entry: what the call that it stands for may do to a context, and how far the list was run then
 unfoldable pub Steps : List Clause → RuleEntry → State → OpenProgress → State → OpenProgress → Type 0
 Steps env (entry.Arguments a) s p u q = (ts : List Tree) × (c : Certainty) × NamesOpen env p.named a s ts c u × (q ≡ after_naming p ts c)
 Steps env (entry.Equation ts us) s p u q = Joins p q (λ c. Equates env (trees_of ts.items) (trees_of us.items) s u c)
 Steps env (entry.Clause g k) s p u q = Joins p q (λ c. AddsGoals g env (tree_of_kind k ∷ []) s u × (c ≡ certainty.Yes))
-Steps env (entry.RowClauses w n) s p u q = Joins p q (λ c. AddsRow (source_of w) env (clauses_in s.tables w) (slice_get p.named n) s c u)
-Steps env (entry.RowConditions b i n) s p u q = (u ≡ s) × (q ≡ after_entry p certainty.Maybe)
+Steps env (entry.RowClauses w n) s p u q = Joins p q (λ c. AddsRow clauses_with (source_of w) env (clauses_in s.tables w) (slice_get p.named n) s c u)
+Steps env (entry.RowConditions b i n) s p u q = Joins p q (λ c. AddsRow (conditions_with b) source.ImplWhereBound env (conditions_in s.tables i) (slice_get p.named n) s c u)
 Steps env (entry.Term v e) s p u q = Joins p q (λ c. GivesTerm env p.named (tree_of_term v) e s c u)
 Steps env (entry.HiddenType v k f) s p u q = Joins p q (λ c. Defines env v k f s c u)
 Steps env (entry.Access a) s p u q = Joins p q (λ c. ReadsMode a s c u)

@@ -34,12 +34,13 @@ use Rattle.goal_kinds.specs.declared.goal_kind.MergeRule.{MergeRule}
 use Rattle.goal_kinds.specs.declared.goal_kind.MergeRule.TheVariants as merge
 use Rattle.goal_kinds.specs.declared.rules.FirstUse.{FirstUse}
 use Rattle.goal_kinds.specs.declared.rules.RuleEntry.{RuleEntry}
-use Rattle.goal_solver.specs.Answers.{IsOwed, level_over, erased_args, AreClosed, is_closed_alias, IsClosedEquation, IsMaybe, IsAliasOpen, IsQuiet, expected_variable}
+use Rattle.goal_solver.specs.Answers.{IsOwed, level_over, erased_args, AreClosed, is_closed_alias, IsClosedEquation, IsMaybe, IsAliasOpen, IsQuiet, IsQuietAside, expected_variable}
 use Rattle.goal_solver.specs.Assembled.{level_above, level_through, HoldsThrough}
 use Rattle.goal_solver.specs.Binding.{IsApplicable}
 use Rattle.goal_solver.specs.Goals.{IsAcceptedNormalization}
 use Rattle.goal_solver.specs.OpenGoals.{MergesTrait, WhenAnswered, at_depth}
-use Rattle.goal_solver.specs.OpenProjections.{MergesProjection, AnswersRun}
+use Rattle.goal_solver.specs.OpenHostGoals.{MergesHostEffect}
+use Rattle.goal_solver.specs.OpenProjections.{MergesProjection, RunsEquation, AnswersRun}
 use Rattle.goal_solver.specs.Outcomes.{StandsFor}
 use Rattle.goal_solver.specs.State.{State, kinds_of}
 
@@ -95,6 +96,11 @@ FromHereOn before after env P = (m : TypingMode) (n : ℕ) → IsOwed after m �
 abbrev pub AtEveryDepth : State → State → List Clause → (Level → Type 0) → Type 0
 AtEveryDepth before after env P = (m : TypingMode) (n : ℕ) → IsOwed after m → P (level (setting_of before.tables m env) n)
 
+-- a response changes nothing but lifetimes: it lists no value and no hidden type, and its variables stand for lifetimes
+pub record ChangesLifetimes (s : State) (r : Response) : Type 0 where
+  pub quiet : IsQuietAside (length (kinds_of s)) r
+  pub values : r.var_values.items ≡ []
+
 -- a response changes nothing: it lists no variable, no value, no region equation and no hidden type
 pub record ChangesNothing (s : State) (r : Response) : Type 0 where
   pub quiet : IsQuiet (length (kinds_of s)) r
@@ -110,11 +116,11 @@ abbrev pub LeavesUndecided : State → Result Response Fault → Type 0
 LeavesUndecided s (Ok r) = IsUndecidedResponse s r
 LeavesUndecided s (Err f) = ⊥
 
--- whether a predicate holds is answered: exactly where an answer is owed; what is decided lasts; and nothing is changed
+-- whether a predicate holds is answered: exactly where an answer is owed; what is decided lasts; and nothing but lifetimes is changed
 pub record AnswersPredicate (before after : State) (env : List Clause) (p : PredicateTree) (r : Result Response Fault) : Type 0 where
   pub exact : WhereOwed before after env (λ L. IfSome (whether_answered r) (IsAnswer L (whether p)))
   pub lasts : FromHereOn before after env (λ L. IfSome (decided_in (whether_answered r)) (IsAnswer L (whether p)))
-  pub quiet : IfOk r (ChangesNothing before)
+  pub quiet : IfOk r (ChangesLifetimes before)
 
 -- the class that is named: at a yes one through which the trait goal holds, and else none
 abbrev pub NamesClass : Level → TraitId → List Tree → Certainty → Option TraitGoalProvenVia → Type 0
@@ -168,12 +174,12 @@ abbrev pub ListsTerm : Term → Certainty → List (ℕ × Term) → Type 0
 ListsTerm e certainty.Yes vs = (n : ℕ) × (u : Term) × (expected_variable e ≡ Some n) × (vs ≡ (n, u) ∷ [])
 ListsTerm e certainty.Maybe vs = vs ≡ []
 
--- a response changes nothing but the value of the variable which takes the term
+-- a response changes nothing but lifetimes and the value of the variable which takes the term
 pub record GivesTermAlone (s : State) (e : Term) (r : Response) : Type 0 where
-  pub quiet : IsQuiet (length (kinds_of s)) r
+  pub quiet : IsQuietAside (length (kinds_of s)) r
   pub values : ListsTerm e r.certainty r.var_values.items
 
--- a closed goal of an alias's term is answered: exactly, if `check_goal` accepts it; what is decided lasts; and nothing is changed but the term's variable, if it is no opaque type that is being defined
+-- a closed goal of an alias's term is answered: exactly, if `check_goal` accepts it; what is decided lasts; and nothing is changed but lifetimes and the term's variable, if it is no opaque type that is being defined
 pub record AnswersAlias (before after : State) (env : List Clause) (p : NormalizesTo) (r : Result Response Fault) : Type 0 where
   pub exact : IsAcceptedNormalization before p env → WhereOwed before after env (λ L. IfSome (term_answered r) (IsAnswer L (term_asked p)))
   pub lasts : FromHereOn before after env (λ L. IfSome (decided_in (term_answered r)) (IsAnswer L (term_asked p)))
@@ -202,7 +208,15 @@ IsClosedNormalization g = is_closed_alias g.predicate.alias g.param_env.items �
 abbrev pub MergesOpenTrait : State → State → Goal TraitPredicate → Result Response Fault → Type 0
 MergesOpenTrait before after g r = (n : ℕ) → before.remaining_depth ≡ suc n → WhenAnswered r (MergesTrait g (at_depth n before) r (at_depth n after))
 
--- so is the goal of a projection's term
+-- so is the goal that a trait holds as a const trait
+abbrev pub MergesOpenHostEffect : State → State → Goal HostEffectPredicate → Result Response Fault → Type 0
+MergesOpenHostEffect before after g r = (n : ℕ) → before.remaining_depth ≡ suc n → WhenAnswered r (MergesHostEffect g (at_depth n before) r (at_depth n after))
+
+-- a goal that an alias and a term are equal: they are made equal
+abbrev pub MergesOpenEquation : State → State → Goal ProjectionPredicate → Result Response Fault → Type 0
+MergesOpenEquation before after g r = (n : ℕ) → before.remaining_depth ≡ suc n → WhenAnswered r (RunsEquation g (at_depth n before) r (at_depth n after))
+
+-- the goal of an alias's term is answered by its candidates or its list
 abbrev pub MergesOpenProjection : State → State → Goal NormalizesTo → Result Response Fault → Type 0
 MergesOpenProjection before after g r =
     (n k : ℕ) → expected_variable g.predicate.term ≡ Some k → before.remaining_depth ≡ suc n → WhenAnswered r (MergesProjection g (at_depth n before) r (at_depth n after))

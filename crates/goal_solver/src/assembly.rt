@@ -5,7 +5,7 @@ ghost use Rattle.goal_terms.specs.declared.predicates.NormalizesTo.{NormalizesTo
 ghost use Rattle.goal_kinds.specs.Answers.{IsAnswer, setting_of, which_term, maybe};
 ghost use Rattle.goal_kinds.specs.Premises.{TraitTree as trait_tree};
 ghost use Rattle.goal_kinds.specs.declared.goal_kind.MergeRule.TheVariants as merging_by;
-ghost use Rattle.goal_solver.specs.Answers.{IsOwed, level_over, erased_args, is_closed_alias, IsTraitAnswer, IsOpen, IsAliasAnswer, IsAliasOpen, expected_variable, IsMaybe, IsQuiet, AnswersQuietly, IsFaultOf};
+ghost use Rattle.goal_solver.specs.Answers.{IsOwed, level_over, erased_args, is_closed_alias, IsTraitAnswer, IsOpen, IsAliasAnswer, IsAliasOpen, expected_variable, IsMaybe, IsQuiet, IsQuietAside, AnswersAside, IsFaultOf};
 ghost use Rattle.goal_solver.specs.Assembled.{level_above, level_through, HoldsThrough};
 ghost use Rattle.goal_solver.specs.Binding.{IsApplicable};
 ghost use Rattle.goal_solver.specs.Goals.{IsAcceptedNormalization};
@@ -13,6 +13,7 @@ ghost use Rattle.goal_solver.specs.Collecting.{kind_words};
 ghost use Rattle.goal_solver.specs.GoingBack.{GoesBack, restored};
 ghost use Rattle.goal_solver.specs.HostGoals.{AnswersHostGiven, host_through, host_with};
 ghost use Rattle.goal_solver.specs.OpenGoals.{MergesGoal, WhenAnswered};
+ghost use Rattle.goal_solver.specs.OpenHostGoals.{MergesConst};
 ghost use Rattle.goal_solver.specs.OpenProjections.{MergesThrough};
 ghost use Rattle.goal_solver.specs.Outcomes.{StandsFor};
 ghost use Rattle.goal_solver.specs.Promises.{AnswersGiven, AnswersTraitAbove, AppliesGiven, IsClosedGoal, IsUndecidedResponse, LeavesUndecided, ListsTerm, Through as through, asked_through};
@@ -61,6 +62,9 @@ impl EvalCtxt<'_> {
             G.is_impl_for G.candidate_gives G.candidate_refuted G.is_for G.additional) goal.now self.old result self.new) }
         ensures host_effects { G.merging ≡ merging_by.HostEffectGoals → IsClosedGoal G.has_passing goal.now →
             AnswersHostGiven self.old self.new goal.now.param_env.items (host_through proven_via (G.constness goal.now.predicate) (G.trait_asked goal.now.predicate self.old.tables)) result }
+        ensures merged_host { (c : TraitGoalProvenVia) → G.merging ≡ merging_by.HostEffectGoals → proven_via ≡ Some c → (IsClosedGoal G.has_passing goal.now → ⊥) →
+            WhenAnswered result (MergesConst (kind_words G.merging G.has_term G.self_type G.is_with_self G.has_fault G.trait_asked G.passes
+            G.is_impl_for G.candidate_gives G.candidate_refuted G.is_for G.additional) c goal.now self.old result self.new) }
         ensures given { G.merging ≡ merging_by.Projections →
             AnswersGiven self.old self.new goal.now.param_env.items (asked_through G.merging proven_via (G.normalization goal.now.predicate)) result }
         ensures merged_through { (a : through) (k : ℕ) → asked_through G.merging proven_via (G.normalization goal.now.predicate) ≡ Some a →
@@ -92,7 +96,7 @@ impl EvalCtxt<'_> {
         ensures unchanged { self.new ≡ restored self.old self.new }
         ensures goes_back { GoesBack self.old self.new }
         ensures fault { IsFaultOf self.old self.new result }
-        ensures quiet { IsClosedGoal G.has_passing goal.now → AnswersQuietly (length (kinds_of self.old)) result }
+        ensures quiet { IsClosedGoal G.has_passing goal.now → AnswersAside (length (kinds_of self.old)) result }
         ensures lists { IsClosedGoal G.has_passing goal.now → IfOk result (λ r. r.var_values.items ≡ []) }
         ensures class { IsClosedGoal G.has_passing goal.now → IfOk result (λ r. r.certainty ≡ Certainty.Maybe → r.proven_via ≡ None) }
         ensures missing { IsClosedGoal G.has_passing goal.now → G.trait_asked goal.now.predicate self.old.tables ≡ None → LeavesUndecided self.old result }
@@ -117,6 +121,7 @@ impl EvalCtxt<'_> {
     ) -> Result<Response, Fault>
         ensures host_effects { IsClosedGoal G.has_passing goal.now →
             AnswersHostGiven self.old self.new goal.now.param_env.items (host_with class (G.constness goal.now.predicate) (G.trait_asked goal.now.predicate self.old.tables)) result }
+        ensures merged { (IsClosedGoal G.has_passing goal.now → ⊥) → WhenAnswered result (MergesConst (kind_words G.merging G.has_term G.self_type G.is_with_self G.has_fault G.trait_asked G.passes G.is_impl_for G.candidate_gives G.candidate_refuted G.is_for G.additional) class goal.now self.old result self.new) }
         ensures unchanged { self.new ≡ restored self.old self.new }
         ensures goes_back { GoesBack self.old self.new }
         ensures fault { IsFaultOf self.old self.new result }
@@ -124,7 +129,7 @@ impl EvalCtxt<'_> {
     {
         self.is_well_formed();
         if has_variable(goal) {
-            return Ok(self.undecided());
+            return self.merge_const_goal(class, goal);
         }
         let Some(constness) = goal.predicate.constness() else {
             return Ok(self.undecided());
@@ -153,7 +158,7 @@ impl EvalCtxt<'_> {
         ensures unchanged { self.new ≡ restored self.old self.new }
         ensures goes_back { GoesBack self.old self.new }
         ensures fault { IsFaultOf self.old self.new result }
-        ensures quiet { ((p : normalizes) → G.normalization goal.now.predicate ≡ Some p → is_closed_alias p.alias goal.now.param_env.items ≡ true) → AnswersQuietly (length (kinds_of self.old)) result }
+        ensures quiet { ((p : normalizes) → G.normalization goal.now.predicate ≡ Some p → is_closed_alias p.alias goal.now.param_env.items ≡ true) → AnswersAside (length (kinds_of self.old)) result }
         ensures lists { (p : normalizes) → G.normalization goal.now.predicate ≡ Some p → is_closed_alias p.alias goal.now.param_env.items ≡ true → IfOk result (λ r. r.certainty ≡ Certainty.Maybe → r.var_values.items ≡ []) }
         ensures gives { (p : normalizes) → G.normalization goal.now.predicate ≡ Some p → is_closed_alias p.alias goal.now.param_env.items ≡ true → IfOk result (λ r. r.certainty ≡ Certainty.Yes → ListsTerm p.term Certainty.Yes r.var_values.items) }
         ensures no_class { (p : normalizes) → G.normalization goal.now.predicate ≡ Some p → is_closed_alias p.alias goal.now.param_env.items ≡ true → IfOk result (λ r. r.proven_via ≡ None) }
@@ -191,6 +196,7 @@ impl EvalCtxt<'_> {
         ensures maybe { result.certainty ≡ Certainty.Maybe }
         ensures nothing { IsUndecidedResponse self.now result }
         ensures quiet { IsQuiet (length (kinds_of self.now)) result }
+        ensures aside { IsQuietAside (length (kinds_of self.now)) result }
         ensures applies { IsApplicable self.now result }
     {
         self.is_well_formed();

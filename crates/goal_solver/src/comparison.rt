@@ -10,6 +10,7 @@ ghost use Rattle.goal_solver.specs.Comparisons.{AreComparable, DifferInOrder, Is
 
 use crate::context::{EvalCtxt, GREATEST_LIMIT};
 use crate::eval::outcomes::Found;
+use crate::eval::region_constraints::RegionConstraints;
 use crate::faults::Fault;
 use goal_tables::checked::CheckedTables;
 use goal_tables::predicate_terms::PredicateTerms;
@@ -122,7 +123,8 @@ impl EvalCtxt<'_> {
         ensures only_memory { is_headline self.old.typing_mode ≡ true → IsOkUnless result Fault.OutOfMemory }
     {
         self.is_well_formed();
-        match self.alias_outcome(&asked.alias, &goal.param_env) {
+        let mut listed = RegionConstraints::new(self.allocator());
+        match self.alias_outcome(&asked.alias, &goal.param_env, &mut listed) {
             Ok(Found::Is(id)) => self.found_answer(id),
             Ok(Found::Refuted) => Ok(RunAnswer::NoSolution),
             Ok(Found::Undecided) => Ok(RunAnswer::Maybe),

@@ -1,7 +1,8 @@
 //! The context of an evaluation.
 ghost use Rattle.std.specs.Prelude.{◌≡◌, ◌<◌, [], ◌↔◌, length, IsErr, IfOk};
 ghost use Rattle.goal_tables.specs.Faults.{IsChecked};
-ghost use Rattle.goal_solver.specs.Answers.{IsQuiet};
+ghost use Rattle.goal_solver.specs.Answers.{IsQuiet, IsQuietAside};
+ghost use Rattle.goal_solver.specs.Effects.{AreNone};
 ghost use Rattle.goal_solver.specs.GoingBack.{GoesBack, lengths_of, restored, begun};
 ghost use Rattle.goal_solver.specs.State.{State, IsValid, kinds_of};
 ghost use Rattle.goal_solver.specs.Stored.{HasOneTypeAKey};
@@ -17,6 +18,8 @@ pub(crate) mod respond;
 pub mod storage;
 pub mod variables;
 
+use crate::eval::effects::Effects;
+use crate::eval::region_constraints::RegionConstraints;
 use crate::faults::DepthTooLarge;
 use goal_infer::state;
 use goal_infer::state::InferState;
@@ -249,6 +252,36 @@ impl<'t> EvalCtxt<'t> {
         self.mark = mark;
     }
 
+    /// The effects of an evaluation that has none yet, and lists region variables behind those of the context. It takes
+    /// no memory.
+    pub(crate) fn listing_effects(&self) -> Effects
+        ensures { AreNone result }
+    {
+        Effects::listing(self.allocator(), self.kinds.len() as u32)
+    }
+
+    /// A `Yes` that makes region variables and equates lifetimes, and changes nothing else. It takes no memory.
+    pub(crate) fn respond_yes(
+        &self,
+        proven_via: Option<TraitGoalProvenVia>,
+        listed: RegionConstraints,
+    ) -> Response
+        ensures certainty { result.certainty ≡ Certainty.Yes }
+        ensures proven_via { result.proven_via ≡ proven_via }
+        ensures values { result.var_values.items ≡ [] }
+        ensures aside { IsQuietAside (length (kinds_of self.now)) result }
+        ensures alone { listed.variables.items ≡ [] → listed.equations.items ≡ [] → IsQuiet (length (kinds_of self.now)) result }
+    {
+        let RegionConstraints {
+            variables,
+            equations,
+        } = listed;
+        let mut response = self.respond(Certainty::Yes, proven_via);
+        response.vars = variables;
+        response.region_equations = equations;
+        response
+    }
+
     /// An answer that changes nothing. It takes no memory.
     pub(crate) fn respond(
         &self,
@@ -259,6 +292,7 @@ impl<'t> EvalCtxt<'t> {
         ensures proven_via { result.proven_via ≡ proven_via }
         ensures values { result.var_values.items ≡ [] }
         ensures quiet { IsQuiet (length (kinds_of self.now)) result }
+        ensures aside { IsQuietAside (length (kinds_of self.now)) result }
     {
         let alloc = self.allocator();
         Response {

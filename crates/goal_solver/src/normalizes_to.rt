@@ -7,7 +7,7 @@ ghost use Rattle.goal_terms.specs.declared.terms.Term.{Term as term};
 ghost use Rattle.goal_kinds.specs.Answers.{IsAnswer, maybe};
 ghost use Rattle.goal_kinds.specs.Interned.{erased_at};
 ghost use Rattle.goal_solver.specs.Accesses.{RecordsCaused, RecordsCausedFaults};
-ghost use Rattle.goal_solver.specs.Answers.{IsOwed, level_over, erased_args, is_closed_alias, IsAliasAnswer, IsAliasOpen, GivesTo, expected_variable, IsMaybe, AnswersQuietly, IsFaultOf};
+ghost use Rattle.goal_solver.specs.Answers.{IsOwed, level_over, erased_args, is_closed_alias, IsAliasAnswer, IsAliasOpen, GivesTo, expected_variable, IsMaybe, AnswersAside, AnswersQuietly, IsFaultOf};
 ghost use Rattle.goal_solver.specs.Binding.{IsApplicable};
 ghost use Rattle.goal_solver.specs.Goals.{IsAcceptedNormalization};
 ghost use Rattle.goal_solver.specs.GoingBack.{GoesBack, restored};
@@ -18,6 +18,7 @@ ghost use Rattle.goal_solver.specs.Recording.{is_ambiguous};
 ghost use Rattle.goal_solver.specs.State.{kinds_of};
 
 pub mod alias_terms;
+pub(crate) mod groups;
 pub(crate) mod hidden_types;
 pub(crate) mod open;
 pub(crate) mod projection_args;
@@ -29,6 +30,7 @@ pub mod translate_args;
 use crate::context::EvalCtxt;
 use crate::eval::closed_goals::is_closed_alias;
 use crate::eval::outcomes::Found;
+use crate::eval::region_constraints::RegionConstraints;
 use crate::faults::Fault;
 use goal_terms::answers::{Certainty, Response};
 use goal_terms::node_tests::general_variable;
@@ -63,8 +65,9 @@ impl EvalCtxt<'_> {
     ///
     /// `RerunNonErased`: the erased mode doesn't suffice; an access is recorded. Inference state, added goals and
     /// storage are as before: the answer says what would change, and it can be applied, if the goal was accepted. The
-    /// response to a closed goal lists the expected variable's value alone, and names no class. At depth 0 it is
-    /// `Maybe`, which takes no memory, and so it is where the expected term is no general variable.
+    /// response to a closed goal lists the expected variable's value and lifetimes alone, as that of a trait goal does,
+    /// and names no class. At depth 0 it is `Maybe`, which takes no memory, and so it is where the expected term is no
+    /// general variable.
     pub fn compute_normalizes_to_goal(
         &mut self,
         goal: &Goal<NormalizesTo>,
@@ -97,7 +100,7 @@ impl EvalCtxt<'_> {
         ensures fault { IsFaultOf self.old self.new result }
         ensures caused { is_closed_alias goal.now.predicate.alias goal.now.param_env.items ≡ true → RecordsCaused self.old self.new }
         ensures faults { is_closed_alias goal.now.predicate.alias goal.now.param_env.items ≡ true → RecordsCausedFaults self.old self.new }
-        ensures quiet { is_closed_alias goal.now.predicate.alias goal.now.param_env.items ≡ true → AnswersQuietly (length (kinds_of self.old)) result }
+        ensures quiet { is_closed_alias goal.now.predicate.alias goal.now.param_env.items ≡ true → AnswersAside (length (kinds_of self.old)) result }
         ensures lists { is_closed_alias goal.now.predicate.alias goal.now.param_env.items ≡ true → IfOk result (λ r. r.certainty ≡ certainty.Maybe → r.var_values.items ≡ []) }
         ensures gives { is_closed_alias goal.now.predicate.alias goal.now.param_env.items ≡ true → IfOk result (λ r. r.certainty ≡ certainty.Yes → ListsTerm goal.now.predicate.term certainty.Yes r.var_values.items) }
         ensures no_class { is_closed_alias goal.now.predicate.alias goal.now.param_env.items ≡ true → IfOk result (λ r. r.proven_via ≡ None) }
@@ -120,44 +123,58 @@ impl EvalCtxt<'_> {
         if self.is_ambiguous(goal.predicate.alias.kind) {
             return Ok(self.respond(Certainty::Maybe, None));
         }
-        match self.alias_outcome(&goal.predicate.alias, &goal.param_env) {
-            Ok(Found::Is(id)) => self.respond_found(expected, id),
+        let mut listed = RegionConstraints::new(self.allocator());
+        match self.alias_outcome(&goal.predicate.alias, &goal.param_env, &mut listed) {
+            Ok(Found::Is(id)) => self.respond_found(expected, id, listed),
             Ok(Found::Refuted) => Err(Fault::NoSolution),
             Ok(Found::Undecided) => Ok(self.respond(Certainty::Maybe, None)),
             Err(stop) => self.stopped(stop),
         }
     }
 
-    /// The answer that gives what was found to a variable. Only a type or a constant can be given.
-    pub(crate) fn respond_found(&self, expected: u32, id: TermId) -> Result<Response, Fault>
+    /// The answer that gives what was found to a variable, and lists region variables and equations. Only a type or a
+    /// constant can be given.
+    pub(crate) fn respond_found(
+        &self,
+        expected: u32,
+        id: TermId,
+        listed: RegionConstraints,
+    ) -> Result<Response, Fault>
         ensures yes { HasTerm self.now.terms id → IfOk result (λ r. (r.certainty ≡ certainty.Yes) × GivesTo expected (erased_at self.now.terms id) r) }
         ensures maybe { (HasTerm self.now.terms id → ⊥) → IfOk result (λ r. r.certainty ≡ certainty.Maybe) }
         ensures gives { IfOk result (λ r. r.certainty ≡ certainty.Yes → (u : term) × (r.var_values.items ≡ (expected, u) ∷ [])) }
         ensures only_memory { IsOkUnless result Fault.OutOfMemory }
-        ensures quiet { AnswersQuietly (length (kinds_of self.now)) result }
+        ensures quiet { AnswersAside (length (kinds_of self.now)) result }
+        ensures alone { listed.variables.items ≡ [] → listed.equations.items ≡ [] → AnswersQuietly (length (kinds_of self.now)) result }
         ensures lists { IfOk result (λ r. r.certainty ≡ certainty.Maybe → r.var_values.items ≡ []) }
         ensures no_class { IfOk result (λ r. r.proven_via ≡ None) }
     {
         if self.terms.contains(id) {
-            self.respond_with(expected, id)
+            self.respond_with(expected, id, listed)
         } else {
             Ok(self.respond(Certainty::Maybe, None))
         }
     }
 
-    /// The answer that gives a term to a variable. Only memory is refused.
-    fn respond_with(&self, expected: u32, id: TermId) -> Result<Response, Fault>
+    /// The answer that gives a term to a variable, and lists region variables and equations. Only memory is refused.
+    fn respond_with(
+        &self,
+        expected: u32,
+        id: TermId,
+        listed: RegionConstraints,
+    ) -> Result<Response, Fault>
         requires { HasTerm self.now.terms id }
         ensures yes { IfOk result (λ r. r.certainty ≡ certainty.Yes) }
         ensures value { IfOk result (GivesTo expected (erased_at self.now.terms id)) }
         ensures only_memory { IsOkUnless result Fault.OutOfMemory }
-        ensures quiet { AnswersQuietly (length (kinds_of self.now)) result }
+        ensures quiet { AnswersAside (length (kinds_of self.now)) result }
+        ensures alone { listed.variables.items ≡ [] → listed.equations.items ≡ [] → AnswersQuietly (length (kinds_of self.now)) result }
         ensures no_class { IfOk result (λ r. r.proven_via ≡ None) }
     {
         let Ok(value) = self.terms.to_term(id) else {
             return Err(Fault::OutOfMemory);
         };
-        let mut response = self.respond(Certainty::Yes, None);
+        let mut response = self.respond_yes(None, listed);
         if response.var_values.push((expected, value)).is_err() {
             return Err(Fault::OutOfMemory);
         }

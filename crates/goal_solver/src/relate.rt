@@ -19,6 +19,7 @@ pub mod headers;
 pub(crate) mod lifetimes;
 pub(crate) mod lists;
 pub mod pairs;
+pub(crate) mod region_pairs;
 pub(crate) mod resolved;
 
 use crate::context::EvalCtxt;

@@ -5,7 +5,7 @@ ghost use Rattle.goal_terms.specs.declared.modes.TypingMode.{TypingMode};
 ghost use Rattle.goal_kinds.specs.Answers.{setting_of};
 ghost use Rattle.goal_kinds.specs.Levels.{level};
 ghost use Rattle.goal_solver.specs.Accesses.{RecordsCaused, RecordsCausedFaults};
-ghost use Rattle.goal_solver.specs.Answers.{IsOwed, level_over, erased_args, AreClosed, IsTraitAnswer, IsOpen, IsMaybe, AnswersQuietly, IsFaultOf};
+ghost use Rattle.goal_solver.specs.Answers.{IsOwed, level_over, erased_args, AreClosed, IsTraitAnswer, IsOpen, IsMaybe, AnswersAside, IsFaultOf};
 ghost use Rattle.goal_solver.specs.Binding.{IsApplicable};
 ghost use Rattle.goal_solver.specs.GoingBack.{GoesBack, restored};
 ghost use Rattle.goal_solver.specs.OpenGoals.{MergesTrait, WhenAnswered, at_depth};
@@ -18,6 +18,7 @@ pub(crate) mod open;
 use crate::context::EvalCtxt;
 use crate::eval::closed_goals::has_variable;
 use crate::eval::outcomes::TraitOutcome;
+use crate::eval::region_constraints::RegionConstraints;
 use crate::faults::Fault;
 use goal_terms::answers::{Certainty, Response};
 use goal_terms::ids::TraitId;
@@ -41,8 +42,9 @@ impl EvalCtxt<'_> {
     /// term isn't known.
     ///
     /// `RerunNonErased`: the erased mode doesn't suffice; an access is recorded. Inference state, added goals and
-    /// storage are as before; the answer can be applied. The response to a closed goal lists nothing. At depth 0 it
-    /// is `Maybe`, which takes no memory.
+    /// storage are as before; the answer can be applied. The response to a closed goal lists lifetimes alone: a `Yes`
+    /// has a region variable for each lifetime of its own that an impl is matched with, and the equations of lifetimes
+    /// that its candidate rests on. At depth 0 it is `Maybe`, which takes no memory.
     pub fn compute_trait_goal(&mut self, goal: &Goal<TraitPredicate>) -> Result<Response, Fault>
         ensures closed { IsClosedTrait goal.now → AnswersTrait self.old self.new goal.now.param_env.items (trait_asked goal.now.predicate) result }
         ensures merged { (IsClosedTrait goal.now → ⊥) → MergesOpenTrait self.old self.new goal.now result }
@@ -70,7 +72,7 @@ impl EvalCtxt<'_> {
         ensures fault { IsFaultOf self.old self.new result }
         ensures caused { AreClosed goal.now.predicate.trait_ref.args.items goal.now.param_env.items → RecordsCaused self.old self.new }
         ensures faults { AreClosed goal.now.predicate.trait_ref.args.items goal.now.param_env.items → RecordsCausedFaults self.old self.new }
-        ensures quiet { AreClosed goal.now.predicate.trait_ref.args.items goal.now.param_env.items → AnswersQuietly (length (kinds_of self.old)) result }
+        ensures quiet { AreClosed goal.now.predicate.trait_ref.args.items goal.now.param_env.items → AnswersAside (length (kinds_of self.old)) result }
         ensures lists { AreClosed goal.now.predicate.trait_ref.args.items goal.now.param_env.items → IfOk result (λ r. r.var_values.items ≡ []) }
         ensures class { AreClosed goal.now.predicate.trait_ref.args.items goal.now.param_env.items → IfOk result (λ r. r.certainty ≡ certainty.Maybe → r.proven_via ≡ None) }
         ensures at_once { self.old.remaining_depth ≡ 0 → LeavesUndecided self.old result }
@@ -105,14 +107,15 @@ impl EvalCtxt<'_> {
         ensures fault { IsFaultOf self.old self.new result }
         ensures caused { RecordsCaused self.old self.new }
         ensures faults { RecordsCausedFaults self.old self.new }
-        ensures quiet { AnswersQuietly (length (kinds_of self.old)) result }
+        ensures quiet { AnswersAside (length (kinds_of self.old)) result }
         ensures lists { IfOk result (λ r. r.var_values.items ≡ []) }
         ensures class { IfOk result (λ r. r.certainty ≡ certainty.Maybe → r.proven_via ≡ None) }
         ensures applies { IfOk result (IsApplicable self.new) }
     {
         self.is_well_formed();
-        match self.trait_outcome_at(trait_id, args, environment, depth) {
-            Ok(TraitOutcome::Holds(class)) => Ok(self.respond(Certainty::Yes, Some(class))),
+        let mut listed = RegionConstraints::new(self.allocator());
+        match self.trait_outcome_at(trait_id, args, environment, depth, &mut listed) {
+            Ok(TraitOutcome::Holds(class)) => Ok(self.respond_yes(Some(class), listed)),
             Ok(TraitOutcome::Refuted) => Err(Fault::NoSolution),
             Ok(TraitOutcome::Undecided) => Ok(self.respond(Certainty::Maybe, None)),
             Err(stop) => self.stopped(stop),

@@ -4,6 +4,7 @@ ghost use Rattle.vurloske.specs.Asked.{IsForKind};
 
 use crate::answers::{Answer, Refusal, answer_of};
 use crate::endings::Ending;
+use crate::records::Records;
 use crate::scenes::{Progress, Scene};
 use goal_solver::context::EvalCtxt;
 use goal_solver::eval::goals::check_goal;
@@ -18,7 +19,8 @@ use goal_terms::terms::{AliasTermKind, Term};
 use std::mem;
 use vurloske_items::goals::Asked;
 
-/// Asks a goal in a new context, whose variables are of these kinds. What the context recorded is kept.
+/// Asks a goal in a new context, whose variables are of these kinds. What the context recorded is kept, which
+/// lifetimes the answer equates, and what it gives the variables.
 pub fn ask(
     tables: &CheckedTables,
     scene: &mut Scene,
@@ -35,7 +37,8 @@ pub fn ask(
         Err(fault) => return Ok(Answer::Refused(Refusal::Depth(fault))),
     };
     let clauses = &mut scene.environment.clauses;
-    let answer = ask_in(tables, &mut context, clauses, variables, asked);
+    let records = &mut progress.records;
+    let answer = ask_in(tables, &mut context, clauses, records, variables, asked);
     progress.records.keep(&context)?;
     answer
 }
@@ -45,19 +48,22 @@ fn ask_in(
     tables: &CheckedTables,
     context: &mut EvalCtxt<'_>,
     clauses: &mut Vec<Clause>,
+    records: &mut Records,
     variables: &[VarKind],
     asked: Asked,
 ) -> Result<Answer, Ending> {
     make_variables(context, variables)?;
     match asked {
-        Asked::Trait(predicate) => ask_under(tables, context, clauses, predicate, None),
-        Asked::HostEffect(predicate) => ask_under(tables, context, clauses, predicate, None),
-        Asked::Equal(predicate) => ask_under(tables, context, clauses, predicate, None),
+        Asked::Trait(predicate) => { ask_under(tables, context, clauses, records, predicate, None) }
+        Asked::HostEffect(predicate) => {
+            ask_under(tables, context, clauses, records, predicate, None)
+        }
+        Asked::Equal(predicate) => { ask_under(tables, context, clauses, records, predicate, None) }
         Asked::Term(alias) => {
             let variable = u32::try_from(variables.len()).ok();
             let term = expected_term(context, alias.kind)?;
             let predicate = NormalizesTo { alias, term };
-            ask_under(tables, context, clauses, predicate, variable)
+            ask_under(tables, context, clauses, records, predicate, variable)
         }
     }
 }
@@ -104,6 +110,7 @@ fn ask_under<P: Question>(
     tables: &CheckedTables,
     context: &mut EvalCtxt<'_>,
     clauses: &mut Vec<Clause>,
+    records: &mut Records,
     predicate: P,
     variable: Option<u32>,
 ) -> Result<Answer, Ending> {
@@ -112,7 +119,7 @@ fn ask_under<P: Question>(
         param_env: mem::replace(clauses, Vec::new(alloc)),
         predicate,
     };
-    let answer = goal_answer(tables, context, &goal, variable);
+    let answer = goal_answer(tables, context, records, &goal, variable);
     *clauses = goal.param_env;
     answer
 }
@@ -121,13 +128,21 @@ fn ask_under<P: Question>(
 fn goal_answer<P: Question>(
     tables: &CheckedTables,
     context: &mut EvalCtxt<'_>,
+    records: &mut Records,
     goal: &Goal<P>,
     variable: Option<u32>,
 ) -> Result<Answer, Ending> {
     if let Err(fault) = check_goal(tables, context, goal) {
         return Ok(Answer::Refused(Refusal::Goal(fault)));
     }
-    let evaluated = P::evaluated(context, goal);
+    let evaluated = match P::evaluated(context, goal) {
+        // What was refused may be granted now, and the context is as before.
+        Err(Fault::OutOfMemory) => P::evaluated(context, goal),
+        evaluated => evaluated,
+    };
+    if let Ok(response) = &evaluated {
+        records.keep_response(response, variable)?;
+    }
     answer_of(evaluated, variable).map_err(|_| Ending::OutOfMemory)
 }
 

@@ -1,33 +1,48 @@
 //! What is printed.
 use crate::answers::{Answer, ShownAnswer};
 use crate::endings::Ending;
+use crate::records::ShownValues;
+use goal_terms::terms::Term;
 use std::{fmt, io};
 use vurloske_items::names::ItemNames;
 use vurloske_items::prelude::PRELUDE;
 use vurloske_syntax::ast::Goal;
 use vurloske_syntax::mistake::piece;
 
-/// Prints the line of a goal of a text.
-pub fn print_answer<W: io::Write>(
-    text: &str,
-    out: &mut W,
-    names: &ItemNames<'_>,
-    goal: &Goal,
-    line: u32,
-    answer: &Answer,
-) -> Result<(), Ending> {
-    let shown = ShownAnswer { answer, names };
-    let written = match answer {
-        Answer::Yes(Some(_)) => {
-            let subject = Spaced(piece(text, goal.subject));
-            writeln!(out, "{line}: {subject} = {shown}")
-        }
-        _ => {
-            let text = Spaced(piece(text, goal.text));
-            writeln!(out, "{line}: {text} => {shown}")
-        }
-    };
-    written.map_err(|_| Ending::Output)
+/// What the line of a goal of a text says: on which line the goal stands, its answer, and what its variables become.
+#[derive(Clone, Copy)]
+pub struct AnswerLine<'a> {
+    pub text: &'a str,
+    pub goal: &'a Goal,
+    pub line: u32,
+    pub answer: &'a Answer,
+    pub values: &'a [(u32, Term)],
+}
+
+impl AnswerLine<'_> {
+    /// Prints the line.
+    pub fn print<W: io::Write>(&self, out: &mut W, names: &ItemNames<'_>) -> Result<(), Ending> {
+        let AnswerLine {
+            text,
+            goal,
+            line,
+            answer,
+            values,
+        } = *self;
+        let shown = ShownAnswer { answer, names };
+        let values = ShownValues { values, names };
+        let written = match answer {
+            Answer::Yes(Some(_)) => {
+                let subject = Spaced(piece(text, goal.subject));
+                writeln!(out, "{line}: {subject} = {shown}{values}")
+            }
+            _ => {
+                let text = Spaced(piece(text, goal.text));
+                writeln!(out, "{line}: {text} => {shown}{values}")
+            }
+        };
+        written.map_err(|_| Ending::Output)
+    }
 }
 
 /// Prints the items of the prelude.

@@ -1,20 +1,26 @@
-//! What the last goal's context recorded.
+//! What the last goal's context recorded, and what its answer equates and gives variables.
 ghost use Rattle.std.specs.Prelude.{◌≡◌, [], OnOk};
 
 use crate::endings::Ending;
 use goal_solver::context::EvalCtxt;
 use goal_tables::checked::CheckedTables;
-use goal_terms::answers::{DelayedFault, OpaqueAccess};
+use goal_terms::answers::{Certainty, DelayedFault, OpaqueAccess, Response};
 use goal_terms::ids::{DefId, ItemId};
 use goal_terms::names::TermNames;
+use goal_terms::terms::{Region, Term};
+use goal_terms::text::Shown;
+use goal_terms::view::TermRef;
 use std::alloc::{AllocError, Global};
 use std::{fmt, io};
 use vurloske_items::names::ItemNames;
 
-/// What the last goal's context recorded, in the order of first entry.
+/// What the last goal's context recorded, in the order of first entry, the lifetimes that its answer equates, and what
+/// the goal's variables become where it is a yes.
 pub struct Records {
     accesses: Vec<OpaqueAccess>,
     faults: Vec<DelayedFault>,
+    pub equations: Vec<(Region, Region)>,
+    pub values: Vec<(u32, Term)>,
 }
 
 impl Drop for Records {
@@ -22,6 +28,8 @@ impl Drop for Records {
         let Records {
             accesses: _,
             faults: _,
+            equations: _,
+            values: _,
         } = self;
     }
 }
@@ -31,10 +39,14 @@ impl Records {
     pub fn new(alloc: Global) -> Records
         ensures accesses { result.accesses.items ≡ [] }
         ensures faults { result.faults.items ≡ [] }
+        ensures equations { result.equations.items ≡ [] }
+        ensures values { result.values.items ≡ [] }
     {
         Records {
             accesses: Vec::new(alloc),
             faults: Vec::new(alloc),
+            equations: Vec::new(alloc),
+            values: Vec::new(alloc),
         }
     }
 
@@ -42,19 +54,46 @@ impl Records {
     pub fn clear(&mut self)
         ensures accesses { self.new.accesses.items ≡ [] }
         ensures faults { self.new.faults.items ≡ [] }
+        ensures equations { self.new.equations.items ≡ [] }
+        ensures values { self.new.values.items ≡ [] }
     {
         self.accesses.clear();
         self.faults.clear();
+        self.equations.clear();
+        self.values.clear();
     }
 
-    /// Keeps what a context recorded, and nothing else.
+    /// Keeps what a context recorded in place of what was recorded before.
     pub fn keep(&mut self, context: &EvalCtxt<'_>) -> Result<(), AllocError>
         ensures accesses { OnOk result (self.new.accesses.items ≡ context.now.accesses) }
         ensures faults { OnOk result (self.new.faults.items ≡ context.now.delayed_faults) }
+        ensures equations { self.new.equations ≡ self.old.equations }
+        ensures values { self.new.values ≡ self.old.values }
     {
-        self.clear();
+        self.accesses.clear();
+        self.faults.clear();
         self.accesses.extend_from_slice(context.opaque_accesses())?;
         self.faults.extend_from_slice(context.delayed_faults())
+    }
+
+    /// Keeps what an answer equates, and what it gives the goal's own variables if it is a yes. `expected` is the
+    /// variable that takes an alias's term.
+    pub fn keep_response(
+        &mut self,
+        response: &Response,
+        expected: Option<u32>,
+    ) -> Result<(), AllocError> {
+        self.equations
+            .extend_from_slice(&response.region_equations)?;
+        if let Certainty::Maybe = response.certainty {
+            return Ok(());
+        }
+        for (variable, term) in &response.var_values {
+            if *variable < response.base && Some(*variable) != expected {
+                self.values.push((*variable, term.clone()?))?;
+            }
+        }
+        Ok(())
     }
 
     /// Prints what the answer would have read of another mode: `accesses: IfPostAnalysis`.
@@ -70,6 +109,19 @@ impl Records {
         writeln!(out, "accesses: {shown}").map_err(|_| Ending::Output)
     }
 
+    /// Prints which lifetimes the answer equates: `regions: 'a == 'b`.
+    pub fn print_regions<W: io::Write>(
+        &self,
+        out: &mut W,
+        names: &ItemNames<'_>,
+    ) -> Result<(), Ending> {
+        let shown = ShownRegions {
+            equations: &self.equations,
+            names,
+        };
+        writeln!(out, "regions: {shown}").map_err(|_| Ending::Output)
+    }
+
     /// Prints the faults of the items that were met: `faults: MissingItem(A of Tr)`.
     pub fn print_faults<W: io::Write>(
         &self,
@@ -83,6 +135,25 @@ impl Records {
             names,
         };
         writeln!(out, "faults: {shown}").map_err(|_| Ending::Output)
+    }
+}
+
+/// What variables become, each behind a comma.
+#[derive(Clone, Copy)]
+pub struct ShownValues<'a> {
+    pub values: &'a [(u32, Term)],
+    pub names: &'a ItemNames<'a>,
+}
+
+impl fmt::Display for ShownValues<'_> {
+    fn fmt<W: fmt::Write>(&self, f: &mut fmt::Formatter<W>) -> fmt::Result {
+        for (variable, term) in self.values {
+            let term = term.view();
+            let names = self.names;
+            let shown = Shown { term, names };
+            write!(f, ", ?{variable} = {shown}")?;
+        }
+        Ok(())
     }
 }
 
@@ -108,6 +179,35 @@ impl fmt::Display for ShownAccesses<'_> {
                 OpaqueAccess::IfPostAnalysis => f.write_str("IfPostAnalysis")?,
                 OpaqueAccess::Always => f.write_str("Always")?,
             }
+        }
+        Ok(())
+    }
+}
+
+/// Equations of lifetimes in order, or `none`.
+#[derive(Clone, Copy)]
+struct ShownRegions<'a> {
+    equations: &'a [(Region, Region)],
+    names: &'a ItemNames<'a>,
+}
+
+impl fmt::Display for ShownRegions<'_> {
+    fn fmt<W: fmt::Write>(&self, f: &mut fmt::Formatter<W>) -> fmt::Result {
+        if self.equations.is_empty() {
+            return f.write_str("none");
+        }
+        for (place, equation) in self.equations.iter().enumerate() {
+            f.write_str(separator(place))?;
+            let names = self.names;
+            let left = Shown {
+                term: TermRef::Lifetime(equation.0),
+                names,
+            };
+            let right = Shown {
+                term: TermRef::Lifetime(equation.1),
+                names,
+            };
+            write!(f, "{left} == {right}")?;
         }
         Ok(())
     }

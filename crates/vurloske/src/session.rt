@@ -6,7 +6,7 @@ use crate::asking::ask;
 use crate::endings::Ending;
 use crate::expectations::{Expectation, expectation_of};
 use crate::modes::Mode;
-use crate::printing::{print_answer, print_prelude};
+use crate::printing::{AnswerLine, print_prelude};
 use crate::program::Program;
 use crate::scenes::{Progress, Scene};
 use goal_terms::terms::Term;
@@ -78,6 +78,7 @@ fn run_statement<W: io::Write>(
         }
         StatementKind::Accesses => print_accesses(program, out, scene, progress),
         StatementKind::Faults => print_faults(program, out, scene, progress),
+        StatementKind::Regions => print_regions(program, out, scene, progress),
         StatementKind::Prelude => print_prelude(out),
     }
 }
@@ -102,6 +103,17 @@ fn print_faults<W: io::Write>(
 ) -> Result<(), Ending> {
     let names = program.names(&scene.environment);
     progress.records.print_faults(out, program.tables, &names)
+}
+
+/// Prints which lifetimes the last goal's answer equates.
+fn print_regions<W: io::Write>(
+    program: &Program<'_>,
+    out: &mut W,
+    scene: &Scene,
+    progress: &Progress,
+) -> Result<(), Ending> {
+    let names = program.names(&scene.environment);
+    progress.records.print_regions(out, &names)
 }
 
 /// How deep blocks may nest in one that begins at a place. A mistake where none may.
@@ -149,7 +161,14 @@ fn answer_goal<W: io::Write>(
     let expectation = expectation_of(program.ast, goal.attrs)?;
     let (answer, expected) = answer_to(program, scene, progress, goal, expectation)?;
     let names = program.names(&scene.environment);
-    print_answer(program.text, out, &names, goal, at.line, &answer)?;
+    let line = AnswerLine {
+        text: program.text,
+        goal,
+        line: at.line,
+        answer: &answer,
+        values: &progress.records.values,
+    };
+    line.print(out, &names)?;
     match expectation {
         None => Ok(()),
         Some(expectation) => expectation.check(program.alloc, &names, &answer, &expected),

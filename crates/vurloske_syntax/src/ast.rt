@@ -409,9 +409,10 @@ pub enum StatementKind {
     /// `limit 3;`
     Limit(u32),
     Goal(Goal),
-    /// `accesses;` and `faults;`
+    /// `accesses;`, `faults;` and `regions;`
     Accesses,
     Faults,
+    Regions,
     /// `prelude;`
     Prelude,
 }

@@ -7,7 +7,7 @@ use Rattle.goal_kinds.specs.Interned.{AreIn, erased_at, erased_all, predicate_at
 use Rattle.goal_solver.proofs.PremiseOutcomes.{PremisesSay, SaysClause, const-predicate, equation-predicate, equation-premise, predicate-premise, premise-at, premises-end, premises-refuted, premises-start, premises-step, trait-predicate, conditions-step, conditions-refuted, conditions-end, condition-at, condition_at, equation-ground, equation-result}
 use Rattle.goal_solver.specs.Joined.{both}
 use Rattle.goal_solver.proofs.EffectLemmas.{sound-met}
-use Rattle.goal_solver.proofs.CacheLemmas.{caching, cache-grown, sound-grown, known-trait, keep-trait, known-const, keep-const, known-alias, known-within, keep-alias, sound-of, sound-parts}
+use Rattle.goal_solver.proofs.CacheLemmas.{caching, cache-grown, sound-grown, sound-aside, known-trait, keep-trait, known-const, keep-const, known-alias, known-within, keep-alias, sound-of, sound-parts}
 use Rattle.goal_solver.specs.Effects.{AreSound}
 use Rattle.goal_terms.specs.Erased.{erased}
 use Rattle.goal_solver.specs.Outcomes.{setting_in, level_in, SaysWhich, SaysThrough, FoundIn, Says, projection_at, header_terms}
@@ -49,7 +49,7 @@ use Rattle.goal_kinds.specs.InternedEntries.{list_at, arguments_at, term_at, ent
 use Rattle.goal_solver.specs.Lists.{IsListFor, LeadsOn, progress_at, SaysRow, numbered_at, premises_of, NamedIn, named_at}
 use Rattle.goal_solver.proofs.ListAnswerLemmas.{none-says, list-says, caused-at, runs-next, runs-refuted, runs-undecided, runs-end, entry-in}
 use Rattle.goal_solver.proofs.ListRunLemmas.{end-in, asking-leads, giving-leads, giving-in, naming-leads, naming-in, terms-ask, clause-asks, row-asks, conditions-ask, access-asks, fault-asks, evaluation-asks, ambiguous-asks, undecided-asks, refused-asks, hidden-asks}
-use Rattle.std.specs.Prelude.{IfSome, slice_get}
+use Rattle.std.specs.Prelude.{IfSome, slice_get, Ok}
 use Rattle.std.proofs.lemmas.Result.{IfOk-weaker}
 use Rattle.goal_solver.proofs.ListEntryLemmas.{given-named, header-named, other-unnamed, other-named, followed-unnamed, followed-named, row-unnamed, row-found, standing-found, head_form-found, value-unnamed, value-found, value-argument, chosen-found, followed-in, pairs-says}
 use Rattle.goal_solver.specs.AskedTraits.{candidate_list, SaysCandidate}
@@ -622,22 +622,22 @@ pub normalizes_to::projections::item_term-returns-in-Undecided-clause-says :
 normalizes_to::projections::item_term-returns-in-Undecided-clause-says t c = λ m s.
     item-undecided (setting_in c.args.setting.now m) (level_in c.args.setting.now m c.args.depth) c.args.kind c.args.item.now c.args.trait_row.now c.args.terms.now c.args.args.now
     c.first_args-trait_args.result.now c.len-trait_params.result (c.len-trait_params.ensures ∙ c.args.trait_row.now.params.ok.0) c.first_args-trait_args.ensures
-    (rw c.in-Undecided.is at (c.in_ok-evaluate_trait_goal.ensures.says m s))
+    (rw c.in-Undecided.is at (c.in_ok-plain.ensures.says m s))
 
 pub normalizes_to::projections::item_term-returns-in-Refuted-clause-says :
     goal.normalizes_to::projections::item_term-returns-in-Refuted-clause-says
 normalizes_to::projections::item_term-returns-in-Refuted-clause-says t c = λ m s.
     item-refuted (setting_in c.args.setting.now m) (level_in c.args.setting.now m c.args.depth) c.args.kind c.args.item.now c.args.trait_row.now c.args.terms.now c.args.args.now
     c.first_args-trait_args.result.now (some_args c.args.args.now c.is_empty.result c.is_empty.ensures c.if-is_empty.false) c.len-trait_params.result
-    (c.len-trait_params.ensures ∙ c.args.trait_row.now.params.ok.0) c.first_args-trait_args.ensures (rw c.in-Refuted.is at (c.in_ok-evaluate_trait_goal.ensures.says m s))
+    (c.len-trait_params.ensures ∙ c.args.trait_row.now.params.ok.0) c.first_args-trait_args.ensures (rw c.in-Refuted.is at (c.in_ok-plain.ensures.says m s))
 
 pub normalizes_to::projections::item_term-returns-in-Holds-clause-says :
     goal.normalizes_to::projections::item_term-returns-in-Holds-clause-says
 normalizes_to::projections::item_term-returns-in-Holds-clause-says t c = λ m s.
     item-says (setting_in c.args.setting.now m) (level_in c.args.setting.now m c.args.depth) (consistent c.args.setting.now m c.args.depth) c.args.kind c.args.item.now c.args.trait_row.now c.in-Holds.class
-    c.args.terms.now c.evaluate_trait_goal.new.terms c.term_proven_via.new.terms c.in_ok-evaluate_trait_goal.ensures.kept c.args.args.now c.first_args-trait_args.result.now c.requires.args
+    c.args.terms.now c.evaluate_trait_goal.new.terms c.term_proven_via.new.terms c.in_ok-plain.ensures.kept c.args.args.now c.first_args-trait_args.result.now c.requires.args
     c.len-trait_params.result (c.len-trait_params.ensures ∙ c.args.trait_row.now.params.ok.0) c.first_args-trait_args.ensures
-    (rw c.in-Holds.is at (c.in_ok-evaluate_trait_goal.ensures.says m s)) c.term_proven_via.result (c.term_proven_via.ensures.says m s)
+    (rw c.in-Holds.is at (c.in_ok-plain.ensures.says m s)) c.term_proven_via.result (c.term_proven_via.ensures.says m s)
 
 pub normalizes_to::projections::later_term-returns-in_default-class-clause-says :
     goal.normalizes_to::projections::later_term-returns-in_default-class-clause-says
@@ -895,10 +895,10 @@ eval::lists::run_list-returns-in-None-clause-says t c = λ m s q f.
     none-says (level_in c.args.setting.now m c.args.depth) c.args.setting.now.typing_mode.now c.args.terms.now q
     (subst (λ l. IsListFor c.args.setting.now.typing_mode.now (list_at c.args.terms.now l) q) c.in-None.is f)
 
-pub eval::lists::run_list-returns-in-Some-clause-says : goal.eval::lists::run_list-returns-in-Some-clause-says
-eval::lists::run_list-returns-in-Some-clause-says t c = λ m s.
+pub eval::lists::run_list-returns-in_ok-outcome-in-Some-clause-says : goal.eval::lists::run_list-returns-in_ok-outcome-in-Some-clause-says
+eval::lists::run_list-returns-in_ok-outcome-in-Some-clause-says t c = λ m s.
     list-says (level_in c.args.setting.now m c.args.depth) c.args.setting.now.typing_mode.now c.args.terms.now c.run_entries.new.terms c.args.list.now c.in-Some.entries
-    c.deref.result.now c.run_entries.result c.in-Some.is c.deref.ensures.value (c.run_entries.ensures.says m s)
+    c.deref.result.now (Ok c.in_ok-outcome-in-Some.outcome) c.in-Some.is c.deref.ensures.value (c.in_ok-outcome-in-Some.ensures.says m s)
 
 pub eval::lists::run_entries-loop-entry-preserved : goal.eval::lists::run_entries-loop-entry-preserved
 eval::lists::run_entries-loop-entry-preserved t c = record {
@@ -1396,7 +1396,7 @@ pub trait_goals::evaluation::evaluate_trait_goal-returns-in-Some-clause-says : g
 trait_goals::evaluation::evaluate_trait_goal-returns-in-Some-clause-says t c m s =
     known-trait c.args.setting.now c.intern_trait_ref.new.terms c.args.effects.now.cache c.in_ok-goal.goal c.args.trait_id (length c.args.args.now) (erased_all c.args.terms.now c.args.args.now) c.args.depth c.in-Some.known
     (cache-grown c.args.setting.now c.args.terms.now c.intern_trait_ref.new.terms c.args.effects.now.cache c.intern_trait_ref.ensures.kept (sound-parts _ _ _ c.requires.effects).answers) c.in_ok-goal.ensures.tree
-    c.in-Some.ensures m s
+    (rw c.in-Some.is at c.in_ok-known.ensures.known) m s
 
 pub trait_goals::evaluation::evaluate_trait_goal-returns-clause-effects : goal.trait_goals::evaluation::evaluate_trait_goal-returns-clause-effects
 trait_goals::evaluation::evaluate_trait_goal-returns-clause-effects t c =
@@ -1405,13 +1405,13 @@ trait_goals::evaluation::evaluate_trait_goal-returns-clause-effects t c =
     let xs = erased_all c.args.terms.now c.args.args.now in
     let keeps : Keeps T U = c.fresh_trait_outcome.ensures.kept in sound-of _ _ _ (record {
       answers =
-          keep-trait c.args.setting.now U c.fresh_trait_outcome.new.effects.cache c.keep_trait.new.self c.in_ok-goal.goal c.args.trait_id (length c.args.args.now) xs c.args.depth c.in_ok-outcome.outcome
-          (sound-parts _ _ _ c.fresh_trait_outcome.ensures.effects).answers (ap erased (keeps.same c.in_ok-goal.goal c.in_ok-goal.ensures.within) ∙ c.in_ok-goal.ensures.tree) (omega (arith, keeps.longer, c.in_ok-goal.ensures.within))
+          keep-trait c.args.setting.now U c.end_goal.new.self.cache c.keep_trait.new.self c.in_ok-goal.goal c.args.trait_id (length c.args.args.now) xs c.args.depth c.in_ok-outcome.outcome
+          (sound-parts _ _ _ (sound-aside _ _ _ _ c.end_goal.ensures.aside c.fresh_trait_outcome.ensures.effects)).answers (ap erased (keeps.same c.in_ok-goal.goal c.in_ok-goal.ensures.within) ∙ c.in_ok-goal.ensures.tree) (omega (arith, keeps.longer, c.in_ok-goal.ensures.within))
           (λ m s. subst (λ ys. SaysThrough (λ x. (level_in c.args.setting.now m c.args.depth).through x c.args.trait_id ys) ((level_in c.args.setting.now m c.args.depth).trait_refuted c.args.trait_id ys) c.in_ok-outcome.outcome)
           (all_same-grown c.args.terms.now T c.intern_trait_ref.ensures.kept c.args.args.now c.requires.args) (c.in_ok-outcome.ensures.says m s))
           c.keep_trait.ensures.entered c.keep_trait.ensures.unchanged;
-      causes = (sound-parts _ _ _ c.fresh_trait_outcome.ensures.effects).causes;
-      faults = (sound-parts _ _ _ c.fresh_trait_outcome.ensures.effects).faults;
+      causes = (sound-parts _ _ _ (sound-aside _ _ _ _ c.end_goal.ensures.aside c.fresh_trait_outcome.ensures.effects)).causes;
+      faults = (sound-parts _ _ _ (sound-aside _ _ _ _ c.end_goal.ensures.aside c.fresh_trait_outcome.ensures.effects)).faults;
     })
 
 pub trait_goals::evaluation::evaluate_trait_goal-returns-clause-says : goal.trait_goals::evaluation::evaluate_trait_goal-returns-clause-says
@@ -1423,7 +1423,7 @@ pub effect_goals::evaluation::evaluate_host_effect_goal-returns-in-Some-clause-s
 effect_goals::evaluation::evaluate_host_effect_goal-returns-in-Some-clause-says t c m s =
     known-const c.args.setting.now c.intern_trait_ref.new.terms c.args.effects.now.cache c.in_ok-goal.goal c.args.constness c.args.trait_id (length c.args.args.now) (erased_all c.args.terms.now c.args.args.now) c.args.depth c.in-Some.known
     (cache-grown c.args.setting.now c.args.terms.now c.intern_trait_ref.new.terms c.args.effects.now.cache c.intern_trait_ref.ensures.kept (sound-parts _ _ _ c.requires.effects).answers) c.in_ok-goal.ensures.tree
-    c.in-Some.ensures m s
+    (rw c.in-Some.is at c.in_ok-known.ensures.known) m s
 
 pub effect_goals::evaluation::evaluate_host_effect_goal-returns-clause-effects : goal.effect_goals::evaluation::evaluate_host_effect_goal-returns-clause-effects
 effect_goals::evaluation::evaluate_host_effect_goal-returns-clause-effects t c =
@@ -1432,13 +1432,13 @@ effect_goals::evaluation::evaluate_host_effect_goal-returns-clause-effects t c =
     let xs = erased_all c.args.terms.now c.args.args.now in
     let keeps : Keeps T U = c.fresh_host_effect_outcome.ensures.kept in sound-of _ _ _ (record {
       answers =
-          keep-const c.args.setting.now U c.fresh_host_effect_outcome.new.effects.cache c.keep_const.new.self c.in_ok-goal.goal c.args.constness c.args.trait_id (length c.args.args.now) xs c.args.depth c.in_ok-outcome.outcome
-          (sound-parts _ _ _ c.fresh_host_effect_outcome.ensures.effects).answers (ap erased (keeps.same c.in_ok-goal.goal c.in_ok-goal.ensures.within) ∙ c.in_ok-goal.ensures.tree) (omega (arith, keeps.longer, c.in_ok-goal.ensures.within))
+          keep-const c.args.setting.now U c.end_goal.new.self.cache c.keep_const.new.self c.in_ok-goal.goal c.args.constness c.args.trait_id (length c.args.args.now) xs c.args.depth c.in_ok-outcome.outcome
+          (sound-parts _ _ _ (sound-aside _ _ _ _ c.end_goal.ensures.aside c.fresh_host_effect_outcome.ensures.effects)).answers (ap erased (keeps.same c.in_ok-goal.goal c.in_ok-goal.ensures.within) ∙ c.in_ok-goal.ensures.tree) (omega (arith, keeps.longer, c.in_ok-goal.ensures.within))
           (λ m s. subst (λ ys. Says ((level_in c.args.setting.now m c.args.depth).const_holds c.args.constness c.args.trait_id ys) ((level_in c.args.setting.now m c.args.depth).const_refuted c.args.constness c.args.trait_id ys) c.in_ok-outcome.outcome)
           (all_same-grown c.args.terms.now T c.intern_trait_ref.ensures.kept c.args.args.now c.requires.args) (c.in_ok-outcome.ensures.says m s))
           c.keep_const.ensures.entered c.keep_const.ensures.unchanged;
-      causes = (sound-parts _ _ _ c.fresh_host_effect_outcome.ensures.effects).causes;
-      faults = (sound-parts _ _ _ c.fresh_host_effect_outcome.ensures.effects).faults;
+      causes = (sound-parts _ _ _ (sound-aside _ _ _ _ c.end_goal.ensures.aside c.fresh_host_effect_outcome.ensures.effects)).causes;
+      faults = (sound-parts _ _ _ (sound-aside _ _ _ _ c.end_goal.ensures.aside c.fresh_host_effect_outcome.ensures.effects)).faults;
     })
 
 pub effect_goals::evaluation::evaluate_host_effect_goal-returns-clause-says : goal.effect_goals::evaluation::evaluate_host_effect_goal-returns-clause-says
@@ -1449,13 +1449,13 @@ effect_goals::evaluation::evaluate_host_effect_goal-returns-clause-says t c m s 
 pub normalizes_to::alias_terms::alias_term-returns-in-Some-clause-within : goal.normalizes_to::alias_terms::alias_term-returns-in-Some-clause-within
 normalizes_to::alias_terms::alias_term-returns-in-Some-clause-within t c =
     known-within c.args.setting.now c.intern_alias.new.terms c.args.effects.now.cache c.in_ok-alias.alias c.args.depth c.in-Some.known
-    (cache-grown c.args.setting.now c.args.terms.now c.intern_alias.new.terms c.args.effects.now.cache c.intern_alias.ensures.kept (sound-parts _ _ _ c.requires.effects).answers) c.in-Some.ensures
+    (cache-grown c.args.setting.now c.args.terms.now c.intern_alias.new.terms c.args.effects.now.cache c.intern_alias.ensures.kept (sound-parts _ _ _ c.requires.effects).answers) (rw c.in-Some.is at c.in_ok-known.ensures.known)
 
 pub normalizes_to::alias_terms::alias_term-returns-in-Some-clause-says : goal.normalizes_to::alias_terms::alias_term-returns-in-Some-clause-says
 normalizes_to::alias_terms::alias_term-returns-in-Some-clause-says t c m s =
     known-alias c.args.setting.now c.intern_alias.new.terms c.args.effects.now.cache c.in_ok-alias.alias c.args.kind (erased_all c.args.terms.now c.args.args.now) c.args.depth c.in-Some.known
     (cache-grown c.args.setting.now c.args.terms.now c.intern_alias.new.terms c.args.effects.now.cache c.intern_alias.ensures.kept (sound-parts _ _ _ c.requires.effects).answers) c.in_ok-alias.ensures.tree
-    c.in-Some.ensures m s
+    (rw c.in-Some.is at c.in_ok-known.ensures.known) m s
 
 pub normalizes_to::alias_terms::alias_term-returns-clause-effects : goal.normalizes_to::alias_terms::alias_term-returns-clause-effects
 normalizes_to::alias_terms::alias_term-returns-clause-effects t c =
@@ -1464,16 +1464,25 @@ normalizes_to::alias_terms::alias_term-returns-clause-effects t c =
     let xs = erased_all c.args.terms.now c.args.args.now in
     let keeps : Keeps T U = c.fresh_alias_term.ensures.kept in sound-of _ _ _ (record {
       answers =
-          keep-alias c.args.setting.now U c.fresh_alias_term.new.effects.cache c.keep_alias.new.self c.in_ok-alias.alias c.args.kind xs c.args.depth c.in_ok-found.found
-          (sound-parts _ _ _ c.fresh_alias_term.ensures.effects).answers (ap erased (keeps.same c.in_ok-alias.alias (c.in_ok-alias.ensures.within).0) ∙ c.in_ok-alias.ensures.tree) (omega (arith, keeps.longer, (c.in_ok-alias.ensures.within).0)) c.in_ok-found.ensures.within
+          keep-alias c.args.setting.now U c.end_goal.new.self.cache c.keep_alias.new.self c.in_ok-alias.alias c.args.kind xs c.args.depth c.in_ok-found.found
+          (sound-parts _ _ _ (sound-aside _ _ _ _ c.end_goal.ensures.aside c.fresh_alias_term.ensures.effects)).answers (ap erased (keeps.same c.in_ok-alias.alias (c.in_ok-alias.ensures.within).0) ∙ c.in_ok-alias.ensures.tree) (omega (arith, keeps.longer, (c.in_ok-alias.ensures.within).0)) c.in_ok-found.ensures.within
           (λ m s. subst (λ ys. SaysWhich ((level_in c.args.setting.now m c.args.depth).gives c.args.kind ys) ((level_in c.args.setting.now m c.args.depth).gives_refuted c.args.kind ys) U c.in_ok-found.found)
           (all_same-grown c.args.terms.now T c.intern_alias.ensures.kept c.args.args.now c.requires.args) (c.in_ok-found.ensures.says m s))
           c.keep_alias.ensures.entered c.keep_alias.ensures.unchanged;
-      causes = (sound-parts _ _ _ c.fresh_alias_term.ensures.effects).causes;
-      faults = (sound-parts _ _ _ c.fresh_alias_term.ensures.effects).faults;
+      causes = (sound-parts _ _ _ (sound-aside _ _ _ _ c.end_goal.ensures.aside c.fresh_alias_term.ensures.effects)).causes;
+      faults = (sound-parts _ _ _ (sound-aside _ _ _ _ c.end_goal.ensures.aside c.fresh_alias_term.ensures.effects)).faults;
     })
 
 pub normalizes_to::alias_terms::alias_term-returns-clause-says : goal.normalizes_to::alias_terms::alias_term-returns-clause-says
 normalizes_to::alias_terms::alias_term-returns-clause-says t c m s =
     subst (λ ys. SaysWhich ((level_in c.args.setting.now m c.args.depth).gives c.args.kind ys) ((level_in c.args.setting.now m c.args.depth).gives_refuted c.args.kind ys) c.fresh_alias_term.new.terms c.in_ok-found.found)
     (all_same-grown c.args.terms.now c.intern_alias.new.terms c.intern_alias.ensures.kept c.args.args.now c.requires.args) (c.in_ok-found.ensures.says m s)
+
+pub normalizes_to::projections::item_term-evaluate_trait_goal-requires : goal.normalizes_to::projections::item_term-evaluate_trait_goal-requires
+normalizes_to::projections::item_term-evaluate_trait_goal-requires t c = (
+  omega (arith, c.decreases),
+  (
+    sound-aside _ _ _ _ c.leave_out_regions-lists.ensures.aside c.requires.effects,
+    subst (AreIn c.args.terms.now) (sym c.first_args-trait_args.ensures) (All-take (IsIn c.args.terms.now) c.len-trait_params.result c.args.args.now c.requires.args),
+  ),
+)

@@ -6,6 +6,7 @@ ghost use Rattle.goal_terms.specs.declared.heads.Variable.{Variable as Infer};
 ghost use Rattle.goal_terms.specs.declared.terms.Ty.{Ty as Hidden};
 ghost use Rattle.goal_infer.specs.Replacement.{number_of};
 ghost use Rattle.goal_infer.specs.Unification.{is_made_in};
+ghost use Rattle.goal_solver.specs.Accesses.{RecordsCausedFaults};
 ghost use Rattle.goal_solver.specs.Binding.{IsApplicable, Applies, CanBeListed, GetValues, EntersAll, IsSameEntry, with_equations, with_entries};
 ghost use Rattle.goal_solver.specs.GoingBack.{GoesBack, restored};
 ghost use Rattle.goal_solver.specs.Relating.{ChangesRecords};
@@ -13,6 +14,8 @@ ghost use Rattle.goal_solver.specs.Stored.{HasOneTypeAKey};
 ghost use Rattle.goal_solver.specs.Variables.{with_variables};
 
 use crate::context::EvalCtxt;
+use crate::eval::outcomes::Stop;
+use crate::eval::region_constraints::RegionConstraints;
 use crate::faults::Fault;
 use goal_terms::answers::{Certainty, OpaqueTypeKey, Response, VarKind};
 use goal_terms::heads::Variable;
@@ -74,6 +77,7 @@ impl EvalCtxt<'_> {
     /// Makes a variable of each kind, in order. Where memory is refused, some of them stay.
     fn make_variables(&mut self, kinds: &[VarKind]) -> Result<(), Fault>
         ensures made { OnOk result (self.new ≡ with_variables kinds.now self.old) }
+        ensures faults { self.new.delayed_faults ≡ self.old.delayed_faults }
         ensures goes_back { GoesBack self.old self.new }
         ensures only_memory { IsOkUnless result Fault.OutOfMemory }
     {
@@ -114,6 +118,7 @@ impl EvalCtxt<'_> {
     /// Adds equations of lifetimes, in order. Where memory is refused, some of them stay.
     fn add_equations(&mut self, equations: &[(Region, Region)]) -> Result<(), Fault>
         ensures added { OnOk result (self.new ≡ with_equations equations.now self.old) }
+        ensures faults { self.new.delayed_faults ≡ self.old.delayed_faults }
         ensures goes_back { GoesBack self.old self.new }
         ensures only_memory { IsOkUnless result Fault.OutOfMemory }
     {
@@ -123,9 +128,39 @@ impl EvalCtxt<'_> {
         Ok(())
     }
 
+    /// Makes the region variables and adds the equations that an evaluation listed. Only memory is refused; then
+    /// nothing changes.
+    pub(crate) fn enter_regions(&mut self, listed: &RegionConstraints) -> Result<(), Stop>
+        ensures entered { OnOk result (self.new ≡ with_equations listed.now.equations.items (with_variables listed.now.variables.items self.old)) }
+        ensures unchanged { OnErr result (self.new ≡ restored self.old self.new) }
+        ensures faults { RecordsCausedFaults self.old self.new }
+        ensures goes_back { GoesBack self.old self.new }
+        ensures only_memory { IsOkUnless result Stop.OutOfMemory }
+    {
+        self.holds_together();
+        let before = self.snapshot();
+        let Ok(()) = self.add_regions(listed) else {
+            self.rollback(before);
+            return Err(Stop::OutOfMemory);
+        };
+        Ok(())
+    }
+
+    /// Makes region variables and adds equations. Where memory is refused, some of them stay.
+    fn add_regions(&mut self, listed: &RegionConstraints) -> Result<(), Fault>
+        ensures entered { OnOk result (self.new ≡ with_equations listed.now.equations.items (with_variables listed.now.variables.items self.old)) }
+        ensures faults { self.new.delayed_faults ≡ self.old.delayed_faults }
+        ensures goes_back { GoesBack self.old self.new }
+        ensures only_memory { IsOkUnless result Fault.OutOfMemory }
+    {
+        self.make_variables(&listed.variables)?;
+        self.add_equations(&listed.equations)
+    }
+
     /// Adds an equation of lifetimes. Only memory is refused; then nothing changes.
     fn add_equation(&mut self, equation: (Region, Region)) -> Result<(), Fault>
         ensures added { OnOk result (self.new ≡ with_equations (equation ∷ []) self.old) }
+        ensures faults { self.new.delayed_faults ≡ self.old.delayed_faults }
         ensures goes_back { GoesBack self.old self.new }
         ensures only_memory { IsOkUnless result Fault.OutOfMemory }
     {

@@ -13,6 +13,7 @@ use crate::context::EvalCtxt;
 use crate::context::respond::since;
 use crate::eval::effects::Effects;
 use crate::eval::outcomes::Stop;
+use crate::eval::region_constraints::RegionConstraints;
 use crate::faults::Fault;
 use goal_tables::checked::CheckedTables;
 use goal_tables::rows::DefValue;
@@ -61,6 +62,23 @@ impl EvalCtxt<'_> {
     {
         self.record_accesses(&effects.accesses)?;
         self.record_faults(&effects.delayed_faults)
+    }
+
+    /// Records what an evaluation met, as `record_effects` does, and hands on what it lists of lifetimes.
+    pub(crate) fn record_listed(
+        &mut self,
+        effects: &Effects,
+        listed: &mut RegionConstraints,
+    ) -> Result<(), Stop>
+        ensures listed { (a : Access) → Contains self.new.accesses a → Contains self.old.accesses a ⊎ Contains effects.now.accesses.items a }
+        ensures faults { All (IsFaultCaused self.old.tables) effects.now.delayed_faults.items → RecordsCausedFaults self.old self.new }
+        ensures unchanged { self.new ≡ record self.old { accesses = self.new.accesses; delayed_faults = self.new.delayed_faults } }
+        ensures goes_back { GoesBack self.old self.new }
+        ensures only_memory { IsOkUnless result Stop.OutOfMemory }
+    {
+        self.record_effects(effects)?;
+        effects.list_regions(listed)?;
+        Ok(())
     }
 
     /// Records the accesses that an evaluation met, in their order. Only memory is refused; then some of them

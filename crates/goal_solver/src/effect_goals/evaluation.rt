@@ -11,6 +11,7 @@ use crate::assembly::candidates::{AskedTrait, candidates_outcome, class_outcome}
 use crate::eval::effects::Effects;
 use crate::eval::head_forms::head_form;
 use crate::eval::interning::intern_trait_ref;
+use crate::eval::listed_regions::KeptGoal;
 use crate::eval::outcomes::{Found, Outcome, Setting, Stop, TraitOutcome};
 use crate::eval::self_types::{split_self_type, with_self_type};
 use crate::trait_goals::evaluation::evaluate_trait_goal;
@@ -45,18 +46,21 @@ pub fn evaluate_host_effect_goal(
         return Ok(Outcome::Undecided);
     }
     let goal = intern_trait_ref(setting.allocator(), terms, trait_id, args)?;
-    if let Some(known) = effects.cache.const_outcome(constness, goal, depth) {
+    if let Some(known) = effects.known_const(constness, goal, depth)? {
         return Ok(known);
     }
+    let before = effects.begin_goal();
     let outcome = fresh_host_effect_outcome(
         setting, terms, effects, constness, trait_id, args, depth,
     )?;
+    effects.end_goal(KeptGoal::Const(constness, goal), before, outcome)?;
     effects.cache.keep_const(constness, goal, depth, outcome);
     Ok(outcome)
 }
 
 /// Whether a const trait goal that isn't known holds at a depth: where the plain goal holds, by the candidates
 /// for the head form of its self type.
+#[tactic(auto, using(crate::proofs::CacheLemmas::caching))]
 #[cycle(closed)]
 fn fresh_host_effect_outcome(
     setting: &Setting<'_>,
@@ -78,7 +82,9 @@ fn fresh_host_effect_outcome(
     let Some((first, rest)) = split_self_type(args) else {
         return Ok(Outcome::Undecided);
     };
+    let lists = effects.leave_out_regions();
     let plain = evaluate_trait_goal(setting, terms, effects, trait_id, args, depth - 1)?;
+    effects.list_regions_again(lists);
     let TraitOutcome::Holds(class) = plain else {
         return Ok(plain.held());
     };

@@ -4,7 +4,7 @@ ghost use Rattle.goal_terms.specs.TableMeaning.{Keeps};
 ghost use Rattle.goal_terms.specs.declared.modes.TypingMode.{TypingMode};
 ghost use Rattle.goal_kinds.specs.Answers.{setting_of};
 ghost use Rattle.goal_kinds.specs.Settings.{is_headline};
-ghost use Rattle.goal_solver.specs.Answers.{IsOwed, level_over, IsPredicateAnswer, IsUndecided, IsMaybe, AnswersQuietly, IsFaultOf};
+ghost use Rattle.goal_solver.specs.Answers.{IsOwed, level_over, IsPredicateAnswer, IsUndecided, IsMaybe, AnswersAside, IsFaultOf};
 ghost use Rattle.goal_solver.specs.Assembled.{level_above};
 ghost use Rattle.goal_solver.specs.Binding.{IsApplicable};
 ghost use Rattle.goal_solver.specs.Effects.{AreSound, IsStop};
@@ -20,6 +20,7 @@ use crate::eval::effects::Effects;
 use crate::eval::head_forms::head_form;
 use crate::eval::interning::intern_args;
 use crate::eval::outcomes::{Found, OnAccess, Outcome, Setting, Stop};
+use crate::eval::region_constraints::RegionConstraints;
 use crate::eval::self_types::{split_self_type, with_self_type};
 use crate::faults::Fault;
 use goal_kinds::goal_kind::TraitView;
@@ -77,6 +78,7 @@ impl EvalCtxt<'_> {
         &mut self,
         goal: &HostEffectThrough<'_>,
         environment: &[Clause],
+        listed: &mut RegionConstraints,
     ) -> Result<Outcome, Stop>
         ensures kept { Keeps self.old.terms self.new.terms }
         ensures unchanged { self.new ≡ restored self.old self.new }
@@ -86,11 +88,11 @@ impl EvalCtxt<'_> {
         ensures stops { is_headline self.old.typing_mode ≡ true → IfErr result (λ s. s ≡ Stop.OutOfMemory) }
     {
         let on_access = self.first_access();
-        let first = self.host_effect_run_through(on_access, goal, environment);
+        let first = self.host_effect_run_through(on_access, goal, environment, listed);
         if let Some(outcome) = self.first_answer(first)? {
             return Ok(outcome);
         }
-        self.host_effect_run_through(OnAccess::Record, goal, environment)
+        self.host_effect_run_through(OnAccess::Record, goal, environment, listed)
     }
 
     /// One run over the candidates.
@@ -99,6 +101,7 @@ impl EvalCtxt<'_> {
         on_access: OnAccess,
         goal: &HostEffectThrough<'_>,
         environment: &[Clause],
+        listed: &mut RegionConstraints,
     ) -> Result<Outcome, Stop>
         ensures kept { Keeps self.old.terms self.new.terms }
         ensures unchanged { self.new ≡ restored self.old self.new }
@@ -107,7 +110,7 @@ impl EvalCtxt<'_> {
             IfOk result (SaysHostAt (setting_of self.old.tables m environment.now) (suc self.old.remaining_depth) (through_at goal.now)) }
         ensures stops { is_headline self.old.typing_mode ≡ true → IfErr result (λ s. s ≡ Stop.OutOfMemory) }
     {
-        let mut effects = Effects::new(self.allocator());
+        let mut effects = self.listing_effects();
         let setting = Setting {
             rows: self.tables.rows(),
             typing_mode: &self.typing_mode,
@@ -116,7 +119,7 @@ impl EvalCtxt<'_> {
         };
         let depth = self.remaining_depth;
         let outcome = outcome_proven_via(&setting, &mut self.terms, &mut effects, goal, depth);
-        self.record_effects(&effects)?;
+        self.record_listed(&effects, listed)?;
         outcome
     }
 
@@ -134,13 +137,14 @@ impl EvalCtxt<'_> {
         ensures unchanged { self.new ≡ restored self.old self.new }
         ensures goes_back { GoesBack self.old self.new }
         ensures fault { IsFaultOf self.old self.new result }
-        ensures quiet { AnswersQuietly (length (kinds_of self.old)) result }
+        ensures quiet { AnswersAside (length (kinds_of self.old)) result }
         ensures lists { IfOk result (λ r. r.var_values.items ≡ []) }
         ensures no_class { IfOk result (λ r. r.proven_via ≡ None) }
         ensures applies { IfOk result (IsApplicable self.new) }
     {
         self.is_well_formed();
-        let outcome = self.host_effect_outcome_through(goal, environment);
-        self.conclude(outcome)
+        let mut listed = RegionConstraints::new(self.allocator());
+        let outcome = self.host_effect_outcome_through(goal, environment, &mut listed);
+        self.conclude(outcome, listed)
     }
 }

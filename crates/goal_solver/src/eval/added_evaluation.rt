@@ -8,15 +8,17 @@ ghost use Rattle.goal_solver.specs.Added.{has_goals};
 ghost use Rattle.goal_solver.specs.AddedGoals.{IsClosedGoal, IsGoalAnswer, IsVerdict, IsPendingAnswer, ArePendingClosed, ArePendingUndecided, ChangesTaken};
 ghost use Rattle.goal_solver.specs.AddedGoals.{AreSplit, AreClosedAt, LeavesUndecided, IsListed, JoinsUnless, IsRefusalAt, IsAnswerAt};
 ghost use Rattle.goal_solver.specs.Answers.{IsOwed};
+ghost use Rattle.goal_solver.specs.Binding.{IsApplicable};
 ghost use Rattle.goal_solver.specs.GoingBack.{BeginsWith, GoesBack, lengths_of, restored};
 ghost use Rattle.goal_solver.specs.Refusals.{WhenRefused, RefusesGoal, RefusesListed, RefusesOne};
 ghost use Rattle.goal_solver.specs.Relating.{ChangesRecords, IsFaultFor, SaysYes, LeavesOpen};
 
 use crate::context::{EvalCtxt, Snapshot};
+use crate::eval::goal_outcomes::OpenGoal;
 use crate::eval::outcomes::{Outcome, Stop};
 use crate::faults::Fault;
-use goal_terms::answers::{Certainty, GoalSource};
-use goal_terms::predicates::{Goal, Predicate, TraitPredicate};
+use goal_terms::answers::{Certainty, GoalSource, Response};
+use goal_terms::predicates::{Goal, Predicate};
 use std::mem;
 
 /// How many times the goals are gone over at most.
@@ -28,7 +30,7 @@ impl EvalCtxt<'_> {
     /// `NoSolution`: one is refuted. `Maybe`: some are undecided.
     ///
     /// A goal is asked with the bindings of its variables followed. While one is left in it or one stands in its
-    /// environment, a trait goal is answered by its candidates at one less of the depth, and an answer that is sure
+    /// environment, a goal of a trait or a const trait is answered by its candidates at one less of the depth, and an answer that is sure
     /// is applied; an alias and a term are made equal; the term of an alias without variables is given to the
     /// goal's expected variable; and any other goal is undecided. So goals may bind variables, and these bindings
     /// stay. After a fault inference state, goals and storage are as before.
@@ -175,13 +177,13 @@ impl EvalCtxt<'_> {
         ensures goes_back { GoesBack self.old self.new }
         ensures fault { IsFaultFor self.old self.new result }
     {
-        match self.open_trait_goal(goal)? {
-            Some(asked) => self.evaluate_open_trait(&asked),
+        match self.open_goal(goal)? {
+            Some(asked) => self.evaluate_open(&asked),
             None => self.evaluate_other(goal),
         }
     }
 
-    /// What a goal comes to at the remaining depth, if it isn't a trait goal in which a variable is left.
+    /// What a goal comes to at the remaining depth, if its candidates aren't asked for it.
     fn evaluate_other(&mut self, goal: &Goal<Predicate>) -> Result<Certainty, Fault>
         ensures answer { (m : modes) → IsOwed self.new m → IsClosedGoal goal.now.predicate goal.now.param_env.items → IsGoalAnswer self.old m goal.now result }
         ensures refused { WhenRefused result (RefusesGoal self.old self.new goal.now) }
@@ -195,10 +197,10 @@ impl EvalCtxt<'_> {
         self.verdict(outcome)
     }
 
-    /// What a trait goal with inference variables comes to: it is answered by its candidates, at one less of the
-    /// depth, and an answer that is sure is applied. At depth 0 it is undecided.
+    /// What a goal with inference variables comes to: it is answered by its candidates, at one less of the depth, and
+    /// an answer that is sure is applied. At depth 0 it is undecided.
     #[cycle(open)]
-    fn evaluate_open_trait(&mut self, goal: &Goal<TraitPredicate>) -> Result<Certainty, Fault>
+    fn evaluate_open(&mut self, goal: &OpenGoal) -> Result<Certainty, Fault>
         ensures alone { ChangesRecords self.old self.new }
         ensures faults { RecordsCausedFaults self.old self.new }
         ensures goes_back { GoesBack self.old self.new }
@@ -213,16 +215,32 @@ impl EvalCtxt<'_> {
         answered
     }
 
-    /// Applies what a trait goal with inference variables is answered, if that is sure.
+    /// Applies what a goal with inference variables is answered, if that is sure.
     #[cycle(open)]
-    fn apply_below(&mut self, goal: &Goal<TraitPredicate>) -> Result<Certainty, Fault>
+    fn apply_below(&mut self, goal: &OpenGoal) -> Result<Certainty, Fault>
         requires positive { 0 < self.old.remaining_depth }
         ensures alone { ChangesRecords self.old self.new }
         ensures goes_back { GoesBack self.old self.new }
         ensures fault { IsFaultFor self.old self.new result }
     {
-        let response = self.merge_below(goal)?;
+        let response = self.answer_below(goal)?;
         self.apply_sure(&response)
+    }
+
+    /// What a goal with inference variables is answered by its candidates, at one less of the depth. Inference
+    /// state, added goals and storage are as before.
+    #[cycle(open)]
+    fn answer_below(&mut self, goal: &OpenGoal) -> Result<Response, Fault>
+        requires positive { 0 < self.old.remaining_depth }
+        ensures applies { IfOk result (IsApplicable self.new) }
+        ensures unchanged { self.new ≡ restored self.old self.new }
+        ensures goes_back { GoesBack self.old self.new }
+        ensures fault { IsFaultFor self.old self.new result }
+    {
+        match goal {
+            OpenGoal::Trait(goal) => self.merge_below(goal),
+            OpenGoal::HostEffect(goal) => self.hold_const_below(goal),
+        }
     }
 
     /// What is answered to a goal that holds or not. Nothing changes but that an access may be recorded.

@@ -4,7 +4,7 @@ ghost use Rattle.goal_terms.specs.declared.answers.Certainty.TheVariants as cert
 ghost use Rattle.goal_terms.specs.declared.modes.TypingMode.{TypingMode as modes};
 ghost use Rattle.goal_kinds.specs.Settings.{is_headline};
 ghost use Rattle.goal_solver.specs.Accesses.{RecordsCaused, EndsFor, RecordsCausedFaults};
-ghost use Rattle.goal_solver.specs.Answers.{IsOwed, level_over, IsPredicateAnswer, IsUndecided, IsMaybe, IsFaultOf, AnswersQuietly, ListsNothing, IsConclusion};
+ghost use Rattle.goal_solver.specs.Answers.{IsOwed, level_over, IsPredicateAnswer, IsUndecided, IsMaybe, IsFaultOf, AnswersQuietly, AnswersAside, ListsNothing, IsConclusion};
 ghost use Rattle.goal_solver.specs.Binding.{IsApplicable};
 ghost use Rattle.goal_solver.specs.Evaluations.{predicate_seen};
 ghost use Rattle.goal_solver.specs.GoingBack.{GoesBack, restored};
@@ -16,6 +16,7 @@ ghost use Rattle.std.specs.Prelude.{length};
 use crate::context::EvalCtxt;
 use crate::eval::outcomes::{Outcome, Stop};
 use crate::eval::predicate_views::PredicateView;
+use crate::eval::region_constraints::RegionConstraints;
 use crate::faults::Fault;
 use goal_terms::answers::{Certainty, Response};
 use goal_terms::modes::TypingMode;
@@ -33,6 +34,7 @@ impl EvalCtxt<'_> {
         ensures goes_back { GoesBack self.old self.new }
         ensures fault { IsFaultOf self.old self.new result }
         ensures quiet { AnswersQuietly (length (kinds_of self.old)) result }
+        ensures aside { AnswersAside (length (kinds_of self.old)) result }
         ensures nothing { ListsNothing result }
         ensures unsure { IfOk result (λ r. r.certainty ≢ certainty.Yes) }
         ensures caused { EndsFor self.old stop → RecordsCaused self.old self.new }
@@ -66,8 +68,12 @@ impl EvalCtxt<'_> {
         Ok(Certainty::Maybe)
     }
 
-    /// What a call answers to a goal that holds or not.
-    pub(crate) fn conclude(&mut self, outcome: Result<Outcome, Stop>) -> Result<Response, Fault>
+    /// What a call answers to a goal that holds or not. A `Yes` lists region variables and equations.
+    pub(crate) fn conclude(
+        &mut self,
+        outcome: Result<Outcome, Stop>,
+        listed: RegionConstraints,
+    ) -> Result<Response, Fault>
         ensures owed { (m : modes) → IsOwed self.new m → (is_headline self.old.typing_mode ≡ true → IfErr outcome (λ s. s ≡ Stop.OutOfMemory)) → IsConclusion outcome result }
         ensures yes { IfOk result (λ r. r.certainty ≡ certainty.Yes → outcome ≡ Ok Outcome.Holds) }
         ensures no { result ≡ Err Fault.NoSolution → outcome ≡ Ok Outcome.Refuted }
@@ -78,35 +84,32 @@ impl EvalCtxt<'_> {
         ensures fault { IsFaultOf self.old self.new result }
         ensures lists { IfOk result (λ r. r.var_values.items ≡ []) }
         ensures no_class { IfOk result (λ r. r.proven_via ≡ None) }
-        ensures quiet { AnswersQuietly (length (kinds_of self.old)) result }
+        ensures quiet { AnswersAside (length (kinds_of self.old)) result }
     {
         match outcome {
-            Ok(Outcome::Holds) => Ok(self.respond(Certainty::Yes, None)),
+            Ok(Outcome::Holds) => Ok(self.respond_yes(None, listed)),
             Ok(Outcome::Refuted) => Err(Fault::NoSolution),
             Ok(Outcome::Undecided) => Ok(self.respond(Certainty::Maybe, None)),
             Err(stop) => self.stopped(stop),
         }
     }
 
-    /// What is answered to a goal that a trait holds as a const trait, or that an alias and a term are equal. One in
-    /// which an inference variable stands is open.
+    /// What is answered to a closed goal that a trait holds as a const trait, or that an alias and a term are equal.
     pub(crate) fn answer_predicate(
         &mut self,
         asked: PredicateView<'_>,
         environment: &[Clause],
-        is_open: bool,
     ) -> Result<Response, Fault>
         ensures sound { (m : modes) → IsOwed self.new m → IsPredicateAnswer (level_over self.old m environment.now) (predicate_seen asked.entry) result }
-        ensures decided { (m : modes) → IsOwed self.new m → is_open ≡ false → IsMaybe result → IsUndecided (level_over self.old m environment.now) (predicate_seen asked.entry) }
+        ensures decided { (m : modes) → IsOwed self.new m → IsMaybe result → IsUndecided (level_over self.old m environment.now) (predicate_seen asked.entry) }
         ensures unchanged { self.new ≡ restored self.old self.new }
         ensures goes_back { GoesBack self.old self.new }
         ensures fault { IsFaultOf self.old self.new result }
         ensures caused { RecordsCaused self.old self.new }
         ensures faults { RecordsCausedFaults self.old self.new }
-        ensures quiet { AnswersQuietly (length (kinds_of self.old)) result }
+        ensures quiet { AnswersAside (length (kinds_of self.old)) result }
         ensures lists { IfOk result (λ r. r.var_values.items ≡ []) }
         ensures no_class { IfOk result (λ r. r.proven_via ≡ None) }
-        ensures variables { is_open ≡ true → LeavesUndecided self.old result }
         ensures at_once { self.old.remaining_depth ≡ 0 → LeavesUndecided self.old result }
         ensures applies { IfOk result (IsApplicable self.new) }
     {
@@ -114,11 +117,9 @@ impl EvalCtxt<'_> {
         if self.remaining_depth() == 0 {
             return Ok(self.respond(Certainty::Maybe, None));
         }
-        if is_open {
-            return Ok(self.respond(Certainty::Maybe, None));
-        }
-        let outcome = self.predicate_goal_outcome(asked, environment);
-        self.conclude(outcome)
+        let mut listed = RegionConstraints::new(self.allocator());
+        let outcome = self.predicate_goal_outcome(asked, environment, &mut listed);
+        self.conclude(outcome, listed)
     }
 
     /// Whether the typing mode is the erased one.

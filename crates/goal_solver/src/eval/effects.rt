@@ -7,21 +7,23 @@ ghost use Rattle.goal_solver.specs.Effects.{AreNone};
 
 use crate::context::records::{enter_access, enter_fault};
 use crate::eval::evaluation_cache::EvaluationCache;
+use crate::eval::listed_regions::ListedRegions;
 use goal_terms::answers::{DelayedFault, OpaqueAccess};
 use goal_terms::term_nodes::OutOfMemory;
 use std::alloc::Global;
 
 /// The opaque accesses and the delayed faults that an evaluation met, each once, in the order of first entry;
-/// and the answers that it keeps while it lasts.
+/// what it lists of lifetimes; and the answers that it keeps while it lasts.
 #[derive(Drop)]
 pub struct Effects {
     pub(crate) accesses: Vec<OpaqueAccess>,
     pub(crate) delayed_faults: Vec<DelayedFault>,
     pub(crate) cache: EvaluationCache,
+    pub(crate) regions: ListedRegions,
 }
 
 impl Effects {
-    /// No effects, and nothing kept. It takes no memory.
+    /// No effects, and nothing kept, for an evaluation that lists nothing of lifetimes. It takes no memory.
     pub(crate) fn new(alloc: Global) -> Self
         ensures { AreNone result }
     {
@@ -29,6 +31,20 @@ impl Effects {
             accesses: Vec::new(alloc),
             delayed_faults: Vec::new(alloc),
             cache: EvaluationCache::new(alloc),
+            regions: ListedRegions::new(alloc, false, 0),
+        }
+    }
+
+    /// No effects, and nothing kept, for an evaluation that lists equations of lifetimes, with region variables
+    /// from a number on. It takes no memory.
+    pub(crate) fn listing(alloc: Global, base: u32) -> Self
+        ensures { AreNone result }
+    {
+        Effects {
+            accesses: Vec::new(alloc),
+            delayed_faults: Vec::new(alloc),
+            cache: EvaluationCache::new(alloc),
+            regions: ListedRegions::new(alloc, true, base),
         }
     }
 

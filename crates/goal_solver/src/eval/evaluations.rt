@@ -13,11 +13,11 @@ ghost use Rattle.goal_solver.specs.Recording.{FitsKind};
 ghost use Rattle.goal_solver.specs.Outcomes.{RunsAs, StandsFor, SaysThrough, FoundIn};
 
 use crate::context::EvalCtxt;
-use crate::eval::effects::Effects;
 use crate::eval::interning::intern_args;
 use crate::eval::outcomes::{Found, OnAccess, Outcome, Setting, Stop, TraitOutcome};
 use crate::eval::predicate_views::{PredicateView, intern_predicate};
 use crate::eval::premises::predicate_outcome;
+use crate::eval::region_constraints::RegionConstraints;
 use crate::normalizes_to::alias_terms::alias_term;
 use crate::trait_goals::evaluation::evaluate_trait_goal;
 use goal_kinds::candidates::interned::InternedPredicate;
@@ -27,14 +27,15 @@ use goal_terms::term_nodes::TermId;
 use goal_terms::terms::{AliasTerm, AliasTermKind, GenericArg};
 
 impl EvalCtxt<'_> {
-    /// What a trait goal comes to at a depth. Nothing changes but that there may be more terms, accesses and
-    /// delayed faults.
+    /// What a trait goal comes to at a depth, and what a `Yes` lists of lifetimes. Nothing changes but that there may
+    /// be more terms, accesses and delayed faults.
     pub(crate) fn trait_outcome_at(
         &mut self,
         trait_id: TraitId,
         args: &[GenericArg],
         environment: &[Clause],
         depth: u32,
+        listed: &mut RegionConstraints,
     ) -> Result<TraitOutcome, Stop>
         ensures kept { Keeps self.old.terms self.new.terms }
         ensures unchanged { self.new ≡ restored self.old self.new }
@@ -46,11 +47,11 @@ impl EvalCtxt<'_> {
         ensures stops { StopsForMemory self.old result }
     {
         let on_access = self.first_access();
-        let first = self.trait_run(on_access, trait_id, args, environment, depth);
+        let first = self.trait_run(on_access, trait_id, args, environment, depth, listed);
         if let Some(outcome) = self.first_answer(first)? {
             return Ok(outcome);
         }
-        self.trait_run(OnAccess::Record, trait_id, args, environment, depth)
+        self.trait_run(OnAccess::Record, trait_id, args, environment, depth, listed)
     }
 
     /// One run of a trait goal at a depth.
@@ -61,6 +62,7 @@ impl EvalCtxt<'_> {
         args: &[GenericArg],
         environment: &[Clause],
         depth: u32,
+        listed: &mut RegionConstraints,
     ) -> Result<TraitOutcome, Stop>
         ensures kept { Keeps self.old.terms self.new.terms }
         ensures unchanged { self.new ≡ restored self.old self.new }
@@ -71,7 +73,7 @@ impl EvalCtxt<'_> {
         ensures ends { IfErr result (EndsFor self.old) }
         ensures stops { StopsForMemory self.old result }
     {
-        let mut effects = Effects::new(self.allocator());
+        let mut effects = self.listing_effects();
         let alloc = self.allocator();
         let ids = intern_args(alloc, &mut self.terms, args)?;
         let setting = Setting {
@@ -88,16 +90,17 @@ impl EvalCtxt<'_> {
             &ids,
             depth,
         );
-        self.record_effects(&effects)?;
+        self.record_listed(&effects, listed)?;
         outcome
     }
 
-    /// Whether a predicate that stands in a goal without inference variables holds at the remaining depth. Nothing
-    /// changes but that there may be more terms, accesses and delayed faults.
+    /// Whether a predicate that stands in a goal without inference variables holds at the remaining depth, and what a
+    /// `Yes` lists of lifetimes. Nothing changes but that there may be more terms, accesses and delayed faults.
     pub(crate) fn predicate_goal_outcome(
         &mut self,
         asked: PredicateView<'_>,
         environment: &[Clause],
+        listed: &mut RegionConstraints,
     ) -> Result<Outcome, Stop>
         ensures kept { Keeps self.old.terms self.new.terms }
         ensures unchanged { self.new ≡ restored self.old self.new }
@@ -109,7 +112,7 @@ impl EvalCtxt<'_> {
         ensures stops { StopsForMemory self.old result }
     {
         let predicate = self.interned_predicate(asked)?;
-        self.evaluate_predicate(&predicate, environment)
+        self.evaluate_predicate(&predicate, environment, listed)
     }
 
     /// Whether a predicate without inference variables holds at the remaining depth, by the numbers of its terms.
@@ -118,6 +121,7 @@ impl EvalCtxt<'_> {
         &mut self,
         predicate: &InternedPredicate,
         environment: &[Clause],
+        listed: &mut RegionConstraints,
     ) -> Result<Outcome, Stop>
         requires { PredicateIn self.old.terms predicate.now }
         ensures kept { Keeps self.old.terms self.new.terms }
@@ -130,11 +134,11 @@ impl EvalCtxt<'_> {
         ensures stops { StopsForMemory self.old result }
     {
         let on_access = self.first_access();
-        let first = self.predicate_run(on_access, predicate, environment);
+        let first = self.predicate_run(on_access, predicate, environment, listed);
         if let Some(outcome) = self.first_answer(first)? {
             return Ok(outcome);
         }
-        self.predicate_run(OnAccess::Record, predicate, environment)
+        self.predicate_run(OnAccess::Record, predicate, environment, listed)
     }
 
     /// One run of a predicate at the remaining depth.
@@ -143,6 +147,7 @@ impl EvalCtxt<'_> {
         on_access: OnAccess,
         predicate: &InternedPredicate,
         environment: &[Clause],
+        listed: &mut RegionConstraints,
     ) -> Result<Outcome, Stop>
         requires { PredicateIn self.old.terms predicate.now }
         ensures kept { Keeps self.old.terms self.new.terms }
@@ -154,7 +159,7 @@ impl EvalCtxt<'_> {
         ensures ends { IfErr result (EndsFor self.old) }
         ensures stops { StopsForMemory self.old result }
     {
-        let mut effects = Effects::new(self.allocator());
+        let mut effects = self.listing_effects();
         let setting = Setting {
             rows: self.tables.rows(),
             typing_mode: &self.typing_mode,
@@ -163,16 +168,18 @@ impl EvalCtxt<'_> {
         };
         let depth = self.remaining_depth;
         let outcome = predicate_outcome(&setting, &mut self.terms, &mut effects, predicate, depth);
-        self.record_effects(&effects)?;
+        self.record_listed(&effects, listed)?;
         outcome
     }
 
-    /// Which term an alias has at the remaining depth. Nothing changes but that there may be more terms,
-    /// accesses and delayed faults. What a run that records found can be given as the alias's term.
+    /// Which term an alias has at the remaining depth, and what a `Yes` lists of lifetimes. Nothing changes but that
+    /// there may be more terms, accesses and delayed faults. What a run that records found can be given as the
+    /// alias's term.
     pub(crate) fn alias_outcome(
         &mut self,
         alias: &AliasTerm,
         environment: &[Clause],
+        listed: &mut RegionConstraints,
     ) -> Result<Found, Stop>
         ensures kept { Keeps self.old.terms self.new.terms }
         ensures unchanged { self.new ≡ restored self.old self.new }
@@ -186,7 +193,7 @@ impl EvalCtxt<'_> {
         ensures stops { StopsForMemory self.old result }
     {
         let args = self.interned_args(&alias.args)?;
-        self.evaluate_alias(alias.kind, &args, environment)
+        self.evaluate_alias(alias.kind, &args, environment, listed)
     }
 
     /// Which term an alias without inference variables has at the remaining depth, by the numbers of its
@@ -197,6 +204,7 @@ impl EvalCtxt<'_> {
         kind: AliasTermKind,
         args: &[TermId],
         environment: &[Clause],
+        listed: &mut RegionConstraints,
     ) -> Result<Found, Stop>
         requires { AreIn self.old.terms args.now }
         ensures kept { Keeps self.old.terms self.new.terms }
@@ -211,13 +219,13 @@ impl EvalCtxt<'_> {
         ensures stops { StopsForMemory self.old result }
     {
         if let OnAccess::Record = self.first_access() {
-            return self.alias_recorded(kind, args, environment);
+            return self.alias_recorded(kind, args, environment, listed);
         }
-        let first = self.alias_run(OnAccess::Stop, kind, args, environment);
+        let first = self.alias_run(OnAccess::Stop, kind, args, environment, listed);
         if let Some(found) = self.first_answer(first)? {
             return Ok(found);
         }
-        self.alias_recorded(kind, args, environment)
+        self.alias_recorded(kind, args, environment, listed)
     }
 
     /// Which term a run that records finds for an alias, if an answer can give it.
@@ -226,6 +234,7 @@ impl EvalCtxt<'_> {
         kind: AliasTermKind,
         args: &[TermId],
         environment: &[Clause],
+        listed: &mut RegionConstraints,
     ) -> Result<Found, Stop>
         requires { AreIn self.old.terms args.now }
         ensures kept { Keeps self.old.terms self.new.terms }
@@ -238,7 +247,7 @@ impl EvalCtxt<'_> {
         ensures ends { IfErr result (EndsFor self.old) }
         ensures stops { StopsForMemory self.old result }
     {
-        let found = self.alias_run(OnAccess::Record, kind, args, environment)?;
+        let found = self.alias_run(OnAccess::Record, kind, args, environment, listed)?;
         Ok(self.fitting(kind, found))
     }
 
@@ -249,6 +258,7 @@ impl EvalCtxt<'_> {
         kind: AliasTermKind,
         args: &[TermId],
         environment: &[Clause],
+        listed: &mut RegionConstraints,
     ) -> Result<Found, Stop>
         requires { AreIn self.old.terms args.now }
         ensures kept { Keeps self.old.terms self.new.terms }
@@ -261,7 +271,7 @@ impl EvalCtxt<'_> {
         ensures ends { IfErr result (EndsFor self.old) }
         ensures stops { StopsForMemory self.old result }
     {
-        let mut effects = Effects::new(self.allocator());
+        let mut effects = self.listing_effects();
         let setting = Setting {
             rows: self.tables.rows(),
             typing_mode: &self.typing_mode,
@@ -270,7 +280,7 @@ impl EvalCtxt<'_> {
         };
         let depth = self.remaining_depth;
         let found = alias_term(&setting, &mut self.terms, &mut effects, kind, args, depth);
-        self.record_effects(&effects)?;
+        self.record_listed(&effects, listed)?;
         found
     }
 

@@ -19,6 +19,7 @@ use crate::eval::closed_goals::has_variable;
 use crate::eval::open_terms::any_variable;
 use crate::eval::outcomes::{Found, Outcome, Stop};
 use crate::eval::predicate_views::PredicateView;
+use crate::eval::region_constraints::RegionConstraints;
 use crate::eval::where_goals::copied_clauses;
 use crate::faults::Fault;
 use goal_infer::followed::{follow, follow_all};
@@ -27,9 +28,18 @@ use goal_infer::unify::{Unified, unify};
 use goal_kinds::candidates::interned::{InternedPredicate, InternedTrait};
 use goal_tables::predicate_terms::some_in_env;
 use goal_terms::node_tests::{NodeTest, general_variable};
-use goal_terms::predicates::{Clause, Goal, NormalizesTo, Predicate, TraitPredicate, TraitRef};
+use goal_terms::predicates::{
+    Clause, Goal, HostEffectPredicate, NormalizesTo, Predicate, TraitPredicate, TraitRef,
+};
 use goal_terms::term_nodes::TermId;
 use goal_terms::terms::Term;
+
+/// A goal with inference variables that its candidates are asked for.
+#[derive(Drop)]
+pub(crate) enum OpenGoal {
+    Trait(Goal<TraitPredicate>),
+    HostEffect(Goal<HostEffectPredicate>),
+}
 
 impl EvalCtxt<'_> {
     /// Whether a goal holds at the remaining depth.
@@ -58,12 +68,10 @@ impl EvalCtxt<'_> {
         }
     }
 
-    /// A trait goal with the bindings of its variables followed, if a variable is left in it or stands in its
-    /// environment. Nothing changes but that there may be more terms. Only memory is refused.
-    pub(crate) fn open_trait_goal(
-        &mut self,
-        goal: &Goal<Predicate>,
-    ) -> Result<Option<Goal<TraitPredicate>>, Fault>
+    /// A goal with the bindings of its variables followed, if a variable is left in it or stands in its environment,
+    /// and its candidates are to be asked for it. Nothing changes but that there may be more terms. Only memory is
+    /// refused.
+    pub(crate) fn open_goal(&mut self, goal: &Goal<Predicate>) -> Result<Option<OpenGoal>, Fault>
         ensures closed { IsClosedGoal goal.now.predicate goal.now.param_env.items → IfOk result (λ o. o ≡ None) }
         ensures unchanged { self.new ≡ record self.old { terms = self.new.terms } }
         ensures kept { Keeps self.old.terms self.new.terms }
@@ -77,7 +85,16 @@ impl EvalCtxt<'_> {
                 let Ok(followed) = self.followed_trait_goal(asked, &goal.param_env) else {
                     return Err(Fault::OutOfMemory);
                 };
-                Ok(if_open(followed))
+                Ok(if_open(OpenGoal::Trait(followed)))
+            }
+            Predicate::HostEffect(asked) => {
+                if !has_variable(goal) {
+                    return Ok(None);
+                }
+                let Ok(followed) = self.followed_const_goal(asked, &goal.param_env) else {
+                    return Err(Fault::OutOfMemory);
+                };
+                Ok(if_open(OpenGoal::HostEffect(followed)))
             }
             _ => Ok(None),
         }
@@ -94,19 +111,54 @@ impl EvalCtxt<'_> {
         ensures unchanged { self.new ≡ record self.old { terms = self.new.terms } }
         ensures stops { IfErr result (λ s. s ≡ Stop.OutOfMemory) }
     {
-        let ids = self.interned_args(asked.trait_ref.args.as_slice())?;
+        let trait_ref = self.followed_trait_ref(&asked.trait_ref)?;
+        self.goal_under(environment, TraitPredicate { trait_ref })
+    }
+
+    /// The same of a goal that a trait holds as a const trait.
+    fn followed_const_goal(
+        &mut self,
+        asked: &HostEffectPredicate,
+        environment: &[Clause],
+    ) -> Result<Goal<HostEffectPredicate>, Stop>
+        ensures kept { Keeps self.old.terms self.new.terms }
+        ensures unchanged { self.new ≡ record self.old { terms = self.new.terms } }
+        ensures stops { IfErr result (λ s. s ≡ Stop.OutOfMemory) }
+    {
+        let trait_ref = self.followed_trait_ref(&asked.trait_ref)?;
+        let constness = asked.constness;
+        let predicate = HostEffectPredicate {
+            trait_ref,
+            constness,
+        };
+        self.goal_under(environment, predicate)
+    }
+
+    /// A goal under a copy of an environment.
+    fn goal_under<P: Drop>(&self, environment: &[Clause], predicate: P) -> Result<Goal<P>, Stop>
+        ensures stops { IfErr result (λ s. s ≡ Stop.OutOfMemory) }
+    {
+        match copied_clauses(self.allocator(), environment) {
+            Ok(param_env) => Ok(Goal {
+                param_env,
+                predicate,
+            }),
+            Err(_) => Err(Stop::OutOfMemory),
+        }
+    }
+
+    /// A trait with the bindings of the variables in its arguments followed. Nothing changes but that there may be
+    /// more terms.
+    fn followed_trait_ref(&mut self, asked: &TraitRef) -> Result<TraitRef, Stop>
+        ensures kept { Keeps self.old.terms self.new.terms }
+        ensures unchanged { self.new ≡ record self.old { terms = self.new.terms } }
+        ensures stops { IfErr result (λ s. s ≡ Stop.OutOfMemory) }
+    {
+        let ids = self.interned_args(asked.args.as_slice())?;
         let ids = self.followed_args(ids.as_slice())?;
         let args = rebuilt_args(&self.terms, ids.as_slice())?;
-        let Ok(param_env) = copied_clauses(self.allocator(), environment) else {
-            return Err(Stop::OutOfMemory);
-        };
-        let def_id = asked.trait_ref.def_id;
-        let trait_ref = TraitRef { def_id, args };
-        let predicate = TraitPredicate { trait_ref };
-        Ok(Goal {
-            param_env,
-            predicate,
-        })
+        let def_id = asked.def_id;
+        Ok(TraitRef { def_id, args })
     }
 
     /// Whether a goal's predicate holds at the remaining depth.
@@ -127,7 +179,8 @@ impl EvalCtxt<'_> {
             let predicate = self.interned_predicate(asked)?;
             self.open_outcome(environment, predicate)
         } else {
-            self.predicate_goal_outcome(asked, environment)
+            let mut listed = RegionConstraints::new(self.allocator());
+            self.predicate_goal_outcome(asked, environment, &mut listed)
         }
     }
 
@@ -152,7 +205,8 @@ impl EvalCtxt<'_> {
         if self.has_open(&followed) {
             return self.open_equation(environment, predicate);
         }
-        self.evaluate_predicate(&followed, environment)
+        let mut listed = RegionConstraints::new(self.allocator());
+        self.evaluate_predicate(&followed, environment, &mut listed)
     }
 
     /// Makes an alias and a term equal, at the depth below, where they are what a predicate in which a variable is
@@ -266,10 +320,14 @@ impl EvalCtxt<'_> {
         {
             return Ok(Outcome::Undecided);
         }
-        match self.evaluate_alias(goal.alias.kind, args.as_slice(), environment)? {
+        let mut listed = RegionConstraints::new(self.allocator());
+        match self.evaluate_alias(goal.alias.kind, &args, environment, &mut listed)? {
             Found::Refuted => Ok(Outcome::Refuted),
             Found::Undecided => Ok(Outcome::Undecided),
-            Found::Is(found) => self.expect_term(environment, &goal.term, found),
+            Found::Is(found) => {
+                self.enter_regions(&listed)?;
+                self.expect_term(environment, &goal.term, found)
+            }
         }
     }
 
@@ -324,10 +382,10 @@ impl EvalCtxt<'_> {
 }
 
 /// A goal, if an inference variable stands in it or in its environment.
-fn if_open(goal: Goal<TraitPredicate>) -> Option<Goal<TraitPredicate>> {
-    if has_variable(&goal) {
-        Some(goal)
-    } else {
-        None
-    }
+fn if_open(goal: OpenGoal) -> Option<OpenGoal> {
+    let is_open = match &goal {
+        OpenGoal::Trait(goal) => has_variable(goal),
+        OpenGoal::HostEffect(goal) => has_variable(goal),
+    };
+    if is_open { Some(goal) } else { None }
 }

@@ -74,7 +74,9 @@ impl<'e> Setting<'e> {
     }
 }
 
-/// What a rule's list comes to at a depth; a rule that is refused has none, and is refuted.
+/// What a rule's list comes to at a depth; a rule that is refused has none, and is refuted. Only a list that holds
+/// leaves equations of lifetimes.
+#[tactic(auto, using(crate::proofs::CacheLemmas::caching))]
 #[cycle(closed)]
 pub(crate) fn run_list(
     setting: &Setting<'_>,
@@ -94,7 +96,12 @@ pub(crate) fn run_list(
 {
     match list {
         None => Ok(ListOutcome::Refuted),
-        Some(entries) => run_entries(setting, terms, effects, entries, depth),
+        Some(entries) => {
+            let before = effects.regions.mark();
+            let outcome = run_entries(setting, terms, effects, entries, depth)?;
+            effects.end_list(before, outcome.held());
+            Ok(outcome)
+        }
     }
 }
 

@@ -33,6 +33,7 @@ use crate::eval::lists::ListOutcome;
 use crate::eval::lists::progress::{ListRun, Reached};
 use crate::eval::mode_tests::is_headline;
 use crate::eval::outcomes::{OnAccess, Setting, Stop};
+use crate::eval::region_constraints::RegionConstraints;
 use crate::eval::run_rule::asked::{Asked, asked_variable};
 use crate::eval::run_rule::interned::run_rule_entry;
 use crate::eval::run_rule::recorded::{ToRecord, to_record};
@@ -100,7 +101,9 @@ impl EvalCtxt<'_> {
         match self.entries_outcome(environment, &rule.entries) {
             Ok(ListOutcome::Holds(found)) => match (asked_variable(&rule.entries), found) {
                 (Asked::Nothing, _) => Ok(self.respond(Certainty::Yes, None)),
-                (Asked::Variable(expected), Some(id)) => self.respond_found(expected, id),
+                (Asked::Variable(expected), Some(id)) => {
+                    self.respond_found(expected, id, RegionConstraints::new(self.allocator()))
+                }
                 _ => Ok(self.respond(Certainty::Maybe, None)),
             },
             Ok(ListOutcome::Refuted) => Err(Fault::NoSolution),

@@ -12,6 +12,7 @@ ghost use Rattle.goal_solver.specs.Outcomes.{RunsFor, setting_in, level_in, Says
 ghost use Rattle.goal_solver.specs.Effects.{AreSound, IsStop};
 
 use crate::eval::effects::Effects;
+use crate::eval::listed_regions::KeptGoal;
 use crate::eval::lists::run_list;
 use crate::eval::outcomes::{Found, Setting, Stop};
 use crate::normalizes_to::projection_args::intern_alias;
@@ -46,10 +47,12 @@ pub fn alias_term(
         return Ok(Found::Undecided);
     }
     let alias = intern_alias(setting.allocator(), terms, kind, args)?;
-    if let Some(known) = effects.cache.aliases.get(alias, depth, Found::Undecided) {
+    if let Some(known) = effects.known_alias(alias, depth)? {
         return Ok(known);
     }
+    let before = effects.begin_goal();
     let found = fresh_alias_term(setting, terms, effects, kind, args, depth)?;
+    effects.end_goal(KeptGoal::Plain(alias), before, found.held())?;
     effects.cache.keep_alias(alias, depth, found);
     Ok(found)
 }

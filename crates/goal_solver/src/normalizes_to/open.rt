@@ -1,5 +1,5 @@
 //! Goals of the terms of projections with inference variables.
-ghost use Rattle.std.specs.Prelude.{◌≡◌, ◌<◌, ◌⊎◌, ℕ, suc, true, false, drop, None, Err, IfOk, IsOkUnless, MatchOption};
+ghost use Rattle.std.specs.Prelude.{◌≡◌, ◌<◌, ◌⊎◌, ℕ, suc, true, false, drop, None, Err, IfOk, IfErr, IsOkUnless, MatchOption};
 ghost use Rattle.std.specs.Option.{option_map};
 ghost use Rattle.goal_terms.specs.TreeOf.{tree_of_alias, tree_of_term};
 ghost use Rattle.goal_kinds.specs.ProjectionKind.{projected_trait};
@@ -9,20 +9,21 @@ ghost use Rattle.goal_solver.specs.Collecting.{kind_words, CollectsFor};
 ghost use Rattle.goal_solver.specs.GoingBack.{GoesBack, restored};
 ghost use Rattle.goal_solver.specs.HiddenTypes.{tree_in};
 ghost use Rattle.goal_solver.specs.MergedRules.{IfAnswered};
-ghost use Rattle.goal_solver.specs.OpenGoals.{WhenAnswered, has_kind_fault, at_depth};
-ghost use Rattle.goal_solver.specs.OpenProjections.{AsksItsTrait, proven_class, own_args, CollectsAll, MergesGroup, is_formed, Forms, FormsAll, RefusesForm, LacksForm, WithForms, IsRigidList, IsRigid, ByBounds, ByRest, ByLater, ByGroups, MergesThrough, MergesProjection};
+ghost use Rattle.goal_solver.specs.OpenGoals.{IsFormless, WhenAnswered, has_kind_fault, at_depth};
+ghost use Rattle.goal_solver.specs.OpenProjections.{AsksItsTrait, proven_class, own_args, ConsidersGroups, MergesGroup, is_formed, Forms, FormsAll, RefusesForm, LacksForm, WithForms, IsRigidList, IsRigid, ByBounds, ByRest, ByLater, ByGroups, MergesThrough, MergesProjection, RunsAlias};
 ghost use Rattle.goal_solver.specs.Refusals.{WhenRefused};
 ghost use Rattle.goal_solver.specs.Relating.{IsFaultFor};
 
-use crate::assembly::collecting::{class_rules, push_rules};
 use crate::assembly::merged_rules::Merged;
 use crate::context::EvalCtxt;
 use crate::context::respond::copied_args;
 use crate::eval::closed_goals::is_closed_alias;
 use crate::eval::where_goals::copied_clauses;
 use crate::faults::Fault;
+use crate::normalizes_to::groups::{GroupRules, rules_by_group, rules_of};
 use goal_kinds::goal_kind::GoalKind;
-use goal_kinds::rules::{Rule, RuleEntry, RuleTerm};
+use goal_kinds::rules::aliases::alias_rule;
+use goal_kinds::rules::{RuleEntry, RuleTerm};
 use goal_tables::checked::CheckedTables;
 use goal_terms::answers::{Certainty, Response, TraitGoalProvenVia};
 use goal_terms::modes::TypingMode;
@@ -33,7 +34,7 @@ use goal_terms::terms::{AliasTerm, Const, GenericArg, Term, Ty};
 
 impl EvalCtxt<'_> {
     /// What the goal of an alias's term is answered, at one less of the depth, where inference variables stand in
-    /// it: for a projection, by its trait goal and then by its candidates; another alias is left undecided.
+    /// it: for a projection, by its trait goal and then by its candidates; for another alias, by its list.
     /// Inference state, added goals and storage are as before.
     pub(crate) fn project_below(&mut self, goal: &Goal<NormalizesTo>) -> Result<Response, Fault>
         requires positive { 0 < self.old.remaining_depth }
@@ -62,12 +63,28 @@ impl EvalCtxt<'_> {
     {
         self.is_well_formed();
         let Some(asked) = trait_goal_of(self.tables, goal)? else {
-            return Ok(self.respond(Certainty::Maybe, None));
+            return self.run_alias_rule(goal);
         };
         let answer = self.trait_goal_response(&asked)?;
         match proven_class(&answer) {
             None => Ok(self.respond(Certainty::Maybe, None)),
             Some(class) => self.merge_through(class, &goal.predicate, goal),
+        }
+    }
+
+    /// Runs the list of an alias that is no projection. One of a projection whose item has no row is undecided.
+    fn run_alias_rule(&mut self, goal: &Goal<NormalizesTo>) -> Result<Response, Fault>
+        ensures runs { WhenAnswered result (RunsAlias goal.now self.old result self.new) }
+        ensures applies { IfOk result (IsApplicable self.new) }
+        ensures unchanged { self.new ≡ restored self.old self.new }
+        ensures goes_back { GoesBack self.old self.new }
+        ensures fault { IsFaultFor self.old self.new result }
+    {
+        self.is_well_formed();
+        match alias_rule(self.tables, &self.typing_mode, goal) {
+            Ok(rule) => self.run_open(&goal.param_env, &rule.entries),
+            Err(Fault::NotForThisKind) => Ok(self.respond(Certainty::Maybe, None)),
+            Err(fault) => Err(fault),
         }
     }
 
@@ -91,6 +108,26 @@ impl EvalCtxt<'_> {
             None => Ok(self.respond(Certainty::Maybe, None)),
             Some(normalized) => self.merge_groups(class, asked, &normalized),
         }
+    }
+
+    /// The rules of the groups of a goal's candidates for the head form of its self type, if candidates are considered
+    /// for it. Inference state, added goals and storage are as before.
+    pub(crate) fn considered_groups<G: GoalKind + Drop>(
+        &mut self,
+        class: TraitGoalProvenVia,
+        goal: &Goal<G>,
+    ) -> Result<Option<GroupRules>, Fault>
+        ensures considers { IfOk result (λ o. ConsidersGroups (kind_words G.merging G.has_term G.self_type G.is_with_self G.has_fault G.trait_asked G.passes G.is_impl_for G.candidate_gives G.candidate_refuted G.is_for G.additional) class goal.now self.old o self.new) }
+        ensures formless { IfErr result (λ f. f ≡ Fault.NoSolution → IsFormless G.self_type goal.now self.old self.new) }
+        ensures unchanged { self.new ≡ restored self.old self.new }
+        ensures goes_back { GoesBack self.old self.new }
+        ensures fault { IsFaultFor self.old self.new result }
+    {
+        let Some(normalized) = self.with_normalized_self_ty(goal)? else {
+            return Ok(None);
+        };
+        let rules = rules_by_group(self.tables, &self.typing_mode, class, normalized)?;
+        Ok(Some(rules))
     }
 
     /// What the groups of candidates make of a goal, whose self type is a head form: the environment, then those
@@ -279,7 +316,7 @@ pub(crate) fn asks_open(asked: &NormalizesTo, environment: &[Clause]) -> bool
 }
 
 /// The class through which a response says that a trait goal holds.
-fn proven_class(response: &Response) -> Option<TraitGoalProvenVia>
+pub(crate) fn proven_class(response: &Response) -> Option<TraitGoalProvenVia>
     ensures { result ≡ proven_class response.now }
 {
     match response.certainty {
@@ -334,26 +371,6 @@ fn args_behind(args: &[GenericArg], count: usize) -> &[GenericArg]
         return &[];
     }
     &args[count..]
-}
-
-/// The rules of the candidates of some classes for a goal, one class after the other. Want of memory is the only
-/// refusal.
-fn rules_of<G: GoalKind>(
-    tables: &CheckedTables,
-    mode: &TypingMode,
-    goal: &Goal<G>,
-    classes: &[TraitGoalProvenVia],
-) -> Result<Vec<Rule>, Fault>
-    requires accepted { has_kind_fault G.has_fault tables.now goal.now ≡ false }
-    ensures collected { IfOk result (λ rs. CollectsAll (CollectsFor (kind_words G.merging G.has_term G.self_type G.is_with_self G.has_fault G.trait_asked G.passes G.is_impl_for G.candidate_gives G.candidate_refuted G.is_for G.additional) tables.now goal.now mode.now) classes.now rs.items) }
-    ensures only_memory { IsOkUnless result Fault.OutOfMemory }
-{
-    let mut found = Vec::new(*goal.param_env.allocator());
-    for class in classes {
-        let rules = class_rules(tables, mode, goal, *class)?;
-        push_rules(&mut found, rules)?;
-    }
-    Ok(found)
 }
 
 /// The type or the constant that an argument is.

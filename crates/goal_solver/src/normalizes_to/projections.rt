@@ -66,6 +66,7 @@ pub fn projection_term(
 }
 
 /// The term that a projection has by its item's row and its trait's.
+#[tactic(auto, using(crate::proofs::CacheLemmas::caching))]
 #[cycle(closed)]
 fn item_term(
     setting: &Setting<'_>,
@@ -90,7 +91,10 @@ fn item_term(
     }
     let trait_params = trait_row.params.len();
     let trait_args = first_args(args, trait_params);
-    match evaluate_trait_goal(setting, terms, effects, item.trait_id, trait_args, depth)? {
+    let lists = effects.leave_out_regions();
+    let plain = evaluate_trait_goal(setting, terms, effects, item.trait_id, trait_args, depth)?;
+    effects.list_regions_again(lists);
+    match plain {
         TraitOutcome::Undecided => Ok(Found::Undecided),
         TraitOutcome::Refuted => Ok(Found::Refuted),
         TraitOutcome::Holds(class) => {
@@ -370,7 +374,8 @@ fn head_forms_outcome(
     Ok(outcome)
 }
 
-/// The term that a group of candidates gives a projection: all that give one have to give the same.
+/// The term that a group of candidates gives a projection: all that give one have to give the same. Only the first
+/// of these leaves equations of lifetimes.
 #[tactic(auto, using(crate::proofs::CacheLemmas::caching))]
 #[cycle(closed)]
 fn group_term(
@@ -392,7 +397,9 @@ fn group_term(
 {
     let mut found = Found::Refuted;
     for candidate in candidates {
+        let before = effects.regions.mark();
         let next = candidate_term(setting, terms, effects, projection, candidate, depth)?;
+        effects.end_candidate(before, found);
         found = merge_terms(terms, found, next);
         if let Found::Undecided = found {
             return Ok(Found::Undecided);

@@ -6,7 +6,7 @@ ghost use Rattle.goal_terms.specs.declared.modes.TypingMode.{TypingMode};
 ghost use Rattle.goal_kinds.specs.Answers.{setting_of};
 ghost use Rattle.goal_kinds.specs.Projections.{projected_item};
 ghost use Rattle.goal_kinds.specs.Settings.{is_headline};
-ghost use Rattle.goal_solver.specs.Answers.{IsOwed, level_over, erased_args, is_closed_alias, IsAliasAnswer, IsAliasOpen, expected_variable, IsMaybe, AnswersQuietly, IsFaultOf};
+ghost use Rattle.goal_solver.specs.Answers.{IsOwed, level_over, erased_args, is_closed_alias, IsAliasAnswer, IsAliasOpen, expected_variable, IsMaybe, AnswersAside, IsFaultOf};
 ghost use Rattle.goal_solver.specs.Assembled.{HoldsThrough, level_through};
 ghost use Rattle.goal_solver.specs.Binding.{IsApplicable};
 ghost use Rattle.goal_solver.specs.Goals.{IsAcceptedNormalization};
@@ -22,6 +22,7 @@ use crate::eval::closed_goals::is_closed_alias;
 use crate::eval::effects::Effects;
 use crate::eval::interning::intern_args;
 use crate::eval::outcomes::{Found, OnAccess, Setting, Stop};
+use crate::eval::region_constraints::RegionConstraints;
 use crate::faults::Fault;
 use crate::normalizes_to::projections::{Given, term_proven_via};
 use goal_terms::answers::{Certainty, Response, TraitGoalProvenVia};
@@ -88,6 +89,7 @@ impl EvalCtxt<'_> {
         class: TraitGoalProvenVia,
         alias: &AliasTerm,
         environment: &[Clause],
+        listed: &mut RegionConstraints,
     ) -> Result<Found, Stop>
         ensures kept { Keeps self.old.terms self.new.terms }
         ensures unchanged { self.new ≡ restored self.old self.new }
@@ -98,13 +100,13 @@ impl EvalCtxt<'_> {
         ensures stops { is_headline self.old.typing_mode ≡ true → IfErr result (λ s. s ≡ Stop.OutOfMemory) }
     {
         if let OnAccess::Record = self.first_access() {
-            return self.class_recorded(class, alias, environment);
+            return self.class_recorded(class, alias, environment, listed);
         }
-        let first = self.class_run(OnAccess::Stop, class, alias, environment);
+        let first = self.class_run(OnAccess::Stop, class, alias, environment, listed);
         if let Some(found) = self.first_answer(first)? {
             return Ok(found);
         }
-        self.class_recorded(class, alias, environment)
+        self.class_recorded(class, alias, environment, listed)
     }
 
     /// Which term a run that records finds so, if an answer can give it.
@@ -113,6 +115,7 @@ impl EvalCtxt<'_> {
         class: TraitGoalProvenVia,
         alias: &AliasTerm,
         environment: &[Clause],
+        listed: &mut RegionConstraints,
     ) -> Result<Found, Stop>
         ensures kept { Keeps self.old.terms self.new.terms }
         ensures unchanged { self.new ≡ restored self.old self.new }
@@ -121,7 +124,7 @@ impl EvalCtxt<'_> {
         ensures fits { IfOk result (FitsKind alias.now.kind self.new.terms) }
         ensures stops { is_headline self.old.typing_mode ≡ true → IfErr result (λ s. s ≡ Stop.OutOfMemory) }
     {
-        let found = self.class_run(OnAccess::Record, class, alias, environment)?;
+        let found = self.class_run(OnAccess::Record, class, alias, environment, listed)?;
         Ok(self.fitting(alias.kind, found))
     }
 
@@ -132,6 +135,7 @@ impl EvalCtxt<'_> {
         class: TraitGoalProvenVia,
         alias: &AliasTerm,
         environment: &[Clause],
+        listed: &mut RegionConstraints,
     ) -> Result<Found, Stop>
         ensures kept { Keeps self.old.terms self.new.terms }
         ensures unchanged { self.new ≡ restored self.old self.new }
@@ -140,7 +144,7 @@ impl EvalCtxt<'_> {
         ensures says { (m : TypingMode) → RunsAs on_access self.old.typing_mode m → IfOk result (SaysWhich ((level_through (setting_of self.old.tables m environment.now) (level_over self.old m environment.now) class).gives alias.now.kind (erased_args alias.now.args.items)) ((level_through (setting_of self.old.tables m environment.now) (level_over self.old m environment.now) class).gives_refuted alias.now.kind (erased_args alias.now.args.items)) self.new.terms) }
         ensures stops { is_headline self.old.typing_mode ≡ true → IfErr result (λ s. s ≡ Stop.OutOfMemory) }
     {
-        let mut effects = Effects::new(self.allocator());
+        let mut effects = self.listing_effects();
         let setting = Setting {
             rows: self.tables.rows(),
             typing_mode: &self.typing_mode,
@@ -149,7 +153,7 @@ impl EvalCtxt<'_> {
         };
         let depth = self.remaining_depth;
         let found = alias_proven_via(&setting, &mut self.terms, &mut effects, class, alias, depth);
-        self.record_effects(&effects)?;
+        self.record_listed(&effects, listed)?;
         found
     }
 
@@ -168,7 +172,7 @@ impl EvalCtxt<'_> {
         ensures unchanged { self.new ≡ restored self.old self.new }
         ensures goes_back { GoesBack self.old self.new }
         ensures fault { IsFaultOf self.old self.new result }
-        ensures quiet { AnswersQuietly (length (kinds_of self.old)) result }
+        ensures quiet { AnswersAside (length (kinds_of self.old)) result }
         ensures lists { IfOk result (λ r. r.certainty ≡ certainty.Maybe → r.var_values.items ≡ []) }
         ensures gives { IfOk result (λ r. r.certainty ≡ certainty.Yes → ListsTerm asked.now.term certainty.Yes r.var_values.items) }
         ensures no_class { IfOk result (λ r. r.proven_via ≡ None) }
@@ -181,8 +185,9 @@ impl EvalCtxt<'_> {
         if !is_closed_alias(&asked.alias, environment) {
             return Ok(self.respond(Certainty::Maybe, None));
         }
-        match self.class_outcome(class, &asked.alias, environment) {
-            Ok(Found::Is(id)) => self.respond_found(expected, id),
+        let mut listed = RegionConstraints::new(self.allocator());
+        match self.class_outcome(class, &asked.alias, environment, &mut listed) {
+            Ok(Found::Is(id)) => self.respond_found(expected, id, listed),
             Ok(Found::Refuted) => Err(Fault::NoSolution),
             Ok(Found::Undecided) => Ok(self.respond(Certainty::Maybe, None)),
             Err(stop) => self.stopped(stop),

@@ -18,7 +18,8 @@ use goal_terms::compare::Regions;
 use goal_terms::term_nodes::TermId;
 use goal_terms::term_table::TermTable;
 
-/// Whether two terms are equal at a depth, lifetimes aside.
+/// Whether two terms are equal at a depth, lifetimes aside. Those at equal places are listed.
+#[tactic(auto, using(crate::proofs::CacheLemmas::caching))]
 #[cycle(closed)]
 pub fn compare_terms(
     setting: &Setting<'_>,
@@ -36,12 +37,14 @@ pub fn compare_terms(
     ensures stops { IfErr result (IsStop setting.now) }
     ensures says { (m : TypingMode) → RunsFor setting.now m → IfOk result (Says ((level_in setting.now m depth).equal (erased_at terms.old left) (erased_at terms.old right)) ((level_in setting.now m depth).unequal (erased_at terms.old left) (erased_at terms.old right))) }
 {
+    effects.equate_terms(terms, left, right)?;
     let mut pending = Pending::new(setting.rows);
     collect(terms, &mut pending, left, right)?;
     compare_pending(setting, terms, effects, &pending, depth)
 }
 
-/// Whether two lists of terms are equal in pairs at a depth, lifetimes aside.
+/// Whether two lists of terms are equal in pairs at a depth, lifetimes aside. Those at equal places are listed.
+#[tactic(auto, using(crate::proofs::CacheLemmas::caching))]
 #[cycle(closed)]
 pub fn compare_lists(
     setting: &Setting<'_>,
@@ -59,6 +62,7 @@ pub fn compare_lists(
     ensures stops { IfErr result (IsStop setting.now) }
     ensures says { (m : TypingMode) → RunsFor setting.now m → IfOk result (Says (Pairs (level_in setting.now m depth).equal (erased_all terms.old left.now) (erased_all terms.old right.now)) (SomePair (level_in setting.now m depth).unequal (erased_all terms.old left.now) (erased_all terms.old right.now))) }
 {
+    effects.equate_lists(terms, left, right)?;
     let mut pending = Pending::new(setting.rows);
     collect_lists(terms, &mut pending, left, right)?;
     compare_pending(setting, terms, effects, &pending, depth)
@@ -120,6 +124,7 @@ fn compare_pair(
 
 /// Whether two head forms are the same at a depth, lifetimes aside: identical, or of one node with equal
 /// parts.
+#[tactic(auto, using(crate::proofs::CacheLemmas::caching))]
 #[cycle(closed)]
 fn compare_forms(
     setting: &Setting<'_>,
@@ -137,6 +142,7 @@ fn compare_forms(
     ensures stops { IfErr result (IsStop setting.now) }
     ensures says { (m : TypingMode) → RunsFor setting.now m → IfOk result (Says (SameForm (level_in setting.now m depth) (erased_at terms.old form) (erased_at terms.old other)) (OtherForm (level_in setting.now m depth) (erased_at terms.old form) (erased_at terms.old other))) }
 {
+    effects.equate_forms(terms, form, other)?;
     if terms.same_erased(form, other) {
         return Ok(Outcome::Holds);
     }

@@ -7,14 +7,16 @@ ghost use Rattle.goal_terms.specs.View.{tree_of_ref};
 ghost use Rattle.goal_kinds.specs.Headers.{under};
 ghost use Rattle.goal_kinds.specs.Interned.{IsIn, AreIn, erased_at, erased_all};
 ghost use Rattle.goal_solver.specs.Outcomes.{header_terms};
-ghost use Rattle.goal_solver.specs.HeaderWords.{erased_ref, KnownIn, is_missing, is_unknown, fill_with, AreFilled, is_settled, is_complete};
+ghost use Rattle.goal_solver.specs.Effects.{KeepsButRegions};
+ghost use Rattle.goal_solver.specs.HeaderWords.{erased_ref, OptionIn, KnownIn, is_missing, is_unknown, IsFilled, AreFilled, is_settled, is_complete};
 
+use crate::eval::effects::Effects;
 use crate::eval::outcomes::Setting;
 use crate::relate::header_places::parameter_at;
 use goal_terms::answers::ParamKind;
 use goal_terms::term_nodes::{OutOfMemory, TermId};
 use goal_terms::term_table::TermTable;
-use goal_terms::terms::{GenericArg, Region};
+use goal_terms::terms::GenericArg;
 use goal_terms::view::TermRef;
 use std::alloc::Global;
 
@@ -79,40 +81,46 @@ pub fn add_known(known: &mut Vec<Option<TermId>>, next: Option<TermId>) -> Resul
     Ok(())
 }
 
-fn known_or(known: Option<TermId>, rest: TermId) -> TermId
-    ensures { result ≡ fill_with rest known }
+/// The argument for a parameter: its term where that is known, and else a lifetime of its own.
+fn filled_arg(
+    terms: &mut TermTable,
+    effects: &mut Effects,
+    known: Option<TermId>,
+) -> Result<TermId, OutOfMemory>
+    requires { OptionIn terms.old known }
+    ensures kept { Keeps terms.old terms.new }
+    ensures within { IfOk result (IsIn terms.new) }
+    ensures filled { IfOk result (IsFilled terms.new known) }
+    ensures aside { KeepsButRegions effects.old effects.new }
 {
     match known {
-        Some(id) => id,
-        None => rest,
+        Some(id) => Ok(id),
+        None => {
+            let lifetime = effects.own_lifetime()?;
+            terms.intern_part(TermRef::Lifetime(lifetime))
+        }
     }
 }
 
-/// The known terms, with one number for the rest.
-fn fill(alloc: Global, known: &[Option<TermId>], rest: TermId) -> Result<Vec<TermId>, OutOfMemory>
-    ensures { IfOk result (λ args. args.items ≡ map (fill_with rest) known.now) }
-{
-    let mut args = Vec::with_capacity(alloc, known.len())?;
-    for one in known {
-        args.push(known_or(*one, rest))?;
-    }
-    Ok(args)
-}
-
-/// The arguments for the parameters: the known terms, and for the others the argument without a
-/// lifetime.
-pub fn filled_args(
-    alloc: Global,
+/// The arguments for the parameters: the known terms, and for the others lifetimes of their own.
+pub(crate) fn filled_args(
+    setting: &Setting<'_>,
     terms: &mut TermTable,
+    effects: &mut Effects,
     known: &[Option<TermId>],
 ) -> Result<Vec<TermId>, OutOfMemory>
     requires { KnownIn terms.old known.now }
     ensures kept { Keeps terms.old terms.new }
     ensures within { IfOk result (λ args. AreIn terms.new args.items) }
     ensures filled { IfOk result (λ args. AreFilled terms.new known.now args.items) }
+    ensures aside { KeepsButRegions effects.old effects.new }
 {
-    let rest = terms.intern_part(TermRef::Lifetime(Region::Erased))?;
-    fill(alloc, known, rest)
+    let mut args = Vec::with_capacity(setting.allocator(), known.len())?;
+    for one in known {
+        let argument = filled_arg(terms, effects, *one)?;
+        args.push(argument)?;
+    }
+    Ok(args)
 }
 
 /// The instance of a header's argument under arguments.

@@ -140,7 +140,7 @@ fn match_known(
     ensures stops { IfErr result (IsStop setting.now) }
     ensures says { IfOk result (MatchOutcome setting.now depth params.now (header_terms header.now) (erased_all terms.old given.now) terms.new) }
 {
-    let args = filled_args(setting.allocator(), terms, known)?;
+    let args = filled_args(setting, terms, effects, known)?;
     if is_complete(params, known) {
         match_complete(
             setting, terms, effects, params, header, given, known, args, depth,

@@ -12,6 +12,7 @@ use crate::assembly::candidates::{AskedTrait, class_outcome};
 use crate::eval::effects::Effects;
 use crate::eval::head_forms::head_form;
 use crate::eval::interning::intern_trait_ref;
+use crate::eval::listed_regions::KeptGoal;
 use crate::eval::outcomes::{Found, Setting, Stop, TraitOutcome};
 use crate::eval::self_types::{split_self_type, with_self_type};
 use goal_terms::answers::TraitGoalProvenVia;
@@ -41,11 +42,12 @@ pub fn evaluate_trait_goal(
         return Ok(TraitOutcome::Undecided);
     }
     let goal = intern_trait_ref(setting.allocator(), terms, trait_id, args)?;
-    let undecided = TraitOutcome::Undecided;
-    if let Some(known) = effects.cache.traits.get(goal, depth, undecided) {
+    if let Some(known) = effects.known_trait(goal, depth)? {
         return Ok(known);
     }
+    let before = effects.begin_goal();
     let outcome = fresh_trait_outcome(setting, terms, effects, trait_id, args, depth)?;
+    effects.end_goal(KeptGoal::Plain(goal), before, outcome.held())?;
     effects.cache.keep_trait(goal, depth, outcome);
     Ok(outcome)
 }

@@ -100,6 +100,8 @@ fn ordered(reader: &Reader) -> Saying {
         Saying::Order(StatementKind::Accesses)
     } else if reader.sees_word(0, "faults") {
         Saying::Order(StatementKind::Faults)
+    } else if reader.sees_word(0, "regions") {
+        Saying::Order(StatementKind::Regions)
     } else if reader.sees_word(0, "prelude") {
         Saying::Order(StatementKind::Prelude)
     } else {

@@ -33,7 +33,7 @@ use goal_tables::lookup::IndexedTables;
 use goal_tables::rows::{DefValue, ImplRow};
 use goal_terms::answers::DelayedFault;
 use goal_terms::ids::ImplId;
-use goal_terms::predicates::{BoundConstness, Clause, ClauseKind};
+use goal_terms::predicates::{BoundConstness, Clause, ClauseKind, TraitRef};
 use goal_terms::term_nodes::OutOfMemory;
 use goal_terms::term_table::TermTable;
 use goal_terms::terms::{GenericArg, Term};
@@ -262,7 +262,7 @@ fn row_conditions(
     ensures within { (T : List Tree) → IfSome result (EntryIn T) }
     ensures entry { (T : List Tree) → option_map (entry_at T) result ≡ option_map (λ rs. row_conditions constness rs number) (conditions_in rows.now id) }
 {
-    let conditions = rows.impl_row(id)?.const_conditions.as_slice();
+    let conditions = conditions_of(rows, id)?;
     Some(InternedEntry::RowConditions(constness, id, conditions, number as usize))
 }
 
@@ -276,6 +276,13 @@ pub(crate) fn clauses_of(rows: &IndexedTables, row: RowClauses) -> Option<&[Clau
         RowClauses::Free(id) => Some(rows.free_row(id)?.predicates.as_slice()),
         RowClauses::Inherent(id) => Some(rows.inherent_row(id)?.predicates.as_slice()),
     }
+}
+
+/// The const conditions of an impl.
+pub(crate) fn conditions_of(rows: &IndexedTables, id: ImplId) -> Option<&[TraitRef]>
+    ensures { option_copied result ≡ conditions_in rows.now id }
+{
+    Some(rows.impl_row(id)?.const_conditions.as_slice())
 }
 
 /// What the expected term is, likewise.

@@ -4,19 +4,19 @@ ghost use Rattle.std.specs.Option.{option_copied};
 ghost use Rattle.goal_terms.specs.Folding.{instance};
 ghost use Rattle.goal_terms.specs.PredicateTrees.{tree_of_kind};
 ghost use Rattle.goal_terms.specs.TreeOf.{trees_of, tree_of_term};
-ghost use Rattle.goal_kinds.specs.Rules.{clauses_in, value_in};
+ghost use Rattle.goal_kinds.specs.Rules.{clauses_in, conditions_in, value_in};
 ghost use Rattle.goal_kinds.specs.declared.rules.RowValue.TheVariants as of_row;
 ghost use Rattle.goal_terms.specs.declared.answers.Certainty.{Certainty as certain};
 ghost use Rattle.goal_solver.specs.Accesses.{RecordsCausedFaults};
 ghost use Rattle.goal_solver.specs.GoingBack.{GoesBack};
-ghost use Rattle.goal_solver.specs.OpenRuns.{open_progress, named_trees, clauses_with, source_of, AddsGoals, AddsRow, Equates, Evaluates, GivesForm, GivesTerm, GivesValue, ReadsMode, Steps};
+ghost use Rattle.goal_solver.specs.OpenRuns.{open_progress, named_trees, clauses_with, conditions_with, source_of, AddsGoals, AddsRow, Equates, Evaluates, GivesForm, GivesTerm, GivesValue, ReadsMode, Steps};
 ghost use Rattle.goal_solver.specs.Refusals.{WhenRefused, RefusesEqual, RefusesPending, RefusesForm, RefusesValue, RefusesTerm, StepRefused};
 ghost use Rattle.goal_solver.specs.Relating.{IsFaultFor};
 ghost use Rattle.goal_solver.specs.RunRules.{AreListed};
 
 use crate::context::EvalCtxt;
 use crate::context::instantiate::into_alias;
-use crate::eval::run_rule::interned::clauses_of;
+use crate::eval::run_rule::interned::{clauses_of, conditions_of};
 use crate::eval::run_rule::open_arguments::{OpenRun, args_of_number};
 use crate::eval::where_goals::predicate_of;
 use crate::faults::Fault;
@@ -25,16 +25,18 @@ use goal_tables::lookup::IndexedTables;
 use goal_tables::rows::DefValue;
 use goal_terms::answers::{Certainty, GoalSource, OpaqueAccess};
 use goal_terms::heads::Node;
-use goal_terms::ids::{DefId, FreeId, InherentId, OpaqueId};
+use goal_terms::ids::{DefId, FreeId, ImplId, InherentId, OpaqueId};
 use goal_terms::instantiate::instantiate;
-use goal_terms::predicates::{Clause, ClauseKind, Goal};
+use goal_terms::predicates::{
+    BoundConstness, Clause, ClauseKind, Goal, HostEffectPredicate, TraitRef,
+};
 use goal_terms::terms::{GenericArg, Term, Ty};
 use std::alloc::{AllocError, Global};
 
 impl EvalCtxt<'_> {
     #[tactic(auto, using(crate::proofs::RecordedLemmas::stepping))]
     /// Takes the step of an entry of a list with inference variables, if it isn't an evaluation. Where it is
-    /// refused, some of it may stay. Const conditions are undecided.
+    /// refused, some of it may stay.
     pub(crate) fn step_through(
         &mut self,
         environment: &[Clause],
@@ -79,9 +81,18 @@ impl EvalCtxt<'_> {
             }
             RuleEntry::DelayedFault(fault) => self.record_fault(*fault),
             RuleEntry::Evaluation => unreachable!(),
-            RuleEntry::Ambiguous | RuleEntry::Undecided | RuleEntry::RowConditions(_, _, _) => {
-                Ok(run.join(Certainty::Maybe))
+            RuleEntry::RowConditions(constness, row, number) => {
+                let named = run.named.as_slice();
+                let certainty = self.ask_row_conditions(
+                    environment,
+                    named,
+                    *constness,
+                    *row,
+                    *number,
+                )?;
+                Ok(run.join(certainty))
             }
+            RuleEntry::Ambiguous | RuleEntry::Undecided => Ok(run.join(Certainty::Maybe)),
             RuleEntry::Refused => Err(Fault::NoSolution),
         }
     }
@@ -166,7 +177,7 @@ impl EvalCtxt<'_> {
         row: RowClauses,
         number: u32,
     ) -> Result<Certainty, Fault>
-        ensures added { IfOk result (λ c. AddsRow (source_of row) environment.now (clauses_in self.old.tables row) (slice_get (named_trees named.now) number) self.old c self.new) }
+        ensures added { IfOk result (λ c. AddsRow clauses_with (source_of row) environment.now (clauses_in self.old.tables row) (slice_get (named_trees named.now) number) self.old c self.new) }
         ensures faults { RecordsCausedFaults self.old self.new }
         ensures goes_back { GoesBack self.old self.new }
         ensures only_memory { IfErr result (λ f. f ≡ Fault.OutOfMemory) }
@@ -201,6 +212,59 @@ impl EvalCtxt<'_> {
                 return Err(Fault::OutOfMemory);
             };
             self.ask_kind(environment, source, kind)?;
+        }
+        Ok(())
+    }
+
+    /// Adds goals for the const conditions of an impl, of a constness and under the arguments of a number. Where the
+    /// row or the arguments are missing, nothing is added. Only memory is refused; then some of them may stay.
+    fn ask_row_conditions(
+        &mut self,
+        environment: &[Clause],
+        named: &[Vec<GenericArg>],
+        constness: BoundConstness,
+        row: ImplId,
+        number: u32,
+    ) -> Result<Certainty, Fault>
+        ensures added { IfOk result (λ c. AddsRow (conditions_with constness) GoalSource.ImplWhereBound environment.now (conditions_in self.old.tables row) (slice_get (named_trees named.now) number) self.old c self.new) }
+        ensures faults { RecordsCausedFaults self.old self.new }
+        ensures goes_back { GoesBack self.old self.new }
+        ensures only_memory { IfErr result (λ f. f ≡ Fault.OutOfMemory) }
+    {
+        let tables = self.tables();
+        let Some(conditions) = conditions_of(tables.rows(), row) else {
+            return Ok(Certainty::Maybe);
+        };
+        let Some(args) = args_of_number(named, number) else {
+            return Ok(Certainty::Maybe);
+        };
+        self.ask_conditions(environment, constness, conditions, args)?;
+        Ok(Certainty::Yes)
+    }
+
+    /// Adds a goal for each of some const conditions under arguments, in order. Only memory is refused; then some of
+    /// them may stay.
+    fn ask_conditions(
+        &mut self,
+        environment: &[Clause],
+        constness: BoundConstness,
+        conditions: &[TraitRef],
+        args: &[GenericArg],
+    ) -> Result<(), Fault>
+        ensures added { OnOk result (AddsGoals GoalSource.ImplWhereBound environment.now (conditions_with constness (trees_of args.now) conditions.now) self.old self.new) }
+        ensures faults { RecordsCausedFaults self.old self.new }
+        ensures goes_back { GoesBack self.old self.new }
+        ensures only_memory { IsOkUnless result Fault.OutOfMemory }
+    {
+        for condition in conditions {
+            let Ok(trait_ref) = instantiate(self.allocator(), condition, args) else {
+                return Err(Fault::OutOfMemory);
+            };
+            let asked = ClauseKind::HostEffect(HostEffectPredicate {
+                trait_ref,
+                constness,
+            });
+            self.ask_kind(environment, GoalSource::ImplWhereBound, asked)?;
         }
         Ok(())
     }

@@ -48,6 +48,10 @@ use Rattle.goal_solver.specs.declared.assembly.merged_rules.Merged.TheVariants a
 use Rattle.goal_solver.proofs.ApplicableLemmas.{nothing-applies-after}
 use Rattle.goal_solver.proofs.OpenClassLemmas.{answered-in, by-classes, class-answers, first-answers, next-answers, none-answers, none-left}
 use Rattle.goal_solver.proofs.OpenTraitLemmas.{grown-records, some-unless, restored-records, let-go, let-go-back, let-go-caused, let-go-fault}
+use Rattle.goal_solver.specs.OpenGoals.{WhenAnswered}
+use Rattle.goal_solver.specs.OpenHostGoals.{host_words, AnswersPlain, MergesHostEffect}
+use Rattle.goal_solver.proofs.ApplicableLemmas.{nothing-applies}
+use Rattle.goal_solver.proofs.OpenHostLemmas.{const-at_once, const-below, const-grouped, const-left, const-refused, const-through, const-unproven, group-answered, group-first, group-later, group-none, group-refuted, group-split}
 use Rattle.goal_solver.proofs.context.EvalCtxt.+open.Goals as goal
 
 pub evaluate_round-loop-i-init : goal.evaluate_round-loop-i-init
@@ -678,6 +682,109 @@ merge_trait-returns-in-Some-clause-merges t c =
     by-classes trait_words c.args.goal.now c.args.self.now c.considered_rules.new.self c.merge_classes.new.self c.merge_classes.result c.in_ok-considered_rules.field-0 c.in-Some.rules
     c.in_ok-considered_rules.ensures.considers c.in-Some.is c.considered_rules.ensures.unchanged c.merge_classes.ensures.decides
 
+pub hold_const_below-returns-clause-merges : goal.hold_const_below-returns-clause-merges
+hold_const_below-returns-clause-merges t c = λ n depth.
+    const-below _ c.args.self.now _ c.hold_const-answer.new.self n c.args.goal.now c.hold_const-answer.result c.self.view_is c.self-2.view_is c.hold_const-answer.ensures.unchanged depth
+    c.hold_const-answer.ensures.merges
+
+pub hold_const_below-returns-clause-applies : goal.hold_const_below-returns-clause-applies
+hold_const_below-returns-clause-applies t c =
+    applies-below _ c.args.self.now _ c.hold_const-answer.new.self _ c.self.inside.remaining_depth c.hold_const-answer.result c.self.view_is c.self-2.view_is c.hold_const-answer.ensures.unchanged
+    c.hold_const-answer.ensures.goes_back c.holds_together.ensures.solved c.hold_const-answer.ensures.applies
+
+pub hold_const-returns-then-remaining_depth-eq0-clause-merges : goal.hold_const-returns-then-remaining_depth-eq0-clause-merges
+hold_const-returns-then-remaining_depth-eq0-clause-merges t c =
+    const-at_once c.args.goal.now c.args.self.now c.respond.result (sym c.remaining_depth.ensures ∙ c.if-remaining_depth-eq0.true) c.respond.ensures.certainty
+
+pub hold_const-returns-then-remaining_depth-eq0-clause-applies : goal.hold_const-returns-then-remaining_depth-eq0-clause-applies
+hold_const-returns-then-remaining_depth-eq0-clause-applies t c = nothing-applies c.args.self.now c.respond.result c.is_well_formed.ensures.storage c.respond.ensures.quiet c.respond.ensures.values
+
+pub hold_const-returns-then-remaining_depth-eq0-clause-goes_back : goal.hold_const-returns-then-remaining_depth-eq0-clause-goes_back
+hold_const-returns-then-remaining_depth-eq0-clause-goes_back t c = goes_back-same c.args.self.now
+
+pub hold_const-returns-in_err-plain-clause-goes_back : goal.hold_const-returns-in_err-plain-clause-goes_back
+hold_const-returns-in_err-plain-clause-goes_back t c = goes_back-same c.args.self.now
+
+pub hold_const-returns-in_err-answer-clause-merges : goal.hold_const-returns-in_err-answer-clause-merges
+hold_const-returns-in_err-answer-clause-merges t c =
+    handed-on c.from_residual-in_err-answer.result c.in_err-answer.field-0.0 (λ (r : Result Response Fault). WhenAnswered r (MergesHostEffect c.args.goal.now c.args.self.now r c.merge_below.new.self))
+    c.from_residual-in_err-answer.ensures.1
+    (const-refused c.args.goal.now c.in_ok-plain.plain c.args.self.now c.merge_below.new.self c.in_err-answer.field-0.0 c.in_ok-plain.ensures.plain
+    (λ is. subst (AnswersPlain c.in_ok-plain.plain c.args.self.now c.merge_below.new.self) c.in_err-answer.was
+    (record { merges = c.merge_below.ensures.merges; back = c.merge_below.ensures.unchanged })))
+
+pub hold_const-returns-in-None-clause-merges : goal.hold_const-returns-in-None-clause-merges
+hold_const-returns-in-None-clause-merges t c =
+    const-unproven c.args.goal.now c.in_ok-plain.plain c.args.self.now c.merge_below.new.self c.in_ok-answer.answer c.respond-in-None.result c.in_ok-plain.ensures.plain
+    (subst (AnswersPlain c.in_ok-plain.plain c.args.self.now c.merge_below.new.self) c.in_ok-answer.was
+    (record { merges = c.merge_below.ensures.merges; back = c.merge_below.ensures.unchanged }))
+    (sym c.in-None.is ∙ c.proven_class.ensures) c.respond-in-None.ensures.certainty
+
+pub hold_const-returns-in-None-clause-applies : goal.hold_const-returns-in-None-clause-applies
+hold_const-returns-in-None-clause-applies t c =
+    nothing-applies-after c.args.self.now c.merge_below.new.self c.respond-in-None.result c.merge_below.ensures.unchanged c.is_well_formed.ensures.storage
+    (subst (λ (s : State). IsQuiet (length (kinds_of s)) c.respond-in-None.result) c.merge_below.ensures.unchanged c.respond-in-None.ensures.quiet) c.respond-in-None.ensures.values
+
+pub hold_const-returns-clause-merges : goal.hold_const-returns-clause-merges
+hold_const-returns-clause-merges t c =
+    const-through c.args.goal.now c.in_ok-plain.plain c.in-Some.class c.args.self.now c.merge_below.new.self c.merge_const_through.new.self c.in_ok-answer.answer c.merge_const_through.result c.in_ok-plain.ensures.plain
+    (subst (AnswersPlain c.in_ok-plain.plain c.args.self.now c.merge_below.new.self) c.in_ok-answer.was
+    (record { merges = c.merge_below.ensures.merges; back = c.merge_below.ensures.unchanged }))
+    (sym c.in-Some.is ∙ c.proven_class.ensures) c.merge_const_through.ensures.merges
+
+pub hold_const-returns-clause-goes_back : goal.hold_const-returns-clause-goes_back
+hold_const-returns-clause-goes_back t c =
+    goes_back-through c.args.self.now c.merge_below.new.self c.merge_const_through.new.self c.merge_below.ensures.goes_back c.merge_const_through.ensures.goes_back
+
+pub merge_const_through-returns-in-None-clause-merges : goal.merge_const_through-returns-in-None-clause-merges
+merge_const_through-returns-in-None-clause-merges t c =
+    const-left host_words c.args.class c.args.goal.now c.args.self.now c.considered_groups.new.self c.in_ok-considered_groups.field-0 c.respond.result c.in_ok-considered_groups.ensures.considers c.in-None.is
+    c.respond.ensures.certainty
+
+pub merge_const_through-returns-in-None-clause-applies : goal.merge_const_through-returns-in-None-clause-applies
+merge_const_through-returns-in-None-clause-applies t c =
+    nothing-applies-after c.args.self.now c.considered_groups.new.self c.respond.result c.considered_groups.ensures.unchanged c.is_well_formed.ensures.storage
+    (subst (λ (s : State). IsQuiet (length (kinds_of s)) c.respond.result) c.considered_groups.ensures.unchanged c.respond.ensures.quiet) c.respond.ensures.values
+
+pub merge_const_through-returns-in-Some-clause-merges : goal.merge_const_through-returns-in-Some-clause-merges
+merge_const_through-returns-in-Some-clause-merges t c =
+    const-grouped host_words c.args.class c.args.goal.now c.args.self.now c.considered_groups.new.self c.merge_const_groups.new.self c.in_ok-considered_groups.field-0 c.in-Some.rules c.merge_const_groups.result
+    c.in_ok-considered_groups.ensures.considers c.in-Some.is c.merge_const_groups.ensures.decides
+
+pub group_answer-returns-in-Refuted-clause-answers : goal.group_answer-returns-in-Refuted-clause-answers
+group_answer-returns-in-Refuted-clause-answers t c =
+    group-refuted c.args.environment.now c.args.rules.now c.args.self.now c.merge_rules.new.self c.in_ok-merge_rules.field-0 c.in_ok-merge_rules.ensures.merges c.in-Refuted.is
+
+pub group_answer-returns-in-Answered-clause-answers : goal.group_answer-returns-in-Answered-clause-answers
+group_answer-returns-in-Answered-clause-answers t c =
+    group-answered c.args.environment.now c.args.rules.now c.args.self.now c.merge_rules.new.self c.in_ok-merge_rules.field-0 c.in-Answered.response c.in_ok-merge_rules.ensures.merges c.in-Answered.is
+
+pub group_answer-returns-in-Split-clause-answers : goal.group_answer-returns-in-Split-clause-answers
+group_answer-returns-in-Split-clause-answers t c =
+    group-split c.args.environment.now c.args.rules.now c.args.self.now c.merge_rules.new.self c.in_ok-merge_rules.field-0 c.respond.result c.in_ok-merge_rules.ensures.merges c.in-Split.is c.respond.ensures.certainty
+
+pub group_answer-returns-in-Split-clause-applies : goal.group_answer-returns-in-Split-clause-applies
+group_answer-returns-in-Split-clause-applies t c =
+    nothing-applies-after c.args.self.now c.merge_rules.new.self c.respond.result c.merge_rules.ensures.unchanged c.is_well_formed.ensures.storage
+    (subst (λ (s : State). IsQuiet (length (kinds_of s)) c.respond.result) c.merge_rules.ensures.unchanged c.respond.ensures.quiet) c.respond.ensures.values
+
+pub merge_const_groups-returns-in-Some-clause-decides : goal.merge_const_groups-returns-in-Some-clause-decides
+merge_const_groups-returns-in-Some-clause-decides t c =
+    group-first c.args.rules.now.param_env.items c.deref.result.now c.args.rules.now.environment.items c.deref-2.result.now c.args.rules.now.later.items c.args.self.now c.group_answer.new.self
+    c.in_ok-answer.field-0 c.in-Some.answer c.deref.ensures.value c.deref-2.ensures.value c.in_ok-answer.ensures.answers c.in-Some.is
+
+pub merge_const_groups-returns-in-Some-2-clause-decides : goal.merge_const_groups-returns-in-Some-2-clause-decides
+merge_const_groups-returns-in-Some-2-clause-decides t c =
+    group-later c.args.rules.now.param_env.items c.deref.result.now c.deref-3.result.now c.args.rules.now.environment.items c.deref-2.result.now c.args.rules.now.later.items c.deref-4.result.now c.args.self.now
+    c.group_answer.new.self c.group_answer-2.new.self c.in_ok-answer.field-0 c.in_ok-answer-2.field-0 c.in-Some-2.answer c.deref.ensures.value c.deref-2.ensures.value c.deref-3.ensures.value c.deref-4.ensures.value
+    c.in_ok-answer.ensures.answers (none-left c.in_ok-answer.field-0 c.in_default.not-Some) c.in_ok-answer-2.ensures.answers c.in-Some-2.is
+
+pub merge_const_groups-returns-clause-decides : goal.merge_const_groups-returns-clause-decides
+merge_const_groups-returns-clause-decides t c =
+    group-none c.args.rules.now.param_env.items c.deref.result.now c.deref-3.result.now c.args.rules.now.environment.items c.deref-2.result.now c.args.rules.now.later.items c.deref-4.result.now c.args.self.now
+    c.group_answer.new.self c.group_answer-2.new.self c.in_ok-answer.field-0 c.in_ok-answer-2.field-0 c.deref.ensures.value c.deref-2.ensures.value c.deref-3.ensures.value c.deref-4.ensures.value
+    c.in_ok-answer.ensures.answers (none-left c.in_ok-answer.field-0 c.in_default.not-Some) c.in_ok-answer-2.ensures.answers (none-left c.in_ok-answer-2.field-0 c.in_default-2.not-Some)
+
 pub evaluate_goal-returns-in-Some-clause-answer : goal.evaluate_goal-returns-in-Some-clause-answer
 evaluate_goal-returns-in-Some-clause-answer t c = λ m owed closed.
     absurd (some-unless (IsClosedGoal c.args.goal.now.predicate c.args.goal.now.param_env.items) c.in_ok-asked.field-0 c.in-Some.asked c.in_ok-asked.ensures.closed c.in-Some.is closed)
@@ -688,89 +795,89 @@ evaluate_goal-returns-in-Some-clause-closed t c = λ closed.
 
 pub evaluate_goal-returns-in-Some-clause-refused : goal.evaluate_goal-returns-in-Some-clause-refused
 evaluate_goal-returns-in-Some-clause-refused t c =
-    open-goal-refused c.args.self.now c.evaluate_open_trait.new.self c.args.goal.now c.evaluate_open_trait.result
+    open-goal-refused c.args.self.now c.evaluate_open.new.self c.args.goal.now c.evaluate_open.result
     (some-unless (IsClosedGoal c.args.goal.now.predicate c.args.goal.now.param_env.items) c.in_ok-asked.field-0 c.in-Some.asked c.in_ok-asked.ensures.closed c.in-Some.is)
 
 pub evaluate_goal-returns-in-Some-clause-alone : goal.evaluate_goal-returns-in-Some-clause-alone
 evaluate_goal-returns-in-Some-clause-alone t c =
-    records-through c.args.self.now c.open_trait_goal.new.self c.evaluate_open_trait.new.self (grown-records c.args.self.now c.open_trait_goal.new.self c.open_trait_goal.ensures.unchanged) c.evaluate_open_trait.ensures.alone
+    records-through c.args.self.now c.open_goal.new.self c.evaluate_open.new.self (grown-records c.args.self.now c.open_goal.new.self c.open_goal.ensures.unchanged) c.evaluate_open.ensures.alone
 
 pub evaluate_goal-returns-in-Some-clause-faults : goal.evaluate_goal-returns-in-Some-clause-faults
-evaluate_goal-returns-in-Some-clause-faults t c = c.evaluate_open_trait.ensures.faults ∙ grown-faults c.args.self.now c.open_trait_goal.new.self c.open_trait_goal.ensures.unchanged
+evaluate_goal-returns-in-Some-clause-faults t c = c.evaluate_open.ensures.faults ∙ grown-faults c.args.self.now c.open_goal.new.self c.open_goal.ensures.unchanged
 
 pub evaluate_goal-returns-in-Some-clause-goes_back : goal.evaluate_goal-returns-in-Some-clause-goes_back
 evaluate_goal-returns-in-Some-clause-goes_back t c =
-    goes_back-through c.args.self.now c.open_trait_goal.new.self c.evaluate_open_trait.new.self (goes_back-grown c.args.self.now c.open_trait_goal.new.self c.open_trait_goal.ensures.unchanged c.open_trait_goal.ensures.kept) c.evaluate_open_trait.ensures.goes_back
+    goes_back-through c.args.self.now c.open_goal.new.self c.evaluate_open.new.self (goes_back-grown c.args.self.now c.open_goal.new.self c.open_goal.ensures.unchanged c.open_goal.ensures.kept) c.evaluate_open.ensures.goes_back
 
 pub evaluate_goal-returns-in-Some-clause-fault : goal.evaluate_goal-returns-in-Some-clause-fault
 evaluate_goal-returns-in-Some-clause-fault t c =
-    fault-later c.args.self.now c.open_trait_goal.new.self c.evaluate_open_trait.new.self c.evaluate_open_trait.result (goes_back-grown c.args.self.now c.open_trait_goal.new.self c.open_trait_goal.ensures.unchanged c.open_trait_goal.ensures.kept) c.evaluate_open_trait.ensures.fault
+    fault-later c.args.self.now c.open_goal.new.self c.evaluate_open.new.self c.evaluate_open.result (goes_back-grown c.args.self.now c.open_goal.new.self c.open_goal.ensures.unchanged c.open_goal.ensures.kept) c.evaluate_open.ensures.fault
 
 pub evaluate_goal-returns-in_err-asked-clause-goes_back : goal.evaluate_goal-returns-in_err-asked-clause-goes_back
 evaluate_goal-returns-in_err-asked-clause-goes_back t c =
-    goes_back-grown c.args.self.now c.open_trait_goal.new.self c.open_trait_goal.ensures.unchanged c.open_trait_goal.ensures.kept
+    goes_back-grown c.args.self.now c.open_goal.new.self c.open_goal.ensures.unchanged c.open_goal.ensures.kept
 
 pub evaluate_goal-returns-in-None-clause-answer : goal.evaluate_goal-returns-in-None-clause-answer
 evaluate_goal-returns-in-None-clause-answer t c = λ m owed closed.
-    answer-before c.args.self.now c.open_trait_goal.new.self m c.args.goal.now c.evaluate_other.result (grown-records c.args.self.now c.open_trait_goal.new.self c.open_trait_goal.ensures.unchanged)
+    answer-before c.args.self.now c.open_goal.new.self m c.args.goal.now c.evaluate_other.result (grown-records c.args.self.now c.open_goal.new.self c.open_goal.ensures.unchanged)
     (c.evaluate_other.ensures.answer m owed closed)
 
 pub evaluate_goal-returns-in-None-clause-refused : goal.evaluate_goal-returns-in-None-clause-refused
 evaluate_goal-returns-in-None-clause-refused t c =
     refused-map c.evaluate_other.result
-    (λ h. refuses-later c.args.self.now c.open_trait_goal.new.self c.evaluate_other.new.self c.args.goal.now
-    (grown-records c.args.self.now c.open_trait_goal.new.self c.open_trait_goal.ensures.unchanged) h)
+    (λ h. refuses-later c.args.self.now c.open_goal.new.self c.evaluate_other.new.self c.args.goal.now
+    (grown-records c.args.self.now c.open_goal.new.self c.open_goal.ensures.unchanged) h)
     c.evaluate_other.ensures.refused
 
 pub evaluate_goal-returns-in-None-clause-closed : goal.evaluate_goal-returns-in-None-clause-closed
-evaluate_goal-returns-in-None-clause-closed t c = λ h. c.evaluate_other.ensures.closed h ∙ ap (λ (s : State). s.inference) c.open_trait_goal.ensures.unchanged
+evaluate_goal-returns-in-None-clause-closed t c = λ h. c.evaluate_other.ensures.closed h ∙ ap (λ (s : State). s.inference) c.open_goal.ensures.unchanged
 
 pub evaluate_goal-returns-in-None-clause-alone : goal.evaluate_goal-returns-in-None-clause-alone
 evaluate_goal-returns-in-None-clause-alone t c =
-    records-through c.args.self.now c.open_trait_goal.new.self c.evaluate_other.new.self (grown-records c.args.self.now c.open_trait_goal.new.self c.open_trait_goal.ensures.unchanged) c.evaluate_other.ensures.alone
+    records-through c.args.self.now c.open_goal.new.self c.evaluate_other.new.self (grown-records c.args.self.now c.open_goal.new.self c.open_goal.ensures.unchanged) c.evaluate_other.ensures.alone
 
 pub evaluate_goal-returns-in-None-clause-faults : goal.evaluate_goal-returns-in-None-clause-faults
-evaluate_goal-returns-in-None-clause-faults t c = c.evaluate_other.ensures.faults ∙ grown-faults c.args.self.now c.open_trait_goal.new.self c.open_trait_goal.ensures.unchanged
+evaluate_goal-returns-in-None-clause-faults t c = c.evaluate_other.ensures.faults ∙ grown-faults c.args.self.now c.open_goal.new.self c.open_goal.ensures.unchanged
 
 pub evaluate_goal-returns-in-None-clause-goes_back : goal.evaluate_goal-returns-in-None-clause-goes_back
 evaluate_goal-returns-in-None-clause-goes_back t c =
-    goes_back-through c.args.self.now c.open_trait_goal.new.self c.evaluate_other.new.self (goes_back-grown c.args.self.now c.open_trait_goal.new.self c.open_trait_goal.ensures.unchanged c.open_trait_goal.ensures.kept) c.evaluate_other.ensures.goes_back
+    goes_back-through c.args.self.now c.open_goal.new.self c.evaluate_other.new.self (goes_back-grown c.args.self.now c.open_goal.new.self c.open_goal.ensures.unchanged c.open_goal.ensures.kept) c.evaluate_other.ensures.goes_back
 
 pub evaluate_goal-returns-in-None-clause-fault : goal.evaluate_goal-returns-in-None-clause-fault
 evaluate_goal-returns-in-None-clause-fault t c =
-    fault-later c.args.self.now c.open_trait_goal.new.self c.evaluate_other.new.self c.evaluate_other.result (goes_back-grown c.args.self.now c.open_trait_goal.new.self c.open_trait_goal.ensures.unchanged c.open_trait_goal.ensures.kept) c.evaluate_other.ensures.fault
+    fault-later c.args.self.now c.open_goal.new.self c.evaluate_other.new.self c.evaluate_other.result (goes_back-grown c.args.self.now c.open_goal.new.self c.open_goal.ensures.unchanged c.open_goal.ensures.kept) c.evaluate_other.ensures.fault
 
-pub evaluate_open_trait-returns-then-self-eq0-clause-goes_back : goal.evaluate_open_trait-returns-then-self-eq0-clause-goes_back
-evaluate_open_trait-returns-then-self-eq0-clause-goes_back t c =
+pub evaluate_open-returns-then-self-eq0-clause-goes_back : goal.evaluate_open-returns-then-self-eq0-clause-goes_back
+evaluate_open-returns-then-self-eq0-clause-goes_back t c =
     goes_back-same c.args.self.now
 
-pub evaluate_open_trait-returns-clause-alone : goal.evaluate_open_trait-returns-clause-alone
-evaluate_open_trait-returns-clause-alone t c =
+pub evaluate_open-returns-clause-alone : goal.evaluate_open-returns-clause-alone
+evaluate_open-returns-clause-alone t c =
     let-go c.args.self.now c.apply_below-answered.new.self c.keep_caused_faults.new.self c.apply_below-answered.ensures.alone c.keep_caused_faults.ensures.unchanged
 
-pub evaluate_open_trait-returns-clause-faults : goal.evaluate_open_trait-returns-clause-faults
-evaluate_open_trait-returns-clause-faults t c =
+pub evaluate_open-returns-clause-faults : goal.evaluate_open-returns-clause-faults
+evaluate_open-returns-clause-faults t c =
     let-go-caused c.args.self.now c.apply_below-answered.new.self c.keep_caused_faults.new.self c.len-known.result (c.len-known.ensures ∙ c.self.inside.delayed_faults.ok.0 ∙ ap (λ (s : State). length s.delayed_faults) c.self.view_is) c.apply_below-answered.ensures.goes_back c.keep_caused_faults.ensures.caused
 
-pub evaluate_open_trait-returns-clause-goes_back : goal.evaluate_open_trait-returns-clause-goes_back
-evaluate_open_trait-returns-clause-goes_back t c =
+pub evaluate_open-returns-clause-goes_back : goal.evaluate_open-returns-clause-goes_back
+evaluate_open-returns-clause-goes_back t c =
     let-go-back c.args.self.now c.apply_below-answered.new.self c.keep_caused_faults.new.self c.len-known.result (c.len-known.ensures ∙ c.self.inside.delayed_faults.ok.0 ∙ ap (λ (s : State). length s.delayed_faults) c.self.view_is) c.apply_below-answered.ensures.goes_back c.keep_caused_faults.ensures.unchanged c.keep_caused_faults.ensures.kept
 
-pub evaluate_open_trait-returns-clause-fault : goal.evaluate_open_trait-returns-clause-fault
-evaluate_open_trait-returns-clause-fault t c =
+pub evaluate_open-returns-clause-fault : goal.evaluate_open-returns-clause-fault
+evaluate_open-returns-clause-fault t c =
     let-go-fault Certainty c.args.self.now c.apply_below-answered.new.self c.keep_caused_faults.new.self c.apply_below-answered.result c.keep_caused_faults.ensures.unchanged c.apply_below-answered.ensures.fault
 
 pub apply_below-returns-in_err-response-clause-alone : goal.apply_below-returns-in_err-response-clause-alone
 apply_below-returns-in_err-response-clause-alone t c =
-    restored-records c.args.self.now c.merge_below.new.self c.merge_below.ensures.unchanged
+    restored-records c.args.self.now c.answer_below.new.self c.answer_below.ensures.unchanged
 
 pub apply_below-returns-clause-alone : goal.apply_below-returns-clause-alone
 apply_below-returns-clause-alone t c =
-    records-through c.args.self.now c.merge_below.new.self c.apply_sure.new.self (restored-records c.args.self.now c.merge_below.new.self c.merge_below.ensures.unchanged) c.apply_sure.ensures.alone
+    records-through c.args.self.now c.answer_below.new.self c.apply_sure.new.self (restored-records c.args.self.now c.answer_below.new.self c.answer_below.ensures.unchanged) c.apply_sure.ensures.alone
 
 pub apply_below-returns-clause-goes_back : goal.apply_below-returns-clause-goes_back
 apply_below-returns-clause-goes_back t c =
-    goes_back-through c.args.self.now c.merge_below.new.self c.apply_sure.new.self c.merge_below.ensures.goes_back c.apply_sure.ensures.goes_back
+    goes_back-through c.args.self.now c.answer_below.new.self c.apply_sure.new.self c.answer_below.ensures.goes_back c.apply_sure.ensures.goes_back
 
 pub step_or_evaluate-returns-in-Evaluation-clause-steps : goal.step_or_evaluate-returns-in-Evaluation-clause-steps
 step_or_evaluate-returns-in-Evaluation-clause-steps t c =

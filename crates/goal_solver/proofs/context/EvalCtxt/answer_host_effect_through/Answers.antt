@@ -1,5 +1,5 @@
 use Rattle.goal_solver.specs.HostGoals.{through_at}
-use Rattle.goal_solver.proofs.ApplicableLemmas.{nothing-applies-later}
+use Rattle.goal_solver.proofs.ApplicableLemmas.{unvalued-applies-later}
 use Rattle.goal_solver.proofs.HostGoalLemmas.{host-sound, host-decided}
 use Rattle.goal_solver.proofs.context.EvalCtxt.answer_host_effect_through.Goals as goal
 
@@ -16,5 +16,5 @@ returns-clause-decided c =
 
 pub returns-clause-applies : goal.returns-clause-applies
 returns-clause-applies c =
-    nothing-applies-later c.args.self.now c.host_effect_outcome_through-outcome.new.self c.conclude.new.self c.conclude.result c.host_effect_outcome_through-outcome.ensures.unchanged c.conclude.ensures.unchanged
+    unvalued-applies-later c.args.self.now c.host_effect_outcome_through-outcome.new.self c.conclude.new.self c.conclude.result c.host_effect_outcome_through-outcome.ensures.unchanged c.conclude.ensures.unchanged
     c.is_well_formed.ensures.storage c.conclude.ensures.quiet c.conclude.ensures.lists

@@ -3,22 +3,19 @@ use Rattle.goal_solver.specs.Evaluations.{predicate_seen}
 use Rattle.goal_kinds.specs.Answers.{setting_of}
 use Rattle.goal_solver.proofs.AnswerLemmas.{undecided-ground, predicate-sound, predicate-decided}
 use Rattle.goal_solver.proofs.GoingBackLemmas.{goes_back-same}
-use Rattle.goal_solver.proofs.ApplicableLemmas.{nothing-applies, nothing-applies-later}
+use Rattle.goal_solver.proofs.ApplicableLemmas.{nothing-applies, unvalued-applies-later}
 use Rattle.goal_solver.proofs.PromiseLemmas.{leaves-undecided}
 use Rattle.std.proofs.Common.{refl}
 use Rattle.goal_solver.proofs.AccessLemmas.{none-recorded, recorded-concluded}
 use Rattle.goal_solver.proofs.context.EvalCtxt.answer_predicate.Goals as goal
 
 pub returns-then-remaining_depth-eq0-clause-decided : goal.returns-then-remaining_depth-eq0-clause-decided
-returns-then-remaining_depth-eq0-clause-decided c = λ m owed closed undecided.
+returns-then-remaining_depth-eq0-clause-decided c = λ m owed undecided.
     undecided-ground (setting_of c.args.self.now.tables m c.args.environment.now) c.args.self.now.remaining_depth (omega (arith, c.remaining_depth.ensures, c.if-remaining_depth-eq0.true))
     (predicate_seen c.args.asked)
 
 pub returns-then-remaining_depth-eq0-clause-goes_back : goal.returns-then-remaining_depth-eq0-clause-goes_back
 returns-then-remaining_depth-eq0-clause-goes_back c = goes_back-same c.args.self.now
-
-pub returns-then-is_open-clause-goes_back : goal.returns-then-is_open-clause-goes_back
-returns-then-is_open-clause-goes_back c = goes_back-same c.args.self.now
 
 pub returns-clause-sound : goal.returns-clause-sound
 returns-clause-sound c =
@@ -29,7 +26,7 @@ returns-clause-sound c =
     c.conclude.ensures.yes c.conclude.ensures.no
 
 pub returns-clause-decided : goal.returns-clause-decided
-returns-clause-decided c = λ m owed closed undecided.
+returns-clause-decided c = λ m owed undecided.
     predicate-decided c.args.self.now c.predicate_goal_outcome-outcome.new.self c.conclude.new.self c.args.environment.now
     (predicate_seen c.args.asked)
     c.predicate_goal_outcome-outcome.result c.conclude.result c.predicate_goal_outcome-outcome.ensures.unchanged c.conclude.ensures.goes_back
@@ -39,38 +36,17 @@ returns-clause-decided c = λ m owed closed undecided.
 pub returns-then-remaining_depth-eq0-clause-applies : goal.returns-then-remaining_depth-eq0-clause-applies
 returns-then-remaining_depth-eq0-clause-applies c = nothing-applies c.args.self.now c.respond.result c.is_well_formed.ensures.storage c.respond.ensures.quiet c.respond.ensures.values
 
-pub returns-then-is_open-clause-applies : goal.returns-then-is_open-clause-applies
-returns-then-is_open-clause-applies c =
-    nothing-applies c.args.self.now c.respond-then-is_open.result c.is_well_formed.ensures.storage c.respond-then-is_open.ensures.quiet c.respond-then-is_open.ensures.values
-
 pub returns-clause-applies : goal.returns-clause-applies
 returns-clause-applies c =
-    nothing-applies-later c.args.self.now c.predicate_goal_outcome-outcome.new.self c.conclude.new.self c.conclude.result c.predicate_goal_outcome-outcome.ensures.unchanged c.conclude.ensures.unchanged
+    unvalued-applies-later c.args.self.now c.predicate_goal_outcome-outcome.new.self c.conclude.new.self c.conclude.result c.predicate_goal_outcome-outcome.ensures.unchanged c.conclude.ensures.unchanged
     c.is_well_formed.ensures.storage c.conclude.ensures.quiet c.conclude.ensures.lists
-
-pub returns-then-remaining_depth-eq0-clause-variables : goal.returns-then-remaining_depth-eq0-clause-variables
-returns-then-remaining_depth-eq0-clause-variables c = λ h.
-    leaves-undecided c.args.self.now c.respond.result c.respond.ensures.certainty c.respond.ensures.proven_via c.respond.ensures.values c.respond.ensures.quiet
-
-pub returns-then-is_open-clause-variables : goal.returns-then-is_open-clause-variables
-returns-then-is_open-clause-variables c = λ h.
-    leaves-undecided c.args.self.now c.respond-then-is_open.result c.respond-then-is_open.ensures.certainty c.respond-then-is_open.ensures.proven_via
-    c.respond-then-is_open.ensures.values c.respond-then-is_open.ensures.quiet
 
 pub returns-then-remaining_depth-eq0-clause-at_once : goal.returns-then-remaining_depth-eq0-clause-at_once
 returns-then-remaining_depth-eq0-clause-at_once c = λ h.
     leaves-undecided c.args.self.now c.respond.result c.respond.ensures.certainty c.respond.ensures.proven_via c.respond.ensures.values c.respond.ensures.quiet
 
-pub returns-then-is_open-clause-at_once : goal.returns-then-is_open-clause-at_once
-returns-then-is_open-clause-at_once c = λ h.
-    leaves-undecided c.args.self.now c.respond-then-is_open.result c.respond-then-is_open.ensures.certainty c.respond-then-is_open.ensures.proven_via
-    c.respond-then-is_open.ensures.values c.respond-then-is_open.ensures.quiet
-
 pub returns-then-remaining_depth-eq0-clause-caused : goal.returns-then-remaining_depth-eq0-clause-caused
 returns-then-remaining_depth-eq0-clause-caused c = none-recorded c.args.self.now _ refl
-
-pub returns-then-is_open-clause-caused : goal.returns-then-is_open-clause-caused
-returns-then-is_open-clause-caused c = none-recorded c.args.self.now _ refl
 
 pub returns-clause-caused : goal.returns-clause-caused
 returns-clause-caused c =

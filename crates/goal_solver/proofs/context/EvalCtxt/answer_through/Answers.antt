@@ -5,7 +5,7 @@ use Rattle.goal_kinds.specs.Answers.{setting_of}
 use Rattle.goal_kinds.specs.Interned.{erased_at}
 use Rattle.goal_kinds.proofs.ConsistentLemmas.{each_level_is_consistent}
 use Rattle.std.specs.Prelude.{Ok, length}
-use Rattle.goal_solver.specs.Answers.{AnswersQuietly, erased_args, level_over}
+use Rattle.goal_solver.specs.Answers.{AnswersAside, erased_args, level_over}
 use Rattle.goal_solver.specs.State.{State, kinds_of}
 use Rattle.goal_solver.proofs.ApplicableLemmas.{nothing-applies, nothing-applies-later, nothing-listed, fitting-applies, given-fits}
 use Rattle.goal_solver.specs.Assembled.{level_through}
@@ -77,7 +77,7 @@ pub returns-in-Ok-Is-clause-applies : goal.returns-in-Ok-Is-clause-applies
 returns-in-Ok-Is-clause-applies c = λ m s ok holds.
     fitting-applies c.args.self.now c.class_outcome.new.self c.args.asked.now c.args.environment.now c.class_outcome.new.self.terms c.in-Ok-Is.id c.in-Some.expected c.respond_found.result
     c.class_outcome.ensures.unchanged c.is_well_formed.ensures.storage ok
-    (subst (λ (s : State). AnswersQuietly (length (kinds_of s)) c.respond_found.result) c.class_outcome.ensures.unchanged c.respond_found.ensures.quiet)
+    (subst (λ (s : State). AnswersAside (length (kinds_of s)) c.respond_found.result) c.class_outcome.ensures.unchanged c.respond_found.ensures.quiet)
     (subst (FoundIn c.class_outcome.new.self.terms) c.in-Ok-Is.field-0-is c.in-Ok-Is.ensures.within).0
     (⊎_elim (λ fits. subst (FitsKind c.args.asked.now.alias.kind c.class_outcome.new.self.terms) c.in-Ok-Is.field-0-is fits)
     (λ says.

@@ -4,7 +4,7 @@ use Rattle.goal_kinds.specs.Levels.{level}
 use Rattle.goal_solver.specs.Answers.{erased_args}
 use Rattle.goal_solver.specs.Outcomes.{SaysThrough}
 use Rattle.goal_solver.proofs.AnswerLemmas.{trait-unsure}
-use Rattle.goal_solver.proofs.ApplicableLemmas.{nothing-applies-later, nothing-listed}
+use Rattle.goal_solver.proofs.ApplicableLemmas.{nothing-applies-later, unvalued-applies-later, nothing-listed}
 use Rattle.std.specs.Prelude.{Ok, ◌≡◌, None}
 use Rattle.goal_solver.proofs.PromiseLemmas.{nothing-named, unnamed-maybe, yes-unsure}
 use Rattle.goal_solver.proofs.AccessLemmas.{recorded-stopped}
@@ -21,13 +21,13 @@ returns-in-Ok-Undecided-clause-goes_back c = c.trait_outcome_at.ensures.goes_bac
 
 pub returns-in-Ok-Holds-clause-applies : goal.returns-in-Ok-Holds-clause-applies
 returns-in-Ok-Holds-clause-applies c =
-    nothing-applies-later c.args.self.now c.trait_outcome_at.new.self c.trait_outcome_at.new.self (Ok c.respond.result) c.trait_outcome_at.ensures.unchanged refl
-    c.is_well_formed.ensures.storage c.respond.ensures.quiet c.respond.ensures.values
+    unvalued-applies-later c.args.self.now c.trait_outcome_at.new.self c.trait_outcome_at.new.self (Ok c.respond_yes.result) c.trait_outcome_at.ensures.unchanged refl
+    c.is_well_formed.ensures.storage c.respond_yes.ensures.aside c.respond_yes.ensures.values
 
 pub returns-in-Ok-Undecided-clause-applies : goal.returns-in-Ok-Undecided-clause-applies
 returns-in-Ok-Undecided-clause-applies c =
-    nothing-applies-later c.args.self.now c.trait_outcome_at.new.self c.trait_outcome_at.new.self (Ok c.respond-in-Ok-Undecided.result) c.trait_outcome_at.ensures.unchanged refl
-    c.is_well_formed.ensures.storage c.respond-in-Ok-Undecided.ensures.quiet c.respond-in-Ok-Undecided.ensures.values
+    nothing-applies-later c.args.self.now c.trait_outcome_at.new.self c.trait_outcome_at.new.self (Ok c.respond.result) c.trait_outcome_at.ensures.unchanged refl
+    c.is_well_formed.ensures.storage c.respond.ensures.quiet c.respond.ensures.values
 
 pub returns-in-Err-clause-applies : goal.returns-in-Err-clause-applies
 returns-in-Err-clause-applies c =
@@ -39,7 +39,7 @@ returns-in-Err-clause-sound c = λ m stands.
     trait-unsure (level (setting_of c.args.self.now.tables m c.args.environment.now) c.args.depth) c.args.trait_id (erased_args c.args.args.now) c.stopped.result c.stopped.ensures.unsure (λ e. absurd (c.stopped.ensures.never e))
 
 pub returns-in-Ok-Holds-clause-class : goal.returns-in-Ok-Holds-clause-class
-returns-in-Ok-Holds-clause-class c = λ e. yes-unsure c.respond.result.certainty (c.respond.result.proven_via ≡ None) c.respond.ensures.certainty e
+returns-in-Ok-Holds-clause-class c = λ e. yes-unsure c.respond_yes.result.certainty (c.respond_yes.result.proven_via ≡ None) c.respond_yes.ensures.certainty e
 
 pub returns-in-Err-clause-lists : goal.returns-in-Err-clause-lists
 returns-in-Err-clause-lists c = nothing-listed c.stopped.result c.stopped.ensures.nothing

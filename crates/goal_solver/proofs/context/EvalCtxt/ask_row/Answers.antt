@@ -14,7 +14,7 @@ returns-in_default-clause-goes_back c = goes_back-same c.args.self.now
 
 pub returns-in_default-args_of_number-clause-added : goal.returns-in_default-args_of_number-clause-added
 returns-in_default-args_of_number-clause-added c =
-    row-unnamed (source_of c.args.row) c.args.environment.now (clauses_in c.args.self.now.tables c.args.row) (slice_get (named_trees c.args.named.now) c.args.number) c.args.self.now
+    row-unnamed clauses_with (source_of c.args.row) c.args.environment.now (clauses_in c.args.self.now.tables c.args.row) (slice_get (named_trees c.args.named.now) c.args.number) c.args.self.now
     (number-unnamed c.args.named.now c.args.number c.in_default-args_of_number.ensures)
 
 pub returns-in_default-args_of_number-clause-goes_back : goal.returns-in_default-args_of_number-clause-goes_back
@@ -22,7 +22,7 @@ returns-in_default-args_of_number-clause-goes_back c = goes_back-same c.args.sel
 
 pub returns-clause-added : goal.returns-clause-added
 returns-clause-added c =
-    row-added (source_of c.args.row) c.args.environment.now c.in-Some.clauses.now (trees_of c.in-Some-args_of_number.args.now.items) (clauses_in c.args.self.now.tables c.args.row)
+    row-added clauses_with (source_of c.args.row) c.args.environment.now c.in-Some.clauses.now (trees_of c.in-Some-args_of_number.args.now.items) (clauses_in c.args.self.now.tables c.args.row)
     (slice_get (named_trees c.args.named.now) c.args.number) c.args.self.now c.ask_clauses.new.self
     (c.in-Some.ensures ∙ ap (λ (t : Tables). clauses_in t c.args.row) (c.rows.ensures.rows ∙ c.tables-tables.ensures))
     (number-named c.args.named.now c.args.number c.in-Some-args_of_number.args.now c.in-Some-args_of_number.ensures)

@@ -1,12 +1,14 @@
-use Rattle.std.proofs.Common.{sym, ◌∙◌, subst}
+use Rattle.std.proofs.Common.{◌≡◌, None, Some, sym, ◌∙◌, subst}
 use Rattle.std.specs.Prelude.{Ok}
 use Rattle.goal_kinds.specs.declared.goal_kind.MergeRule.{MergeRule}
 use Rattle.goal_solver.specs.Collecting.{kind_words}
 use Rattle.goal_solver.specs.OpenGoals.{WhenAnswered}
+use Rattle.goal_solver.specs.OpenHostGoals.{MergesConst}
 use Rattle.goal_solver.specs.OpenProjections.{MergesThrough}
 use Rattle.goal_solver.specs.Promises.{AnswersGiven, AppliesGiven, asked_through}
 use Rattle.goal_solver.proofs.PromiseLemmas.{answers-trait_above, answers-through, answers-given, applies-given, given-parts, trait_not_projection, host_not_projection, trait_not_projections, trait_not_host, host_not_projections, none_through, some_through, none-some, closed-same}
 use Rattle.goal_solver.proofs.GoingBackLemmas.{goes_back-same}
+use Rattle.goal_solver.proofs.StoredLemmas.{some-is}
 use Rattle.goal_solver.proofs.HostGoalLemmas.{class-given, class-missing}
 use Rattle.goal_solver.proofs.context.EvalCtxt.assemble_and_merge_candidates.Goals as goal
 
@@ -34,6 +36,9 @@ returns-in-TraitGoals-clause-applies g c =
     subst (λ (r : MergeRule). AppliesGiven c.args.self.now c.merge_trait_goal.new.self c.args.goal.now.param_env.items (asked_through r c.args.proven_via (g.G.PredicateTerms.normalization c.args.goal.now.predicate)) c.merge_trait_goal.result)
     (sym (sym c.merge_rule.ensures ∙ c.in-TraitGoals.is)) c.merge_trait_goal.ensures.applies
 
+pub returns-in-TraitGoals-clause-merged_host : goal.returns-in-TraitGoals-clause-merged_host
+returns-in-TraitGoals-clause-merged_host g c = λ class is. absurd (trait_not_host g.G.GoalKind.merging (sym c.merge_rule.ensures ∙ c.in-TraitGoals.is) is)
+
 -- host effect goals without a class
 pub returns-in-None-clause-goes_back : goal.returns-in-None-clause-goes_back
 returns-in-None-clause-goes_back g c = goes_back-same c.args.self.now
@@ -42,6 +47,9 @@ pub returns-in-None-clause-host_effects : goal.returns-in-None-clause-host_effec
 returns-in-None-clause-host_effects g c = λ is closed.
     class-missing c.args.self.now c.args.self.now c.args.goal.now.param_env.items c.args.proven_via (g.G.GoalKind.constness c.args.goal.now.predicate)
     (g.G.GoalKind.trait_asked c.args.goal.now.predicate c.args.self.now.tables) (Ok c.undecided.result) c.in-None.is c.undecided.ensures.nothing
+
+pub returns-in-None-clause-merged_host : goal.returns-in-None-clause-merged_host
+returns-in-None-clause-merged_host g c = λ class is via. let none : None ≡ Some class = sym c.in-None.is ∙ via in absurd (cc)
 
 pub returns-in-None-clause-given : goal.returns-in-None-clause-given
 returns-in-None-clause-given g c = λ is. absurd (host_not_projections g.G.GoalKind.merging (sym c.merge_rule.ensures ∙ c.in-HostEffectGoals.is) is)
@@ -59,6 +67,11 @@ pub returns-in-Some-clause-host_effects : goal.returns-in-Some-clause-host_effec
 returns-in-Some-clause-host_effects g c = λ is closed.
     class-given c.args.self.now c.merge_host_effect.new.self c.args.goal.now.param_env.items c.args.proven_via c.in-Some.class (g.G.GoalKind.constness c.args.goal.now.predicate)
     (g.G.GoalKind.trait_asked c.args.goal.now.predicate c.args.self.now.tables) c.merge_host_effect.result c.in-Some.is (c.merge_host_effect.ensures.host_effects closed)
+
+pub returns-in-Some-clause-merged_host : goal.returns-in-Some-clause-merged_host
+returns-in-Some-clause-merged_host g c = λ class is via others.
+    subst (λ x. WhenAnswered c.merge_host_effect.result (MergesConst (kind_words g.G.GoalKind.merging g.G.GoalKind.has_term g.G.GoalKind.self_type g.G.GoalKind.is_with_self g.G.PredicateTerms.has_fault g.G.GoalKind.trait_asked g.G.GoalKind.passes g.G.GoalKind.is_impl_for g.G.GoalKind.candidate_gives g.G.GoalKind.candidate_refuted g.G.GoalKind.is_for g.G.GoalKind.additional) x c.args.goal.now c.args.self.now c.merge_host_effect.result c.merge_host_effect.new.self)) (some-is c.in-Some.class class (sym c.in-Some.is ∙ via))
+    (c.merge_host_effect.ensures.merged others)
 
 pub returns-in-Some-clause-given : goal.returns-in-Some-clause-given
 returns-in-Some-clause-given g c = λ is. absurd (host_not_projections g.G.GoalKind.merging (sym c.merge_rule.ensures ∙ c.in-HostEffectGoals.is) is)
@@ -92,7 +105,13 @@ returns-in-None-proven_via-clause-applies g c =
     subst (λ o. AppliesGiven c.args.self.now c.args.self.now c.args.goal.now.param_env.items o (Ok c.undecided-in-None-proven_via.result))
     (sym (none_through g.G.GoalKind.merging c.args.proven_via (g.G.PredicateTerms.normalization c.args.goal.now.predicate) (sym c.merge_rule.ensures ∙ c.in-Projections.is) c.in-None-proven_via.is)) c.undecided-in-None-proven_via.ensures.applies
 
+pub returns-in-None-proven_via-clause-merged_host : goal.returns-in-None-proven_via-clause-merged_host
+returns-in-None-proven_via-clause-merged_host g c = λ class is. absurd (host_not_projections g.G.GoalKind.merging is (sym c.merge_rule.ensures ∙ c.in-Projections.is))
+
 -- projections through a class
+pub returns-in-Some-proven_via-clause-merged_host : goal.returns-in-Some-proven_via-clause-merged_host
+returns-in-Some-proven_via-clause-merged_host g c = λ class is. absurd (host_not_projections g.G.GoalKind.merging is (sym c.merge_rule.ensures ∙ c.in-Projections.is))
+
 pub returns-in-Some-proven_via-clause-host_effects : goal.returns-in-Some-proven_via-clause-host_effects
 returns-in-Some-proven_via-clause-host_effects g c = λ is closed. absurd (host_not_projections g.G.GoalKind.merging is (sym c.merge_rule.ensures ∙ c.in-Projections.is))
 

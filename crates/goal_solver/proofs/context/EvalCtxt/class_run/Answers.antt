@@ -22,11 +22,11 @@ invariant_of-self c = (
 )
 
 pub alias_proven_via-found-requires : goal.alias_proven_via-found-requires
-alias_proven_via-found-requires c = record { effects = sound-new _ _ _ c.new-effects.ensures }
+alias_proven_via-found-requires c = record { effects = sound-new _ _ _ c.listing_effects-effects.ensures }
 
 pub returns-clause-says : goal.returns-clause-says
 returns-clause-says c =
     run-says (λ S n T U. IfOk c.alias_proven_via-found.result (SaysWhich ((level_through S (level S n) c.args.class).gives c.args.alias.now.kind (erased_args c.args.alias.now.args.items)) ((level_through S (level S n) c.args.class).gives_refuted c.args.alias.now.kind (erased_args c.args.alias.now.args.items)) U))
-    _ _ _ _ _ c.args.self.now c.record_effects.new.self c.args.environment.now c.args.on_access c.alias_proven_via-found.new.terms
+    _ _ _ _ _ c.args.self.now c.record_listed.new.self c.args.environment.now c.args.on_access c.alias_proven_via-found.new.terms
     c.self.view_is c.alias_proven_via-found.ensures.says (c.rows.ensures.rows ∙ ap (λ (s : State). s.tables) c.self.view_is) (ap (λ (s : State). s.typing_mode) c.self.view_is) refl refl
-    (ap (λ (s : State). s.terms) c.record_effects.ensures.unchanged)
+    (ap (λ (s : State). s.terms) c.record_listed.ensures.unchanged)

@@ -1,9 +1,9 @@
-use Rattle.std.proofs.Common.{List, ◌∙◌, subst}
+use Rattle.std.proofs.Common.{List, subst}
 use Rattle.goal_terms.specs.declared.predicates.Clause.{Clause}
 use Rattle.goal_kinds.specs.Answers.{whether}
 use Rattle.goal_solver.specs.Answers.{level_over, IsPredicateAnswer, IsUndecided}
 use Rattle.goal_solver.specs.Promises.{const_asked}
-use Rattle.goal_solver.proofs.PromiseLemmas.{answers-host_effect, no-two-disagree, is-open}
+use Rattle.goal_solver.proofs.PromiseLemmas.{answers-host_effect, no-two-disagree}
 use Rattle.goal_solver.proofs.context.EvalCtxt.compute_host_effect_goal.Goals as goal
 
 pub returns-clause-closed : goal.returns-clause-closed
@@ -12,15 +12,14 @@ returns-clause-closed c = λ closed.
     (λ m owed.
     subst (λ (env : List Clause). IsPredicateAnswer (level_over c.args.self.now m env) (const_asked c.args.goal.now.predicate) c.answer_predicate.result) c.deref.ensures.value (c.answer_predicate.ensures.sound m owed))
     (λ m owed undecided.
-    subst (λ (env : List Clause). IsUndecided (level_over c.args.self.now m env) (const_asked c.args.goal.now.predicate)) c.deref.ensures.value
-    (c.answer_predicate.ensures.decided m owed (c.has_variable-is_open.ensures ∙ closed) undecided))
+    subst (λ (env : List Clause). IsUndecided (level_over c.args.self.now m env) (const_asked c.args.goal.now.predicate)) c.deref.ensures.value (c.answer_predicate.ensures.decided m owed undecided))
     c.answer_predicate.ensures.quiet c.answer_predicate.ensures.lists c.answer_predicate.ensures.no_class
 
-pub returns-clause-variables : goal.returns-clause-variables
-returns-clause-variables c = λ variables. c.answer_predicate.ensures.variables (is-open _ _ c.has_variable-is_open.ensures variables)
+pub returns-then-has_variable-clause-agrees : goal.returns-then-has_variable-clause-agrees
+returns-then-has_variable-clause-agrees c = no-two-disagree c.args.self.now.tables c.args.goal.now.param_env.items (whether (const_asked c.args.goal.now.predicate))
 
 pub returns-clause-agrees : goal.returns-clause-agrees
 returns-clause-agrees c = no-two-disagree c.args.self.now.tables c.args.goal.now.param_env.items (whether (const_asked c.args.goal.now.predicate))
 
 pub returns-clause-caused : goal.returns-clause-caused
-returns-clause-caused c = c.answer_predicate.ensures.caused
+returns-clause-caused c = λ closed. c.answer_predicate.ensures.caused

@@ -1,14 +1,16 @@
-use Rattle.std.proofs.Common.{refl, ap, ◌∙◌}
+use Rattle.std.proofs.Common.{refl, ap, ◌∙◌, sym, subst}
 use Rattle.std.specs.Prelude.{IfOk}
 use Rattle.goal_kinds.specs.Interned.{erased_at}
 use Rattle.goal_kinds.specs.Level.{HasHeadForm, HeadFormRefuted}
 use Rattle.goal_kinds.specs.Levels.{level}
-use Rattle.goal_solver.specs.Outcomes.{SaysWhich}
+use Rattle.goal_solver.specs.Outcomes.{SaysWhich, FoundIn}
 use Rattle.goal_solver.specs.State.{State}
-use Rattle.goal_solver.proofs.EvaluationLemmas.{run-says}
+use Rattle.goal_solver.proofs.EvaluationLemmas.{run-says, memory-ends}
 use Rattle.goal_solver.proofs.FaultLemmas.{run-faults}
-use Rattle.goal_solver.proofs.GoingBackLemmas.{solved-grown}
+use Rattle.goal_solver.proofs.GoingBackLemmas.{solved-grown, goes_back-through}
 use Rattle.goal_solver.proofs.CacheLemmas.{sound-new, sound-parts}
+use Rattle.goal_solver.proofs.AccessLemmas.{ends-here}
+use Rattle.goal_solver.proofs.BindingLemmas.{goes_back-interned}
 use Rattle.goal_solver.proofs.context.EvalCtxt.form_run.Goals as goal
 
 pub invariant_of-self : goal.invariant_of-self
@@ -37,3 +39,19 @@ returns-clause-says c =
     _ _ _ _ _ c.args.self.now c.record_effects.new.self c.args.environment.now c.args.on_access c.head_form-found.new.terms
     c.self.view_is c.head_form-found.ensures.says (c.rows.ensures.rows ∙ ap (λ (s : State). s.tables) c.self.view_is) (ap (λ (s : State). s.typing_mode) c.self.view_is) refl refl
     (ap (λ (s : State). s.terms) c.record_effects.ensures.unchanged)
+
+pub returns-clause-goes_back : goal.returns-clause-goes_back
+returns-clause-goes_back c =
+    goes_back-through c.args.self.now _ c.record_effects.new.self
+    (goes_back-interned _ c.args.self.now _ c.head_form-found.new.terms c.self.view_is refl c.head_form-found.ensures.kept)
+    c.record_effects.ensures.goes_back
+
+pub returns-clause-within : goal.returns-clause-within
+returns-clause-within c =
+    subst (λ ts. IfOk c.head_form-found.result (FoundIn ts)) (sym (ap (λ (s : State). s.terms) c.record_effects.ensures.unchanged)) c.head_form-found.ensures.within
+
+pub returns-clause-stops : goal.returns-clause-stops
+returns-clause-stops c =
+    memory-ends c.args.self.now.tables c.args.self.now.typing_mode c.head_form-found.result
+    (ends-here _ c.args.self.now.tables _ c.args.self.now.typing_mode c.head_form-found.result (c.rows.ensures.rows ∙ ap (λ (s : State). s.tables) c.self.view_is)
+    (ap (λ (s : State). s.typing_mode) c.self.view_is) c.head_form-found.ensures.stops)

@@ -1,4 +1,4 @@
-use Rattle.std.proofs.Common.{rules, refl, ap, ◌∙◌, subst}
+use Rattle.std.proofs.Common.{rules, refl, ap, ◌∙◌, subst, ◌≡◌, Result, Ok, Err, sym}
 use Rattle.goal_kinds.specs.Interned.{erased_all}
 use Rattle.goal_kinds.specs.Levels.{level}
 use Rattle.goal_kinds.specs.TraitGoals.{header_of}
@@ -8,9 +8,19 @@ use Rattle.goal_solver.specs.State.{State}
 use Rattle.goal_solver.proofs.BindingLemmas.{goes_back-interned}
 use Rattle.goal_solver.proofs.GoingBackLemmas.{goes_back-through, solved-grown}
 use Rattle.goal_solver.proofs.CacheLemmas.{sound-new}
-use Rattle.goal_solver.proofs.EvaluationLemmas.{run-says}
+use Rattle.goal_solver.proofs.EvaluationLemmas.{run-says, memory-ends}
 use Rattle.goal_solver.proofs.TranslatedLemmas.{counted-says}
+use Rattle.std.specs.Prelude.{IfErr, IsErrAnd}
+use Rattle.goal_solver.specs.declared.eval.outcomes.Stop.{Stop}
+use Rattle.goal_solver.specs.declared.eval.outcomes.Stop.TheVariants as stop
+use Rattle.goal_solver.proofs.AccessLemmas.{ends-here}
+use Rattle.goal_solver.specs.Effects.{EndsIn}
 use Rattle.goal_solver.proofs.context.EvalCtxt.header_run.Goals as goal
+
+-- what was so of an end is so of the one that is handed on
+handed : {T : Type 0} (r : Result T Stop) (x : Stop) (P : Stop → Type 0) → IsErrAnd r (λ y. y ≡ x) → P x → IfErr r P
+handed (Ok o) x P h p = absurd h
+handed (Err y) x P h p = subst P (sym h) p
 
 pub invariant_of-self : goal.invariant_of-self
 invariant_of-self c = (
@@ -49,3 +59,26 @@ returns-clause-says c = λ m runs.
     (subst (λ ps. SaysMatch (level_over c.args.self.now m c.args.environment.now) ps (header_terms c.deref-2.result.now) (erased_all c.args.self.now.terms c.args.given.now) c.record_effects.new.self.terms c.in_ok-found.found) c.deref.ensures.value over) in
     counted-says (level_over c.args.self.now m c.args.environment.now) c.args.other.now (erased_all c.args.self.now.terms c.args.given.now) c.record_effects.new.self.terms c.in_ok-found.found c.counted.result
     (λ k. c.counted.ensures.same (search rules)) found
+
+pub returns-in_err-record_effects-clause-goes_back : goal.returns-in_err-record_effects-clause-goes_back
+returns-in_err-record_effects-clause-goes_back c =
+    goes_back-through c.args.self.now _ c.record_effects.new.self
+    (goes_back-interned _ c.args.self.now _ c.match_header-found.new.terms c.self.view_is refl c.match_header-found.ensures.kept)
+    c.record_effects.ensures.goes_back
+
+pub returns-in_err-found-clause-goes_back : goal.returns-in_err-found-clause-goes_back
+returns-in_err-found-clause-goes_back c =
+    goes_back-through c.args.self.now _ c.record_effects.new.self
+    (goes_back-interned _ c.args.self.now _ c.match_header-found.new.terms c.self.view_is refl c.match_header-found.ensures.kept)
+    c.record_effects.ensures.goes_back
+
+pub returns-in_err-record_effects-clause-stops : goal.returns-in_err-record_effects-clause-stops
+returns-in_err-record_effects-clause-stops c =
+    λ headline. handed c.from_residual.result c.in_err-record_effects.field-0.0 (λ y. y ≡ stop.OutOfMemory) c.from_residual.ensures.1 c.in_err-record_effects.ensures.only_memory
+
+pub returns-in_err-found-clause-stops : goal.returns-in_err-found-clause-stops
+returns-in_err-found-clause-stops c =
+    memory-ends c.args.self.now.tables c.args.self.now.typing_mode c.from_residual-in_err-found.result
+    (ends-here _ c.args.self.now.tables _ c.args.self.now.typing_mode c.from_residual-in_err-found.result (c.rows.ensures.rows ∙ ap (λ (s : State). s.tables) c.self.view_is)
+    (ap (λ (s : State). s.typing_mode) c.self.view_is)
+    (handed c.from_residual-in_err-found.result c.in_err-found.field-0.0 (EndsIn c.rows.result.now c.self.inside.typing_mode) c.from_residual-in_err-found.ensures.1 c.in_err-found.ensures.stops))

@@ -20,11 +20,11 @@ invariant_of-self c = (
 )
 
 pub outcome_proven_via-outcome-requires : goal.outcome_proven_via-outcome-requires
-outcome_proven_via-outcome-requires c = record { effects = sound-new _ _ _ c.new-effects.ensures }
+outcome_proven_via-outcome-requires c = record { effects = sound-new _ _ _ c.listing_effects-effects.ensures }
 
 pub returns-clause-says : goal.returns-clause-says
 returns-clause-says c =
     run-says (λ S n T U. HoldsThroughClass (level S n) (through_at c.args.goal.now) → IfOk c.outcome_proven_via-outcome.result (SaysHostAt S (suc n) (through_at c.args.goal.now)))
-    _ _ _ _ _ c.args.self.now c.record_effects.new.self c.args.environment.now c.args.on_access c.outcome_proven_via-outcome.new.terms
+    _ _ _ _ _ c.args.self.now c.record_listed.new.self c.args.environment.now c.args.on_access c.outcome_proven_via-outcome.new.terms
     c.self.view_is c.outcome_proven_via-outcome.ensures.says (c.rows.ensures.rows ∙ ap (λ (s : State). s.tables) c.self.view_is) (ap (λ (s : State). s.typing_mode) c.self.view_is) refl refl
-    (ap (λ (s : State). s.terms) c.record_effects.ensures.unchanged)
+    (ap (λ (s : State). s.terms) c.record_listed.ensures.unchanged)

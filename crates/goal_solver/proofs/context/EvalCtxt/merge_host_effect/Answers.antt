@@ -11,14 +11,11 @@ use Rattle.goal_solver.proofs.context.EvalCtxt.merge_host_effect.Goals as goal
 pub returns-then-has_variable-clause-host_effects : goal.returns-then-has_variable-clause-host_effects
 returns-then-has_variable-clause-host_effects g c = λ closed. absurd (cc)
 
-pub returns-then-has_variable-clause-goes_back : goal.returns-then-has_variable-clause-goes_back
-returns-then-has_variable-clause-goes_back g c = goes_back-same c.args.self.now
-
 -- goals that ask for no const trait, or for none that has a row
 pub returns-in_default-clause-host_effects : goal.returns-in_default-clause-host_effects
 returns-in_default-clause-host_effects g c = λ closed.
-    unasked c.args.self.now c.args.self.now c.args.goal.now.param_env.items c.args.class _ (g.G.GoalKind.trait_asked c.args.goal.now.predicate c.args.self.now.tables) (Ok c.undecided-in_default.result)
-    (sym c.constness.ensures ∙ c.in_default.is) c.undecided-in_default.ensures.nothing
+    unasked c.args.self.now c.args.self.now c.args.goal.now.param_env.items c.args.class _ (g.G.GoalKind.trait_asked c.args.goal.now.predicate c.args.self.now.tables) (Ok c.undecided.result)
+    (sym c.constness.ensures ∙ c.in_default.is) c.undecided.ensures.nothing
 
 pub returns-in_default-clause-goes_back : goal.returns-in_default-clause-goes_back
 returns-in_default-clause-goes_back g c = goes_back-same c.args.self.now

@@ -15,7 +15,7 @@ use Rattle.std.proofs.Common.{refl}
 use Rattle.goal_terms.specs.declared.modes.TypingMode.{TypingMode}
 use Rattle.goal_kinds.specs.Answers.{IsAnswer, maybe}
 use Rattle.goal_kinds.specs.Settings.{is_headline}
-use Rattle.goal_solver.specs.Answers.{AnswersQuietly, is_closed_alias}
+use Rattle.goal_solver.specs.Answers.{AnswersAside, is_closed_alias}
 use Rattle.goal_solver.specs.Outcomes.{StandsFor}
 use Rattle.goal_solver.specs.Recording.{FitsKind}
 use Rattle.goal_solver.specs.State.{State, kinds_of}
@@ -111,7 +111,7 @@ pub returns-in-Ok-Is-clause-applies : goal.returns-in-Ok-Is-clause-applies
 returns-in-Ok-Is-clause-applies c = λ ok.
     fitting-applies c.args.self.now c.alias_outcome.new.self c.args.goal.now.predicate c.args.goal.now.param_env.items c.alias_outcome.new.self.terms c.in-Ok-Is.id c.in-Some.expected c.respond_found.result
     c.alias_outcome.ensures.unchanged c.is_well_formed.ensures.storage ok
-    (subst (λ (s : State). AnswersQuietly (length (kinds_of s)) c.respond_found.result) c.alias_outcome.ensures.unchanged c.respond_found.ensures.quiet)
+    (subst (λ (s : State). AnswersAside (length (kinds_of s)) c.respond_found.result) c.alias_outcome.ensures.unchanged c.respond_found.ensures.quiet)
     (subst (FoundIn c.alias_outcome.new.self.terms) c.in-Ok-Is.field-0-is c.in-Ok-Is.ensures.within).0
     (⊎_elim (λ fits. subst (FitsKind c.args.goal.now.predicate.alias.kind c.alias_outcome.new.self.terms) c.in-Ok-Is.field-0-is fits)
     (λ says.

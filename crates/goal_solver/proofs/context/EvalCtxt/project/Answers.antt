@@ -5,21 +5,19 @@ use Rattle.goal_solver.specs.Answers.{IsQuiet}
 use Rattle.goal_solver.specs.OpenGoals.{WhenAnswered}
 use Rattle.goal_solver.specs.OpenProjections.{AnswersTrait, MergesProjection}
 use Rattle.goal_solver.specs.State.{State, kinds_of}
-use Rattle.goal_solver.proofs.ApplicableLemmas.{nothing-applies, nothing-applies-after}
+use Rattle.goal_solver.proofs.ApplicableLemmas.{nothing-applies-after}
 use Rattle.goal_solver.proofs.GoingBackLemmas.{goes_back-same, goes_back-through}
-use Rattle.goal_solver.proofs.OpenProjectionLemmas.{asks-its-trait, projects-refused, projects-unproven, projects-through}
+use Rattle.goal_solver.proofs.OpenProjectionLemmas.{asks-its-trait, no-trait, none-left, projects-alias, projects-refused, projects-unproven, projects-through}
 use Rattle.goal_solver.proofs.RoundLemmas.{handed-on}
 use Rattle.goal_solver.proofs.context.EvalCtxt.project.Goals as goal
 
 pub returns-in_err-asked-clause-goes_back : goal.returns-in_err-asked-clause-goes_back
 returns-in_err-asked-clause-goes_back c = goes_back-same c.args.self.now
 
-pub returns-in_default-clause-goes_back : goal.returns-in_default-clause-goes_back
-returns-in_default-clause-goes_back c = goes_back-same c.args.self.now
-
-pub returns-in_default-clause-applies : goal.returns-in_default-clause-applies
-returns-in_default-clause-applies c =
-    nothing-applies c.args.self.now c.respond.result c.is_well_formed.ensures.storage c.respond.ensures.quiet c.respond.ensures.values
+pub returns-in_default-clause-merges : goal.returns-in_default-clause-merges
+returns-in_default-clause-merges c =
+    projects-alias c.args.goal.now c.args.self.now c.run_alias_rule.new.self c.run_alias_rule.result
+    (no-trait _ c.args.self.now c.args.goal.now c.in_ok-asked.field-0 c.self.view_is (none-left c.in_ok-asked.field-0 c.in_default.not-Some) c.in_ok-asked.ensures.asks) c.run_alias_rule.ensures.runs
 
 pub returns-in_err-answer-clause-merges : goal.returns-in_err-answer-clause-merges
 returns-in_err-answer-clause-merges c =
@@ -37,7 +35,7 @@ returns-in_err-answer-clause-merges c =
 
 pub returns-in-None-clause-merges : goal.returns-in-None-clause-merges
 returns-in-None-clause-merges c =
-    projects-unproven c.args.goal.now c.in-Some.asked c.args.self.now c.trait_goal_response.new.self c.in_ok-answer.answer c.respond-in-None.result
+    projects-unproven c.args.goal.now c.in-Some.asked c.args.self.now c.trait_goal_response.new.self c.in_ok-answer.answer c.respond.result
     (asks-its-trait _ c.args.self.now c.args.goal.now _ c.in-Some.asked c.self.view_is c.in-Some.is c.in_ok-asked.ensures.asks)
     (subst (AnswersTrait c.in-Some.asked c.args.self.now c.trait_goal_response.new.self) c.in_ok-answer.was
     (record {
@@ -46,12 +44,12 @@ returns-in-None-clause-merges c =
       merges = c.trait_goal_response.ensures.merged;
       back = c.trait_goal_response.ensures.unchanged;
     }))
-    (sym c.in-None.is ∙ c.proven_class.ensures) c.respond-in-None.ensures.certainty
+    (sym c.in-None.is ∙ c.proven_class.ensures) c.respond.ensures.certainty
 
 pub returns-in-None-clause-applies : goal.returns-in-None-clause-applies
 returns-in-None-clause-applies c =
-    nothing-applies-after c.args.self.now c.trait_goal_response.new.self c.respond-in-None.result c.trait_goal_response.ensures.unchanged c.is_well_formed.ensures.storage
-    (subst (λ (s : State). IsQuiet (length (kinds_of s)) c.respond-in-None.result) c.trait_goal_response.ensures.unchanged c.respond-in-None.ensures.quiet) c.respond-in-None.ensures.values
+    nothing-applies-after c.args.self.now c.trait_goal_response.new.self c.respond.result c.trait_goal_response.ensures.unchanged c.is_well_formed.ensures.storage
+    (subst (λ (s : State). IsQuiet (length (kinds_of s)) c.respond.result) c.trait_goal_response.ensures.unchanged c.respond.ensures.quiet) c.respond.ensures.values
 
 pub returns-clause-merges : goal.returns-clause-merges
 returns-clause-merges c =

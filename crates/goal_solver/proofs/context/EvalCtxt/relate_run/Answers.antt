@@ -15,6 +15,8 @@ use Rattle.goal_solver.proofs.BindingLemmas.{goes_back-interned}
 use Rattle.goal_solver.proofs.CacheLemmas.{sound-new, sound-parts}
 use Rattle.goal_solver.proofs.FaultLemmas.{run-faults}
 use Rattle.goal_solver.proofs.GoingBackLemmas.{goes_back-through}
+use Rattle.goal_solver.specs.GoingBack.{GoesBack}
+use Rattle.goal_solver.proofs.SettledLemmas.{memory-on, memory-kept}
 use Rattle.goal_solver.proofs.context.EvalCtxt.relate_run.Goals as goal
 use Rattle.goal_solver.proofs.context.EvalCtxt.relate_run.Goals.{After-relate_resolved_lists-outcome}
 
@@ -160,3 +162,29 @@ returns-clause-stops c =
     memory-ends c.args.self.now.tables c.args.self.now.typing_mode c.relate_resolved_lists-outcome.result
     (ends-here _ c.args.self.now.tables _ c.args.self.now.typing_mode c.relate_resolved_lists-outcome.result (c.rows.ensures.rows ∙ ap (λ (s : State). s.tables) c.self.view_is)
     (ap (λ (s : State). s.typing_mode) c.self.view_is) c.relate_resolved_lists-outcome.ensures.stops)
+
+pub returns-in_err-record_effects-clause-kept : goal.returns-in_err-record_effects-clause-kept
+returns-in_err-record_effects-clause-kept c =
+    let back : GoesBack c.args.self.now c.record_effects.new.self =
+    goes_back-through c.args.self.now _ c.record_effects.new.self
+    (goes_back-interned _ c.args.self.now _ c.relate_resolved_lists-outcome.new.terms c.self.view_is refl (keeps-chain c.self.inside.terms c.follow_all-2.new.table c.relate_resolved_lists-outcome.new.terms
+    (keeps-chain c.self.inside.terms c.follow_all.new.table c.follow_all-2.new.table c.follow_all.ensures.kept c.follow_all-2.ensures.kept) c.relate_resolved_lists-outcome.ensures.kept))
+    c.record_effects.ensures.goes_back in
+    back.terms
+
+pub returns-clause-kept : goal.returns-clause-kept
+returns-clause-kept c =
+    let back : GoesBack c.args.self.now c.record_effects.new.self =
+    goes_back-through c.args.self.now _ c.record_effects.new.self
+    (goes_back-interned _ c.args.self.now _ c.relate_resolved_lists-outcome.new.terms c.self.view_is refl (keeps-chain c.self.inside.terms c.follow_all-2.new.table c.relate_resolved_lists-outcome.new.terms
+    (keeps-chain c.self.inside.terms c.follow_all.new.table c.follow_all-2.new.table c.follow_all.ensures.kept c.follow_all-2.ensures.kept) c.relate_resolved_lists-outcome.ensures.kept))
+    c.record_effects.ensures.goes_back in
+    back.terms
+
+pub returns-in_err-record_effects-clause-same : goal.returns-in_err-record_effects-clause-same
+returns-in_err-record_effects-clause-same c =
+    λ e. memory-on c.from_residual-in_err-record_effects.result c.in_err-record_effects.field-0.0 c.from_residual-in_err-record_effects.ensures.1 c.in_err-record_effects.ensures.only_memory
+
+pub returns-in_err-record_effects-clause-stops : goal.returns-in_err-record_effects-clause-stops
+returns-in_err-record_effects-clause-stops c =
+    λ headline. memory-kept c.from_residual-in_err-record_effects.result c.in_err-record_effects.field-0.0 c.from_residual-in_err-record_effects.ensures.1 c.in_err-record_effects.ensures.only_memory

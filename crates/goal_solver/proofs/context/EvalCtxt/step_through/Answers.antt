@@ -1,11 +1,12 @@
 use Rattle.std.proofs.Common.{◌∷◌, [], refl, sym, subst}
 use Rattle.std.specs.Prelude.{slice_get}
 use Rattle.goal_terms.specs.TreeOf.{trees_of, tree_of_term}
-use Rattle.goal_kinds.specs.Rules.{clauses_in}
-use Rattle.goal_solver.specs.OpenRuns.{open_progress, named_trees, source_of, AddsRow, GivesTerm, NamesOpen}
+use Rattle.goal_terms.specs.declared.answers.GoalSource.TheVariants as source
+use Rattle.goal_kinds.specs.Rules.{clauses_in, conditions_in}
+use Rattle.goal_solver.specs.OpenRuns.{open_progress, named_trees, clauses_with, conditions_with, source_of, AddsRow, GivesTerm, NamesOpen}
 use Rattle.goal_solver.proofs.BindingLemmas.{on_ok-map}
 use Rattle.goal_solver.proofs.GoingBackLemmas.{goes_back-same}
-use Rattle.goal_solver.proofs.OpenStepLemmas.{arguments-step, equation-step, clause-step, row-step, term-step, hidden-step, access-step, fault-step, fault-listed, undecided-step}
+use Rattle.goal_solver.proofs.OpenStepLemmas.{arguments-step, equation-step, clause-step, row-step, conditions-step, term-step, hidden-step, access-step, fault-step, fault-listed, undecided-step}
 use Rattle.goal_solver.proofs.RecordedLemmas.{none-listed}
 use Rattle.goal_solver.specs.Refusals.{RefusesNames, RefusesTerm}
 use Rattle.goal_solver.proofs.RefusalLemmas.{memory-only, refused-on, refused-map, arguments-refused, equation-refused, term-refused, hidden-refused, refusal-refused}
@@ -36,9 +37,17 @@ pub returns-in_ok-certainty-in-RowClauses-clause-steps : goal.returns-in_ok-cert
 returns-in_ok-certainty-in-RowClauses-clause-steps c =
     row-step c.args.environment.now c.args.entry.now c.in-RowClauses.row c.in-RowClauses.number c.args.self.now (open_progress c.args.run.now) c.ask_row.new.self (open_progress c.join-in-RowClauses.new.self)
     c.in_ok-certainty-in-RowClauses.certainty c.in-RowClauses.is
-    (subst (λ ns. AddsRow (source_of c.in-RowClauses.row) c.args.environment.now (clauses_in c.args.self.now.tables c.in-RowClauses.row) (slice_get (named_trees ns) c.in-RowClauses.number) c.args.self.now
+    (subst (λ ns. AddsRow clauses_with (source_of c.in-RowClauses.row) c.args.environment.now (clauses_in c.args.self.now.tables c.in-RowClauses.row) (slice_get (named_trees ns) c.in-RowClauses.number) c.args.self.now
     c.in_ok-certainty-in-RowClauses.certainty c.ask_row.new.self) c.deref-in-RowClauses.ensures.value c.in_ok-certainty-in-RowClauses.ensures.added)
     c.join-in-RowClauses.ensures
+
+pub returns-in_ok-certainty-in-RowConditions-clause-steps : goal.returns-in_ok-certainty-in-RowConditions-clause-steps
+returns-in_ok-certainty-in-RowConditions-clause-steps c =
+    conditions-step c.args.environment.now c.args.entry.now c.in-RowConditions.constness c.in-RowConditions.row c.in-RowConditions.number c.args.self.now (open_progress c.args.run.now) c.ask_row_conditions.new.self
+    (open_progress c.join-in-RowConditions.new.self) c.in_ok-certainty-in-RowConditions.certainty c.in-RowConditions.is
+    (subst (λ ns. AddsRow (conditions_with c.in-RowConditions.constness) source.ImplWhereBound c.args.environment.now (conditions_in c.args.self.now.tables c.in-RowConditions.row) (slice_get (named_trees ns) c.in-RowConditions.number)
+    c.args.self.now c.in_ok-certainty-in-RowConditions.certainty c.ask_row_conditions.new.self) c.as_slice-named.ensures.value c.in_ok-certainty-in-RowConditions.ensures.added)
+    c.join-in-RowConditions.ensures
 
 pub returns-in_ok-certainty-in-Term-clause-steps : goal.returns-in_ok-certainty-in-Term-clause-steps
 returns-in_ok-certainty-in-Term-clause-steps c =

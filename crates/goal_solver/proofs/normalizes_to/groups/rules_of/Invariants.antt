@@ -1,7 +1,7 @@
 use Rattle.std.proofs.Common.{take}
 use Rattle.goal_solver.specs.Collecting.{kind_words, CollectsFor}
 use Rattle.goal_solver.specs.OpenProjections.{CollectsAll}
-use Rattle.goal_solver.proofs.normalizes_to.open.rules_of.Given as goal
+use Rattle.goal_solver.proofs.normalizes_to.groups.rules_of.Given as goal
 
 abbrev pub invariant-loop-class : goal.invariant-loop-class
 invariant-loop-class g l =

@@ -3,7 +3,7 @@ use Rattle.goal_solver.specs.Collecting.{kind_words, CollectsFor}
 use Rattle.goal_solver.specs.OpenProjections.{CollectsAll}
 use Rattle.goal_solver.proofs.OpenClassLemmas.{collects-for}
 use Rattle.goal_solver.proofs.OpenProjectionLemmas.{collects-none, collects-next}
-use Rattle.goal_solver.proofs.normalizes_to.open.rules_of.Goals as goal
+use Rattle.goal_solver.proofs.normalizes_to.groups.rules_of.Goals as goal
 
 pub loop-class-init : goal.loop-class-init
 loop-class-init g c =
