@@ -9,12 +9,13 @@ use Rattle.goal_terms.specs.declared.modes.TypingMode.TheVariants as mode
 use Rattle.goal_tables.specs.declared.rows.Tables.{Tables}
 use Rattle.goal_kinds.specs.Causes.{IsCaused}
 use Rattle.goal_solver.specs.Accesses.{RecordsCaused, EndsFor}
-use Rattle.goal_solver.specs.Added.{Enters, RecordsAccess}
-use Rattle.goal_solver.specs.Effects.{EndsIn}
+use Rattle.goal_eval.specs.Entering.{Enters}
+use Rattle.goal_solver.specs.Added.{RecordsAccess}
+use Rattle.goal_eval.specs.Effects.{EndsIn}
 use Rattle.goal_solver.specs.GoingBack.{GoesBack}
 use Rattle.goal_solver.specs.State.{State}
-use Rattle.goal_solver.specs.declared.eval.outcomes.Stop.{Stop}
-use Rattle.goal_solver.specs.declared.eval.outcomes.Stop.TheVariants as stop
+use Rattle.goal_eval.specs.declared.eval.outcomes.Stop.{Stop}
+use Rattle.goal_eval.specs.declared.eval.outcomes.Stop.TheVariants as stop
 
 -- where the accesses are as before
 pub none-recorded : (a b : State) → b.accesses ≡ a.accesses → RecordsCaused a b

@@ -13,7 +13,7 @@ use Rattle.goal_terms.specs.declared.terms.Term.{Term}
 use Rattle.goal_terms.specs.declared.terms.Ty.{Ty, Ty-F, roll-Ty, out-Ty, roll-out-Ty}
 use Rattle.goal_terms.specs.declared.terms.Ty.TheVariants as ty_variants
 use Rattle.goal_terms.proofs.TreeLemmas as trees
-use Rattle.goal_solver.specs.Pending.{is_alias}
+use Rattle.goal_eval.specs.Pending.{is_alias}
 
 -- whether a tree is an alias
 abbrev alias_at : Tree → Bool

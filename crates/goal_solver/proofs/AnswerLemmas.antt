@@ -20,16 +20,16 @@ use Rattle.goal_kinds.proofs.AnswerLaws.{answers-agree}
 use Rattle.goal_solver.specs.Answers.{IsOwed, level_over, IsMaybe, IsOpen, IsUndecided, IsAliasOpen, IsTraitResponse, IsTraitAnswer, IsAliasResponse, IsAliasAnswer, IsHoldingResponse, IsPredicateAnswer, IsConclusion}
 use Rattle.goal_solver.specs.Evaluations.{SaysOf}
 use Rattle.goal_solver.specs.GoingBack.{BeginsWith, GoesBack, restored}
-use Rattle.goal_solver.specs.Outcomes.{RunsAs, StandsFor, Says}
+use Rattle.goal_eval.specs.Outcomes.{RunsAs, StandsFor, Says}
 use Rattle.goal_solver.specs.Relating.{IsFinalIn}
 use Rattle.goal_kinds.specs.declared.faults.Fault.{Fault}
 use Rattle.goal_kinds.specs.declared.faults.Fault.TheVariants as fault
-use Rattle.goal_solver.specs.declared.eval.outcomes.OnAccess.{OnAccess}
-use Rattle.goal_solver.specs.declared.eval.outcomes.OnAccess.TheVariants as on_access
-use Rattle.goal_solver.specs.declared.eval.outcomes.Outcome.{Outcome}
-use Rattle.goal_solver.specs.declared.eval.outcomes.Outcome.TheVariants as outcome
-use Rattle.goal_solver.specs.declared.eval.outcomes.Stop.{Stop}
-use Rattle.goal_solver.specs.declared.eval.outcomes.Stop.TheVariants as stop
+use Rattle.goal_eval.specs.declared.eval.outcomes.OnAccess.{OnAccess}
+use Rattle.goal_eval.specs.declared.eval.outcomes.OnAccess.TheVariants as on_access
+use Rattle.goal_eval.specs.declared.eval.outcomes.Outcome.{Outcome}
+use Rattle.goal_eval.specs.declared.eval.outcomes.Outcome.TheVariants as outcome
+use Rattle.goal_eval.specs.declared.eval.outcomes.Stop.{Stop}
+use Rattle.goal_eval.specs.declared.eval.outcomes.Stop.TheVariants as stop
 use Rattle.goal_solver.specs.State.{State}
 use Rattle.goal_solver.proofs.GoingBackLemmas.{goes_back-same}
 

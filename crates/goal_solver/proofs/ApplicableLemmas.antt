@@ -47,14 +47,15 @@ use Rattle.goal_kinds.specs.Settings.{is_headline}
 use Rattle.goal_kinds.specs.declared.faults.Fault.{Fault}
 use Rattle.goal_kinds.proofs.ClosedLevels.{closed-public_given}
 use Rattle.goal_kinds.proofs.PlacedLevels.{placed-given}
-use Rattle.goal_solver.specs.Answers.{IsQuiet, IsQuietAside, AnswersQuietly, AnswersAside, ListsNothing, GivesTo, expected_variable, is_closed_alias, erased_args, IsAliasOpen}
+use Rattle.goal_eval.specs.ErasedArgs.{erased_args}
+use Rattle.goal_solver.specs.Answers.{IsQuiet, IsQuietAside, AnswersQuietly, AnswersAside, ListsNothing, GivesTo, expected_variable, is_closed_alias, IsAliasOpen}
 use Rattle.goal_solver.specs.Binding.{IsApplicable, IsFreeFor, CanBeListed, bound_term}
 use Rattle.goal_solver.specs.FreeVariables.{general_variable, reaches, is_bound, stands_in_storage, is_taken, lacks_free_variable}
 use Rattle.goal_solver.specs.GoingBack.{restored}
 use Rattle.goal_solver.specs.Goals.{IsAcceptedNormalization}
-use Rattle.goal_solver.specs.Outcomes.{StandsFor}
+use Rattle.goal_eval.specs.Outcomes.{StandsFor}
 use Rattle.goal_solver.specs.Recording.{FitsKind}
-use Rattle.goal_solver.specs.declared.eval.outcomes.Found.TheVariants as founds
+use Rattle.goal_eval.specs.declared.eval.outcomes.Found.TheVariants as founds
 use Rattle.goal_solver.specs.State.{State, kinds_in, kinds_of}
 use Rattle.goal_solver.specs.Stored.{HasOneTypeAKey}
 use Rattle.goal_solver.specs.Variables.{with_kinds, with_variables}

@@ -32,13 +32,14 @@ use Rattle.goal_kinds.proofs.ConsistentLemmas.{each_level_is_consistent}
 use Rattle.goal_kinds.proofs.ContraryWords.{Exists-Each, OfRow-twice}
 use Rattle.goal_kinds.proofs.EqualLemmas.{one_head_form, no_head_form_refuted}
 use Rattle.goal_kinds.proofs.ProjectionLemmas.{one_group_term, no_group_refuted}
-use Rattle.goal_solver.specs.Answers.{IsOwed, level_over, erased_args, is_closed_alias, expected_variable, IsMaybe, IsAliasResponse, IsAliasAnswer, IsAliasOpen}
+use Rattle.goal_eval.specs.ErasedArgs.{erased_args}
+use Rattle.goal_solver.specs.Answers.{IsOwed, level_over, is_closed_alias, expected_variable, IsMaybe, IsAliasResponse, IsAliasAnswer, IsAliasOpen}
 use Rattle.goal_solver.specs.Assembled.{level_above, OfItem, HoldsThrough, level_through}
-use Rattle.goal_solver.specs.Outcomes.{SaysWhich}
-use Rattle.goal_solver.specs.ProjectionParts.{ThroughGives, ThroughRefuted, replaced, ReplacedGives, ReplacedRefuted}
+use Rattle.goal_eval.specs.Outcomes.{SaysWhich}
+use Rattle.goal_eval.specs.ProjectionParts.{ThroughGives, ThroughRefuted, replaced, ReplacedGives, ReplacedRefuted}
 use Rattle.goal_solver.specs.State.{State}
-use Rattle.goal_solver.specs.declared.eval.outcomes.Found as founds
-use Rattle.goal_solver.proofs.MergingLemmas.{ok-map, which-map}
+use Rattle.goal_eval.specs.declared.eval.outcomes.Found as founds
+use Rattle.goal_eval.proofs.MergingLemmas.{ok-map, which-map}
 
 -- an alias that projects no item, or whose item or trait has no row, says nothing
 pub item-missing : (S : Setting) (k : AliasTermKind) (P : ItemRow → TraitRow → Type 0) → None ≡ projected_item k → OfItem S k P → ⊥

@@ -39,7 +39,8 @@ use Rattle.goal_kinds.proofs.WithinLevels.{within-alike_level, within-alike_leve
 use Rattle.goal_kinds.specs.declared.faults.Fault.{Fault}
 use Rattle.goal_kinds.specs.declared.faults.Fault.TheVariants as fault
 use Rattle.goal_solver.specs.AddedGoals.{IsClosedGoal, GoalHolds, GoalRefuted, IsGoalAnswer}
-use Rattle.goal_solver.specs.Answers.{IsOwed, level_over, erased_args}
+use Rattle.goal_eval.specs.ErasedArgs.{erased_args}
+use Rattle.goal_solver.specs.Answers.{IsOwed, level_over}
 use Rattle.goal_solver.specs.Comparisons.{AreComparable, IsAnswerTo, IsAnswerIn, IsAnswerHere, IsCompared, MayRun, IsClosedQuestion, IsAcceptedIn, IsAcceptedOver, DifferInOrder, answer_of}
 use Rattle.goal_solver.specs.Goals.{IsAcceptedBy, IsAcceptedNormalization, goal_has}
 use Rattle.goal_solver.specs.Promises.{trait_asked, trait_question, equation_asked, const_asked, term_asked}

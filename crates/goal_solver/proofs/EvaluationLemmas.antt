@@ -13,16 +13,16 @@ use Rattle.goal_kinds.specs.Answers.{setting_of}
 use Rattle.goal_kinds.specs.Settings.{Setting, is_headline}
 use Rattle.goal_solver.specs.Accesses.{RecordsCaused, EndsFor}
 use Rattle.goal_solver.specs.Answers.{IsOwed, level_over}
-use Rattle.goal_solver.specs.Effects.{EndsIn}
+use Rattle.goal_eval.specs.Effects.{EndsIn}
 use Rattle.goal_solver.specs.Evaluations.{SaysOf, SaysTermAt, StopsForMemory}
 use Rattle.goal_solver.specs.GoingBack.{GoesBack, restored}
-use Rattle.goal_solver.specs.Outcomes.{RunsAs, StandsFor, SaysWhich}
+use Rattle.goal_eval.specs.Outcomes.{RunsAs, StandsFor, SaysWhich}
 use Rattle.goal_solver.specs.State.{State}
-use Rattle.goal_solver.specs.declared.eval.outcomes.Found.{Found}
-use Rattle.goal_solver.specs.declared.eval.outcomes.OnAccess.{OnAccess}
-use Rattle.goal_solver.specs.declared.eval.outcomes.Outcome.{Outcome}
-use Rattle.goal_solver.specs.declared.eval.outcomes.Stop.{Stop}
-use Rattle.goal_solver.specs.declared.eval.outcomes.Stop.TheVariants as stop
+use Rattle.goal_eval.specs.declared.eval.outcomes.Found.{Found}
+use Rattle.goal_eval.specs.declared.eval.outcomes.OnAccess.{OnAccess}
+use Rattle.goal_eval.specs.declared.eval.outcomes.Outcome.{Outcome}
+use Rattle.goal_eval.specs.declared.eval.outcomes.Stop.{Stop}
+use Rattle.goal_eval.specs.declared.eval.outcomes.Stop.TheVariants as stop
 use Rattle.goal_solver.proofs.AccessLemmas.{none-recorded, recorded-then, ends-before}
 use Rattle.goal_solver.proofs.AnswerLemmas.{goes_back-grown}
 

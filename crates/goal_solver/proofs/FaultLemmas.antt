@@ -6,7 +6,7 @@ use Rattle.goal_terms.specs.declared.answers.DelayedFault.{DelayedFault}
 use Rattle.goal_tables.specs.declared.rows.Tables.{Tables}
 use Rattle.goal_kinds.specs.Causes.{IsFaultCaused, has_fault_cause}
 use Rattle.goal_solver.specs.Accesses.{uncaused, uncaused_faults, RecordsCausedFaults}
-use Rattle.goal_solver.specs.Added.{Enters, EntersAtMost}
+use Rattle.goal_eval.specs.Entering.{Enters, EntersAtMost}
 use Rattle.goal_solver.specs.GoingBack.{GoesBack, restored}
 use Rattle.goal_solver.specs.Relating.{ChangesInference}
 use Rattle.goal_solver.specs.State.{State}

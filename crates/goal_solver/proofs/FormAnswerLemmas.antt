@@ -20,9 +20,9 @@ use Rattle.goal_kinds.specs.declared.faults.Fault.{Fault}
 use Rattle.goal_kinds.specs.declared.faults.Fault.TheVariants as fault
 use Rattle.goal_kinds.proofs.EqualLemmas.{one_head_form, no_head_form_refuted}
 use Rattle.goal_solver.specs.HeadForms.{IsClosedForm, IsFormAnswer, IsFormOpen, IsAnswered, IsFormFound, IsFormUnfound, IsFoundItself}
-use Rattle.goal_solver.specs.Outcomes.{SaysWhich}
-use Rattle.goal_solver.specs.declared.eval.outcomes.Found.{Found}
-use Rattle.goal_solver.specs.declared.eval.outcomes.Found.TheVariants as found
+use Rattle.goal_eval.specs.Outcomes.{SaysWhich}
+use Rattle.goal_eval.specs.declared.eval.outcomes.Found.{Found}
+use Rattle.goal_eval.specs.declared.eval.outcomes.Found.TheVariants as found
 use Rattle.goal_solver.proofs.FoundAnswers.{is_term, sort-erased}
 use Rattle.goal_solver.proofs.SettledLemmas.{closed-erased}
 

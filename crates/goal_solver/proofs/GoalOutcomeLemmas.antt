@@ -21,16 +21,16 @@ use Rattle.goal_kinds.specs.Settings.{is_headline}
 use Rattle.goal_kinds.specs.declared.candidates.interned.InternedPredicate.{InternedPredicate}
 use Rattle.goal_solver.specs.Answers.{level_over}
 use Rattle.goal_solver.specs.GoingBack.{GoesBack}
-use Rattle.goal_solver.specs.Outcomes.{RunsAs, StandsFor, Says}
+use Rattle.goal_eval.specs.Outcomes.{RunsAs, StandsFor, Says}
 use Rattle.goal_solver.specs.Relating.{ChangesInference}
 use Rattle.goal_solver.specs.State.{State}
-use Rattle.goal_solver.specs.declared.eval.outcomes.OnAccess.TheVariants as on_access
-use Rattle.goal_solver.specs.declared.eval.outcomes.Outcome.{Outcome}
-use Rattle.goal_solver.specs.declared.eval.outcomes.Stop.{Stop}
+use Rattle.goal_eval.specs.declared.eval.outcomes.OnAccess.TheVariants as on_access
+use Rattle.goal_eval.specs.declared.eval.outcomes.Outcome.{Outcome}
+use Rattle.goal_eval.specs.declared.eval.outcomes.Stop.{Stop}
 use Rattle.goal_solver.proofs.AddedGoalLemmas.{inference-through}
 use Rattle.goal_solver.proofs.AnswerLemmas.{goes_back-grown, stops-runs}
 use Rattle.goal_solver.proofs.GoingBackLemmas.{goes_back-through}
-use Rattle.goal_solver.proofs.InterningLemmas.{is_argument-term}
+use Rattle.goal_eval.proofs.InterningLemmas.{is_argument-term}
 
 -- the number of a type or a constant is that of an argument
 pub term-in : (U : List Tree) (t : Term) (id : TermId) → id.0 < length U → tree_at U id ≡ tree_of_term t → IsIn U id

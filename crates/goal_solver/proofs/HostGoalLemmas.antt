@@ -20,13 +20,13 @@ use Rattle.goal_solver.specs.Answers.{IsOwed, level_over, IsPredicateAnswer, IsU
 use Rattle.goal_solver.specs.Assembled.{level_above}
 use Rattle.goal_solver.specs.GoingBack.{GoesBack, restored}
 use Rattle.goal_solver.specs.HostGoals.{HostThrough, HoldsThroughClass, SaysHostAt, host_asked, AnswersHostThrough, AnswersHostGiven, host_with, host_through}
-use Rattle.goal_solver.specs.Outcomes.{Says}
+use Rattle.goal_eval.specs.Outcomes.{Says}
 use Rattle.goal_solver.specs.Promises.{LeavesUndecided, NamesNoClass}
 use Rattle.goal_solver.specs.State.{State, kinds_of}
-use Rattle.goal_solver.specs.declared.eval.outcomes.Outcome.{Outcome}
-use Rattle.goal_solver.specs.declared.eval.outcomes.Outcome.TheVariants as outcome
-use Rattle.goal_solver.specs.declared.eval.outcomes.Stop.{Stop}
-use Rattle.goal_solver.specs.declared.eval.outcomes.Stop.TheVariants as stop
+use Rattle.goal_eval.specs.declared.eval.outcomes.Outcome.{Outcome}
+use Rattle.goal_eval.specs.declared.eval.outcomes.Outcome.TheVariants as outcome
+use Rattle.goal_eval.specs.declared.eval.outcomes.Stop.{Stop}
+use Rattle.goal_eval.specs.declared.eval.outcomes.Stop.TheVariants as stop
 use Rattle.goal_solver.proofs.AnswerLemmas.{owed-before, answered-soundly, concluded-open, stops-later, IsConcluded}
 use Rattle.goal_solver.proofs.PromiseLemmas.{whether-right, whether-lasts, changes-lifetimes}
 

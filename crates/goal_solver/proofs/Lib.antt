@@ -1,40 +1,14 @@
 pub mod GoingBackLemmas
 pub mod VariableLemmas
 pub mod StoredLemmas
-pub mod InterningLemmas
 pub mod PredicateLemmas
 pub mod AnswerLemmas
-pub mod TopLemmas
-pub mod PartKinds
-pub mod PendingLemmas
-pub mod FormLemmas
-pub mod OutcomeLists
-pub mod PremiseOutcomes
 pub mod TermErrorLemmas
-pub mod RunModes
-pub mod CacheLemmas
-pub mod EffectLemmas
 pub mod AccessLemmas
 pub mod FaultLemmas
-pub mod TraitOutcomeLemmas
-pub mod BeforeLemmas
-pub mod ProjectionArgLemmas
 mod EqualResponses
 mod MergedLemmas
-pub mod MergingLemmas
-pub mod ProjectionTermLemmas
 pub mod RecordedLemmas
-pub mod ProjectionGroupLemmas
-pub mod ConstOutcomeLemmas
-pub mod HeadFormLemmas
-pub mod RowTermLemmas
-pub mod AliasTermLemmas
-pub mod HeaderPlaceLemmas
-pub mod HeaderClashLemmas
-pub mod HeaderArgLemmas
-pub mod HeaderPartLemmas
-pub mod HeaderOutcomeLemmas
-pub mod HeaderMatchLemmas
 pub mod FoundAnswers
 pub mod FormAnswerLemmas
 pub mod BindingLemmas
@@ -80,13 +54,7 @@ pub mod CollectedObjectLemmas
 mod OpenProjectionLemmas
 mod OpenHostLemmas
 pub mod PromiseLemmas
-pub mod ListRunLemmas
-pub mod ListEntryLemmas
-pub mod ListAnswerLemmas
-pub mod AskedTraitLemmas
 pub mod RerunLemmas
-pub mod HostEffectLemmas
-pub mod ListedTermLemmas
 pub mod ComparisonLemmas
 pub mod HostGoalLemmas
 pub mod HiddenTypeLemmas

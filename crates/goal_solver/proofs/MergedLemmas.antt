@@ -9,7 +9,7 @@ use Rattle.goal_solver.specs.MergedRules.{RunsTo, with_answer, RunsEach, AreSame
 use Rattle.goal_solver.specs.State.{State}
 use Rattle.goal_solver.specs.declared.assembly.merged_rules.Merged.{Merged}
 use Rattle.goal_solver.specs.declared.assembly.merged_rules.Merged.TheVariants as merged
-use Rattle.goal_solver.proofs.OutcomeLists.{Exists-front, Exists-last}
+use Rattle.goal_eval.proofs.OutcomeLists.{Exists-front, Exists-last}
 use Rattle.goal_solver.proofs.VariableLemmas.{take-more}
 
 -- the response in a merged answer

@@ -40,7 +40,7 @@ use Rattle.goal_solver.specs.HeadForms.{IsClosedForm, IsFormAnswer, IsFormOpen, 
 use Rattle.goal_solver.specs.HiddenTypes.{AsksForm}
 use Rattle.goal_solver.specs.OpenGoals.{IsNoForm, IsConsidered, Considers, fault_in, has_kind_fault, IsLeft, IsFormless, FormsGoal, IsClassAnswer, ClassAnswers, rules_of_class, AreOfClass, CollectsClasses, ConsidersRules, ByClasses, trait_classes, WhenAnswered, MergesGoal}
 use Rattle.goal_solver.specs.MergedRules.{MergesRules}
-use Rattle.goal_solver.specs.Pending.{is_alias}
+use Rattle.goal_eval.specs.Pending.{is_alias}
 use Rattle.goal_solver.specs.State.{State}
 use Rattle.goal_solver.specs.TranslatedArgs.{IsSameEnvironment}
 use Rattle.goal_solver.specs.declared.assembly.class_rules.ClassRules.{ClassRules}

@@ -36,7 +36,8 @@ use Rattle.goal_kinds.specs.declared.rules.RuleEntry.{RuleEntry}
 use Rattle.goal_kinds.specs.declared.rules.RuleEntry.TheVariants as entry
 use Rattle.goal_kinds.specs.declared.rules.RuleTerm.{RuleTerm}
 use Rattle.goal_solver.specs.Accesses.{uncaused_faults, RecordsCausedFaults}
-use Rattle.goal_solver.specs.Added.{with_goals, Enters, RecordsFault}
+use Rattle.goal_eval.specs.Entering.{Enters}
+use Rattle.goal_solver.specs.Added.{with_goals, RecordsFault}
 use Rattle.goal_solver.specs.GoingBack.{GoesBack}
 use Rattle.goal_solver.specs.OpenRuns.{OpenProgress, named_trees, after_entry, after_naming, clauses_with, conditions_with, predicate_of, other_header, source_of, AddsGoals, AddsRow, Defines, Equates, Evaluates, Follows, GivesForm, GivesTerm, GivesValue, IsGoalOf, Matches, MatchesIf, NamesOpen, ReadsMode, Steps}
 use Rattle.goal_solver.specs.RunRules.{AreListed}

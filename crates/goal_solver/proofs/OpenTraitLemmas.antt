@@ -19,7 +19,7 @@ use Rattle.goal_solver.specs.Relating.{ChangesInference, ChangesRecords, IsFault
 use Rattle.goal_solver.specs.State.{State}
 use Rattle.goal_solver.specs.Variables.{with_variables}
 use Rattle.goal_solver.proofs.AddedGoalLemmas.{inference-through}
-use Rattle.goal_solver.proofs.ProjectionGroupLemmas.{no_args}
+use Rattle.goal_eval.proofs.ProjectionGroupLemmas.{no_args}
 
 -- more terms are no other change
 pub grown-records : (s a : State) → a ≡ record s { terms = a.terms } → ChangesRecords s a

@@ -4,9 +4,9 @@ use Rattle.goal_terms.specs.PredicateTrees.{equals}
 use Rattle.goal_terms.specs.Tree.{Tree}
 use Rattle.goal_kinds.specs.Level.{Level}
 use Rattle.goal_kinds.specs.Premises.{predicate, ClauseHolds, ClauseRefuted, PremiseHolds, PremiseRefuted}
-use Rattle.goal_solver.specs.Outcomes.{Says}
-use Rattle.goal_solver.specs.declared.eval.outcomes.Outcome.{Outcome}
-use Rattle.goal_solver.specs.declared.eval.outcomes.Stop.{Stop}
+use Rattle.goal_eval.specs.Outcomes.{Says}
+use Rattle.goal_eval.specs.declared.eval.outcomes.Outcome.{Outcome}
+use Rattle.goal_eval.specs.declared.eval.outcomes.Stop.{Stop}
 
 -- the premise of an equation says what the equation does
 pub equation-says : (L : Level) (a b : Tree) (r : Result Outcome Stop) →

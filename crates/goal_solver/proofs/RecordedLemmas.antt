@@ -12,7 +12,7 @@ use Rattle.goal_kinds.specs.declared.rules.RuleEntry.{RuleEntry}
 use Rattle.goal_kinds.specs.declared.rules.RuleEntry.TheVariants as entry
 use Rattle.goal_kinds.specs.Causes.{IsFaultCaused}
 use Rattle.goal_solver.specs.Accesses.{RecordsCausedFaults}
-use Rattle.goal_solver.specs.Added.{Enters}
+use Rattle.goal_eval.specs.Entering.{Enters}
 use Rattle.goal_solver.specs.GoingBack.{BeginsWith, GoesBack}
 use Rattle.goal_solver.specs.RunRules.{to_record, IsRecorded, AreRecorded, IsRecordedAnswer, AreListed}
 use Rattle.goal_solver.specs.State.{State}

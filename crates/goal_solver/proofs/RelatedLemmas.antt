@@ -43,16 +43,16 @@ use Rattle.goal_kinds.specs.Settings.{Setting, is_headline}
 use Rattle.goal_kinds.specs.Words.{Pairs, SomePair}
 use Rattle.goal_solver.specs.Answers.{IsOwed}
 use Rattle.goal_solver.specs.GoingBack.{GoesBack, restored}
-use Rattle.goal_solver.specs.Outcomes.{RunsAs, RunsFor}
-use Rattle.goal_solver.specs.Pending.{IsOfKind, AreListsOfOneKind}
+use Rattle.goal_eval.specs.Outcomes.{RunsAs, RunsFor}
+use Rattle.goal_eval.specs.Pending.{IsOfKind, AreListsOfOneKind}
 use Rattle.goal_solver.specs.Relating.{IsRelated, ChangesRecords, AgreesWith, Identifies, all_replaced, all_bound, SaysEqual, IsFinalIn}
 use Rattle.goal_solver.specs.Settled.{AreSettled, AreSettledIn, outcome_in, IsPlainOrSame}
 use Rattle.goal_solver.specs.State.{State, IsValid, kinds_of}
-use Rattle.goal_solver.specs.declared.eval.outcomes.OnAccess.{OnAccess}
-use Rattle.goal_solver.specs.declared.eval.outcomes.Setting as over
-use Rattle.goal_solver.specs.declared.eval.outcomes.Outcome.{Outcome}
-use Rattle.goal_solver.specs.declared.eval.outcomes.Outcome.TheVariants as outcome
-use Rattle.goal_solver.specs.declared.eval.outcomes.Stop.{Stop}
+use Rattle.goal_eval.specs.declared.eval.outcomes.OnAccess.{OnAccess}
+use Rattle.goal_eval.specs.declared.eval.outcomes.Setting as over
+use Rattle.goal_eval.specs.declared.eval.outcomes.Outcome.{Outcome}
+use Rattle.goal_eval.specs.declared.eval.outcomes.Outcome.TheVariants as outcome
+use Rattle.goal_eval.specs.declared.eval.outcomes.Stop.{Stop}
 use Rattle.goal_solver.proofs.GoingBackLemmas.{goes_back-same, goes_back-through}
 use Rattle.goal_solver.proofs.SettledLemmas.{replaced-closed}
 

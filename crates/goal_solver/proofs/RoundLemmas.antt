@@ -19,7 +19,7 @@ use Rattle.goal_solver.specs.Relating.{ChangesRecords}
 use Rattle.goal_solver.specs.State.{State}
 use Rattle.goal_solver.proofs.AddedGoalLemmas.{owed-before, answer-before, round-yes, round-maybe, all-hold, some-left}
 use Rattle.goal_solver.proofs.GoingBackLemmas.{begins-through}
-use Rattle.goal_solver.proofs.ProjectionGroupLemmas.{no_args, some_args}
+use Rattle.goal_eval.proofs.ProjectionGroupLemmas.{no_args, some_args}
 use Rattle.goal_solver.proofs.PlaceLemmas.{count-at, is-below, some-counted, split-taken, split-left}
 use Rattle.goal_solver.proofs.StoredLemmas.{some-is}
 

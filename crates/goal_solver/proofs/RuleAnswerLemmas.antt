@@ -29,18 +29,18 @@ use Rattle.goal_kinds.proofs.RuleLemmas.{entries_hold-said, one_given, gives-not
 use Rattle.goal_kinds.proofs.RulesAsLists.{rule_list-holds, rule_list-gives, rule_list-refuted}
 use Rattle.goal_solver.specs.Answers.{IsMaybe, level_over}
 use Rattle.goal_solver.specs.GoingBack.{GoesBack, restored}
-use Rattle.goal_solver.specs.Lists.{SaysList, named_at, taken_at, progress_at, IsRunning, Leads}
-use Rattle.goal_solver.specs.Outcomes.{RunsAs}
+use Rattle.goal_eval.specs.Lists.{SaysList, named_at, taken_at, progress_at, IsRunning, Leads}
+use Rattle.goal_eval.specs.Outcomes.{RunsAs}
 use Rattle.goal_solver.specs.RunRules.{setting_over, asked_of, RuleRunsOn, ListsTerm, IsRuleResponse, IsRuleAnswer, IsRuleOpen}
 use Rattle.goal_solver.specs.State.{State}
-use Rattle.goal_solver.specs.declared.eval.lists.ListOutcome.{ListOutcome}
-use Rattle.goal_solver.specs.declared.eval.lists.ListOutcome.TheVariants as list
-use Rattle.goal_solver.specs.declared.eval.lists.progress.ListRun.{ListRun}
-use Rattle.goal_solver.specs.declared.eval.lists.progress.Reached.{Reached}
-use Rattle.goal_solver.specs.declared.eval.lists.progress.Reached.TheVariants as reached
-use Rattle.goal_solver.specs.declared.eval.outcomes.OnAccess.{OnAccess}
+use Rattle.goal_eval.specs.declared.eval.lists.ListOutcome.{ListOutcome}
+use Rattle.goal_eval.specs.declared.eval.lists.ListOutcome.TheVariants as list
+use Rattle.goal_eval.specs.declared.eval.lists.progress.ListRun.{ListRun}
+use Rattle.goal_eval.specs.declared.eval.lists.progress.Reached.{Reached}
+use Rattle.goal_eval.specs.declared.eval.lists.progress.Reached.TheVariants as reached
+use Rattle.goal_eval.specs.declared.eval.outcomes.OnAccess.{OnAccess}
 use Rattle.goal_solver.proofs.FoundAnswers.{AnswersFound, is_term, sort-erased}
-use Rattle.goal_solver.proofs.ListRunLemmas.{progress-same, start-running, end-says, refuted-says, unsettled-says}
+use Rattle.goal_eval.proofs.ListRunLemmas.{progress-same, start-running, end-says, refuted-says, unsettled-says}
 use Rattle.goal_solver.proofs.RuleEntryLemmas.{left-at, no_term-asks_none, asked-has_term}
 
 -- what is left of a rule's list says the same as all of it, in each mode for which a run stands

@@ -23,18 +23,18 @@ use Rattle.goal_terms.specs.declared.answers.OpaqueAccess.{OpaqueAccess}
 use Rattle.goal_terms.specs.declared.predicates.BoundConstness.{BoundConstness}
 use Rattle.goal_terms.specs.declared.predicates.Clause.{Clause}
 use Rattle.goal_terms.specs.declared.predicates.TraitRef.{TraitRef}
-use Rattle.goal_solver.specs.Lists.{named_at, progress_at, RunIn, Leads, RunsOn, run_asking, reached_asking}
+use Rattle.goal_eval.specs.Lists.{named_at, progress_at, RunIn, Leads, RunsOn, run_asking, reached_asking}
 use Rattle.goal_solver.specs.RunRules.{asked_by, asked_of, IsAskedOnce, asked_as, asked_and, asked_next, to_record, RuleRunsOn}
-use Rattle.goal_solver.specs.declared.eval.lists.progress.ListRun.{ListRun}
-use Rattle.goal_solver.specs.declared.eval.lists.progress.Reached.{Reached}
-use Rattle.goal_solver.specs.declared.eval.lists.progress.Reached.TheVariants as reached
-use Rattle.goal_solver.specs.declared.eval.outcomes.Outcome.TheVariants as outcome
-use Rattle.goal_solver.specs.declared.eval.outcomes.Stop.{Stop}
+use Rattle.goal_eval.specs.declared.eval.lists.progress.ListRun.{ListRun}
+use Rattle.goal_eval.specs.declared.eval.lists.progress.Reached.{Reached}
+use Rattle.goal_eval.specs.declared.eval.lists.progress.Reached.TheVariants as reached
+use Rattle.goal_eval.specs.declared.eval.outcomes.Outcome.TheVariants as outcome
+use Rattle.goal_eval.specs.declared.eval.outcomes.Stop.{Stop}
 use Rattle.goal_solver.specs.declared.eval.run_rule.asked.Asked.{Asked}
 use Rattle.goal_solver.specs.declared.eval.run_rule.asked.Asked.TheVariants as asked
 use Rattle.goal_solver.specs.declared.eval.run_rule.recorded.ToRecord.{ToRecord}
 use Rattle.goal_solver.specs.declared.eval.run_rule.recorded.ToRecord.TheVariants as recorded
-use Rattle.goal_solver.proofs.ListRunLemmas.{progress_same-grown, asking-leads, access-asks, fault-asks, undecided-asks}
+use Rattle.goal_eval.proofs.ListRunLemmas.{progress_same-grown, asking-leads, access-asks, fault-asks, undecided-asks}
 
 -- an entry whose rows are there, as the engine runs it
 pub found-runs : (t : Tables) (L : Level) (T U V : List Tree) → Keeps T U → (r s : ListRun) → RunIn T r → (e : RuleEntry) (x : InternedEntry) (q : Result Reached Stop) →

@@ -32,14 +32,15 @@ use Rattle.goal_kinds.specs.TraitGoals.{header_of}
 use Rattle.goal_kinds.specs.declared.faults.Fault.{Fault}
 use Rattle.goal_kinds.proofs.SubstitutionLemmas.{one_substitution}
 use Rattle.goal_kinds.proofs.UnderLemmas.{under-erased_term}
-use Rattle.goal_solver.specs.Answers.{IsOwed, erased_args}
-use Rattle.goal_solver.specs.Outcomes.{SaysMatch}
+use Rattle.goal_eval.specs.ErasedArgs.{erased_args}
+use Rattle.goal_solver.specs.Answers.{IsOwed}
+use Rattle.goal_eval.specs.Outcomes.{SaysMatch}
 use Rattle.goal_solver.specs.Relating.{AgreesWith}
 use Rattle.goal_solver.specs.State.{State}
 use Rattle.goal_solver.specs.TranslatedArgs.{AnswersJust, IsTranslatedBy, IsTranslation, IsHeaderOpen, MakesVariables, MatchCounts}
 use Rattle.goal_solver.specs.Variables.{unbound, with_variables, fresh_args}
-use Rattle.goal_solver.specs.declared.eval.outcomes.HeaderMatch.{HeaderMatch}
-use Rattle.goal_solver.specs.declared.eval.outcomes.HeaderMatch.TheVariants as match
+use Rattle.goal_eval.specs.declared.eval.outcomes.HeaderMatch.{HeaderMatch}
+use Rattle.goal_eval.specs.declared.eval.outcomes.HeaderMatch.TheVariants as match
 use Rattle.goal_solver.specs.GoingBack.{GoesBack}
 use Rattle.goal_solver.proofs.GoingBackLemmas.{goes_back-through}
 use Rattle.goal_solver.proofs.VariableLemmas.{goes_back-when_made}

@@ -5,9 +5,9 @@ use Rattle.goal_terms.specs.declared.answers.DelayedFault.{DelayedFault}
 use Rattle.goal_terms.specs.declared.answers.OpaqueAccess.{OpaqueAccess}
 use Rattle.goal_tables.specs.declared.rows.Tables.{Tables}
 use Rattle.goal_kinds.specs.Causes.{IsCaused, has_fault_cause}
-use Rattle.goal_solver.specs.Effects.{EndsIn}
+use Rattle.goal_eval.specs.Effects.{EndsIn}
 use Rattle.goal_solver.specs.State.{State}
-use Rattle.goal_solver.specs.declared.eval.outcomes.Stop.{Stop}
+use Rattle.goal_eval.specs.declared.eval.outcomes.Stop.{Stop}
 
 -- each access that is recorded after a call was recorded before it, or has its cause in the tables
 unfoldable pub RecordsCaused : State → State → Type 0

@@ -9,6 +9,7 @@ use Rattle.goal_terms.specs.declared.answers.OpaqueTypeKey.{OpaqueTypeKey}
 use Rattle.goal_terms.specs.declared.predicates.Goal.{Goal}
 use Rattle.goal_terms.specs.declared.predicates.Predicate.{Predicate}
 use Rattle.goal_terms.specs.declared.terms.Ty.{Ty}
+use Rattle.goal_eval.specs.Entering.{Enters}
 use Rattle.goal_solver.specs.State.{State}
 use Rattle.goal_solver.specs.Stored.{IsSameKey}
 
@@ -19,14 +20,6 @@ has_goals s = nat_lt (length s.taken) (length s.goals)
 -- a context with goals added after the others, and nothing else changed
 abbrev pub with_goals : List (GoalSource × Goal Predicate) → State → State
 with_goals gs s = record s { goals = s.goals ++ gs }
-
--- something enters a set in order of first entry: it stands there already, or it comes last
-abbrev pub Enters : {A : Type 0} → A → List A → List A → Type 0
-Enters x old new = (Contains old x × (new ≡ old)) ⊎ ((Contains old x → ⊥) × (new ≡ old ++ x ∷ []))
-
--- it enters, or nothing does
-abbrev pub EntersAtMost : {A : Type 0} → A → List A → List A → Type 0
-EntersAtMost x old new = (new ≡ old) ⊎ Enters x old new
 
 -- an access is recorded, and nothing else changes
 abbrev pub RecordsAccess : OpaqueAccess → State → State → Type 0

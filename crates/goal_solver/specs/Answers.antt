@@ -28,9 +28,9 @@ use Rattle.goal_kinds.specs.Premises.{ClauseHolds, ClauseRefuted}
 use Rattle.goal_kinds.specs.Settings.{is_headline}
 use Rattle.goal_solver.specs.State.{State}
 use Rattle.goal_kinds.specs.declared.faults.Fault.{Fault}
-use Rattle.goal_solver.specs.declared.eval.outcomes.Outcome.{Outcome}
-use Rattle.goal_solver.specs.declared.eval.outcomes.Outcome.TheVariants as outcome
-use Rattle.goal_solver.specs.declared.eval.outcomes.Stop.{Stop}
+use Rattle.goal_eval.specs.declared.eval.outcomes.Outcome.{Outcome}
+use Rattle.goal_eval.specs.declared.eval.outcomes.Outcome.TheVariants as outcome
+use Rattle.goal_eval.specs.declared.eval.outcomes.Stop.{Stop}
 use Rattle.goal_kinds.specs.declared.faults.Fault.TheVariants as fault
 
 -- the headline modes whose answers a call owes, by what it leaves: the context's own, or each in the erased mode as long as nothing was recorded
@@ -40,10 +40,6 @@ IsOwed s m = (is_headline m ≡ true) × ((s.typing_mode ≡ m) ⊎ ((s.typing_m
 -- what trees no higher than the depth that is left prove over an environment in a mode, by the definitions of `goal_kinds`
 abbrev pub level_over : State → TypingMode → List Clause → Level
 level_over s m clauses = level (setting_of s.tables m clauses) s.remaining_depth
-
--- the arguments of a goal, lifetimes aside
-abbrev pub erased_args : List GenericArg → List Tree
-erased_args args = map erased (map tree_of_arg args)
 
 -- a goal of arguments, of an alias, or of an alias and a term holds no inference variable, and neither does its environment
 abbrev pub AreClosed : List GenericArg → List Clause → Type 0

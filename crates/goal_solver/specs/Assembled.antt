@@ -14,7 +14,7 @@ use Rattle.goal_kinds.specs.Levels.{level}
 use Rattle.goal_kinds.specs.Projections.{projected_item}
 use Rattle.goal_kinds.specs.Settings.{Setting}
 use Rattle.goal_kinds.specs.Words.{OfRow}
-use Rattle.goal_solver.specs.ProjectionParts.{ThroughGives, ThroughRefuted}
+use Rattle.goal_eval.specs.ProjectionParts.{ThroughGives, ThroughRefuted}
 use Rattle.goal_solver.specs.State.{State}
 
 -- what trees one higher than the depth that is left prove: there a goal is what its candidates make it at that depth

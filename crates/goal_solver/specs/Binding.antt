@@ -102,3 +102,11 @@ pub record Applies (old new : State) (r : Response) : Type 0 where
   pub valued : State
   pub values : GetValues (with_variables r.vars.items old) valued r.var_values.items
   pub entered : EntersAll (with_equations r.region_equations.items valued) new r.opaque_entries.items
+
+-- the expected term of a goal is given a term as it stands
+abbrev pub BindsExpected : State → State → Goal NormalizesTo → Tree → Type 0
+BindsExpected old new g t = OfVariable g.predicate.term (BindsTo old new t)
+
+-- a goal is added: an alias normalizes to the expected term of a goal
+abbrev pub AddsExpected : State → State → Goal NormalizesTo → Tree → Type 0
+AddsExpected old new g t = AddsNormalization old new t (tree_of_term g.predicate.term) g.param_env.items

@@ -8,15 +8,16 @@ use Rattle.goal_terms.specs.declared.terms.AliasTermKind.{AliasTermKind}
 use Rattle.goal_kinds.specs.Level.{Level}
 use Rattle.goal_kinds.specs.Premises.{ClauseHolds, ClauseRefuted}
 use Rattle.goal_kinds.specs.Settings.{is_headline}
-use Rattle.goal_solver.specs.Answers.{IsOwed, level_over, erased_args}
-use Rattle.goal_solver.specs.Outcomes.{RunsAs, Says, SaysWhich}
+use Rattle.goal_eval.specs.ErasedArgs.{erased_args}
+use Rattle.goal_solver.specs.Answers.{IsOwed, level_over}
+use Rattle.goal_eval.specs.Outcomes.{RunsAs, Says, SaysWhich}
 use Rattle.goal_solver.specs.Promises.{const_asked, equation_asked}
 use Rattle.goal_solver.specs.State.{State}
-use Rattle.goal_solver.specs.declared.eval.outcomes.Found.{Found}
-use Rattle.goal_solver.specs.declared.eval.outcomes.OnAccess.{OnAccess}
-use Rattle.goal_solver.specs.declared.eval.outcomes.Outcome.{Outcome}
-use Rattle.goal_solver.specs.declared.eval.outcomes.Stop.{Stop}
-use Rattle.goal_solver.specs.declared.eval.outcomes.Stop.TheVariants as stop
+use Rattle.goal_eval.specs.declared.eval.outcomes.Found.{Found}
+use Rattle.goal_eval.specs.declared.eval.outcomes.OnAccess.{OnAccess}
+use Rattle.goal_eval.specs.declared.eval.outcomes.Outcome.{Outcome}
+use Rattle.goal_eval.specs.declared.eval.outcomes.Stop.{Stop}
+use Rattle.goal_eval.specs.declared.eval.outcomes.Stop.TheVariants as stop
 use Rattle.goal_solver.specs.declared.eval.predicate_views.PredicateView.{PredicateView}
 use Rattle.goal_solver.specs.declared.eval.predicate_views.PredicateView.TheVariants as view
 

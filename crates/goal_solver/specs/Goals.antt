@@ -1,4 +1,5 @@
 -- The faults of goals, each with a fact of its own.
+use Rattle.goal_terms.specs.declared.predicates.Goal.{Goal}
 use Rattle.std.specs.Prelude.{◌≡◌, ◌<◌, ℕ, Bool, true, false, ◌||◌, List, [], Option, Some, None}
 use Rattle.goal_terms.specs.declared.heads.Node.{Node}
 use Rattle.goal_terms.specs.declared.predicates.Clause.{Clause}
@@ -40,6 +41,11 @@ goal_has faulty passing asked t s p env UnknownVariable = passing p (is_unmade (
 goal_has faulty passing asked t s p env ExpectedTermNotFree = wants_taken s (asked p) env
 goal_has faulty passing asked t s p env NeverConst = faulty p t lies.NeverConst || lies_in_env t lies.NeverConst env
 goal_has faulty passing asked t s p env GoalsPending = has_goals s
+
+-- so it is asked of a goal with its environment
+abbrev pub has_in_goal : {P : Type 0} → (P → Tables → TermFault → Bool) → (P → (Node → Bool) → Bool) → (P → Option NormalizesTo) →
+    Tables → State → Goal P → GoalFault → Bool
+has_in_goal faulty passing asked t s g = goal_has faulty passing asked t s g.predicate g.param_env.items
 
 -- no fault applies
 abbrev pub IsAcceptedBy : (GoalFault → Bool) → Type 0

@@ -6,6 +6,7 @@ use Rattle.goal_terms.specs.Sorts.{IsTerm}
 use Rattle.goal_terms.specs.TableMeaning.{HasTerm}
 use Rattle.goal_terms.specs.Tree.{Tree}
 use Rattle.goal_terms.specs.TreeOf.{tree_of_term}
+use Rattle.goal_terms.specs.declared.modes.TypingMode.{TypingMode}
 use Rattle.goal_terms.specs.declared.predicates.Clause.{Clause}
 use Rattle.goal_terms.specs.declared.terms.Term.{Term}
 use Rattle.goal_tables.specs.Predicates.{some_in_env}
@@ -15,9 +16,10 @@ use Rattle.goal_kinds.specs.Interned.{erased_at}
 use Rattle.goal_kinds.specs.Level.{Level, HasHeadForm, HeadFormRefuted}
 use Rattle.goal_kinds.specs.declared.faults.Fault.{Fault}
 use Rattle.goal_kinds.specs.declared.faults.Fault.TheVariants as fault
+use Rattle.goal_solver.specs.Answers.{level_over}
 use Rattle.goal_solver.specs.State.{State}
-use Rattle.goal_solver.specs.declared.eval.outcomes.Found.{Found}
-use Rattle.goal_solver.specs.declared.eval.outcomes.Found.TheVariants as found
+use Rattle.goal_eval.specs.declared.eval.outcomes.Found.{Found}
+use Rattle.goal_eval.specs.declared.eval.outcomes.Found.TheVariants as found
 
 -- a term with the bindings of a context followed, lifetimes aside
 abbrev pub bound_term : State → Term → Tree
@@ -60,3 +62,7 @@ abbrev pub IsFoundItself : Tree → List Tree → Found → Type 0
 IsFoundItself t T (found.Is id) = HasTerm T id × (erased_at T id ≡ t)
 IsFoundItself t T found.Refuted = ⊥
 IsFoundItself t T found.Undecided = ⊥
+
+-- where the head form of a closed term is left undecided there is none, nor is it refuted
+abbrev pub LeavesFormOpen : State → TypingMode → List Clause → Term → Result (Option Term) Fault → Type 0
+LeavesFormOpen s m env e answer = IsClosedForm (bound_term s e) env → answer ≡ Ok None → IsFormOpen (level_over s m env) (bound_term s e)

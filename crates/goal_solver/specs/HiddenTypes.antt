@@ -20,7 +20,7 @@ use Rattle.goal_solver.specs.Answers.{IsOwed, level_over}
 use Rattle.goal_solver.specs.Binding.{bound_term}
 use Rattle.goal_solver.specs.GoingBack.{restored}
 use Rattle.goal_solver.specs.HeadForms.{IsClosedForm, IsFormAnswer, IsFormOpen, IsAnswered}
-use Rattle.goal_solver.specs.Pending.{is_alias}
+use Rattle.goal_eval.specs.Pending.{is_alias}
 use Rattle.goal_solver.specs.State.{State}
 
 -- the head form of a term is asked for, as `structurally_normalize_term` answers it

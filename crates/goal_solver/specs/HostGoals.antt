@@ -16,11 +16,11 @@ use Rattle.goal_kinds.specs.Settings.{Setting}
 use Rattle.goal_kinds.specs.declared.faults.Fault.{Fault}
 use Rattle.goal_solver.specs.Answers.{IsOwed, level_over}
 use Rattle.goal_solver.specs.Assembled.{level_above}
-use Rattle.goal_solver.specs.Outcomes.{Says}
+use Rattle.goal_eval.specs.Outcomes.{Says}
 use Rattle.goal_solver.specs.Promises.{whether_answered, decided_in, ChangesLifetimes, NamesNoClass, LeavesUndecided}
 use Rattle.goal_solver.specs.State.{State}
 use Rattle.goal_solver.specs.declared.effect_goals.proven_via.HostEffectThrough.{HostEffectThrough}
-use Rattle.goal_solver.specs.declared.eval.outcomes.Outcome.{Outcome}
+use Rattle.goal_eval.specs.declared.eval.outcomes.Outcome.{Outcome}
 
 -- a const goal whose plain goal is taken to hold through a class
 pub record HostThrough : Type 0 where

@@ -5,18 +5,8 @@ pub mod Added
 pub mod Stored
 pub mod Goals
 pub mod MergedRules
-pub mod Outcomes
-pub mod CacheEntries
-pub mod EvaluationCache
-pub mod Effects
 pub mod Accesses
 pub mod Answers
-pub mod Pending
-pub mod Joined
-pub mod TraitOutcomes
-pub mod ProjectionParts
-pub mod Combined
-pub mod HeaderWords
 pub mod Relating
 pub mod Binding
 pub mod Settled
@@ -26,7 +16,6 @@ pub mod AddedGoals
 pub mod Responses
 pub mod HeadForms
 pub mod HiddenTypes
-pub mod Lists
 pub mod RunAnswers
 pub mod RunRules
 pub mod OpenRuns
@@ -40,6 +29,5 @@ pub mod OpenHostGoals
 pub mod Recording
 pub mod Promises
 pub mod Evaluations
-pub mod AskedTraits
 pub mod Comparisons
 pub mod HostGoals

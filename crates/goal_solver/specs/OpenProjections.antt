@@ -37,7 +37,8 @@ use Rattle.goal_kinds.specs.declared.rules.Rule.{Rule}
 use Rattle.goal_kinds.specs.declared.rules.RuleEntry.{RuleEntry}
 use Rattle.goal_kinds.specs.declared.rules.RuleEntry.TheVariants as entry
 use Rattle.goal_kinds.specs.declared.rules.RuleTerm.TheVariants as given
-use Rattle.goal_solver.specs.Answers.{IsOwed, level_over, erased_args, AreClosed, IsTraitAnswer, IsOpen, IsMaybe}
+use Rattle.goal_eval.specs.ErasedArgs.{erased_args}
+use Rattle.goal_solver.specs.Answers.{IsOwed, level_over, AreClosed, IsTraitAnswer, IsOpen, IsMaybe}
 use Rattle.goal_solver.specs.Collecting.{KindWords, kind_words, CollectsFor}
 use Rattle.goal_solver.specs.GoingBack.{restored}
 use Rattle.goal_solver.specs.MergedRules.{MergesRules}

@@ -53,7 +53,7 @@ use Rattle.goal_solver.specs.Binding.{AddsNormalization}
 use Rattle.goal_solver.specs.Equating.{IsEquated}
 use Rattle.goal_solver.specs.GoingBack.{GoesBack, restored, begun}
 use Rattle.goal_solver.specs.HiddenTypes.{NormalizesArgs, EntersHidden, bounds_in, checked_in}
-use Rattle.goal_solver.specs.Pending.{is_alias}
+use Rattle.goal_eval.specs.Pending.{is_alias}
 use Rattle.goal_solver.specs.Relating.{ChangesRecords, LeavesOpen, SaysYes}
 use Rattle.goal_solver.specs.Responses.{ListsSinceMark, both_certain}
 use Rattle.goal_solver.specs.State.{State, kinds_of}

@@ -34,14 +34,15 @@ use Rattle.goal_kinds.specs.declared.goal_kind.MergeRule.{MergeRule}
 use Rattle.goal_kinds.specs.declared.goal_kind.MergeRule.TheVariants as merge
 use Rattle.goal_kinds.specs.declared.rules.FirstUse.{FirstUse}
 use Rattle.goal_kinds.specs.declared.rules.RuleEntry.{RuleEntry}
-use Rattle.goal_solver.specs.Answers.{IsOwed, level_over, erased_args, AreClosed, is_closed_alias, IsClosedEquation, IsMaybe, IsAliasOpen, IsQuiet, IsQuietAside, expected_variable}
+use Rattle.goal_eval.specs.ErasedArgs.{erased_args}
+use Rattle.goal_solver.specs.Answers.{IsOwed, level_over, AreClosed, is_closed_alias, IsClosedEquation, IsMaybe, IsAliasOpen, IsQuiet, IsQuietAside, expected_variable}
 use Rattle.goal_solver.specs.Assembled.{level_above, level_through, HoldsThrough}
 use Rattle.goal_solver.specs.Binding.{IsApplicable}
 use Rattle.goal_solver.specs.Goals.{IsAcceptedNormalization}
 use Rattle.goal_solver.specs.OpenGoals.{MergesTrait, WhenAnswered, at_depth}
 use Rattle.goal_solver.specs.OpenHostGoals.{MergesHostEffect}
 use Rattle.goal_solver.specs.OpenProjections.{MergesProjection, RunsEquation, AnswersRun}
-use Rattle.goal_solver.specs.Outcomes.{StandsFor}
+use Rattle.goal_eval.specs.Outcomes.{StandsFor}
 use Rattle.goal_solver.specs.State.{State, kinds_of}
 
 -- what a result says of a goal: nothing, where memory ran out, or where it is to be asked again in another mode

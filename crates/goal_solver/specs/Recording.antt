@@ -9,8 +9,8 @@ use Rattle.goal_terms.specs.declared.modes.TypingMode.TheVariants as mode
 use Rattle.goal_terms.specs.declared.terms.AliasTermKind.{AliasTermKind}
 use Rattle.goal_terms.specs.declared.terms.AliasTermKind.TheVariants.{OpaqueTy}
 use Rattle.goal_kinds.specs.Interned.{erased_at}
-use Rattle.goal_solver.specs.declared.eval.outcomes.Found as founds
-use Rattle.goal_solver.specs.declared.eval.outcomes.Found.TheVariants as found
+use Rattle.goal_eval.specs.declared.eval.outcomes.Found as founds
+use Rattle.goal_eval.specs.declared.eval.outcomes.Found.TheVariants as found
 
 -- what is found can be the term of an alias of a kind: no inference variable stands in it, and it is a type or a constant as the alias is
 abbrev pub FitsKind : AliasTermKind → List Tree → founds.Found → Type 0

@@ -31,7 +31,7 @@ use Rattle.goal_solver.specs.Equating.{IsEquated}
 use Rattle.goal_solver.specs.GoingBack.{GoesBack, restored, begun}
 use Rattle.goal_solver.specs.HiddenTypes.{NormalizesArgs, RefusesArgs, EntersHidden, checked_in}
 use Rattle.goal_solver.specs.OpenRuns.{OpenProgress, open_start, open_header, other_header, RunsThrough}
-use Rattle.goal_solver.specs.Pending.{is_alias}
+use Rattle.goal_eval.specs.Pending.{is_alias}
 use Rattle.goal_solver.specs.State.{State, kinds_of}
 use Rattle.goal_solver.specs.Variables.{with_variables, kind_for, fresh_args}
 

@@ -34,12 +34,12 @@ use Rattle.goal_kinds.specs.declared.rules.RuleEntry.TheVariants as entry
 use Rattle.goal_kinds.specs.declared.rules.RuleTerm.{RuleTerm}
 use Rattle.goal_kinds.specs.declared.rules.RuleTerm.TheVariants as term
 use Rattle.goal_solver.specs.Answers.{expected_variable, GivesTo}
-use Rattle.goal_solver.specs.Lists.{list_held, progress_at, Leads}
+use Rattle.goal_eval.specs.Lists.{list_held, progress_at, Leads}
 use Rattle.goal_solver.specs.State.{State}
-use Rattle.goal_solver.specs.declared.eval.lists.ListOutcome.{ListOutcome}
-use Rattle.goal_solver.specs.declared.eval.lists.progress.ListRun.{ListRun}
-use Rattle.goal_solver.specs.declared.eval.lists.progress.Reached.{Reached}
-use Rattle.goal_solver.specs.declared.eval.outcomes.Outcome.TheVariants as outcome
+use Rattle.goal_eval.specs.declared.eval.lists.ListOutcome.{ListOutcome}
+use Rattle.goal_eval.specs.declared.eval.lists.progress.ListRun.{ListRun}
+use Rattle.goal_eval.specs.declared.eval.lists.progress.Reached.{Reached}
+use Rattle.goal_eval.specs.declared.eval.outcomes.Outcome.TheVariants as outcome
 use Rattle.goal_solver.specs.declared.eval.run_rule.asked.Asked.{Asked}
 use Rattle.goal_solver.specs.declared.eval.run_rule.asked.Asked.TheVariants as asked
 use Rattle.goal_solver.specs.declared.eval.run_rule.recorded.ToRecord.{ToRecord}

@@ -11,14 +11,14 @@ use Rattle.goal_infer.specs.Unification.{IsClosed}
 use Rattle.goal_kinds.specs.Answers.{setting_of}
 use Rattle.goal_kinds.specs.Levels.{level}
 use Rattle.goal_kinds.specs.Words.{Pairs}
-use Rattle.goal_solver.specs.Outcomes.{RunsFor, Says, level_in}
+use Rattle.goal_eval.specs.Outcomes.{RunsFor, Says, level_in}
 use Rattle.goal_solver.specs.Relating.{Identifies, all_replaced, all_bound, AreClosedSides, SaysEqual}
 use Rattle.goal_solver.specs.State.{State, kinds_of}
-use Rattle.goal_solver.specs.declared.eval.outcomes.Setting as over
-use Rattle.goal_solver.specs.declared.eval.outcomes.Outcome.{Outcome}
-use Rattle.goal_solver.specs.declared.eval.outcomes.Outcome.TheVariants as outcome
-use Rattle.goal_solver.specs.declared.eval.outcomes.Stop.{Stop}
-use Rattle.goal_solver.specs.declared.eval.outcomes.Stop.TheVariants as stop
+use Rattle.goal_eval.specs.declared.eval.outcomes.Setting as over
+use Rattle.goal_eval.specs.declared.eval.outcomes.Outcome.{Outcome}
+use Rattle.goal_eval.specs.declared.eval.outcomes.Outcome.TheVariants as outcome
+use Rattle.goal_eval.specs.declared.eval.outcomes.Stop.{Stop}
+use Rattle.goal_eval.specs.declared.eval.outcomes.Stop.TheVariants as stop
 
 -- two terms are equal whatever stands for their variables, or can't be made identical; closed ones are compared, where that is asked for
 pub record IsSettled (c : over.Setting) (opens : Bool) (n : ℕ) (t u : Tree) (o : Outcome) : Type 0 where

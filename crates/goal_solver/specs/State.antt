@@ -1,5 +1,5 @@
 -- What a context holds.
-use Rattle.std.specs.Prelude.{◌<◌, ℕ, Bool, List, length, map}
+use Rattle.std.specs.Prelude.{◌<◌, ℕ, Bool, List, length, map, []}
 use Rattle.std.specs.List.{All}
 use Rattle.goal_terms.specs.Tree.{Tree}
 use Rattle.goal_terms.specs.declared.answers.DelayedFault.{DelayedFault}
@@ -34,6 +34,23 @@ pub record State : Type 0 where
   pub accesses : List OpaqueAccess
   pub delayed_faults : List DelayedFault
   pub mark : Mark
+
+-- a context to which nothing was given yet
+abbrev pub fresh_state : Tables → TypingMode → ℕ → Bool → State
+fresh_state t m limit stops = record {
+  tables = t;
+  typing_mode = m;
+  remaining_depth = limit;
+  stop_on_rerun = stops;
+  terms = [];
+  inference = record { variables = []; trail = []; equations = [] };
+  goals = [];
+  taken = [];
+  storage = [];
+  accesses = [];
+  delayed_faults = [];
+  mark = record { inference = record { variables = 0; trail = 0; equations = 0 }; storage = 0 };
+}
 
 -- the kinds of some variables
 abbrev pub kinds_in : List InferVariable → List VarKind

@@ -1,5 +1,5 @@
 -- The arguments that a definition of a goal's item takes.
-use Rattle.std.specs.Prelude.{◌≡◌, ◌==◌, ◌||◌, ◌⊎◌, ℕ, false, IfOk, List, ◌++◌, length, map, drop, Result, Ok, Err, Vec, if◌then◌else◌}
+use Rattle.std.specs.Prelude.{◌≡◌, ◌==◌, ◌||◌, ◌⊎◌, ℕ, false, IfOk, Some, List, ◌++◌, length, map, drop, Result, Ok, Err, Vec, if◌then◌else◌}
 use Rattle.std.specs.Global.{Global}
 use Rattle.std.specs.List.{AllZip, list_any}
 use Rattle.goal_terms.specs.Erased.{erased}
@@ -37,12 +37,13 @@ use Rattle.goal_kinds.specs.Words.{Pairs}
 use Rattle.goal_kinds.specs.declared.faults.Fault.{Fault}
 use Rattle.goal_kinds.specs.declared.faults.Fault.TheVariants as fault
 use Rattle.goal_solver.specs.Added.{with_goals}
-use Rattle.goal_solver.specs.Answers.{IsOwed, level_over, erased_args}
+use Rattle.goal_eval.specs.ErasedArgs.{erased_args}
+use Rattle.goal_solver.specs.Answers.{IsOwed, level_over}
 use Rattle.goal_solver.specs.Equating.{IsEquated}
 use Rattle.goal_solver.specs.Relating.{AgreesWith, Identifies, SaysYes, Refuses, LeavesOpen, all_bound, all_replaced}
 use Rattle.goal_solver.specs.State.{State, kinds_of}
-use Rattle.goal_solver.specs.declared.eval.outcomes.HeaderMatch.{HeaderMatch}
-use Rattle.goal_solver.specs.declared.eval.outcomes.HeaderMatch.TheVariants as match
+use Rattle.goal_eval.specs.declared.eval.outcomes.HeaderMatch.{HeaderMatch}
+use Rattle.goal_eval.specs.declared.eval.outcomes.HeaderMatch.TheVariants as match
 use Rattle.goal_solver.specs.Variables.{with_variables, kind_for, fresh_args}
 
 -- whose arguments a definition takes that an impl uses, by where it stands
@@ -71,6 +72,14 @@ certainty_in (Err f) = Err f
 abbrev pub AnswersJust : List Tree → Certainty → Result (Vec GenericArg Global × Certainty) Fault → Type 0
 AnswersJust ts c (Ok r) = (trees_of r.0.items ≡ ts) × (r.1 ≡ c)
 AnswersJust ts c (Err f) = f ≡ fault.OutOfMemory
+
+-- so they are, and nothing changes
+abbrev pub Takes : State → State → List Tree → Certainty → Result (Vec GenericArg Global × Certainty) Fault → Type 0
+Takes old new ts c r = AnswersJust ts c r × (new ≡ old)
+
+-- the arguments of a goal's alias
+abbrev pub args_asked : Goal NormalizesTo → List Tree
+args_asked g = trees_of g.predicate.alias.args.items
 
 -- a yes says that an impl's header fits given terms under the answered arguments before the own ones; else these are the terms of the parameters, if all are known
 abbrev pub IsTranslatedBy : Level → ImplRow → List Tree → List Tree → List Tree → Certainty → Type 0
@@ -199,3 +208,7 @@ pub record Translates (old new : State) (o : OtherAsked) (r : Result (Vec Generi
   pub closed : IsClosedFor old o → ReadsOff old new o r
   pub variables : (IsClosedFor old o → ⊥) → MakesEqual old new o r
   pub added : IfOk r (λ x. IsAdded old new o.row o.environment o.own (trees_of x.0.items))
+
+-- the arguments are those of another impl that has a row
+abbrev pub TranslatesOther : State → State → Taken → TraitRef → Goal NormalizesTo → Result (Vec GenericArg Global × Certainty) Fault → Type 0
+TranslatesOther old new taken r g answer = (q : ImplRow) → taken ≡ from_other (Some q) → Translates old new (asked_of r g q) answer

@@ -5,7 +5,8 @@ ghost use Rattle.goal_terms.specs.declared.predicates.NormalizesTo.{NormalizesTo
 ghost use Rattle.goal_kinds.specs.Answers.{IsAnswer, setting_of, which_term, maybe};
 ghost use Rattle.goal_kinds.specs.Premises.{TraitTree as trait_tree};
 ghost use Rattle.goal_kinds.specs.declared.goal_kind.MergeRule.TheVariants as merging_by;
-ghost use Rattle.goal_solver.specs.Answers.{IsOwed, level_over, erased_args, is_closed_alias, IsTraitAnswer, IsOpen, IsAliasAnswer, IsAliasOpen, expected_variable, IsMaybe, IsQuiet, IsQuietAside, AnswersAside, IsFaultOf};
+ghost use Rattle.goal_eval.specs.ErasedArgs.{erased_args};
+ghost use Rattle.goal_solver.specs.Answers.{IsOwed, level_over, is_closed_alias, IsTraitAnswer, IsOpen, IsAliasAnswer, IsAliasOpen, expected_variable, IsMaybe, IsQuiet, IsQuietAside, AnswersAside, IsFaultOf};
 ghost use Rattle.goal_solver.specs.Assembled.{level_above, level_through, HoldsThrough};
 ghost use Rattle.goal_solver.specs.Binding.{IsApplicable};
 ghost use Rattle.goal_solver.specs.Goals.{IsAcceptedNormalization};
@@ -15,15 +16,13 @@ ghost use Rattle.goal_solver.specs.HostGoals.{AnswersHostGiven, host_through, ho
 ghost use Rattle.goal_solver.specs.OpenGoals.{MergesGoal, WhenAnswered};
 ghost use Rattle.goal_solver.specs.OpenHostGoals.{MergesConst};
 ghost use Rattle.goal_solver.specs.OpenProjections.{MergesThrough};
-ghost use Rattle.goal_solver.specs.Outcomes.{StandsFor};
+ghost use Rattle.goal_eval.specs.Outcomes.{StandsFor};
 ghost use Rattle.goal_solver.specs.Promises.{AnswersGiven, AnswersTraitAbove, AppliesGiven, IsClosedGoal, IsUndecidedResponse, LeavesUndecided, ListsTerm, Through as through, asked_through};
 ghost use Rattle.goal_solver.specs.State.{kinds_of};
 
-pub mod candidates;
 pub(crate) mod class_rules;
 pub(crate) mod collecting;
 pub(crate) mod merged_rules;
-pub(crate) mod merging;
 
 use crate::context::EvalCtxt;
 use crate::effect_goals::proven_via::HostEffectThrough;

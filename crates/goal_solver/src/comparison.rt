@@ -9,9 +9,9 @@ ghost use Rattle.goal_kinds.specs.Settings.{is_headline};
 ghost use Rattle.goal_solver.specs.Comparisons.{AreComparable, DifferInOrder, IsAcceptedOver, IsAnswerHere, IsAnswerIn, IsClosedQuestion, IsCompared, IsComparison, MayRun, answer_of};
 
 use crate::context::{EvalCtxt, GREATEST_LIMIT};
-use crate::eval::outcomes::Found;
-use crate::eval::region_constraints::RegionConstraints;
 use crate::faults::Fault;
+use goal_eval::eval::outcomes::Found;
+use goal_eval::eval::region_constraints::RegionConstraints;
 use goal_tables::checked::CheckedTables;
 use goal_tables::predicate_terms::PredicateTerms;
 use goal_terms::answers::Certainty;

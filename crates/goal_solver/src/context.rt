@@ -2,9 +2,9 @@
 ghost use Rattle.std.specs.Prelude.{◌≡◌, ◌<◌, [], ◌↔◌, length, IsErr, IfOk};
 ghost use Rattle.goal_tables.specs.Faults.{IsChecked};
 ghost use Rattle.goal_solver.specs.Answers.{IsQuiet, IsQuietAside};
-ghost use Rattle.goal_solver.specs.Effects.{AreNone};
+ghost use Rattle.goal_eval.specs.Effects.{AreNone};
 ghost use Rattle.goal_solver.specs.GoingBack.{GoesBack, lengths_of, restored, begun};
-ghost use Rattle.goal_solver.specs.State.{State, IsValid, kinds_of};
+ghost use Rattle.goal_solver.specs.State.{State, IsValid, kinds_of, fresh_state};
 ghost use Rattle.goal_solver.specs.Stored.{HasOneTypeAKey};
 
 pub mod added_goals;
@@ -18,9 +18,9 @@ pub(crate) mod respond;
 pub mod storage;
 pub mod variables;
 
-use crate::eval::effects::Effects;
-use crate::eval::region_constraints::RegionConstraints;
 use crate::faults::DepthTooLarge;
+use goal_eval::eval::effects::Effects;
+use goal_eval::eval::region_constraints::RegionConstraints;
 use goal_infer::state;
 use goal_infer::state::InferState;
 use goal_tables::checked::CheckedTables;
@@ -128,7 +128,7 @@ impl<'t> EvalCtxt<'t> {
         stop_on_rerun: bool,
     ) -> Result<EvalCtxt<'t>, DepthTooLarge>
         ensures refused { IsErr result ↔ (128 < limit) }
-        ensures made { IfOk result (λ c. c ≡ record { tables = tables.now; typing_mode = typing_mode; remaining_depth = limit; stop_on_rerun = stop_on_rerun; terms = []; inference = record { variables = []; trail = []; equations = [] }; goals = []; taken = []; storage = []; accesses = []; delayed_faults = []; mark = record { inference = record { variables = 0; trail = 0; equations = 0 }; storage = 0 } }) }
+        ensures made { IfOk result (λ c. c ≡ fresh_state tables.now typing_mode limit stop_on_rerun) }
     {
         if limit > GREATEST_LIMIT {
             return Err(DepthTooLarge);

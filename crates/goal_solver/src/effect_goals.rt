@@ -7,7 +7,6 @@ ghost use Rattle.goal_solver.specs.Binding.{IsApplicable};
 ghost use Rattle.goal_solver.specs.GoingBack.{GoesBack, restored};
 ghost use Rattle.goal_solver.specs.Promises.{AnswersHostEffect, IsClosedHostEffect, LeavesUndecided, MergesOpenHostEffect, NoTwoDisagree, const_asked};
 
-pub mod evaluation;
 pub(crate) mod open;
 pub(crate) mod proven_via;
 

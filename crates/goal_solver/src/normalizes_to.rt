@@ -7,7 +7,8 @@ ghost use Rattle.goal_terms.specs.declared.terms.Term.{Term as term};
 ghost use Rattle.goal_kinds.specs.Answers.{IsAnswer, maybe};
 ghost use Rattle.goal_kinds.specs.Interned.{erased_at};
 ghost use Rattle.goal_solver.specs.Accesses.{RecordsCaused, RecordsCausedFaults};
-ghost use Rattle.goal_solver.specs.Answers.{IsOwed, level_over, erased_args, is_closed_alias, IsAliasAnswer, IsAliasOpen, GivesTo, expected_variable, IsMaybe, AnswersAside, AnswersQuietly, IsFaultOf};
+ghost use Rattle.goal_eval.specs.ErasedArgs.{erased_args};
+ghost use Rattle.goal_solver.specs.Answers.{IsOwed, level_over, is_closed_alias, IsAliasAnswer, IsAliasOpen, GivesTo, expected_variable, IsMaybe, AnswersAside, AnswersQuietly, IsFaultOf};
 ghost use Rattle.goal_solver.specs.Binding.{IsApplicable};
 ghost use Rattle.goal_solver.specs.Goals.{IsAcceptedNormalization};
 ghost use Rattle.goal_solver.specs.GoingBack.{GoesBack, restored};
@@ -17,21 +18,17 @@ ghost use Rattle.goal_solver.specs.Promises.{AnswersAlias, DefinesAlias, IsClose
 ghost use Rattle.goal_solver.specs.Recording.{is_ambiguous};
 ghost use Rattle.goal_solver.specs.State.{kinds_of};
 
-pub mod alias_terms;
 pub(crate) mod groups;
 pub(crate) mod hidden_types;
 pub(crate) mod open;
-pub(crate) mod projection_args;
-pub mod projection_candidates;
-pub mod projections;
 pub(crate) mod proven_via;
 pub mod translate_args;
 
 use crate::context::EvalCtxt;
 use crate::eval::closed_goals::is_closed_alias;
-use crate::eval::outcomes::Found;
-use crate::eval::region_constraints::RegionConstraints;
 use crate::faults::Fault;
+use goal_eval::eval::outcomes::Found;
+use goal_eval::eval::region_constraints::RegionConstraints;
 use goal_terms::answers::{Certainty, Response};
 use goal_terms::node_tests::general_variable;
 use goal_terms::predicates::{Goal, NormalizesTo};

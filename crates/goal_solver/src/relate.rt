@@ -9,23 +9,14 @@ ghost use Rattle.goal_solver.specs.GoingBack.{GoesBack, restored};
 ghost use Rattle.goal_solver.specs.Relating.{ChangesRecords};
 ghost use Rattle.goal_solver.specs.Relating.{IsFaultFor};
 
-pub mod equality;
-pub mod header_args;
-pub mod header_clashes;
-pub mod header_parts;
-pub mod header_places;
-pub mod header_questions;
-pub mod headers;
 pub(crate) mod lifetimes;
 pub(crate) mod lists;
-pub mod pairs;
-pub(crate) mod region_pairs;
 pub(crate) mod resolved;
 
 use crate::context::EvalCtxt;
-use crate::eval::interning::{intern_args, intern_pair};
-use crate::eval::outcomes::{Outcome, Stop};
 use crate::faults::Fault;
+use goal_eval::eval::interning::{intern_args, intern_pair};
+use goal_eval::eval::outcomes::{Outcome, Stop};
 use goal_terms::answers::Certainty;
 use goal_terms::predicates::Clause;
 use goal_terms::term_nodes::TermId;

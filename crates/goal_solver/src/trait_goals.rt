@@ -5,21 +5,21 @@ ghost use Rattle.goal_terms.specs.declared.modes.TypingMode.{TypingMode};
 ghost use Rattle.goal_kinds.specs.Answers.{setting_of};
 ghost use Rattle.goal_kinds.specs.Levels.{level};
 ghost use Rattle.goal_solver.specs.Accesses.{RecordsCaused, RecordsCausedFaults};
-ghost use Rattle.goal_solver.specs.Answers.{IsOwed, level_over, erased_args, AreClosed, IsTraitAnswer, IsOpen, IsMaybe, AnswersAside, IsFaultOf};
+ghost use Rattle.goal_eval.specs.ErasedArgs.{erased_args};
+ghost use Rattle.goal_solver.specs.Answers.{IsOwed, level_over, AreClosed, IsTraitAnswer, IsOpen, IsMaybe, AnswersAside, IsFaultOf};
 ghost use Rattle.goal_solver.specs.Binding.{IsApplicable};
 ghost use Rattle.goal_solver.specs.GoingBack.{GoesBack, restored};
 ghost use Rattle.goal_solver.specs.OpenGoals.{MergesTrait, WhenAnswered, at_depth};
 ghost use Rattle.goal_solver.specs.Promises.{AnswersTrait, IsClosedTrait, LeavesUndecided, MergesOpenTrait, NoTwoDisagree, trait_asked, trait_question};
 ghost use Rattle.goal_solver.specs.State.{kinds_of};
 
-pub mod evaluation;
 pub(crate) mod open;
 
 use crate::context::EvalCtxt;
 use crate::eval::closed_goals::has_variable;
-use crate::eval::outcomes::TraitOutcome;
-use crate::eval::region_constraints::RegionConstraints;
 use crate::faults::Fault;
+use goal_eval::eval::outcomes::TraitOutcome;
+use goal_eval::eval::region_constraints::RegionConstraints;
 use goal_terms::answers::{Certainty, Response};
 use goal_terms::ids::TraitId;
 use goal_terms::predicates::{Clause, Goal, TraitPredicate};

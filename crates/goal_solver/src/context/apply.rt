@@ -14,9 +14,9 @@ ghost use Rattle.goal_solver.specs.Stored.{HasOneTypeAKey};
 ghost use Rattle.goal_solver.specs.Variables.{with_variables};
 
 use crate::context::EvalCtxt;
-use crate::eval::outcomes::Stop;
-use crate::eval::region_constraints::RegionConstraints;
 use crate::faults::Fault;
+use goal_eval::eval::outcomes::Stop;
+use goal_eval::eval::region_constraints::RegionConstraints;
 use goal_terms::answers::{Certainty, OpaqueTypeKey, Response, VarKind};
 use goal_terms::heads::Variable;
 use goal_terms::terms::{InferTy, Region, Term, Ty};

@@ -4,9 +4,9 @@ ghost use Rattle.goal_terms.specs.Tree.{node_of};
 ghost use Rattle.goal_terms.specs.TableMeaning.{tree_at};
 ghost use Rattle.goal_terms.specs.TreeOf.{tree_of_alias, tree_of_ty, tree_of_const, tree_of_term};
 ghost use Rattle.goal_terms.specs.View.{tree_of_ref};
-ghost use Rattle.goal_solver.specs.Binding.{IsFreeFor, BindsTo, OfVariable, AddsNormalization};
+ghost use Rattle.goal_solver.specs.Binding.{IsFreeFor, BindsTo, OfVariable, AddsNormalization, BindsExpected, AddsExpected};
 ghost use Rattle.goal_solver.specs.GoingBack.{GoesBack, restored};
-ghost use Rattle.goal_solver.specs.Pending.{is_alias};
+ghost use Rattle.goal_eval.specs.Pending.{is_alias};
 
 use crate::context::EvalCtxt;
 use crate::faults::Fault;
@@ -61,8 +61,8 @@ impl EvalCtxt<'_> {
         term: Term,
     ) -> Result<(), Fault>
         requires free { OfVariable goal.now.predicate.term (IsFreeFor self.old (tree_of_term term)) }
-        ensures bound { is_alias (node_of (tree_of_term term)) ≡ false → OnOk result (OfVariable goal.now.predicate.term (BindsTo self.old self.new (tree_of_term term))) }
-        ensures added { is_alias (node_of (tree_of_term term)) ≡ true → OnOk result (AddsNormalization self.old self.new (tree_of_term term) (tree_of_term goal.now.predicate.term) goal.now.param_env.items) }
+        ensures bound { is_alias (node_of (tree_of_term term)) ≡ false → OnOk result (BindsExpected self.old self.new goal.now (tree_of_term term)) }
+        ensures added { is_alias (node_of (tree_of_term term)) ≡ true → OnOk result (AddsExpected self.old self.new goal.now (tree_of_term term)) }
         ensures unchanged { OnErr result (self.new ≡ restored self.old self.new) }
         ensures goes_back { GoesBack self.old self.new }
         ensures only_memory { IsOkUnless result Fault.OutOfMemory }

@@ -5,16 +5,18 @@ ghost use Rattle.goal_terms.specs.declared.answers.DelayedFault.{DelayedFault as
 ghost use Rattle.goal_terms.specs.declared.answers.OpaqueAccess.{OpaqueAccess as Access};
 ghost use Rattle.goal_kinds.specs.Causes.{IsFaultCaused, is_missing};
 ghost use Rattle.goal_solver.specs.Accesses.{RecordsCausedFaults, uncaused, uncaused_faults};
-ghost use Rattle.goal_solver.specs.Added.{Enters, EntersAtMost, RecordsAccess, RecordsFault};
+ghost use Rattle.goal_eval.specs.Entering.{Enters, EntersAtMost};
+ghost use Rattle.goal_solver.specs.Added.{RecordsAccess, RecordsFault};
 ghost use Rattle.goal_solver.specs.GoingBack.{GoesBack};
 ghost use Rattle.goal_solver.specs.Stored.{IsSet};
 
 use crate::context::EvalCtxt;
 use crate::context::respond::since;
-use crate::eval::effects::Effects;
-use crate::eval::outcomes::Stop;
-use crate::eval::region_constraints::RegionConstraints;
 use crate::faults::Fault;
+use goal_eval::eval::effects::Effects;
+use goal_eval::eval::entering::{enter_access, enter_fault};
+use goal_eval::eval::outcomes::Stop;
+use goal_eval::eval::region_constraints::RegionConstraints;
 use goal_tables::checked::CheckedTables;
 use goal_tables::rows::DefValue;
 use goal_terms::answers::{DelayedFault, OpaqueAccess};
@@ -199,47 +201,4 @@ fn is_missing(value: &DefValue) -> bool
     ensures { result ≡ is_missing value.now }
 {
     matches!(value, DefValue::Missing)
-}
-
-/// Enters an access behind others, where it isn't among them. Only memory is refused; then nothing changes.
-pub(crate) fn enter_access(
-    accesses: &mut Vec<OpaqueAccess>,
-    access: OpaqueAccess,
-) -> Result<(), OutOfMemory>
-    ensures entered { OnOk result (Enters access accesses.old.items accesses.new.items) }
-    ensures unchanged { OnErr result (accesses.new.items ≡ accesses.old.items) }
-{
-    if has_access(accesses.as_slice(), access) {
-        return Ok(());
-    }
-    accesses.push(access)?;
-    Ok(())
-}
-
-/// Enters a delayed fault behind others, where it isn't among them. Only memory is refused; then nothing
-/// changes.
-pub(crate) fn enter_fault(
-    delayed_faults: &mut Vec<DelayedFault>,
-    fault: DelayedFault,
-) -> Result<(), OutOfMemory>
-    ensures entered { OnOk result (Enters fault delayed_faults.old.items delayed_faults.new.items) }
-    ensures unchanged { OnErr result (delayed_faults.new.items ≡ delayed_faults.old.items) }
-{
-    if has_fault(delayed_faults.as_slice(), fault) {
-        return Ok(());
-    }
-    delayed_faults.push(fault)?;
-    Ok(())
-}
-
-fn has_access(known: &[OpaqueAccess], access: OpaqueAccess) -> bool
-    ensures { IsTrue result ↔ Contains known.now access }
-{
-    known.contains(&access)
-}
-
-fn has_fault(known: &[DelayedFault], fault: DelayedFault) -> bool
-    ensures { IsTrue result ↔ Contains known.now fault }
-{
-    known.contains(&fault)
 }

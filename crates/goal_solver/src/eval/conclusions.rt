@@ -14,10 +14,10 @@ ghost use Rattle.goal_solver.specs.State.{kinds_of};
 ghost use Rattle.std.specs.Prelude.{length};
 
 use crate::context::EvalCtxt;
-use crate::eval::outcomes::{Outcome, Stop};
 use crate::eval::predicate_views::PredicateView;
-use crate::eval::region_constraints::RegionConstraints;
 use crate::faults::Fault;
+use goal_eval::eval::outcomes::{Outcome, Stop};
+use goal_eval::eval::region_constraints::RegionConstraints;
 use goal_terms::answers::{Certainty, Response};
 use goal_terms::modes::TypingMode;
 use goal_terms::predicates::Clause;

@@ -10,18 +10,18 @@ ghost use Rattle.goal_solver.specs.AddedGoals.{IsClosedGoal, GoalHolds, GoalRefu
 ghost use Rattle.goal_solver.specs.Answers.{IsOwed, level_over};
 ghost use Rattle.goal_solver.specs.Evaluations.{SaysOf, StopsForMemory, predicate_seen};
 ghost use Rattle.goal_solver.specs.GoingBack.{GoesBack};
-ghost use Rattle.goal_solver.specs.Outcomes.{Says};
+ghost use Rattle.goal_eval.specs.Outcomes.{Says};
 ghost use Rattle.goal_solver.specs.Relating.{ChangesRecords};
 
 use crate::context::EvalCtxt;
 use crate::context::rebuilding::rebuilt_args;
 use crate::eval::closed_goals::has_variable;
 use crate::eval::open_terms::any_variable;
-use crate::eval::outcomes::{Found, Outcome, Stop};
 use crate::eval::predicate_views::PredicateView;
-use crate::eval::region_constraints::RegionConstraints;
 use crate::eval::where_goals::copied_clauses;
 use crate::faults::Fault;
+use goal_eval::eval::outcomes::{Found, Outcome, Stop};
+use goal_eval::eval::region_constraints::RegionConstraints;
 use goal_infer::followed::{follow, follow_all};
 use goal_infer::resolve::resolve;
 use goal_infer::unify::{Unified, unify};

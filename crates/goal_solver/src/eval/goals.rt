@@ -3,7 +3,7 @@ ghost use Rattle.std.specs.Prelude.{◌≡◌, ◌||◌, OnOk, IfErr};
 ghost use Rattle.goal_terms.specs.NodeTests.{is_unmade};
 ghost use Rattle.goal_tables.specs.Predicates.{lies_in_env as in_env, some_in_env as some_env};
 ghost use Rattle.goal_solver.specs.State.{kinds_of};
-ghost use Rattle.goal_solver.specs.Goals.{goal_has, IsAcceptedBy, IsSmallestOf, wants_taken};
+ghost use Rattle.goal_solver.specs.Goals.{has_in_goal, IsAcceptedBy, IsSmallestOf, wants_taken};
 
 use crate::context::EvalCtxt;
 use goal_tables::checked::CheckedTables;
@@ -47,8 +47,8 @@ pub fn check_goal<P: PredicateTerms>(
     context: &EvalCtxt<'_>,
     goal: &Goal<P>,
 ) -> Result<(), GoalFault>
-    ensures accepted { OnOk result (IsAcceptedBy (goal_has P.has_fault P.has_passing P.normalization tables.now context.now goal.now.predicate goal.now.param_env.items)) }
-    ensures refused { IfErr result (IsSmallestOf (goal_has P.has_fault P.has_passing P.normalization tables.now context.now goal.now.predicate goal.now.param_env.items)) }
+    ensures accepted { OnOk result (IsAcceptedBy (has_in_goal P.has_fault P.has_passing P.normalization tables.now context.now goal.now)) }
+    ensures refused { IfErr result (IsSmallestOf (has_in_goal P.has_fault P.has_passing P.normalization tables.now context.now goal.now)) }
 {
     if lies_in_goal(tables, TermFault::UnknownItem, goal) {
         return Err(GoalFault::UnknownItem);

@@ -5,13 +5,13 @@ ghost use Rattle.goal_solver.specs.Accesses.{RecordsCaused, EndsFor};
 ghost use Rattle.goal_solver.specs.Answers.{IsOwed};
 ghost use Rattle.goal_kinds.specs.Interned.{IsIn};
 ghost use Rattle.goal_solver.specs.GoingBack.{GoesBack};
-ghost use Rattle.goal_solver.specs.Outcomes.{FoundIn};
+ghost use Rattle.goal_eval.specs.Outcomes.{FoundIn};
 ghost use Rattle.goal_solver.specs.Recording.{FitsKind, is_ambiguous};
 ghost use Rattle.goal_solver.specs.Relating.{IsFinalIn};
 
 use crate::context::EvalCtxt;
-use crate::eval::mode_tests::is_headline;
-use crate::eval::outcomes::{Found, OnAccess, Stop};
+use goal_eval::eval::mode_tests::is_headline;
+use goal_eval::eval::outcomes::{Found, OnAccess, Stop};
 use goal_terms::answers::OpaqueAccess;
 use goal_terms::heads::Node;
 use goal_terms::modes::TypingMode;

@@ -12,15 +12,15 @@ ghost use Rattle.goal_kinds.specs.Settings.{is_headline};
 ghost use Rattle.goal_solver.specs.Accesses.{RecordsCausedFaults};
 ghost use Rattle.goal_solver.specs.Answers.{IsOwed, level_over};
 ghost use Rattle.goal_solver.specs.GoingBack.{GoesBack, restored};
-ghost use Rattle.goal_solver.specs.HeadForms.{bound_term, IsClosedForm, IsFormAnswer, IsFormOpen, IsAnswered, IsFormFound, IsFormUnfound, IsFoundItself};
-ghost use Rattle.goal_solver.specs.Outcomes.{RunsAs, SaysWhich, FoundIn};
+ghost use Rattle.goal_solver.specs.HeadForms.{bound_term, IsClosedForm, IsFormAnswer, IsFormOpen, IsAnswered, IsFormFound, IsFormUnfound, IsFoundItself, LeavesFormOpen};
+ghost use Rattle.goal_eval.specs.Outcomes.{RunsAs, SaysWhich, FoundIn};
 ghost use Rattle.goal_solver.specs.Relating.{IsFaultFor};
 
 use crate::context::EvalCtxt;
-use crate::eval::effects::Effects;
-use crate::eval::head_forms::head_form;
-use crate::eval::outcomes::{Found, OnAccess, Setting, Stop};
 use crate::faults::Fault;
+use goal_eval::eval::effects::Effects;
+use goal_eval::eval::head_forms::head_form;
+use goal_eval::eval::outcomes::{Found, OnAccess, Setting, Stop};
 use goal_infer::followed::follow;
 use goal_tables::predicate_terms::some_in_env;
 use goal_terms::heads::Node;
@@ -46,7 +46,7 @@ impl EvalCtxt<'_> {
         term: &Term,
     ) -> Result<Option<Term>, Fault>
         ensures sound { (m : modes) → IsOwed self.new m → IsFormAnswer (level_over self.old m environment.now) (bound_term self.old term.now) result }
-        ensures decided { (m : modes) → IsOwed self.new m → IsClosedForm (bound_term self.old term.now) environment.now → result ≡ Ok None → IsFormOpen (level_over self.old m environment.now) (bound_term self.old term.now) }
+        ensures decided { (m : modes) → IsOwed self.new m → LeavesFormOpen self.old m environment.now term.now result }
         ensures itself { is_alias (node_of (bound_term self.old term.now)) ≡ false → IfOk result (IsAnswered (bound_term self.old term.now)) }
         ensures only_memory { is_alias (node_of (bound_term self.old term.now)) ≡ false → IfErr result (λ f. f ≡ Fault.OutOfMemory) }
         ensures unchanged { self.new ≡ restored self.old self.new }

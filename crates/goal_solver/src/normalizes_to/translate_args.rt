@@ -17,23 +17,24 @@ ghost use Rattle.goal_kinds.specs.Interned.{AreIn, erased_all};
 ghost use Rattle.goal_kinds.specs.Settings.{is_headline};
 ghost use Rattle.goal_kinds.specs.TraitGoals.{header_of};
 ghost use Rattle.goal_tables.specs.declared.rows.ImplRow.{ImplRow as impls};
-ghost use Rattle.goal_solver.specs.Answers.{IsOwed, level_over, erased_args};
+ghost use Rattle.goal_eval.specs.ErasedArgs.{erased_args};
+ghost use Rattle.goal_solver.specs.Answers.{IsOwed, level_over};
 ghost use Rattle.goal_solver.specs.GoingBack.{GoesBack, restored};
-ghost use Rattle.goal_solver.specs.Outcomes.{RunsAs, SaysMatch, MatchIn};
+ghost use Rattle.goal_eval.specs.Outcomes.{RunsAs, SaysMatch, MatchIn};
 ghost use Rattle.goal_solver.specs.Relating.{AgreesWith, Identifies, SaysYes, Refuses, LeavesOpen, ChangesRecords, IsFaultFor, all_bound};
 ghost use Rattle.goal_solver.specs.State.{kinds_of};
-ghost use Rattle.goal_solver.specs.TranslatedArgs.{taken_by, own_after, bound_ref, AreClosedIn, certainty_in, AnswersJust, IsTranslation, IsHeaderOpen, IsFresh, BindsNothing, IsMadeEqual, IsEqualUnder, IsAdded, AddsClauses, MakesVariables, ChangesGoals, MatchCounts, Translates, asked_of};
+ghost use Rattle.goal_solver.specs.TranslatedArgs.{taken_by, own_after, bound_ref, AreClosedIn, certainty_in, AnswersJust, IsTranslation, IsHeaderOpen, IsFresh, BindsNothing, IsMadeEqual, IsEqualUnder, IsAdded, AddsClauses, MakesVariables, ChangesGoals, MatchCounts, Translates, asked_of, Takes, args_asked, TranslatesOther};
 ghost use Rattle.goal_solver.specs.Variables.{fresh_args};
 
 use crate::context::EvalCtxt;
 use crate::context::rebuilding::rebuilt_args;
-use crate::eval::effects::Effects;
-use crate::eval::interning::intern_args;
 use crate::eval::open_terms::any_variable;
-use crate::eval::outcomes::{HeaderMatch, OnAccess, Setting, Stop};
 use crate::eval::where_goals::goals_under;
 use crate::faults::Fault;
-use crate::relate::headers::match_header;
+use goal_eval::eval::effects::Effects;
+use goal_eval::eval::interning::intern_args;
+use goal_eval::eval::outcomes::{HeaderMatch, OnAccess, Setting, Stop};
+use goal_eval::relate::headers::match_header;
 use goal_infer::followed::follow_all;
 use goal_tables::predicate_terms::some_in_env;
 use goal_tables::rows::{Container, ImplRow};
@@ -70,10 +71,10 @@ impl EvalCtxt<'_> {
         impl_trait_ref: &TraitRef,
         container: Container,
     ) -> Result<(Vec<GenericArg>, Certainty), Fault>
-        ensures in_trait { taken_by self.old impl_id container ≡ from_projection → AnswersJust (trees_of goal.now.predicate.alias.args.items) Certainty.Yes result × (self.new ≡ self.old) }
-        ensures in_impl { taken_by self.old impl_id container ≡ from_impl → AnswersJust (trees_of impl_args.now ++ own_after impl_trait_ref.now goal.now) Certainty.Yes result × (self.new ≡ self.old) }
-        ensures nowhere { taken_by self.old impl_id container ≡ from_other None → AnswersJust (own_after impl_trait_ref.now goal.now) Certainty.Maybe result × (self.new ≡ self.old) }
-        ensures other { (q : impls) → taken_by self.old impl_id container ≡ from_other (Some q) → Translates self.old self.new (asked_of impl_trait_ref.now goal.now q) result }
+        ensures in_trait { taken_by self.old impl_id container ≡ from_projection → Takes self.old self.new (args_asked goal.now) Certainty.Yes result }
+        ensures in_impl { taken_by self.old impl_id container ≡ from_impl → Takes self.old self.new (trees_of impl_args.now ++ own_after impl_trait_ref.now goal.now) Certainty.Yes result }
+        ensures nowhere { taken_by self.old impl_id container ≡ from_other None → Takes self.old self.new (own_after impl_trait_ref.now goal.now) Certainty.Maybe result }
+        ensures other { TranslatesOther self.old self.new (taken_by self.old impl_id container) impl_trait_ref.now goal.now result }
         ensures agreed { (ρ : Variable → Tree) → AgreesWith self.new ρ → AgreesWith self.old ρ }
         ensures alone { ChangesGoals self.old self.new }
         ensures unchanged { OnErr result (self.new ≡ restored self.old self.new) }

@@ -10,15 +10,15 @@ ghost use Rattle.goal_kinds.specs.Settings.{is_headline};
 ghost use Rattle.goal_solver.specs.Accesses.{RecordsCausedFaults};
 ghost use Rattle.goal_solver.specs.Answers.{IsOwed};
 ghost use Rattle.goal_solver.specs.GoingBack.{GoesBack, restored};
-ghost use Rattle.goal_solver.specs.Outcomes.{RunsAs};
+ghost use Rattle.goal_eval.specs.Outcomes.{RunsAs};
 ghost use Rattle.goal_solver.specs.Relating.{IsRelated, ChangesRecords, AgreesWith, all_bound};
 ghost use Rattle.goal_solver.specs.Settled.{HoldsWithMemory, AreSettledIn, outcome_in, IsPlainOrSame};
 ghost use Rattle.goal_solver.specs.State.{kinds_of};
 
 use crate::context::EvalCtxt;
-use crate::eval::effects::Effects;
-use crate::eval::outcomes::{OnAccess, Outcome, Setting, Stop};
 use crate::relate::resolved::relate_resolved_lists;
+use goal_eval::eval::effects::Effects;
+use goal_eval::eval::outcomes::{OnAccess, Outcome, Setting, Stop};
 use goal_infer::followed::follow_all;
 use goal_infer::unify::Unified;
 use goal_infer::unify_all::unify_all;

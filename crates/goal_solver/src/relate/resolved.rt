@@ -3,15 +3,15 @@ ghost use Rattle.std.specs.Prelude.{◌≡◌, ◌<◌, ◌||◌, not, IfOk, IfE
 ghost use Rattle.goal_terms.specs.NodeTests.{some_node, is_any_infer};
 ghost use Rattle.goal_terms.specs.TableMeaning.{tree_at, Keeps};
 ghost use Rattle.goal_kinds.specs.Interned.{erased_at, erased_all};
-ghost use Rattle.goal_solver.specs.Pending.{AreOfOneKind, AreListsOfOneKind, NeedForms};
+ghost use Rattle.goal_eval.specs.Pending.{AreOfOneKind, AreListsOfOneKind, NeedForms};
 ghost use Rattle.goal_solver.specs.Settled.{IsSettled, AreSettled, HoldsWithMemory};
-ghost use Rattle.goal_solver.specs.Effects.{AreSound, IsStop};
+ghost use Rattle.goal_eval.specs.Effects.{AreSound, IsStop};
 
-use crate::eval::effects::Effects;
-use crate::eval::id_lists::own_list;
-use crate::eval::outcomes::{Outcome, Setting, Stop};
-use crate::relate::equality::compare_terms;
-use crate::relate::pairs::{Tops, compare_tops};
+use goal_eval::eval::effects::Effects;
+use goal_eval::eval::id_lists::own_list;
+use goal_eval::eval::outcomes::{Outcome, Setting, Stop};
+use goal_eval::relate::equality::compare_terms;
+use goal_eval::relate::pairs::{Tops, compare_tops};
 use goal_terms::term_nodes::TermId;
 use goal_terms::term_table::TermTable;
 

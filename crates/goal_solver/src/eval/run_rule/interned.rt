@@ -13,17 +13,17 @@ ghost use Rattle.goal_kinds.specs.Entries.{chosen_by, equal_terms, row_clauses, 
 ghost use Rattle.goal_kinds.specs.InternedEntries.{ArgumentsIn, TermIn, EntryIn, arguments_at, term_at, entry_at, header_trees, value_tree};
 ghost use Rattle.goal_kinds.specs.RuleLists.{header_arguments, other_arguments, arguments_of, expected_of, entry_of, names_arguments};
 ghost use Rattle.goal_kinds.specs.Rules.{clauses_in, conditions_in, value_in, value_term};
-ghost use Rattle.goal_solver.specs.Lists.{AtEachLevel, RunIn};
-ghost use Rattle.goal_solver.specs.Outcomes.{header_terms};
+ghost use Rattle.goal_eval.specs.Lists.{AtEachLevel, RunIn};
+ghost use Rattle.goal_eval.specs.Outcomes.{header_terms};
 ghost use Rattle.goal_solver.specs.RunRules.{RuleRunsOn, header_at};
-ghost use Rattle.goal_solver.specs.Effects.{AreSound, IsStop};
+ghost use Rattle.goal_eval.specs.Effects.{AreSound, IsStop};
 
-use crate::eval::effects::Effects;
-use crate::eval::interning::{intern_args, intern_equation};
-use crate::eval::lists::entries::run_entry;
-use crate::eval::lists::progress::{ListRun, Reached};
-use crate::eval::outcomes::{Outcome, Setting, Stop};
 use crate::eval::run_rule::recorded::{ToRecord, to_record};
+use goal_eval::eval::effects::Effects;
+use goal_eval::eval::interning::{intern_args, intern_equation};
+use goal_eval::eval::lists::entries::run_entry;
+use goal_eval::eval::lists::progress::{ListRun, Reached};
+use goal_eval::eval::outcomes::{Outcome, Setting, Stop};
 use goal_kinds::candidates::interned::{InternedPredicate, InternedTrait};
 use goal_kinds::lists::{
     HeaderTerms, InternedArguments, InternedEntry, InternedTerm, RowHeader, RowValueTerm,

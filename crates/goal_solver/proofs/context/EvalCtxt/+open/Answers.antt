@@ -26,7 +26,7 @@ use Rattle.goal_solver.proofs.VariableLemmas.{on_err}
 use Rattle.goal_solver.specs.Responses.{ListsSinceMark}
 use Rattle.goal_solver.specs.OpenRuns.{Evaluates, open_progress, open_start, RunsThrough, RunsOpen}
 use Rattle.goal_solver.proofs.ClosingLemmas.{evaluates-grown, closing-answers, closing-recorded}
-use Rattle.goal_solver.proofs.MergingLemmas.{ok-map}
+use Rattle.goal_eval.proofs.MergingLemmas.{ok-map}
 use Rattle.goal_solver.proofs.SinceMarkLemmas.{lists-kept}
 use Rattle.std.proofs.lemmas.List.Elements.{All-nil}
 use Rattle.goal_solver.specs.RunRules.{IsRecorded, IsRecordedAnswer}

@@ -5,7 +5,7 @@ use Rattle.goal_solver.proofs.AccessLemmas.{none-recorded}
 use Rattle.goal_solver.specs.State.{State}
 use Rattle.std.proofs.Common.{ap, ◌∙◌, inl, inr, ⊎_elim}
 use Rattle.goal_kinds.specs.Interned.{erased_all}
-use Rattle.goal_solver.specs.Answers.{erased_args}
+use Rattle.goal_eval.specs.ErasedArgs.{erased_args}
 use Rattle.goal_solver.proofs.context.EvalCtxt.alias_outcome.Goals as goal
 
 pub returns-in_err-args-clause-goes_back : goal.returns-in_err-args-clause-goes_back

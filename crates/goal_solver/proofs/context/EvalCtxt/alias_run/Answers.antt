@@ -2,7 +2,7 @@ use Rattle.goal_solver.proofs.FaultLemmas.{run-faults}
 use Rattle.std.proofs.Common.{refl, sym, ap, subst, ◌∙◌}
 use Rattle.goal_solver.proofs.BindingLemmas.{goes_back-interned}
 use Rattle.goal_solver.proofs.GoingBackLemmas.{goes_back-through, solved-grown}
-use Rattle.goal_solver.proofs.CacheLemmas.{sound-new, sound-parts}
+use Rattle.goal_eval.proofs.CacheLemmas.{sound-new, sound-parts}
 use Rattle.goal_solver.specs.State.{State}
 use Rattle.goal_solver.proofs.AccessLemmas.{run-recorded, ends-here}
 use Rattle.goal_kinds.specs.Interned.{erased_all}
@@ -10,7 +10,7 @@ use Rattle.goal_kinds.specs.Levels.{level}
 use Rattle.goal_solver.specs.Evaluations.{SaysTermAt}
 use Rattle.goal_solver.proofs.EvaluationLemmas.{run-says, memory-ends}
 use Rattle.std.specs.Prelude.{IfOk}
-use Rattle.goal_solver.specs.Outcomes.{FoundIn}
+use Rattle.goal_eval.specs.Outcomes.{FoundIn}
 use Rattle.goal_solver.proofs.context.EvalCtxt.alias_run.Goals as goal
 
 pub invariant_of-self : goal.invariant_of-self

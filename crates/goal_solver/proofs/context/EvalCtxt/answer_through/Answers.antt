@@ -5,11 +5,12 @@ use Rattle.goal_kinds.specs.Answers.{setting_of}
 use Rattle.goal_kinds.specs.Interned.{erased_at}
 use Rattle.goal_kinds.proofs.ConsistentLemmas.{each_level_is_consistent}
 use Rattle.std.specs.Prelude.{Ok, length}
-use Rattle.goal_solver.specs.Answers.{AnswersAside, erased_args, level_over}
+use Rattle.goal_eval.specs.ErasedArgs.{erased_args}
+use Rattle.goal_solver.specs.Answers.{AnswersAside, level_over}
 use Rattle.goal_solver.specs.State.{State, kinds_of}
 use Rattle.goal_solver.proofs.ApplicableLemmas.{nothing-applies, nothing-applies-later, nothing-listed, fitting-applies, given-fits}
 use Rattle.goal_solver.specs.Assembled.{level_through}
-use Rattle.goal_solver.specs.Outcomes.{FoundIn, SaysWhich}
+use Rattle.goal_eval.specs.Outcomes.{FoundIn, SaysWhich}
 use Rattle.goal_solver.specs.Recording.{FitsKind}
 use Rattle.goal_solver.proofs.AnswerLemmas.{alias-unsure}
 use Rattle.goal_solver.proofs.AssembledLemmas.{class-one, class-given, above-same}

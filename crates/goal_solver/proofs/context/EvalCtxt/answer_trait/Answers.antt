@@ -1,8 +1,8 @@
 use Rattle.std.proofs.Common.{refl, subst}
 use Rattle.goal_kinds.specs.Answers.{setting_of}
 use Rattle.goal_kinds.specs.Levels.{level}
-use Rattle.goal_solver.specs.Answers.{erased_args}
-use Rattle.goal_solver.specs.Outcomes.{SaysThrough}
+use Rattle.goal_eval.specs.ErasedArgs.{erased_args}
+use Rattle.goal_eval.specs.Outcomes.{SaysThrough}
 use Rattle.goal_solver.proofs.AnswerLemmas.{trait-unsure}
 use Rattle.goal_solver.proofs.ApplicableLemmas.{nothing-applies-later, unvalued-applies-later, nothing-listed}
 use Rattle.std.specs.Prelude.{Ok, ◌≡◌, None}

@@ -3,7 +3,7 @@ use Rattle.goal_infer.specs.Following.{sort_at}
 use Rattle.goal_infer.specs.Resolution.{resolved}
 use Rattle.goal_infer.proofs.SolvedLemmas.{solved-kept}
 use Rattle.goal_kinds.specs.Interned.{erased_all}
-use Rattle.goal_solver.specs.Answers.{erased_args}
+use Rattle.goal_eval.specs.ErasedArgs.{erased_args}
 use Rattle.goal_solver.specs.Relating.{all_bound}
 use Rattle.goal_solver.specs.State.{State}
 use Rattle.goal_solver.proofs.GoalOutcomeLemmas.{followed-all_in}

@@ -1,13 +1,13 @@
 use Rattle.std.proofs.Common.{refl, ap, ◌∙◌}
 use Rattle.std.specs.Prelude.{IfOk}
 use Rattle.goal_kinds.specs.Levels.{level}
-use Rattle.goal_solver.specs.Answers.{erased_args}
+use Rattle.goal_eval.specs.ErasedArgs.{erased_args}
 use Rattle.goal_solver.specs.Assembled.{level_through}
-use Rattle.goal_solver.specs.Outcomes.{SaysWhich}
+use Rattle.goal_eval.specs.Outcomes.{SaysWhich}
 use Rattle.goal_solver.specs.State.{State}
 use Rattle.goal_solver.proofs.EvaluationLemmas.{run-says}
 use Rattle.goal_solver.proofs.GoingBackLemmas.{solved-grown}
-use Rattle.goal_solver.proofs.CacheLemmas.{sound-new}
+use Rattle.goal_eval.proofs.CacheLemmas.{sound-new}
 use Rattle.goal_solver.proofs.context.EvalCtxt.class_run.Goals as goal
 
 pub invariant_of-self : goal.invariant_of-self

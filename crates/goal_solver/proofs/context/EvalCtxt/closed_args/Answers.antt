@@ -7,7 +7,7 @@ use Rattle.goal_kinds.specs.Interned.{erased_all}
 use Rattle.goal_kinds.specs.TraitGoals.{header_of}
 use Rattle.goal_kinds.proofs.ConsistentLemmas.{each_level_is_consistent}
 use Rattle.goal_solver.specs.Answers.{level_over}
-use Rattle.goal_solver.specs.Outcomes.{SaysMatch}
+use Rattle.goal_eval.specs.Outcomes.{SaysMatch}
 use Rattle.goal_solver.specs.TranslatedArgs.{MatchCounts}
 use Rattle.goal_solver.proofs.GoingBackLemmas.{goes_back-through}
 use Rattle.goal_solver.proofs.TranslatedLemmas.{just-count, fits-answered, fits-known, known-answered, known-undecided, unknown-open, made-through, owed-made}

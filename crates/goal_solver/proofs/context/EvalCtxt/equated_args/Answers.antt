@@ -12,7 +12,7 @@ use Rattle.goal_infer.specs.Replacement.{OfKinds}
 use Rattle.goal_kinds.specs.Headers.{under}
 use Rattle.goal_kinds.specs.TraitGoals.{header_of}
 use Rattle.goal_kinds.specs.declared.faults.Fault.{Fault}
-use Rattle.goal_solver.specs.Answers.{erased_args}
+use Rattle.goal_eval.specs.ErasedArgs.{erased_args}
 use Rattle.goal_solver.specs.Relating.{AgreesWith, Identifies, Refuses}
 use Rattle.goal_solver.specs.State.{kinds_of}
 use Rattle.goal_solver.specs.TranslatedArgs.{certainty_in}

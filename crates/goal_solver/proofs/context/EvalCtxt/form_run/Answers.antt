@@ -3,12 +3,12 @@ use Rattle.std.specs.Prelude.{IfOk}
 use Rattle.goal_kinds.specs.Interned.{erased_at}
 use Rattle.goal_kinds.specs.Level.{HasHeadForm, HeadFormRefuted}
 use Rattle.goal_kinds.specs.Levels.{level}
-use Rattle.goal_solver.specs.Outcomes.{SaysWhich, FoundIn}
+use Rattle.goal_eval.specs.Outcomes.{SaysWhich, FoundIn}
 use Rattle.goal_solver.specs.State.{State}
 use Rattle.goal_solver.proofs.EvaluationLemmas.{run-says, memory-ends}
 use Rattle.goal_solver.proofs.FaultLemmas.{run-faults}
 use Rattle.goal_solver.proofs.GoingBackLemmas.{solved-grown, goes_back-through}
-use Rattle.goal_solver.proofs.CacheLemmas.{sound-new, sound-parts}
+use Rattle.goal_eval.proofs.CacheLemmas.{sound-new, sound-parts}
 use Rattle.goal_solver.proofs.AccessLemmas.{ends-here}
 use Rattle.goal_solver.proofs.BindingLemmas.{goes_back-interned}
 use Rattle.goal_solver.proofs.context.EvalCtxt.form_run.Goals as goal

@@ -3,18 +3,18 @@ use Rattle.goal_kinds.specs.Interned.{erased_all}
 use Rattle.goal_kinds.specs.Levels.{level}
 use Rattle.goal_kinds.specs.TraitGoals.{header_of}
 use Rattle.goal_solver.specs.Answers.{level_over}
-use Rattle.goal_solver.specs.Outcomes.{MatchIn, SaysMatch, header_terms}
+use Rattle.goal_eval.specs.Outcomes.{MatchIn, SaysMatch, header_terms}
 use Rattle.goal_solver.specs.State.{State}
 use Rattle.goal_solver.proofs.BindingLemmas.{goes_back-interned}
 use Rattle.goal_solver.proofs.GoingBackLemmas.{goes_back-through, solved-grown}
-use Rattle.goal_solver.proofs.CacheLemmas.{sound-new}
+use Rattle.goal_eval.proofs.CacheLemmas.{sound-new}
 use Rattle.goal_solver.proofs.EvaluationLemmas.{run-says, memory-ends}
 use Rattle.goal_solver.proofs.TranslatedLemmas.{counted-says}
 use Rattle.std.specs.Prelude.{IfErr, IsErrAnd}
-use Rattle.goal_solver.specs.declared.eval.outcomes.Stop.{Stop}
-use Rattle.goal_solver.specs.declared.eval.outcomes.Stop.TheVariants as stop
+use Rattle.goal_eval.specs.declared.eval.outcomes.Stop.{Stop}
+use Rattle.goal_eval.specs.declared.eval.outcomes.Stop.TheVariants as stop
 use Rattle.goal_solver.proofs.AccessLemmas.{ends-here}
-use Rattle.goal_solver.specs.Effects.{EndsIn}
+use Rattle.goal_eval.specs.Effects.{EndsIn}
 use Rattle.goal_solver.proofs.context.EvalCtxt.header_run.Goals as goal
 
 -- what was so of an end is so of the one that is handed on

@@ -5,7 +5,7 @@ use Rattle.goal_solver.specs.HostGoals.{HoldsThroughClass, SaysHostAt, through_a
 use Rattle.goal_solver.specs.State.{State}
 use Rattle.goal_solver.proofs.EvaluationLemmas.{run-says}
 use Rattle.goal_solver.proofs.GoingBackLemmas.{solved-grown}
-use Rattle.goal_solver.proofs.CacheLemmas.{sound-new}
+use Rattle.goal_eval.proofs.CacheLemmas.{sound-new}
 use Rattle.goal_solver.proofs.context.EvalCtxt.host_effect_run_through.Goals as goal
 
 pub invariant_of-self : goal.invariant_of-self

@@ -2,8 +2,9 @@ use Rattle.std.proofs.Common.{arith, sym, ◌∙◌, ap, subst, ⊎_elim, true�
 use Rattle.goal_terms.specs.NodeTests.{general_variable_at}
 use Rattle.goal_terms.specs.Tree.{node_of}
 use Rattle.goal_kinds.specs.Answers.{setting_of}
-use Rattle.goal_solver.specs.Outcomes.{FoundIn, SaysWhich}
-use Rattle.goal_solver.specs.Answers.{erased_args, level_over, IsAliasOpen}
+use Rattle.goal_eval.specs.Outcomes.{FoundIn, SaysWhich}
+use Rattle.goal_eval.specs.ErasedArgs.{erased_args}
+use Rattle.goal_solver.specs.Answers.{level_over, IsAliasOpen}
 use Rattle.goal_solver.specs.Promises.{term_asked}
 use Rattle.goal_solver.proofs.RerunLemmas.{ambiguous-never}
 use Rattle.goal_solver.proofs.AnswerLemmas.{alias-unsure, alias_open-ground}
@@ -16,7 +17,7 @@ use Rattle.goal_terms.specs.declared.modes.TypingMode.{TypingMode}
 use Rattle.goal_kinds.specs.Answers.{IsAnswer, maybe}
 use Rattle.goal_kinds.specs.Settings.{is_headline}
 use Rattle.goal_solver.specs.Answers.{AnswersAside, is_closed_alias}
-use Rattle.goal_solver.specs.Outcomes.{StandsFor}
+use Rattle.goal_eval.specs.Outcomes.{StandsFor}
 use Rattle.goal_solver.specs.Recording.{FitsKind}
 use Rattle.goal_solver.specs.State.{State, kinds_of}
 use Rattle.goal_solver.proofs.ApplicableLemmas.{nothing-applies, nothing-applies-later, nothing-listed, accepted-open, fitting-applies, given-fits, stands-for-some}

@@ -1,8 +1,8 @@
 use Rattle.std.proofs.Common.{refl, sym, ap, subst, ◌∙◌}
 use Rattle.std.specs.Prelude.{IfOk}
-use Rattle.goal_solver.specs.Lists.{RunIn}
+use Rattle.goal_eval.specs.Lists.{RunIn}
 use Rattle.goal_solver.specs.State.{State}
-use Rattle.goal_solver.proofs.CacheLemmas.{sound-new, sound-parts}
+use Rattle.goal_eval.proofs.CacheLemmas.{sound-new, sound-parts}
 use Rattle.goal_solver.proofs.FaultLemmas.{run-faults}
 use Rattle.goal_solver.proofs.GoingBackLemmas.{solved-grown, goes_back-through}
 use Rattle.goal_solver.proofs.BindingLemmas.{goes_back-interned}

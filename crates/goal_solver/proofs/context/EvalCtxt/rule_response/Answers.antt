@@ -1,9 +1,9 @@
 use Rattle.std.proofs.Common.{None, Some, Err, ap, refl, sym, subst, ◌∙◌, ⊎_elim}
 use Rattle.goal_kinds.specs.declared.faults.Fault.TheVariants as fault
 use Rattle.goal_solver.specs.Answers.{level_over}
-use Rattle.goal_solver.specs.Lists.{ListTermIn}
+use Rattle.goal_eval.specs.Lists.{ListTermIn}
 use Rattle.goal_solver.specs.RunRules.{setting_over, asked_of, asked_as, AreListed}
-use Rattle.goal_solver.specs.declared.eval.lists.ListOutcome.TheVariants as list
+use Rattle.goal_eval.specs.declared.eval.lists.ListOutcome.TheVariants as list
 use Rattle.goal_solver.proofs.RecordedLemmas.{listed-kept}
 use Rattle.goal_solver.proofs.RuleAnswerLemmas.{held-sound, list-holds, rule-found-sound, rule-found-open, unfound-open, undecided-open, refuted-sound, says_list-as}
 use Rattle.goal_solver.proofs.RuleEntryLemmas.{asked-nothing, asked-variable, asked-twice}

@@ -1,6 +1,7 @@
 use Rattle.std.proofs.Common.{refl, subst}
-use Rattle.goal_solver.specs.Answers.{erased_args, level_over}
-use Rattle.goal_solver.specs.Outcomes.{FoundIn, SaysWhich}
+use Rattle.goal_eval.specs.ErasedArgs.{erased_args}
+use Rattle.goal_solver.specs.Answers.{level_over}
+use Rattle.goal_eval.specs.Outcomes.{FoundIn, SaysWhich}
 use Rattle.goal_solver.specs.declared.comparison.RunAnswer.TheVariants as run
 use Rattle.goal_solver.proofs.ComparisonLemmas.{found-right, refuted-right, undecided-right, owed-itself}
 use Rattle.goal_solver.proofs.EvaluationLemmas.{says-under}

@@ -1,12 +1,12 @@
 use Rattle.std.proofs.Common.{ap, sym, subst, refl, arith}
 use Rattle.std.proofs.lemmas.List.Elements.{All-nil}
-use Rattle.goal_solver.specs.Lists.{RunIn}
+use Rattle.goal_eval.specs.Lists.{RunIn}
 use Rattle.goal_solver.specs.RunRules.{IsRecorded}
 use Rattle.goal_solver.specs.State.{State}
 use Rattle.goal_solver.proofs.GoingBackLemmas.{goes_back-same, goes_back-through}
 use Rattle.goal_solver.proofs.RecordedLemmas.{recorded-next, recorded-end, none-listed, listed-next, listed-caused}
 use Rattle.goal_solver.proofs.OpenProjectionLemmas.{restored-through}
-use Rattle.goal_solver.proofs.ListRunLemmas.{end-in, start-in}
+use Rattle.goal_eval.proofs.ListRunLemmas.{end-in, start-in}
 use Rattle.goal_solver.proofs.RuleAnswerLemmas.{runs-start, runs-next, runs-refuted, runs-undecided, runs-end, restored-recorded}
 use Rattle.goal_solver.proofs.context.EvalCtxt.run_entries.Goals as goal
 

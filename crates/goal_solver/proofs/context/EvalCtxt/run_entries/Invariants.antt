@@ -1,6 +1,6 @@
 use Rattle.std.proofs.Common.{◌≡◌, take}
 use Rattle.goal_solver.specs.GoingBack.{GoesBack, restored}
-use Rattle.goal_solver.specs.Lists.{RunIn}
+use Rattle.goal_eval.specs.Lists.{RunIn}
 use Rattle.goal_solver.specs.RunRules.{AreRecorded, AreListed}
 use Rattle.goal_solver.proofs.RuleAnswerLemmas.{RunsSoFar}
 use Rattle.goal_solver.proofs.context.EvalCtxt.run_entries.Given as goal

@@ -3,7 +3,7 @@ use Rattle.goal_kinds.specs.Answers.{setting_of}
 use Rattle.goal_kinds.proofs.ConsistentLemmas.{each_level_is_consistent}
 use Rattle.goal_solver.specs.Answers.{level_over}
 use Rattle.goal_solver.specs.HeadForms.{bound_term, IsFormFound}
-use Rattle.goal_solver.specs.Outcomes.{FoundIn}
+use Rattle.goal_eval.specs.Outcomes.{FoundIn}
 use Rattle.goal_solver.proofs.FormAnswerLemmas.{found-left_open}
 use Rattle.goal_solver.proofs.context.EvalCtxt.structurally_normalize_term.Goals as goal
 

@@ -1,6 +1,6 @@
 use Rattle.std.proofs.Common.{arith}
 use Rattle.goal_kinds.specs.Answers.{setting_of}
-use Rattle.goal_solver.specs.Answers.{erased_args}
+use Rattle.goal_eval.specs.ErasedArgs.{erased_args}
 use Rattle.goal_solver.proofs.AnswerLemmas.{open-ground}
 use Rattle.goal_solver.proofs.GoingBackLemmas.{goes_back-same}
 use Rattle.goal_solver.proofs.ApplicableLemmas.{nothing-applies}

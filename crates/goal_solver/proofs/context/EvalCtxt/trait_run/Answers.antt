@@ -3,19 +3,19 @@ use Rattle.goal_solver.proofs.FaultLemmas.{run-faults}
 use Rattle.std.proofs.Common.{refl, ◌≡◌, Result, Ok, Err, sym, subst, ◌∙◌, ap}
 use Rattle.goal_solver.proofs.BindingLemmas.{goes_back-interned}
 use Rattle.goal_solver.proofs.GoingBackLemmas.{goes_back-through, solved-grown, solved-grown_twice}
-use Rattle.goal_solver.proofs.CacheLemmas.{sound-new, sound-parts}
+use Rattle.goal_eval.proofs.CacheLemmas.{sound-new, sound-parts}
 use Rattle.std.specs.Prelude.{IfOk, IfErr, IsErrAnd}
 use Rattle.goal_terms.proofs.InternLemmas.{keeps-chain}
 use Rattle.goal_kinds.specs.Answers.{setting_of}
 use Rattle.goal_kinds.specs.Interned.{erased_all}
 use Rattle.goal_kinds.specs.Levels.{level}
-use Rattle.goal_solver.specs.Outcomes.{SaysThrough}
+use Rattle.goal_eval.specs.Outcomes.{SaysThrough}
 use Rattle.goal_solver.proofs.EvaluationLemmas.{memory-ends, run-says}
 use Rattle.goal_solver.specs.State.{State}
 use Rattle.goal_solver.proofs.AccessLemmas.{none-recorded, run-recorded, ends-here}
 use Rattle.goal_solver.specs.GoingBack.{GoesBack}
-use Rattle.goal_solver.specs.declared.eval.outcomes.Stop.{Stop}
-use Rattle.goal_solver.specs.declared.eval.outcomes.Stop.TheVariants as stop
+use Rattle.goal_eval.specs.declared.eval.outcomes.Stop.{Stop}
+use Rattle.goal_eval.specs.declared.eval.outcomes.Stop.TheVariants as stop
 use Rattle.goal_solver.proofs.context.EvalCtxt.trait_run.Goals as goal
 
 -- what was so of an end is so of the one that is handed on

@@ -1,9 +1,9 @@
 use Rattle.std.proofs.Common.{◌∙◌, ap}
 use Rattle.goal_kinds.specs.Interned.{erased_all}
-use Rattle.goal_solver.specs.Answers.{erased_args}
-use Rattle.goal_solver.specs.Outcomes.{setting_in, level_in}
+use Rattle.goal_eval.specs.ErasedArgs.{erased_args}
+use Rattle.goal_eval.specs.Outcomes.{setting_in, level_in}
 use Rattle.goal_solver.proofs.AssembledLemmas.{item-missing, item-rowless, item-traitless, nothing-said, class-says}
-use Rattle.goal_solver.proofs.CacheLemmas.{sound-grown}
+use Rattle.goal_eval.proofs.CacheLemmas.{sound-grown}
 use Rattle.goal_solver.proofs.normalizes_to.proven_via.alias_proven_via.Goals as goal
 
 pub returns-in_default-clause-says : goal.returns-in_default-clause-says

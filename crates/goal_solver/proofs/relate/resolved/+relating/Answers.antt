@@ -3,12 +3,12 @@ use Rattle.std.proofs.lemmas.List.Elements.{All-get_or}
 use Rattle.goal_terms.proofs.InternLemmas.{keeps-chain}
 use Rattle.goal_terms.specs.TableMeaning.{tree_at, AreBelow}
 use Rattle.goal_terms.specs.declared.modes.TypingMode.TheVariants as mode
-use Rattle.goal_solver.specs.Outcomes.{setting_in}
+use Rattle.goal_eval.specs.Outcomes.{setting_in}
 use Rattle.goal_kinds.specs.Interned.{erased_at, erased_all}
-use Rattle.goal_solver.specs.Pending.{IsOfKind}
+use Rattle.goal_eval.specs.Pending.{IsOfKind}
 use Rattle.goal_solver.specs.Settled.{AreSettled}
-use Rattle.goal_solver.proofs.PartKinds.{lists-of_one_kind}
-use Rattle.goal_solver.proofs.PendingLemmas.{below-ceiling, ceiling-below}
+use Rattle.goal_eval.proofs.PartKinds.{lists-of_one_kind}
+use Rattle.goal_eval.proofs.PendingLemmas.{below-ceiling, ceiling-below}
 use Rattle.goal_solver.proofs.SettledLemmas.{settled-tops, same-tops, settled-by_parts, same-parts, settled-none, settled-more, settled-all, settled-early, settled-unlike, same-unlike, same-at, both-held, kind-grown, memory-on}
 use Rattle.goal_solver.proofs.relate.resolved.+relating.Goals as goal
 

@@ -7,7 +7,7 @@ use Rattle.goal_kinds.specs.Answers.{erased_predicate}
 use Rattle.goal_kinds.specs.Entries.{chosen_by}
 use Rattle.goal_kinds.specs.Interned.{erased_at}
 use Rattle.goal_kinds.proofs.InternedLemmas.{in-grown, same-grown, predicate_in-grown, predicate_same-grown}
-use Rattle.goal_solver.proofs.RowTermLemmas.{term-argument}
+use Rattle.goal_eval.proofs.RowTermLemmas.{term-argument}
 use Rattle.goal_solver.proofs.eval.run_rule.interned.chosen_by.Goals as goal
 
 pub returns-clause-within : goal.returns-clause-within

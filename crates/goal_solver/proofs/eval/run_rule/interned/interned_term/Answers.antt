@@ -1,6 +1,6 @@
 use Rattle.std.proofs.Common.{subst, sym}
 use Rattle.goal_terms.specs.Sorts.{IsArgument}
-use Rattle.goal_solver.proofs.RowTermLemmas.{term-argument}
+use Rattle.goal_eval.proofs.RowTermLemmas.{term-argument}
 use Rattle.goal_solver.proofs.eval.run_rule.interned.interned_term.Goals as goal
 
 pub returns-in_ok-id-in-AsItStands-clause-within : goal.returns-in_ok-id-in-AsItStands-clause-within

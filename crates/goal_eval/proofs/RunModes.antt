@@ -1,0 +1,30 @@
+-- Which lists a run goes by, in each headline mode for which it stands.
+use Rattle.std.proofs.Common.{◌≡◌, true, false, List, Option, inl, inr, refl, sym, ap, ◌∙◌, subst, ⊎_elim}
+use Rattle.std.specs.Prelude.{if◌then◌else◌}
+use Rattle.goal_terms.specs.declared.modes.TypingMode.{TypingMode}
+use Rattle.goal_terms.specs.declared.modes.TypingMode.TheVariants as mode
+use Rattle.goal_kinds.specs.Entries.{Entry}
+use Rattle.goal_kinds.specs.ListModes.{ListStandsIn}
+use Rattle.goal_kinds.specs.Settings.{is_headline}
+use Rattle.goal_eval.specs.Lists.{mode_of_lists, list_mode, IsListFor}
+use Rattle.goal_eval.specs.Outcomes.{RunsFor}
+use Rattle.goal_eval.specs.declared.eval.outcomes.OnAccess.{OnAccess}
+use Rattle.goal_eval.specs.declared.eval.outcomes.OnAccess.TheVariants as on_access
+use Rattle.goal_eval.specs.declared.eval.outcomes.Setting as over
+
+-- a headline mode goes by its own lists
+own-lists : (on : OnAccess) (run : TypingMode) → is_headline run ≡ true → mode_of_lists on run ≡ run
+own-lists on_access.Stop run e = ap (λ b. if b then run else mode.ErasedNotCoherence) e
+own-lists on_access.Record run e = refl
+
+-- another one goes by those of the erased mode, where it stops at accesses
+erased-lists : (on : OnAccess) (run : TypingMode) → is_headline run ≡ false → on ≡ on_access.Stop → mode_of_lists on run ≡ mode.ErasedNotCoherence
+erased-lists on run e f = ap (λ x. mode_of_lists x run) f ∙ ap (λ b. if b then run else mode.ErasedNotCoherence) e
+
+-- a list that is made for a run stands for that of each headline mode for which the run stands
+pub list-for : (f : TypingMode → Option (List Entry)) (c : over.Setting) (m : TypingMode) (o : Option (List Entry)) → RunsFor c m → o ≡ f (list_mode c) →
+    ListStandsIn (f mode.ErasedNotCoherence) (f m) → IsListFor c.typing_mode.now o (f m)
+list-for f c m o s is for =
+    ⊎_elim
+    (λ h. inl (sym (ap f (own-lists c.on_access c.typing_mode.now (ap is_headline h ∙ s.0) ∙ h)) ∙ sym is))
+    (λ h. inr (h.0, subst (λ q. ListStandsIn q (f m)) (sym (is ∙ ap f (erased-lists c.on_access c.typing_mode.now h.0 h.1))) for)) s.1

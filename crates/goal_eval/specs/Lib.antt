@@ -1,0 +1,14 @@
+pub mod ErasedArgs
+pub mod Entering
+pub mod Outcomes
+pub mod CacheEntries
+pub mod EvaluationCache
+pub mod Effects
+pub mod Pending
+pub mod Joined
+pub mod TraitOutcomes
+pub mod ProjectionParts
+pub mod Combined
+pub mod HeaderWords
+pub mod Lists
+pub mod AskedTraits

@@ -1,0 +1,3 @@
+//! Candidates: what a class of them comes to.
+pub mod candidates;
+pub mod merging;

@@ -1,0 +1,2 @@
+//! What a closed host effect goal comes to.
+pub mod evaluation;

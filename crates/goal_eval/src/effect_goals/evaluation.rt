@@ -1,0 +1,136 @@
+//! Host effect goals: whether a trait holds as a const trait.
+ghost use Rattle.std.specs.Prelude.{IfErr, ◌≢◌, IfOk};
+ghost use Rattle.goal_terms.specs.TableMeaning.{Keeps};
+ghost use Rattle.goal_terms.specs.declared.modes.TypingMode.{TypingMode};
+ghost use Rattle.goal_kinds.specs.Interned.{AreIn, erased_all};
+ghost use Rattle.goal_eval.specs.AskedTraits.{AskedIn, SaysGroups};
+ghost use Rattle.goal_eval.specs.Outcomes.{RunsFor, setting_in, level_in, Says, ForEachMode, SaysConst};
+ghost use Rattle.goal_eval.specs.Effects.{AreSound, IsStop};
+
+use crate::assembly::candidates::{AskedTrait, candidates_outcome, class_outcome};
+use crate::eval::effects::Effects;
+use crate::eval::head_forms::head_form;
+use crate::eval::interning::intern_trait_ref;
+use crate::eval::listed_regions::KeptGoal;
+use crate::eval::outcomes::{Found, Outcome, Setting, Stop, TraitOutcome};
+use crate::eval::self_types::{split_self_type, with_self_type};
+use crate::trait_goals::evaluation::evaluate_trait_goal;
+use goal_kinds::candidates::lists::{Sought, second_group};
+use goal_terms::answers::TraitGoalProvenVia;
+use goal_terms::ids::TraitId;
+use goal_terms::predicates::BoundConstness;
+use goal_terms::term_nodes::TermId;
+use goal_terms::term_table::TermTable;
+
+/// Whether a trait holds at a depth as a const trait of a constness. What an evaluation knows isn't evaluated
+/// again.
+#[tactic(auto, using(crate::proofs::CacheLemmas::caching))]
+#[cycle(closed)]
+pub(crate) fn evaluate_host_effect_goal(
+    setting: &Setting<'_>,
+    terms: &mut TermTable,
+    effects: &mut Effects,
+    constness: BoundConstness,
+    trait_id: TraitId,
+    args: &[TermId],
+    depth: u32,
+) -> Result<Outcome, Stop>
+    requires effects { AreSound setting.now terms.old effects.old }
+    requires args { AreIn terms.old args.now }
+    ensures effects { AreSound setting.now terms.new effects.new }
+    ensures kept { Keeps terms.old terms.new }
+    ensures stops { IfErr result (IsStop setting.now) }
+    ensures says { ForEachMode setting.now depth (λ _ L. IfOk result (SaysConst L constness trait_id (erased_all terms.old args.now))) }
+{
+    if depth == 0 {
+        return Ok(Outcome::Undecided);
+    }
+    let goal = intern_trait_ref(setting.allocator(), terms, trait_id, args)?;
+    if let Some(known) = effects.known_const(constness, goal, depth)? {
+        return Ok(known);
+    }
+    let before = effects.begin_goal();
+    let outcome = fresh_host_effect_outcome(
+        setting, terms, effects, constness, trait_id, args, depth,
+    )?;
+    effects.end_goal(KeptGoal::Const(constness, goal), before, outcome)?;
+    effects.cache.keep_const(constness, goal, depth, outcome);
+    Ok(outcome)
+}
+
+/// Whether a const trait goal that isn't known holds at a depth: where the plain goal holds, by the candidates
+/// for the head form of its self type.
+#[tactic(auto, using(crate::proofs::CacheLemmas::caching))]
+#[cycle(closed)]
+fn fresh_host_effect_outcome(
+    setting: &Setting<'_>,
+    terms: &mut TermTable,
+    effects: &mut Effects,
+    constness: BoundConstness,
+    trait_id: TraitId,
+    args: &[TermId],
+    depth: u32,
+) -> Result<Outcome, Stop>
+    requires effects { AreSound setting.now terms.old effects.old }
+    requires args { AreIn terms.old args.now }
+    requires above { depth ≢ 0 }
+    ensures effects { AreSound setting.now terms.new effects.new }
+    ensures kept { Keeps terms.old terms.new }
+    ensures stops { IfErr result (IsStop setting.now) }
+    ensures says { ForEachMode setting.now depth (λ _ L. IfOk result (SaysConst L constness trait_id (erased_all terms.old args.now))) }
+{
+    let Some((first, rest)) = split_self_type(args) else {
+        return Ok(Outcome::Undecided);
+    };
+    let lists = effects.leave_out_regions();
+    let plain = evaluate_trait_goal(setting, terms, effects, trait_id, args, depth - 1)?;
+    effects.list_regions_again(lists);
+    let TraitOutcome::Holds(class) = plain else {
+        return Ok(plain.held());
+    };
+    let found = head_form(setting, terms, effects, first, depth - 1)?;
+    let Found::Is(self_ty) = found else {
+        return Ok(Outcome::Undecided);
+    };
+    let replaced = with_self_type(setting.rows, self_ty, rest)?;
+    let asked = AskedTrait {
+        constness: Some(constness),
+        trait_id,
+        self_ty,
+        args: replaced.as_slice(),
+    };
+    groups_outcome(setting, terms, effects, &asked, class, depth - 1)
+}
+
+/// Whether the candidates for a trait that holds through a class show at a depth that it does so as it is
+/// asked: those of the environment, and if these are refuted, those that go by the class.
+#[tactic(auto, using(crate::proofs::CacheLemmas::caching))]
+#[cycle(closed)]
+pub fn groups_outcome(
+    setting: &Setting<'_>,
+    terms: &mut TermTable,
+    effects: &mut Effects,
+    asked: &AskedTrait<'_>,
+    class: TraitGoalProvenVia,
+    depth: u32,
+) -> Result<Outcome, Stop>
+    requires effects { AreSound setting.now terms.old effects.old }
+    requires asked { AskedIn terms.old asked.now }
+    ensures effects { AreSound setting.now terms.new effects.new }
+    ensures kept { Keeps terms.old terms.new }
+    ensures stops { IfErr result (IsStop setting.now) }
+    ensures says { ForEachMode setting.now depth (λ S L. IfOk result (SaysGroups S L terms.old asked.now class)) }
+{
+    let environment = TraitGoalProvenVia::ParamEnv;
+    let first = class_outcome(setting, terms, effects, asked, environment, depth)?;
+    let Outcome::Refuted = first else {
+        return Ok(first);
+    };
+    let sought = Sought {
+        trait_id: asked.trait_id,
+        self_ty: asked.self_ty,
+        args: asked.args,
+    };
+    let candidates = second_group(setting.rows, terms, &sought, class)?;
+    candidates_outcome(setting, terms, effects, asked, &candidates, depth)
+}

@@ -1,0 +1,5 @@
+//! Which term a closed alias stands for.
+pub mod alias_terms;
+pub mod projection_args;
+pub mod projection_candidates;
+pub mod projections;

@@ -1,0 +1,72 @@
+//! The terms that candidates give projections, by their lists.
+ghost use Rattle.std.specs.Prelude.{◌≡◌, true, IfErr, IfOk};
+ghost use Rattle.goal_terms.specs.TableMeaning.{Keeps};
+ghost use Rattle.goal_terms.specs.declared.modes.TypingMode.{TypingMode as modes};
+ghost use Rattle.goal_kinds.specs.Causes.{IsCausedList};
+ghost use Rattle.goal_kinds.specs.Interned.{CandidateIn, erased_at, candidate_at};
+ghost use Rattle.goal_kinds.specs.InternedEntries.{ListIn, list_at};
+ghost use Rattle.goal_kinds.specs.ProjectionLists.{projection_list};
+ghost use Rattle.goal_kinds.specs.Projections.{CandidateGives, TermRefuted};
+ghost use Rattle.goal_eval.specs.Lists.{IsListFor};
+ghost use Rattle.goal_eval.specs.Outcomes.{RunsFor, setting_in, level_in, SaysWhich, FoundIn, ProjectionIn, projection_at, ForEachMode};
+ghost use Rattle.goal_eval.specs.Effects.{AreSound, IsStop};
+
+use crate::eval::effects::Effects;
+use crate::eval::lists::run_list;
+use crate::eval::outcomes::{Found, Projection, Setting, Stop};
+use goal_kinds::candidates::interned::InternedCandidate;
+use goal_kinds::lists::projections::projection_list;
+use goal_kinds::lists::{AskedProjection, InternedEntry};
+use goal_terms::modes::TypingMode;
+use goal_terms::term_nodes::OutOfMemory;
+use goal_terms::term_table::TermTable;
+
+/// The term that a candidate gives a projection.
+#[tactic(auto, using(crate::proofs::CacheLemmas::caching))]
+#[cycle(closed)]
+pub(crate) fn candidate_term(
+    setting: &Setting<'_>,
+    terms: &mut TermTable,
+    effects: &mut Effects,
+    projection: &Projection<'_>,
+    candidate: &InternedCandidate<'_>,
+    depth: u32,
+) -> Result<Found, Stop>
+    requires effects { AreSound setting.now terms.old effects.old }
+    requires projection { ProjectionIn terms.old projection.now }
+    requires candidate { CandidateIn terms.old candidate.now }
+    ensures effects { AreSound setting.now terms.new effects.new }
+    ensures kept { Keeps terms.old terms.new }
+    ensures within { IfOk result (FoundIn terms.new) }
+    ensures stops { IfErr result (IsStop setting.now) }
+    ensures says { ForEachMode setting.now depth (λ S L. IfOk result (SaysWhich (λ u. CandidateGives S L (projection_at terms.old projection.now) (erased_at terms.old projection.now.rigid_alias) u (candidate_at terms.old candidate.now)) (TermRefuted S L (projection_at terms.old projection.now) (candidate_at terms.old candidate.now)) terms.new)) }
+{
+    let list = candidate_list(&*setting, terms, &*projection, &*candidate)?;
+    let outcome = run_list(setting, terms, effects, &list, depth)?;
+    Ok(outcome.term())
+}
+
+/// The list of a candidate for a projection's term, by which a run goes, or none where its rule is refused.
+/// The table gets the terms. Want of memory or of numbers is the only fault.
+fn candidate_list<'t>(
+    setting: &Setting<'t>,
+    terms: &mut TermTable,
+    projection: &Projection<'t>,
+    candidate: &InternedCandidate<'t>,
+) -> Result<Option<Vec<InternedEntry<'t>>>, OutOfMemory>
+    requires projection { ProjectionIn terms.old projection.now }
+    requires candidate { CandidateIn terms.old candidate.now }
+    ensures kept { Keeps terms.old terms.new }
+    ensures within { IfOk result (ListIn terms.new) }
+    ensures caused { IfOk result (IsCausedList setting.now.rows.now) }
+    ensures list { ForEachMode setting.now depth (λ S _. IfOk result (λ o. IsListFor setting.now.typing_mode.now (list_at terms.new o) (projection_list S (projection_at terms.old projection.now) (erased_at terms.old projection.now.rigid_alias) (candidate_at terms.old candidate.now)))) }
+{
+    let asked = AskedProjection {
+        item: projection.item,
+        trait_params: projection.trait_params,
+        args: projection.args,
+        rigid_alias: projection.rigid_alias,
+    };
+    let erased = TypingMode::ErasedNotCoherence;
+    projection_list(setting.of_lists(&erased), terms, &asked, candidate)
+}

@@ -1,0 +1,409 @@
+//! The terms of projections.
+ghost use Rattle.std.specs.Prelude.{IfErr, IfOk, map};
+ghost use Rattle.std.specs.List.{All};
+ghost use Rattle.goal_terms.specs.TableMeaning.{Keeps};
+ghost use Rattle.goal_terms.specs.declared.modes.TypingMode.{TypingMode};
+ghost use Rattle.goal_kinds.specs.Candidates.{environment, second_group};
+ghost use Rattle.goal_kinds.specs.Interned.{IsIn, AreIn, CandidateIn, erased_at, erased_all, candidate_at};
+ghost use Rattle.goal_kinds.specs.Projections.{GroupGives, GroupRefuted, GroupsGive, GroupsRefuted, OwnUnformed, ItemGives, ItemRefuted, ProjectionGives, ProjectionRefuted};
+ghost use Rattle.goal_eval.specs.Outcomes.{RunsFor, setting_in, level_in, Says, SaysWhich, FoundIn, ProjectionIn, projection_at, ForEachMode};
+ghost use Rattle.goal_eval.specs.ProjectionParts.{HaveHeadForms, SomeUnformed, FormedGives, LaterGives, LaterRefuted, ReplacedGives, ReplacedRefuted, ThroughGives, ThroughRefuted};
+ghost use Rattle.goal_eval.specs.Effects.{AreSound, IsStop};
+
+use crate::assembly::merging::merge_terms;
+use crate::eval::effects::Effects;
+use crate::eval::head_forms::head_form;
+use crate::eval::outcomes::{Found, Outcome, Projection, Setting, Stop, TraitOutcome};
+use crate::normalizes_to::projection_args::{first_args, intern_alias, later_args, with_self};
+use crate::normalizes_to::projection_candidates::candidate_term;
+use crate::trait_goals::evaluation::evaluate_trait_goal;
+use goal_kinds::candidates::interned::InternedCandidate;
+use goal_kinds::candidates::lists::{Sought, candidates_of_class, second_group};
+use goal_tables::rows::{ItemRow, TraitRow};
+use goal_terms::answers::TraitGoalProvenVia;
+use goal_terms::ids::{ItemId, TraitId};
+use goal_terms::term_nodes::TermId;
+use goal_terms::term_table::TermTable;
+use goal_terms::terms::AliasTermKind;
+
+/// A projection as it was given, whose trait goal holds through a class: the alias and its arguments, its
+/// item, and how many of its arguments are the trait's.
+#[derive(Clone, Copy)]
+pub struct Given<'e> {
+    pub kind: AliasTermKind,
+    pub item: &'e ItemRow,
+    pub trait_params: usize,
+    pub class: TraitGoalProvenVia,
+    pub args: &'e [TermId],
+}
+
+/// The term that a projection of an item has, one above a depth.
+#[cycle(closed)]
+pub(crate) fn projection_term(
+    setting: &Setting<'_>,
+    terms: &mut TermTable,
+    effects: &mut Effects,
+    kind: AliasTermKind,
+    item: ItemId,
+    args: &[TermId],
+    depth: u32,
+) -> Result<Found, Stop>
+    requires effects { AreSound setting.now terms.old effects.old }
+    requires args { AreIn terms.old args.now }
+    ensures effects { AreSound setting.now terms.new effects.new }
+    ensures kept { Keeps terms.old terms.new }
+    ensures within { IfOk result (FoundIn terms.new) }
+    ensures stops { IfErr result (IsStop setting.now) }
+    ensures says { ForEachMode setting.now depth (λ S L. IfOk result (SaysWhich (ProjectionGives S L kind item (erased_all terms.old args.now)) (ProjectionRefuted S L kind item (erased_all terms.old args.now)) terms.new)) }
+{
+    let Some(row) = setting.rows.item_row(item) else {
+        return Ok(Found::Undecided);
+    };
+    let Some(trait_row) = setting.rows.trait_row(row.trait_id) else {
+        return Ok(Found::Undecided);
+    };
+    item_term(setting, terms, effects, kind, row, trait_row, args, depth)
+}
+
+/// The term that a projection has by its item's row and its trait's.
+#[tactic(auto, using(crate::proofs::CacheLemmas::caching))]
+#[cycle(closed)]
+fn item_term(
+    setting: &Setting<'_>,
+    terms: &mut TermTable,
+    effects: &mut Effects,
+    kind: AliasTermKind,
+    item: &ItemRow,
+    trait_row: &TraitRow,
+    args: &[TermId],
+    depth: u32,
+) -> Result<Found, Stop>
+    requires effects { AreSound setting.now terms.old effects.old }
+    requires args { AreIn terms.old args.now }
+    ensures effects { AreSound setting.now terms.new effects.new }
+    ensures kept { Keeps terms.old terms.new }
+    ensures within { IfOk result (FoundIn terms.new) }
+    ensures stops { IfErr result (IsStop setting.now) }
+    ensures says { ForEachMode setting.now depth (λ S L. IfOk result (SaysWhich (λ u. ItemGives S L kind (erased_all terms.old args.now) u item.now trait_row.now) (ItemRefuted S L kind (erased_all terms.old args.now) item.now trait_row.now) terms.new)) }
+{
+    if args.is_empty() {
+        return Ok(Found::Undecided);
+    }
+    let trait_params = trait_row.params.len();
+    let trait_args = first_args(args, trait_params);
+    let lists = effects.leave_out_regions();
+    let plain = evaluate_trait_goal(setting, terms, effects, item.trait_id, trait_args, depth)?;
+    effects.list_regions_again(lists);
+    match plain {
+        TraitOutcome::Undecided => Ok(Found::Undecided),
+        TraitOutcome::Refuted => Ok(Found::Refuted),
+        TraitOutcome::Holds(class) => {
+            let given = Given {
+                kind,
+                item,
+                trait_params,
+                class,
+                args,
+            };
+            term_proven_via(setting, terms, effects, &given, depth)
+        }
+    }
+}
+
+/// The term of a projection whose trait goal holds.
+#[cycle(closed)]
+pub fn term_proven_via(
+    setting: &Setting<'_>,
+    terms: &mut TermTable,
+    effects: &mut Effects,
+    given: &Given<'_>,
+    depth: u32,
+) -> Result<Found, Stop>
+    requires effects { AreSound setting.now terms.old effects.old }
+    requires args { AreIn terms.old given.now.args.now }
+    ensures effects { AreSound setting.now terms.new effects.new }
+    ensures kept { Keeps terms.old terms.new }
+    ensures within { IfOk result (FoundIn terms.new) }
+    ensures stops { IfErr result (IsStop setting.now) }
+    ensures says { ForEachMode setting.now depth (λ S L. IfOk result (SaysWhich (ThroughGives S L given.now.kind given.now.item.now given.now.trait_params given.now.class (erased_all terms.old given.now.args.now)) (ThroughRefuted S L given.now.kind given.now.item.now given.now.trait_params given.now.class (erased_all terms.old given.now.args.now)) terms.new)) }
+{
+    let args = given.args;
+    if args.is_empty() {
+        return Ok(Found::Undecided);
+    }
+    match head_form(setting, terms, effects, args[0], depth)? {
+        Found::Undecided => Ok(Found::Undecided),
+        Found::Refuted => Ok(Found::Undecided),
+        Found::Is(self_ty) => replaced_term(setting, terms, effects, given, self_ty, depth),
+    }
+}
+
+/// The term of a projection whose trait goal holds, for the head form of its self type.
+#[tactic(auto, using(crate::proofs::CacheLemmas::caching))]
+#[cycle(closed)]
+fn replaced_term(
+    setting: &Setting<'_>,
+    terms: &mut TermTable,
+    effects: &mut Effects,
+    given: &Given<'_>,
+    self_ty: TermId,
+    depth: u32,
+) -> Result<Found, Stop>
+    requires effects { AreSound setting.now terms.old effects.old }
+    requires args { AreIn terms.old given.now.args.now }
+    requires self_ty { IsIn terms.old self_ty }
+    ensures effects { AreSound setting.now terms.new effects.new }
+    ensures kept { Keeps terms.old terms.new }
+    ensures within { IfOk result (FoundIn terms.new) }
+    ensures stops { IfErr result (IsStop setting.now) }
+    ensures says { ForEachMode setting.now depth (λ S L. IfOk result (SaysWhich (ReplacedGives S L given.now.kind given.now.item.now given.now.trait_params given.now.class (erased_all terms.old given.now.args.now) (erased_at terms.old self_ty)) (ReplacedRefuted S L given.now.kind given.now.item.now given.now.trait_params given.now.class (erased_all terms.old given.now.args.now) (erased_at terms.old self_ty)) terms.new)) }
+{
+    let alias = intern_alias(setting.allocator(), terms, given.kind, given.args)?;
+    let args = with_self(setting.allocator(), self_ty, given.args)?;
+    let rigid_alias = intern_alias(setting.allocator(), terms, given.kind, args.as_slice())?;
+    let projection = Projection {
+        item: given.item,
+        trait_params: given.trait_params,
+        args: args.as_slice(),
+        rigid_alias,
+    };
+    groups_term(
+        setting,
+        terms,
+        effects,
+        &projection,
+        self_ty,
+        alias,
+        given.class,
+        depth,
+    )
+}
+
+/// The term of a projection by the groups of candidates.
+#[cycle(closed)]
+fn groups_term(
+    setting: &Setting<'_>,
+    terms: &mut TermTable,
+    effects: &mut Effects,
+    projection: &Projection<'_>,
+    self_ty: TermId,
+    given: TermId,
+    class: TraitGoalProvenVia,
+    depth: u32,
+) -> Result<Found, Stop>
+    requires effects { AreSound setting.now terms.old effects.old }
+    requires projection { ProjectionIn terms.old projection.now }
+    requires self_ty { IsIn terms.old self_ty }
+    requires given { IsIn terms.old given }
+    ensures effects { AreSound setting.now terms.new effects.new }
+    ensures kept { Keeps terms.old terms.new }
+    ensures within { IfOk result (FoundIn terms.new) }
+    ensures stops { IfErr result (IsStop setting.now) }
+    ensures says { ForEachMode setting.now depth (λ S L. IfOk result (SaysWhich (GroupsGive S L class (projection_at terms.old projection.now) (erased_at terms.old projection.now.rigid_alias) (erased_at terms.old given) (second_group S projection.now.item.now.trait_id (erased_at terms.old self_ty) class)) (GroupsRefuted S L class (projection_at terms.old projection.now) (erased_at terms.old projection.now.rigid_alias) (second_group S projection.now.item.now.trait_id (erased_at terms.old self_ty) class)) terms.new)) }
+{
+    match environment_term(setting, terms, effects, projection, self_ty, depth)? {
+        Found::Undecided => Ok(Found::Undecided),
+        Found::Is(term) => own_args_normalized(setting, terms, effects, projection, term, depth),
+        Found::Refuted => later_term(
+            setting, terms, effects, projection, self_ty, given, class, depth,
+        ),
+    }
+}
+
+/// The term of a projection by the candidates after the environment.
+#[cycle(closed)]
+fn later_term(
+    setting: &Setting<'_>,
+    terms: &mut TermTable,
+    effects: &mut Effects,
+    projection: &Projection<'_>,
+    self_ty: TermId,
+    given: TermId,
+    class: TraitGoalProvenVia,
+    depth: u32,
+) -> Result<Found, Stop>
+    requires effects { AreSound setting.now terms.old effects.old }
+    requires projection { ProjectionIn terms.old projection.now }
+    requires self_ty { IsIn terms.old self_ty }
+    requires given { IsIn terms.old given }
+    ensures effects { AreSound setting.now terms.new effects.new }
+    ensures kept { Keeps terms.old terms.new }
+    ensures within { IfOk result (FoundIn terms.new) }
+    ensures stops { IfErr result (IsStop setting.now) }
+    ensures says { ForEachMode setting.now depth (λ S L. IfOk result (SaysWhich (LaterGives S L class (projection_at terms.old projection.now) (erased_at terms.old projection.now.rigid_alias) (erased_at terms.old given) (second_group S projection.now.item.now.trait_id (erased_at terms.old self_ty) class)) (LaterRefuted S L class (projection_at terms.old projection.now) (erased_at terms.old projection.now.rigid_alias) (second_group S projection.now.item.now.trait_id (erased_at terms.old self_ty) class)) terms.new)) }
+{
+    match second_term(setting, terms, effects, projection, self_ty, class, depth)? {
+        Found::Undecided => Ok(Found::Undecided),
+        Found::Refuted => match class {
+            TraitGoalProvenVia::Misc => Ok(Found::Refuted),
+            _ => Ok(Found::Is(given)),
+        },
+        Found::Is(term) => match class {
+            TraitGoalProvenVia::Misc => Ok(Found::Is(term)),
+            _ => own_args_normalized(setting, terms, effects, projection, term, depth),
+        },
+    }
+}
+
+/// The term that the environment gives a projection.
+#[tactic(auto, using(crate::proofs::CacheLemmas::caching))]
+#[cycle(closed)]
+fn environment_term(
+    setting: &Setting<'_>,
+    terms: &mut TermTable,
+    effects: &mut Effects,
+    projection: &Projection<'_>,
+    self_ty: TermId,
+    depth: u32,
+) -> Result<Found, Stop>
+    requires effects { AreSound setting.now terms.old effects.old }
+    requires projection { ProjectionIn terms.old projection.now }
+    requires self_ty { IsIn terms.old self_ty }
+    ensures effects { AreSound setting.now terms.new effects.new }
+    ensures kept { Keeps terms.old terms.new }
+    ensures within { IfOk result (FoundIn terms.new) }
+    ensures stops { IfErr result (IsStop setting.now) }
+    ensures says { ForEachMode setting.now depth (λ S L. IfOk result (SaysWhich (GroupGives S L (projection_at terms.old projection.now) (erased_at terms.old projection.now.rigid_alias) (environment S)) (GroupRefuted S L (projection_at terms.old projection.now) (environment S)) terms.new)) }
+{
+    let sought = Sought {
+        trait_id: projection.item.trait_id,
+        self_ty,
+        args: projection.args,
+    };
+    let class = TraitGoalProvenVia::ParamEnv;
+    let rows = setting.rows;
+    let candidates = candidates_of_class(rows, setting.environment, terms, &sought, class)?;
+    group_term(
+        setting,
+        terms,
+        effects,
+        projection,
+        candidates.as_slice(),
+        depth,
+    )
+}
+
+/// The term that the candidates after the environment give a projection.
+#[tactic(auto, using(crate::proofs::CacheLemmas::caching))]
+#[cycle(closed)]
+fn second_term(
+    setting: &Setting<'_>,
+    terms: &mut TermTable,
+    effects: &mut Effects,
+    projection: &Projection<'_>,
+    self_ty: TermId,
+    class: TraitGoalProvenVia,
+    depth: u32,
+) -> Result<Found, Stop>
+    requires effects { AreSound setting.now terms.old effects.old }
+    requires projection { ProjectionIn terms.old projection.now }
+    requires self_ty { IsIn terms.old self_ty }
+    ensures effects { AreSound setting.now terms.new effects.new }
+    ensures kept { Keeps terms.old terms.new }
+    ensures within { IfOk result (FoundIn terms.new) }
+    ensures stops { IfErr result (IsStop setting.now) }
+    ensures says { ForEachMode setting.now depth (λ S L. IfOk result (SaysWhich (GroupGives S L (projection_at terms.old projection.now) (erased_at terms.old projection.now.rigid_alias) (second_group S projection.now.item.now.trait_id (erased_at terms.old self_ty) class)) (GroupRefuted S L (projection_at terms.old projection.now) (second_group S projection.now.item.now.trait_id (erased_at terms.old self_ty) class)) terms.new)) }
+{
+    let sought = Sought {
+        trait_id: projection.item.trait_id,
+        self_ty,
+        args: first_args(projection.args, projection.trait_params),
+    };
+    let candidates = second_group(setting.rows, terms, &sought, class)?;
+    group_term(
+        setting,
+        terms,
+        effects,
+        projection,
+        candidates.as_slice(),
+        depth,
+    )
+}
+
+/// A term, where a projection's own arguments have head forms.
+#[cycle(closed)]
+fn own_args_normalized(
+    setting: &Setting<'_>,
+    terms: &mut TermTable,
+    effects: &mut Effects,
+    projection: &Projection<'_>,
+    term: TermId,
+    depth: u32,
+) -> Result<Found, Stop>
+    requires effects { AreSound setting.now terms.old effects.old }
+    requires projection { ProjectionIn terms.old projection.now }
+    requires term { IsIn terms.old term }
+    ensures effects { AreSound setting.now terms.new effects.new }
+    ensures kept { Keeps terms.old terms.new }
+    ensures within { IfOk result (FoundIn terms.new) }
+    ensures stops { IfErr result (IsStop setting.now) }
+    ensures says { ForEachMode setting.now depth (λ _ L. IfOk result (SaysWhich (FormedGives L (projection_at terms.old projection.now) (erased_at terms.old term)) (OwnUnformed L (projection_at terms.old projection.now)) terms.new)) }
+{
+    let own = later_args(projection.args, projection.trait_params);
+    match head_forms_outcome(setting, terms, effects, own, depth)? {
+        Outcome::Undecided => Ok(Found::Undecided),
+        Outcome::Refuted => Ok(Found::Refuted),
+        Outcome::Holds => Ok(Found::Is(term)),
+    }
+}
+
+/// Whether terms have head forms. One without a head form refutes it.
+#[cycle(closed)]
+fn head_forms_outcome(
+    setting: &Setting<'_>,
+    terms: &mut TermTable,
+    effects: &mut Effects,
+    ids: &[TermId],
+    depth: u32,
+) -> Result<Outcome, Stop>
+    requires effects { AreSound setting.now terms.old effects.old }
+    requires ids { AreIn terms.old ids.now }
+    ensures effects { AreSound setting.now terms.new effects.new }
+    ensures kept { Keeps terms.old terms.new }
+    ensures stops { IfErr result (IsStop setting.now) }
+    ensures says { ForEachMode setting.now depth (λ _ L. IfOk result (Says (HaveHeadForms L (erased_all terms.old ids.now)) (SomeUnformed L (erased_all terms.old ids.now)))) }
+{
+    let mut outcome = Outcome::Holds;
+    for id in ids {
+        match head_form(setting, terms, effects, *id, depth)? {
+            Found::Refuted => return Ok(Outcome::Refuted),
+            Found::Undecided => outcome = Outcome::Undecided,
+            Found::Is(_) => {}
+        }
+    }
+    Ok(outcome)
+}
+
+/// The term that a group of candidates gives a projection: all that give one have to give the same. Only the first
+/// of these leaves equations of lifetimes.
+#[tactic(auto, using(crate::proofs::CacheLemmas::caching))]
+#[cycle(closed)]
+fn group_term(
+    setting: &Setting<'_>,
+    terms: &mut TermTable,
+    effects: &mut Effects,
+    projection: &Projection<'_>,
+    candidates: &[InternedCandidate<'_>],
+    depth: u32,
+) -> Result<Found, Stop>
+    requires effects { AreSound setting.now terms.old effects.old }
+    requires projection { ProjectionIn terms.old projection.now }
+    requires candidates { All (CandidateIn terms.old) candidates.now }
+    ensures effects { AreSound setting.now terms.new effects.new }
+    ensures kept { Keeps terms.old terms.new }
+    ensures within { IfOk result (FoundIn terms.new) }
+    ensures stops { IfErr result (IsStop setting.now) }
+    ensures says { ForEachMode setting.now depth (λ S L. IfOk result (SaysWhich (GroupGives S L (projection_at terms.old projection.now) (erased_at terms.old projection.now.rigid_alias) (map (candidate_at terms.old) candidates.now)) (GroupRefuted S L (projection_at terms.old projection.now) (map (candidate_at terms.old) candidates.now)) terms.new)) }
+{
+    let mut found = Found::Refuted;
+    for candidate in candidates {
+        let before = effects.regions.mark();
+        let next = candidate_term(setting, terms, effects, projection, candidate, depth)?;
+        effects.end_candidate(before, found);
+        found = merge_terms(terms, found, next);
+        if let Found::Undecided = found {
+            return Ok(Found::Undecided);
+        }
+    }
+    Ok(found)
+}

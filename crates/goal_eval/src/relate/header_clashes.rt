@@ -1,0 +1,215 @@
+//! Whether a header clashes with given arguments.
+ghost use Rattle.std.specs.Prelude.{IfErr, IfOk};
+ghost use Rattle.std.specs.List.{All};
+ghost use Rattle.goal_terms.specs.TableMeaning.{Keeps};
+ghost use Rattle.goal_kinds.specs.Interned.{IsIn, AreIn, erased_at, erased_all};
+ghost use Rattle.goal_kinds.specs.Words.{Exists, SomePair};
+ghost use Rattle.goal_eval.specs.Outcomes.{header_terms};
+ghost use Rattle.goal_eval.specs.HeaderWords.{is_any, erased_ref, IsBehind, KnownIn, IsKnown, known_trees, ClashAt, QuestionIn, Fills, TestOutcome};
+ghost use Rattle.goal_eval.specs.Effects.{AreSound, IsStop};
+
+use crate::eval::effects::Effects;
+use crate::eval::head_forms::head_form;
+use crate::eval::outcomes::{Found, Outcome, Setting, Stop};
+use crate::relate::equality::compare_terms;
+use crate::relate::header_args::{instance_of, mentions_unknown};
+use crate::relate::header_questions::{Question, questions_of, questions_of_args};
+use goal_terms::compare::Regions;
+use goal_terms::term_nodes::TermId;
+use goal_terms::term_table::TermTable;
+use goal_terms::terms::GenericArg;
+use goal_terms::view::TermRef;
+
+/// Whether the instance of a header's parameter or alias, whose parameters are known, is unequal to a
+/// given term.
+#[tactic(auto, using(crate::proofs::CacheLemmas::caching))]
+#[cycle(closed)]
+fn instance_clashes(
+    setting: &Setting<'_>,
+    terms: &mut TermTable,
+    effects: &mut Effects,
+    known: &[Option<TermId>],
+    args: &[TermId],
+    header: TermRef<'_>,
+    given: TermId,
+    depth: u32,
+) -> Result<bool, Stop>
+    requires effects { AreSound setting.now terms.old effects.old }
+    requires known { KnownIn terms.old known.now }
+    requires args { AreIn terms.old args.now }
+    requires fills { Fills known.now args.now }
+    requires within { QuestionIn terms.old (Question.Instance header given) }
+    ensures effects { AreSound setting.now terms.new effects.new }
+    ensures kept { Keeps terms.old terms.new }
+    ensures stops { IfErr result (IsStop setting.now) }
+    ensures says { IfOk result (TestOutcome setting.now depth (λ L. L.clash (IsKnown (known_trees terms.old known.now)) (erased_ref header.entry) (erased_at terms.old given))) }
+{
+    if mentions_unknown(known, header) {
+        return Ok(false);
+    }
+    let instance = instance_of(terms, header, args)?;
+    match compare_terms(setting, terms, effects, instance, given, depth)? {
+        Outcome::Refuted => Ok(true),
+        Outcome::Holds => Ok(false),
+        Outcome::Undecided => Ok(false),
+    }
+}
+
+/// Whether a question about a header's place has the answer that header and given term clash.
+#[cycle(closed)]
+fn question_clashes(
+    setting: &Setting<'_>,
+    terms: &mut TermTable,
+    effects: &mut Effects,
+    known: &[Option<TermId>],
+    args: &[TermId],
+    question: Question<'_>,
+    depth: u32,
+) -> Result<bool, Stop>
+    requires effects { AreSound setting.now terms.old effects.old }
+    requires known { KnownIn terms.old known.now }
+    requires args { AreIn terms.old args.now }
+    requires fills { Fills known.now args.now }
+    requires within { QuestionIn terms.old question }
+    ensures effects { AreSound setting.now terms.new effects.new }
+    ensures kept { Keeps terms.old terms.new }
+    ensures stops { IfErr result (IsStop setting.now) }
+    ensures says { IfOk result (TestOutcome setting.now depth (λ L. ClashAt L (known_trees terms.old known.now) terms.old question.entry)) }
+{
+    match question {
+        Question::Differs => Ok(true),
+        Question::Instance(header, given) => {
+            instance_clashes(setting, terms, effects, known, args, header, given, depth)
+        }
+        Question::Behind(header, given) => {
+            behind_clashes(setting, terms, effects, known, args, header, given, depth)
+        }
+    }
+}
+
+/// Whether a constructor of a header clashes with what an alias stands for.
+#[cycle(closed)]
+fn behind_clashes(
+    setting: &Setting<'_>,
+    terms: &mut TermTable,
+    effects: &mut Effects,
+    known: &[Option<TermId>],
+    args: &[TermId],
+    header: TermRef<'_>,
+    given: TermId,
+    depth: u32,
+) -> Result<bool, Stop>
+    requires effects { AreSound setting.now terms.old effects.old }
+    requires known { KnownIn terms.old known.now }
+    requires args { AreIn terms.old args.now }
+    requires fills { Fills known.now args.now }
+    requires within { IsBehind terms.old is_any header given }
+    ensures effects { AreSound setting.now terms.new effects.new }
+    ensures kept { Keeps terms.old terms.new }
+    ensures stops { IfErr result (IsStop setting.now) }
+    ensures says { IfOk result (TestOutcome setting.now depth (λ L. L.clash (IsKnown (known_trees terms.old known.now)) (erased_ref header.entry) (erased_at terms.old given))) }
+{
+    if depth == 0 {
+        return Ok(false);
+    }
+    match head_form(setting, terms, effects, given, depth - 1)? {
+        Found::Refuted => Ok(true),
+        Found::Undecided => Ok(false),
+        Found::Is(form) => {
+            if !header.node().is_same(terms.node(form), Regions::Forgotten) {
+                return Ok(true);
+            }
+            form_clashes(
+                setting,
+                terms,
+                effects,
+                known,
+                args,
+                header,
+                form,
+                depth - 1,
+            )
+        }
+    }
+}
+
+/// Whether a part of a header clashes with a given term.
+#[cycle(closed)]
+fn form_clashes(
+    setting: &Setting<'_>,
+    terms: &mut TermTable,
+    effects: &mut Effects,
+    known: &[Option<TermId>],
+    args: &[TermId],
+    header: TermRef<'_>,
+    given: TermId,
+    depth: u32,
+) -> Result<bool, Stop>
+    requires effects { AreSound setting.now terms.old effects.old }
+    requires known { KnownIn terms.old known.now }
+    requires args { AreIn terms.old args.now }
+    requires fills { Fills known.now args.now }
+    requires within { IsIn terms.old given }
+    ensures effects { AreSound setting.now terms.new effects.new }
+    ensures kept { Keeps terms.old terms.new }
+    ensures stops { IfErr result (IsStop setting.now) }
+    ensures says { IfOk result (TestOutcome setting.now depth (λ L. L.clash (IsKnown (known_trees terms.old known.now)) (erased_ref header.entry) (erased_at terms.old given))) }
+{
+    let questions = questions_of(setting.allocator(), terms, header, given)?;
+    any_clash(setting, terms, effects, known, args, &questions, depth)
+}
+
+/// Whether some question has the answer that header and given term clash.
+#[cycle(closed)]
+fn any_clash(
+    setting: &Setting<'_>,
+    terms: &mut TermTable,
+    effects: &mut Effects,
+    known: &[Option<TermId>],
+    args: &[TermId],
+    questions: &[Question<'_>],
+    depth: u32,
+) -> Result<bool, Stop>
+    requires effects { AreSound setting.now terms.old effects.old }
+    requires known { KnownIn terms.old known.now }
+    requires args { AreIn terms.old args.now }
+    requires fills { Fills known.now args.now }
+    requires within { All (QuestionIn terms.old) questions.now }
+    ensures effects { AreSound setting.now terms.new effects.new }
+    ensures kept { Keeps terms.old terms.new }
+    ensures stops { IfErr result (IsStop setting.now) }
+    ensures says { IfOk result (TestOutcome setting.now depth (λ L. Exists (ClashAt L (known_trees terms.old known.now) terms.old) questions.now)) }
+{
+    for i in 0..questions.len() {
+        if question_clashes(setting, terms, effects, known, args, questions[i], depth)? {
+            return Ok(true);
+        }
+    }
+    Ok(false)
+}
+
+/// Whether a header, some of whose parameters are known, clashes with given arguments.
+#[cycle(closed)]
+pub(crate) fn header_clashes(
+    setting: &Setting<'_>,
+    terms: &mut TermTable,
+    effects: &mut Effects,
+    header: &[GenericArg],
+    given: &[TermId],
+    known: &[Option<TermId>],
+    args: &[TermId],
+    depth: u32,
+) -> Result<bool, Stop>
+    requires effects { AreSound setting.now terms.old effects.old }
+    requires given { AreIn terms.old given.now }
+    requires known { KnownIn terms.old known.now }
+    requires args { AreIn terms.old args.now }
+    requires fills { Fills known.now args.now }
+    ensures effects { AreSound setting.now terms.new effects.new }
+    ensures kept { Keeps terms.old terms.new }
+    ensures stops { IfErr result (IsStop setting.now) }
+    ensures says { IfOk result (TestOutcome setting.now depth (λ L. SomePair (L.clash (IsKnown (known_trees terms.old known.now))) (header_terms header.now) (erased_all terms.old given.now))) }
+{
+    let questions = questions_of_args(setting.allocator(), terms, header, given)?;
+    any_clash(setting, terms, effects, known, args, &questions, depth)
+}

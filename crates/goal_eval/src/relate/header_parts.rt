@@ -1,0 +1,162 @@
+//! The terms of a header's parameters, as given arguments have them.
+ghost use Rattle.std.specs.Prelude.{IfErr, ◌≡◌, length, IfOk};
+ghost use Rattle.std.specs.Option.{option_map};
+ghost use Rattle.goal_terms.specs.TableMeaning.{Keeps};
+ghost use Rattle.goal_terms.specs.declared.modes.TypingMode.{TypingMode};
+ghost use Rattle.goal_kinds.specs.Headers.{PartAmong};
+ghost use Rattle.goal_kinds.specs.Interned.{AreIn, erased_at, erased_all};
+ghost use Rattle.goal_eval.specs.Outcomes.{RunsFor, level_in, header_terms};
+ghost use Rattle.goal_eval.specs.HeaderWords.{is_this, erased_ref, IsBehind, GivesPart, PlaceIn, OptionIn, KnownIn, known_trees, SaysKnown, PartOutcome, KnownOutcome};
+ghost use Rattle.goal_eval.specs.Effects.{AreSound, IsStop};
+
+use crate::eval::effects::Effects;
+use crate::eval::head_forms::head_form;
+use crate::eval::outcomes::{Found, Setting, Stop};
+use crate::relate::header_args::add_known;
+use crate::relate::header_places::{Place, find_among, find_place};
+use goal_terms::answers::ParamKind;
+use goal_terms::compare::Regions;
+use goal_terms::term_nodes::TermId;
+use goal_terms::term_table::TermTable;
+use goal_terms::terms::GenericArg;
+use goal_terms::view::{Parts, TermRef};
+
+/// The term of a parameter at a depth, from where its first place leads to.
+#[cycle(closed)]
+fn part_at(
+    setting: &Setting<'_>,
+    terms: &mut TermTable,
+    effects: &mut Effects,
+    number: usize,
+    place: Place<'_>,
+    depth: u32,
+) -> Result<Option<TermId>, Stop>
+    requires effects { AreSound setting.now terms.old effects.old }
+    requires within { PlaceIn terms.old number place }
+    ensures effects { AreSound setting.now terms.new effects.new }
+    ensures kept { Keeps terms.old terms.new }
+    ensures within { IfOk result (OptionIn terms.new) }
+    ensures stops { IfErr result (IsStop setting.now) }
+    ensures says { IfOk result (PartOutcome setting.now depth (λ L. GivesPart L number terms.old place.entry) terms.new) }
+{
+    match place {
+        Place::Is(id) => Ok(Some(id)),
+        Place::Missing => Ok(None),
+        Place::Behind(header, given) => part_behind(
+            setting, terms, effects, number, header, given, depth,
+        ),
+    }
+}
+
+/// The same where an alias stands against a constructor of the header.
+#[cycle(closed)]
+fn part_behind(
+    setting: &Setting<'_>,
+    terms: &mut TermTable,
+    effects: &mut Effects,
+    number: usize,
+    header: TermRef<'_>,
+    given: TermId,
+    depth: u32,
+) -> Result<Option<TermId>, Stop>
+    requires effects { AreSound setting.now terms.old effects.old }
+    requires within { IsBehind terms.old (is_this number) header given }
+    ensures effects { AreSound setting.now terms.new effects.new }
+    ensures kept { Keeps terms.old terms.new }
+    ensures within { IfOk result (OptionIn terms.new) }
+    ensures stops { IfErr result (IsStop setting.now) }
+    ensures says { IfOk result (PartOutcome setting.now depth (λ L. L.part number (erased_ref header.entry) (erased_at terms.old given)) terms.new) }
+{
+    if depth == 0 {
+        return Ok(None);
+    }
+    match head_form(setting, terms, effects, given, depth - 1)? {
+        Found::Refuted => Ok(None),
+        Found::Undecided => Ok(None),
+        Found::Is(form) => {
+            if !header.node().is_same(terms.node(form), Regions::Forgotten) {
+                return Ok(None);
+            }
+            let place = find_place(terms, number, header, form);
+            part_at(setting, terms, effects, number, place, depth - 1)
+        }
+    }
+}
+
+/// The part at the first place of a parameter among the arguments of a header, at a depth.
+#[cycle(closed)]
+fn known_part(
+    setting: &Setting<'_>,
+    terms: &mut TermTable,
+    effects: &mut Effects,
+    number: usize,
+    header: &[GenericArg],
+    given: &[TermId],
+    depth: u32,
+) -> Result<Option<TermId>, Stop>
+    requires effects { AreSound setting.now terms.old effects.old }
+    requires given { AreIn terms.old given.now }
+    ensures effects { AreSound setting.now terms.new effects.new }
+    ensures kept { Keeps terms.old terms.new }
+    ensures within { IfOk result (OptionIn terms.new) }
+    ensures stops { IfErr result (IsStop setting.now) }
+    ensures says { IfOk result (PartOutcome setting.now depth (λ L. PartAmong L number (header_terms header.now) (erased_all terms.old given.now)) terms.new) }
+{
+    let place = find_among(terms, number, Parts::Args(header), given);
+    part_at(setting, terms, effects, number, place, depth)
+}
+
+/// The term of a parameter of a kind among the arguments of a header, if it is known at a depth.
+#[cycle(closed)]
+fn known_arg(
+    setting: &Setting<'_>,
+    terms: &mut TermTable,
+    effects: &mut Effects,
+    number: usize,
+    kind: ParamKind,
+    header: &[GenericArg],
+    given: &[TermId],
+    depth: u32,
+) -> Result<Option<TermId>, Stop>
+    requires effects { AreSound setting.now terms.old effects.old }
+    requires given { AreIn terms.old given.now }
+    ensures effects { AreSound setting.now terms.new effects.new }
+    ensures kept { Keeps terms.old terms.new }
+    ensures within { IfOk result (OptionIn terms.new) }
+    ensures stops { IfErr result (IsStop setting.now) }
+    ensures says { IfOk result (λ o. (m : TypingMode) → RunsFor setting.now m → SaysKnown (level_in setting.now m depth) (header_terms header.now) (erased_all terms.old given.now) kind number (option_map (erased_at terms.new) o)) }
+{
+    match kind {
+        ParamKind::Lifetime => Ok(None),
+        ParamKind::Ty => known_part(setting, terms, effects, number, header, given, depth),
+        ParamKind::Const => known_part(setting, terms, effects, number, header, given, depth),
+    }
+}
+
+/// The terms of a header's parameters, as far as they are known at a depth.
+#[cycle(closed)]
+pub(crate) fn known_args(
+    setting: &Setting<'_>,
+    terms: &mut TermTable,
+    effects: &mut Effects,
+    params: &[ParamKind],
+    header: &[GenericArg],
+    given: &[TermId],
+    depth: u32,
+) -> Result<Vec<Option<TermId>>, Stop>
+    requires effects { AreSound setting.now terms.old effects.old }
+    requires given { AreIn terms.old given.now }
+    ensures effects { AreSound setting.now terms.new effects.new }
+    ensures kept { Keeps terms.old terms.new }
+    ensures within { IfOk result (λ known. KnownIn terms.new known.items) }
+    ensures count { IfOk result (λ known. length known.items ≡ length params.now) }
+    ensures stops { IfErr result (IsStop setting.now) }
+    ensures says { IfOk result (λ known. KnownOutcome setting.now depth (header_terms header.now) (erased_all terms.old given.now) params.now (known_trees terms.new known.items)) }
+{
+    let mut known = Vec::new(setting.allocator());
+    for i in 0..params.len() {
+        let next = known_arg(setting, terms, effects, i, params[i], header, given, depth)?;
+        add_known(&mut known, next)?;
+    }
+    Ok(known)
+}

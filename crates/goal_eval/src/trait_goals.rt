@@ -1,0 +1,2 @@
+//! What a closed trait goal comes to.
+pub mod evaluation;

@@ -1,5 +1,0 @@
-use Rattle.goal_solver.proofs.InterningLemmas.{AreInterned}
-use Rattle.goal_solver.proofs.eval.interning.intern_args.Given as goal
-
-abbrev pub invariant-loop-arg : goal.invariant-loop-arg
-invariant-loop-arg l = AreInterned l.initial.terms l.terms l.ids.items l.args l.arg-index

@@ -1,4 +1,0 @@
-use Rattle.goal_solver.proofs.eval.listed_regions.ListedRegions.+add_listed.Given as goal
-
-abbrev pub decreases-add_listed : goal.decreases-add_listed
-decreases-add_listed l = l.before

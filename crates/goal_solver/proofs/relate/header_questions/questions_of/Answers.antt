@@ -1,8 +1,0 @@
-use Rattle.goal_kinds.specs.Levels.{level}
-use Rattle.goal_solver.specs.HeaderWords.{ClashAt}
-use Rattle.goal_solver.proofs.HeaderOutcomeLemmas.{nothing-asked}
-use Rattle.goal_solver.proofs.relate.header_questions.questions_of.Goals as goal
-
-pub returns-clause-says : goal.returns-clause-says
-returns-clause-says c =
-    λ S k ks. nothing-asked (ClashAt (level S k) ks c.args.terms.now) _ _ _ c.new-questions.ensures.items (c.in_ok-ask.ensures.says S k ks)
