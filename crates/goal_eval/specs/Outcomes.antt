@@ -52,7 +52,11 @@ setting_in c m = setting_of c.rows.now m c.environment.now
 abbrev pub level_in : over.Setting → TypingMode → ℕ → Level
 level_in c m n = level (setting_in c m) n
 
--- so it is in each mode for which a run stands, at the level of a depth
+-- so it is in each mode for which a run stands
+abbrev pub ForEachSetting : over.Setting → (Setting → Type 0) → Type 0
+ForEachSetting c P = (m : TypingMode) → RunsFor c m → P (setting_in c m)
+
+-- and at the level of a depth there
 abbrev pub ForEachMode : over.Setting → ℕ → (Setting → Level → Type 0) → Type 0
 ForEachMode c n P = (m : TypingMode) → RunsFor c m → P (setting_in c m) (level_in c m n)
 

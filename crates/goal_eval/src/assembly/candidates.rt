@@ -9,7 +9,7 @@ ghost use Rattle.goal_kinds.specs.Interned.{CandidateIn, erased_at, candidate_at
 ghost use Rattle.goal_kinds.specs.InternedEntries.{ListIn, list_at};
 ghost use Rattle.goal_eval.specs.AskedTraits.{AskedIn, candidate_list, SaysCandidate, SaysCandidates};
 ghost use Rattle.goal_eval.specs.Lists.{IsListFor};
-ghost use Rattle.goal_eval.specs.Outcomes.{RunsFor, setting_in, level_in, ForEachMode};
+ghost use Rattle.goal_eval.specs.Outcomes.{ForEachMode, ForEachSetting};
 ghost use Rattle.goal_eval.specs.Effects.{AreSound, IsStop};
 
 use crate::eval::effects::Effects;
@@ -50,7 +50,7 @@ fn candidate_list<'e>(
     ensures kept { Keeps terms.old terms.new }
     ensures within { IfOk result (ListIn terms.new) }
     ensures caused { IfOk result (IsCausedList setting.now.rows.now) }
-    ensures list { ForEachMode setting.now depth (λ S _. IfOk result (λ o. IsListFor setting.now.typing_mode.now (list_at terms.new o) (candidate_list S terms.old asked.now (candidate_at terms.old candidate.now)))) }
+    ensures list { ForEachSetting setting.now (λ S. IfOk result (λ o. IsListFor setting.now.typing_mode.now (list_at terms.new o) (candidate_list S terms.old asked.now (candidate_at terms.old candidate.now)))) }
 {
     let erased = TypingMode::ErasedNotCoherence;
     let lists = setting.of_lists(&erased);

@@ -1,10 +1,9 @@
 //! Host effect goals: whether a trait holds as a const trait.
 ghost use Rattle.std.specs.Prelude.{IfErr, ◌≢◌, IfOk};
 ghost use Rattle.goal_terms.specs.TableMeaning.{Keeps};
-ghost use Rattle.goal_terms.specs.declared.modes.TypingMode.{TypingMode};
 ghost use Rattle.goal_kinds.specs.Interned.{AreIn, erased_all};
 ghost use Rattle.goal_eval.specs.AskedTraits.{AskedIn, SaysGroups};
-ghost use Rattle.goal_eval.specs.Outcomes.{RunsFor, setting_in, level_in, Says, ForEachMode, SaysConst};
+ghost use Rattle.goal_eval.specs.Outcomes.{ForEachMode, SaysConst};
 ghost use Rattle.goal_eval.specs.Effects.{AreSound, IsStop};
 
 use crate::assembly::candidates::{AskedTrait, candidates_outcome, class_outcome};

@@ -1,13 +1,11 @@
 //! The head forms of terms.
 ghost use Rattle.std.specs.Prelude.{IfErr, IfOk};
 ghost use Rattle.goal_terms.specs.TableMeaning.{Keeps};
-ghost use Rattle.goal_terms.specs.declared.modes.TypingMode.{TypingMode};
 ghost use Rattle.goal_terms.specs.Sorts.{IsArgument};
 ghost use Rattle.goal_terms.specs.View.{tree_of_ref};
 ghost use Rattle.goal_kinds.specs.Headers.{under};
 ghost use Rattle.goal_kinds.specs.Interned.{IsIn, AreIn, erased_at, erased_all};
-ghost use Rattle.goal_kinds.specs.Level.{HasHeadForm, HeadFormRefuted};
-ghost use Rattle.goal_eval.specs.Outcomes.{RunsFor, level_in, SaysWhich, FoundIn, ForEachMode, SaysForm};
+ghost use Rattle.goal_eval.specs.Outcomes.{FoundIn, ForEachMode, SaysForm};
 ghost use Rattle.goal_eval.specs.Effects.{AreSound, IsStop};
 
 use crate::eval::effects::Effects;

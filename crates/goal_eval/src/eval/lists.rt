@@ -7,7 +7,7 @@ ghost use Rattle.goal_kinds.specs.Causes.{IsCausedEntry, IsCausedList};
 ghost use Rattle.goal_kinds.specs.Entries.{Entry};
 ghost use Rattle.goal_kinds.specs.InternedEntries.{EntriesIn, entries_at, ListIn, list_at};
 ghost use Rattle.goal_eval.specs.Lists.{list_mode, IsListFor, SaysList, SaysEntries, AtEachLevel, ListTermIn, list_held, list_term};
-ghost use Rattle.goal_eval.specs.Outcomes.{RunsFor, level_in, ForEachMode};
+ghost use Rattle.goal_eval.specs.Outcomes.{ForEachMode};
 ghost use Rattle.goal_eval.specs.Effects.{AreSound, IsStop};
 
 pub mod entries;

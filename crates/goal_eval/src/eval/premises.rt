@@ -2,10 +2,9 @@
 ghost use Rattle.std.specs.Prelude.{IfErr, IfOk, map};
 ghost use Rattle.std.specs.List.{All};
 ghost use Rattle.goal_terms.specs.TableMeaning.{Keeps};
-ghost use Rattle.goal_terms.specs.declared.modes.TypingMode.{TypingMode};
 ghost use Rattle.goal_kinds.specs.Interned.{IsIn, AreIn, TraitIn, PredicateIn, PremiseIn, erased_at, erased_all, trait_at, predicate_at, premise_at};
-ghost use Rattle.goal_kinds.specs.Premises.{ClauseHolds, ClauseRefuted, PremiseHolds, PremiseRefuted, PremisesHold, PremisesRefuted, clauses_under, conditions_as};
-ghost use Rattle.goal_eval.specs.Outcomes.{RunsFor, level_in, Says, ForEachMode, SaysHolds};
+ghost use Rattle.goal_kinds.specs.Premises.{PremiseHolds, PremiseRefuted, PremisesHold, PremisesRefuted, clauses_under, conditions_as};
+ghost use Rattle.goal_eval.specs.Outcomes.{Says, ForEachMode, SaysHolds};
 ghost use Rattle.goal_eval.specs.Effects.{AreSound, IsStop};
 
 use crate::effect_goals::evaluation::evaluate_host_effect_goal;

@@ -2,13 +2,12 @@
 ghost use Rattle.std.specs.Prelude.{◌≢◌, Some, IfErr, IfOk};
 ghost use Rattle.std.specs.List.{All};
 ghost use Rattle.goal_terms.specs.TableMeaning.{Keeps};
-ghost use Rattle.goal_terms.specs.declared.modes.TypingMode.{TypingMode as modes};
 ghost use Rattle.goal_kinds.specs.AliasLists.{alias_list};
 ghost use Rattle.goal_kinds.specs.Causes.{IsCausedEntry};
 ghost use Rattle.goal_kinds.specs.Interned.{AreIn, erased_all};
 ghost use Rattle.goal_kinds.specs.InternedEntries.{EntriesIn, entries_at};
 ghost use Rattle.goal_eval.specs.Lists.{IsListFor};
-ghost use Rattle.goal_eval.specs.Outcomes.{RunsFor, setting_in, level_in, SaysWhich, FoundIn, ForEachMode, SaysAlias};
+ghost use Rattle.goal_eval.specs.Outcomes.{FoundIn, ForEachMode, SaysAlias, ForEachSetting};
 ghost use Rattle.goal_eval.specs.Effects.{AreSound, IsStop};
 
 use crate::eval::effects::Effects;
@@ -102,7 +101,7 @@ fn list_of_alias<'t>(
     ensures kept { Keeps terms.old terms.new }
     ensures within { IfOk result (λ es. EntriesIn terms.new es.items) }
     ensures caused { IfOk result (λ es. All (IsCausedEntry setting.now.rows.now) es.items) }
-    ensures list { ForEachMode setting.now depth (λ S _. IfOk result (λ es. IsListFor setting.now.typing_mode.now (Some (entries_at terms.new es.items)) (Some (alias_list S kind (erased_all terms.old args.now))))) }
+    ensures list { ForEachSetting setting.now (λ S. IfOk result (λ es. IsListFor setting.now.typing_mode.now (Some (entries_at terms.new es.items)) (Some (alias_list S kind (erased_all terms.old args.now))))) }
 {
     let alloc = setting.allocator();
     let rigid_alias = intern_alias(alloc, terms, kind, args)?;

@@ -1,14 +1,13 @@
 //! The terms that candidates give projections, by their lists.
-ghost use Rattle.std.specs.Prelude.{◌≡◌, true, IfErr, IfOk};
+ghost use Rattle.std.specs.Prelude.{◌≡◌, IfErr, IfOk};
 ghost use Rattle.goal_terms.specs.TableMeaning.{Keeps};
-ghost use Rattle.goal_terms.specs.declared.modes.TypingMode.{TypingMode as modes};
 ghost use Rattle.goal_kinds.specs.Causes.{IsCausedList};
 ghost use Rattle.goal_kinds.specs.Interned.{CandidateIn, erased_at, candidate_at};
 ghost use Rattle.goal_kinds.specs.InternedEntries.{ListIn, list_at};
 ghost use Rattle.goal_kinds.specs.ProjectionLists.{projection_list};
 ghost use Rattle.goal_kinds.specs.Projections.{CandidateGives, TermRefuted};
 ghost use Rattle.goal_eval.specs.Lists.{IsListFor};
-ghost use Rattle.goal_eval.specs.Outcomes.{RunsFor, setting_in, level_in, SaysWhich, FoundIn, ProjectionIn, projection_at, ForEachMode};
+ghost use Rattle.goal_eval.specs.Outcomes.{SaysWhich, FoundIn, ProjectionIn, projection_at, ForEachMode, ForEachSetting};
 ghost use Rattle.goal_eval.specs.Effects.{AreSound, IsStop};
 
 use crate::eval::effects::Effects;
@@ -59,7 +58,7 @@ fn candidate_list<'t>(
     ensures kept { Keeps terms.old terms.new }
     ensures within { IfOk result (ListIn terms.new) }
     ensures caused { IfOk result (IsCausedList setting.now.rows.now) }
-    ensures list { ForEachMode setting.now depth (λ S _. IfOk result (λ o. IsListFor setting.now.typing_mode.now (list_at terms.new o) (projection_list S (projection_at terms.old projection.now) (erased_at terms.old projection.now.rigid_alias) (candidate_at terms.old candidate.now)))) }
+    ensures list { ForEachSetting setting.now (λ S. IfOk result (λ o. IsListFor setting.now.typing_mode.now (list_at terms.new o) (projection_list S (projection_at terms.old projection.now) (erased_at terms.old projection.now.rigid_alias) (candidate_at terms.old candidate.now)))) }
 {
     let asked = AskedProjection {
         item: projection.item,

@@ -2,11 +2,10 @@
 ghost use Rattle.std.specs.Prelude.{IfErr, IfOk, map};
 ghost use Rattle.std.specs.List.{All};
 ghost use Rattle.goal_terms.specs.TableMeaning.{Keeps};
-ghost use Rattle.goal_terms.specs.declared.modes.TypingMode.{TypingMode};
 ghost use Rattle.goal_kinds.specs.Candidates.{environment, second_group};
 ghost use Rattle.goal_kinds.specs.Interned.{IsIn, AreIn, CandidateIn, erased_at, erased_all, candidate_at};
 ghost use Rattle.goal_kinds.specs.Projections.{GroupGives, GroupRefuted, GroupsGive, GroupsRefuted, OwnUnformed, ItemGives, ItemRefuted, ProjectionGives, ProjectionRefuted};
-ghost use Rattle.goal_eval.specs.Outcomes.{RunsFor, setting_in, level_in, Says, SaysWhich, FoundIn, ProjectionIn, projection_at, ForEachMode};
+ghost use Rattle.goal_eval.specs.Outcomes.{Says, SaysWhich, FoundIn, ProjectionIn, projection_at, ForEachMode};
 ghost use Rattle.goal_eval.specs.ProjectionParts.{HaveHeadForms, SomeUnformed, FormedGives, LaterGives, LaterRefuted, ReplacedGives, ReplacedRefuted, ThroughGives, ThroughRefuted};
 ghost use Rattle.goal_eval.specs.Effects.{AreSound, IsStop};
 

@@ -2,11 +2,10 @@
 ghost use Rattle.std.specs.Prelude.{IfErr, IfOk};
 ghost use Rattle.std.specs.List.{All};
 ghost use Rattle.goal_terms.specs.TableMeaning.{Keeps};
-ghost use Rattle.goal_terms.specs.declared.modes.TypingMode.{TypingMode};
 ghost use Rattle.goal_kinds.specs.Interned.{IsIn, AreIn, erased_at, erased_all};
 ghost use Rattle.goal_kinds.specs.Words.{Pairs, SomePair};
 ghost use Rattle.goal_kinds.specs.Equality.{SameForm, OtherForm};
-ghost use Rattle.goal_eval.specs.Outcomes.{RunsFor, level_in, Says, ForEachMode, SaysEqual};
+ghost use Rattle.goal_eval.specs.Outcomes.{Says, ForEachMode, SaysEqual};
 ghost use Rattle.goal_eval.specs.Pending.{IsOpen, Relates, AllEqual, SomeUnequal};
 ghost use Rattle.goal_eval.specs.Effects.{AreSound, IsStop};
 

@@ -1,11 +1,10 @@
 //! Whether a header fits given arguments.
 ghost use Rattle.std.specs.Prelude.{IfErr, ◌≡◌, true, false, length, map, IfOk};
 ghost use Rattle.goal_terms.specs.TableMeaning.{Keeps};
-ghost use Rattle.goal_terms.specs.declared.modes.TypingMode.{TypingMode};
 ghost use Rattle.goal_kinds.specs.Headers.{under};
 ghost use Rattle.goal_kinds.specs.Interned.{AreIn, erased_all};
 ghost use Rattle.goal_kinds.specs.Words.{Pairs};
-ghost use Rattle.goal_eval.specs.Outcomes.{RunsFor, level_in, header_terms, SaysMatch, MatchIn, ForEachMode};
+ghost use Rattle.goal_eval.specs.Outcomes.{header_terms, SaysMatch, MatchIn, ForEachMode};
 ghost use Rattle.goal_eval.specs.HeaderWords.{KnownIn, known_trees, AreFilled, is_complete, TestOutcome, KnownOutcome, MatchOutcome};
 ghost use Rattle.goal_eval.specs.Effects.{AreSound, IsStop};
 

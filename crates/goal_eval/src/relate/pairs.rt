@@ -1,5 +1,5 @@
 //! Comparisons of terms as far as no alias has to be opened, and what they leave to be compared.
-ghost use Rattle.std.specs.Prelude.{◌≡◌, ◌↔◌, ◌||◌, ◌<◌, Bool, List, [], IfOk, IsTrue, length};
+ghost use Rattle.std.specs.Prelude.{◌≡◌, ◌↔◌, ◌||◌, ◌<◌, [], IfOk, IsTrue, length};
 ghost use Rattle.std.specs.List.{All};
 ghost use Rattle.goal_kinds.specs.Interned.{erased_at, erased_all};
 ghost use Rattle.goal_kinds.specs.Words.{Pairs, SomePair};

@@ -1,10 +1,9 @@
 //! Trait goals: by which class of candidates they hold.
 ghost use Rattle.std.specs.Prelude.{IfErr, ◌≡◌, ◌≢◌, None, IfOk};
 ghost use Rattle.goal_terms.specs.TableMeaning.{Keeps};
-ghost use Rattle.goal_terms.specs.declared.modes.TypingMode.{TypingMode};
 ghost use Rattle.goal_kinds.specs.Interned.{AreIn, erased_at, erased_all};
 ghost use Rattle.goal_eval.specs.AskedTraits.{AskedIn};
-ghost use Rattle.goal_eval.specs.Outcomes.{RunsFor, setting_in, level_in, SaysThrough, ForEachMode, SaysTrait};
+ghost use Rattle.goal_eval.specs.Outcomes.{ForEachMode, SaysTrait};
 ghost use Rattle.goal_eval.specs.TraitOutcomes.{SaysClasses};
 ghost use Rattle.goal_eval.specs.Effects.{AreSound, IsStop};
 

@@ -1,6 +1,5 @@
 //! Applying a response to a context.
-ghost use Rattle.std.specs.Prelude.{◌≡◌, ◌++◌, ◌∷◌, [], List, IsTrue, IfOk, OnOk, OnErr, IsOkUnless};
-ghost use Rattle.std.specs.List.{AllZip};
+ghost use Rattle.std.specs.Prelude.{◌≡◌, ◌++◌, ◌∷◌, [], IsTrue, IfOk, OnOk, OnErr, IsOkUnless};
 ghost use Rattle.goal_terms.specs.declared.answers.OpaqueTypeKey.{OpaqueTypeKey as Key};
 ghost use Rattle.goal_terms.specs.declared.heads.Variable.{Variable as Infer};
 ghost use Rattle.goal_terms.specs.declared.terms.Ty.{Ty as Hidden};

@@ -1,11 +1,11 @@
 //! What a context records: opaque accesses and delayed faults, each once, in the order of first entry.
-ghost use Rattle.std.specs.Prelude.{◌≡◌, ◌⊎◌, ◌↔◌, true, take, IsTrue, OnOk, OnErr, IsOkUnless};
+ghost use Rattle.std.specs.Prelude.{◌≡◌, ◌⊎◌, ◌↔◌, true, take, OnOk, OnErr, IsOkUnless};
 ghost use Rattle.std.specs.List.{All, Contains};
 ghost use Rattle.goal_terms.specs.declared.answers.DelayedFault.{DelayedFault as Delayed};
 ghost use Rattle.goal_terms.specs.declared.answers.OpaqueAccess.{OpaqueAccess as Access};
 ghost use Rattle.goal_kinds.specs.Causes.{IsFaultCaused, is_missing};
 ghost use Rattle.goal_solver.specs.Accesses.{RecordsCausedFaults, uncaused, uncaused_faults};
-ghost use Rattle.goal_eval.specs.Entering.{Enters, EntersAtMost};
+ghost use Rattle.goal_eval.specs.Entering.{EntersAtMost};
 ghost use Rattle.goal_solver.specs.Added.{RecordsAccess, RecordsFault};
 ghost use Rattle.goal_solver.specs.GoingBack.{GoesBack};
 ghost use Rattle.goal_solver.specs.Stored.{IsSet};

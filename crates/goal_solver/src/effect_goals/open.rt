@@ -1,5 +1,5 @@
 //! Goals with inference variables that a trait holds as a const trait.
-ghost use Rattle.std.specs.Prelude.{◌≡◌, ◌<◌, ℕ, suc, Err, IfOk, IfErr, IfSome, IsOkUnless};
+ghost use Rattle.std.specs.Prelude.{◌≡◌, ◌<◌, ℕ, suc, Err, IfOk, IfSome, IsOkUnless};
 ghost use Rattle.goal_solver.specs.Binding.{IsApplicable};
 ghost use Rattle.goal_solver.specs.Collecting.{kind_words};
 ghost use Rattle.goal_solver.specs.GoingBack.{GoesBack, restored};

@@ -1,10 +1,8 @@
 //! Whether the term that a goal asks for is free in a context.
-ghost use Rattle.std.specs.Prelude.{◌≡◌, ◌<◌, length};
-ghost use Rattle.std.specs.List.{list_any};
+ghost use Rattle.std.specs.Prelude.{◌≡◌, ◌<◌};
 ghost use Rattle.goal_terms.specs.NodeTests.{some_node_within};
 ghost use Rattle.goal_terms.specs.declared.heads.Node.TheVariants as nodes;
 ghost use Rattle.goal_terms.specs.declared.node_tests.Within.TheVariants.{Everything};
-ghost use Rattle.goal_terms.specs.TreeOf.{tree_of_arg};
 ghost use Rattle.goal_terms.specs.View.{tree_of_ref};
 ghost use Rattle.goal_tables.specs.Predicates.{some_in_args, some_in_equation, some_in_clause_kind, some_in_env};
 ghost use Rattle.goal_solver.specs.FreeVariables.{general_variable, is_somewhere, reaches, is_bound, stands_in_storage, is_taken, lacks_free_term};

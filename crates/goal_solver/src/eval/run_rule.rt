@@ -15,7 +15,7 @@ ghost use Rattle.goal_solver.specs.OpenRuns.{RunsOpen};
 ghost use Rattle.goal_solver.specs.Refusals.{WhenRefused, IsRefusedOpen};
 ghost use Rattle.goal_eval.specs.Outcomes.{RunsAs};
 ghost use Rattle.goal_solver.specs.RunAnswers.{RunsClosed, RunsInTrial};
-ghost use Rattle.goal_solver.specs.RunRules.{setting_over, asked_of, IsAskedOnce, IsClosedRule, IsRuleAnswer, IsRuleOpen, IsRecorded, IsKept, AreRecorded, IsRecordedAnswer, AreRecordedWhere, AreListed, response_of, RuleRunsOn};
+ghost use Rattle.goal_solver.specs.RunRules.{setting_over, asked_of, IsAskedOnce, IsClosedRule, IsRuleAnswer, IsRuleOpen, IsRecorded, IsKept, IsRecordedAnswer, AreRecordedWhere, AreListed, response_of, RuleRunsOn};
 ghost use Rattle.goal_solver.specs.State.{kinds_of};
 
 pub(crate) mod asked;

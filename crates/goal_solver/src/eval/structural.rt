@@ -12,7 +12,7 @@ ghost use Rattle.goal_kinds.specs.Settings.{is_headline};
 ghost use Rattle.goal_solver.specs.Accesses.{RecordsCausedFaults};
 ghost use Rattle.goal_solver.specs.Answers.{IsOwed, level_over};
 ghost use Rattle.goal_solver.specs.GoingBack.{GoesBack, restored};
-ghost use Rattle.goal_solver.specs.HeadForms.{bound_term, IsClosedForm, IsFormAnswer, IsFormOpen, IsAnswered, IsFormFound, IsFormUnfound, IsFoundItself, LeavesFormOpen};
+ghost use Rattle.goal_solver.specs.HeadForms.{bound_term, IsClosedForm, IsFormAnswer, IsAnswered, IsFormFound, IsFormUnfound, IsFoundItself, LeavesFormOpen};
 ghost use Rattle.goal_eval.specs.Outcomes.{RunsAs, SaysWhich, FoundIn};
 ghost use Rattle.goal_solver.specs.Relating.{IsFaultFor};
 

@@ -84,7 +84,7 @@ impl EvalCtxt<'_> {
         match alias_rule(self.tables, &self.typing_mode, goal) {
             Ok(rule) => self.run_open(&goal.param_env, &rule.entries),
             Err(Fault::NotForThisKind) => Ok(self.respond(Certainty::Maybe, None)),
-            Err(fault) => Err(fault),
+            Err(_) => Err(Fault::OutOfMemory),
         }
     }
 

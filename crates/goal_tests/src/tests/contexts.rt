@@ -188,7 +188,7 @@ const VEC_PAIRED: Projected = Projected {
     parts: &[VEC_OF_V0, U8],
 };
 
-/// Projections with the unbound variable 0. The one impl of `Pair` says that `A` is `Box<T>`.
+/// Projections with the unbound variable 0, and a free alias. The one impl of `Pair` says that `A` is `Box<T>`.
 const OPEN_PROJECTIONS: &[Scene] = &[
     Scene {
         limit: 2,
@@ -217,8 +217,8 @@ const OPEN_PROJECTIONS: &[Scene] = &[
                     parts: &[V0],
                     ..VEC_PAIRED
                 },
-                MAYBE,
-                &[],
+                YES,
+                &[(1, VEC_OF_V0)],
             )),
         ]],
         ..AT_ONCE

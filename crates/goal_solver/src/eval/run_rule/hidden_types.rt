@@ -4,7 +4,7 @@ ghost use Rattle.goal_terms.specs.Folding.{instance};
 ghost use Rattle.goal_terms.specs.TreeOf.{tree_of_arg, tree_of_term, tree_of_ty, trees_of};
 ghost use Rattle.goal_solver.specs.Accesses.{RecordsCausedFaults};
 ghost use Rattle.goal_solver.specs.GoingBack.{GoesBack};
-ghost use Rattle.goal_solver.specs.HiddenTypes.{tree_in, NormalizesArg, NormalizesArgs, behind_all, RefusesArg, RefusesArgs, EntersHidden, checked_in};
+ghost use Rattle.goal_solver.specs.HiddenTypes.{NormalizesArg, NormalizesArgs, behind_all, RefusesArg, RefusesArgs, EntersHidden, checked_in};
 ghost use Rattle.goal_solver.specs.OpenRuns.{TakesFirst, MeetsHidden, DefinesUnder, Defines};
 ghost use Rattle.goal_solver.specs.Refusals.{WhenRefused, RefusesFirst, RefusesMeeting, RefusesUnder, RefusesHidden};
 ghost use Rattle.goal_solver.specs.Relating.{IsFaultFor};

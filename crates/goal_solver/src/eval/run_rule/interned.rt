@@ -40,7 +40,7 @@ use goal_terms::terms::{GenericArg, Term};
 
 /// Runs an entry of a rule at a depth. One that says to record something asks for nothing; one whose row is
 /// missing is undecided, and ends the list where it names arguments.
-#[tactic(auto, using(crate::proofs::CacheLemmas::caching))]
+#[tactic(auto, using(goal_eval::proofs::CacheLemmas::caching))]
 pub(crate) fn run_rule_entry(
     setting: &Setting<'_>,
     terms: &mut TermTable,

@@ -21,3 +21,6 @@ returns-in-Err-NotForThisKind-clause-applies c = nothing-applies c.args.self.now
 
 pub returns-in-Err-NotForThisKind-clause-goes_back : goal.returns-in-Err-NotForThisKind-clause-goes_back
 returns-in-Err-NotForThisKind-clause-goes_back c = goes_back-same c.args.self.now
+
+pub returns-in-Err-clause-goes_back : goal.returns-in-Err-clause-goes_back
+returns-in-Err-clause-goes_back c = goes_back-same c.args.self.now
