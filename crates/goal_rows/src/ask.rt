@@ -183,11 +183,15 @@ impl Asker<'_> {
     /// A fresh variable for what an alias stands for, a type or a constant.
     fn expected_term(&mut self, kind: AliasTermKind) -> Result<Term, RowsFault> {
         if kind.is_type() {
-            let ty = self.context.next_ty_infer().map_err(from_fault)?;
-            Ok(Term::Ty(ty))
+            match self.context.next_ty_infer() {
+                Ok(ty) => Ok(Term::Ty(ty)),
+                Err(_) => Err(RowsFault::OutOfMemory),
+            }
         } else {
-            let value = self.context.next_const_infer().map_err(from_fault)?;
-            Ok(Term::Const(value))
+            match self.context.next_const_infer() {
+                Ok(value) => Ok(Term::Const(value)),
+                Err(_) => Err(RowsFault::OutOfMemory),
+            }
         }
     }
 }
@@ -212,13 +216,9 @@ fn answer_of(answered: Result<Response, Fault>) -> Result<Answer, RowsFault> {
 
 fn certain_answer(response: Response) -> Answer {
     let mut values = response.var_values;
-    match response.certainty {
-        Certainty::Maybe => Answer::Maybe,
-        Certainty::Yes => Answer::Yes(values.pop().map(|(_, term)| term)),
+    match (response.certainty, values.pop()) {
+        (Certainty::Maybe, _) => Answer::Maybe,
+        (Certainty::Yes, None) => Answer::Yes(None),
+        (Certainty::Yes, Some((_, term))) => Answer::Yes(Some(term)),
     }
-}
-
-/// Where a variable is refused, memory is.
-fn from_fault(_fault: Fault) -> RowsFault {
-    RowsFault::OutOfMemory
 }

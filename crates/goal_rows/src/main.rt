@@ -8,8 +8,6 @@ mod answer;
 mod ask;
 mod faults;
 mod rows;
-#[cfg(test)]
-mod tests;
 
 fn main(rt: HostRuntime) -> ExitCode {
     let mut out = io::writer(&rt);

@@ -186,5 +186,8 @@ fn answer_to(alloc: Global, tables: &CheckedTables, row: &Row) -> Result<Answer,
 }
 
 fn print_row<W: io::Write>(out: &mut W, label: &str, answer: &Answer) -> Result<(), RowsFault> {
-    writeln!(out, "{label} {answer}").map_err(|_| RowsFault::Output)
+    match writeln!(out, "{label} {answer}") {
+        Ok(()) => Ok(()),
+        Err(_) => Err(RowsFault::Output),
+    }
 }

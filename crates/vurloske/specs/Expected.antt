@@ -2,8 +2,8 @@
 use Rattle.std.specs.Prelude.{◌≡◌, Option, Some, None}
 use Rattle.goal_terms.specs.TreeOf.{tree_of_term}
 use Rattle.goal_terms.specs.declared.terms.Term.{Term}
-use Rattle.vurloske.specs.declared.answers.Answer.{Answer}
-use Rattle.vurloske.specs.declared.answers.Answer.TheVariants as answer
+use Rattle.vurloske_answers.specs.declared.answers.Answer.{Answer}
+use Rattle.vurloske_answers.specs.declared.answers.Answer.TheVariants as answer
 use Rattle.vurloske.specs.declared.expectations.Expected.{Expected}
 use Rattle.vurloske.specs.declared.expectations.Expected.TheVariants as expected
 

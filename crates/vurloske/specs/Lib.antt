@@ -1,4 +1,2 @@
-pub mod Answers
 pub mod Asked
 pub mod Expected
-pub mod Modes

@@ -2,7 +2,6 @@
 ghost use Rattle.std.specs.Prelude.{IfOk};
 ghost use Rattle.vurloske.specs.Asked.{IsForKind};
 
-use crate::answers::{Answer, Refusal, answer_of};
 use crate::endings::Ending;
 use crate::records::Records;
 use crate::scenes::{Progress, Scene};
@@ -15,8 +14,10 @@ use goal_terms::answers::{Response, VarKind};
 use goal_terms::predicates::{
     Clause, Goal, HostEffectPredicate, NormalizesTo, ProjectionPredicate, TraitPredicate,
 };
+use goal_terms::term_nodes::OutOfMemory;
 use goal_terms::terms::{AliasTermKind, Term};
 use std::mem;
+use vurloske_answers::answers::{Answer, Refusal, answer_of};
 use vurloske_items::goals::Asked;
 
 /// Asks a goal in a new context, whose variables are of these kinds. What the context recorded is kept, which
@@ -77,14 +78,18 @@ fn make_variables(context: &mut EvalCtxt<'_>, kinds: &[VarKind]) -> Result<(), E
 }
 
 fn make_variable(context: &mut EvalCtxt<'_>, kind: VarKind) -> Result<(), Ending> {
-    let made = match kind {
-        VarKind::Ty => context.next_ty_infer().map(|_| ()),
-        VarKind::Int => context.next_int_infer().map(|_| ()),
-        VarKind::Float => context.next_float_infer().map(|_| ()),
-        VarKind::Const => context.next_const_infer().map(|_| ()),
-        VarKind::Region => context.next_region_var().map(|_| ()),
+    let is_made = match kind {
+        VarKind::Ty => context.next_ty_infer().is_ok(),
+        VarKind::Int => context.next_int_infer().is_ok(),
+        VarKind::Float => context.next_float_infer().is_ok(),
+        VarKind::Const => context.next_const_infer().is_ok(),
+        VarKind::Region => context.next_region_var().is_ok(),
     };
-    made.map_err(|_| Ending::OutOfMemory)
+    if is_made {
+        Ok(())
+    } else {
+        Err(Ending::OutOfMemory)
+    }
 }
 
 /// A fresh variable for what an alias stands for, a type or a constant.
@@ -143,7 +148,10 @@ fn goal_answer<P: Question>(
     if let Ok(response) = &evaluated {
         records.keep_response(response, variable)?;
     }
-    answer_of(evaluated, variable).map_err(|_| Ending::OutOfMemory)
+    match answer_of(evaluated, variable) {
+        Ok(answer) => Ok(answer),
+        Err(OutOfMemory) => Err(Ending::OutOfMemory),
+    }
 }
 
 /// What a context evaluates.

@@ -1,10 +1,10 @@
 //! Why a program ends before its last statement.
 use goal_tables::faults::TableFault;
 use std::alloc::{AllocError, AllocFailed};
-use std::fmt;
-use vurloske_items::faults::ItemFault;
-use vurloske_syntax::ast::Position;
-use vurloske_syntax::mistake::{Mistake, SyntaxFault};
+use std::{fmt, io};
+use vurloske_ast::ast::Position;
+use vurloske_ast::mistake::{Mistake, SyntaxFault};
+use vurloske_names::faults::ItemFault;
 
 /// Why a program ends before its last statement.
 #[derive(Drop)]
@@ -21,6 +21,14 @@ pub enum Ending {
     /// The tables of the text's items are refused. The place is that of the item with the fault, where it
     /// is known.
     Tables(Option<Position>, TableFault),
+}
+
+/// What writing comes to.
+pub fn output(written: io::Result<()>) -> Result<(), Ending> {
+    match written {
+        Ok(()) => Ok(()),
+        Err(_) => Err(Ending::Output),
+    }
 }
 
 /// What was expected, and what came.

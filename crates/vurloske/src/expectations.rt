@@ -2,15 +2,15 @@
 ghost use Rattle.std.specs.Prelude.{IsTrue, IfOk};
 ghost use Rattle.vurloske.specs.Expected.{IsSameTerm, MayMeet};
 
-use crate::answers::{Answer, ShownAnswer};
 use crate::endings::{Ending, Unexpected};
 use goal_terms::terms::Term;
 use goal_terms::text::Shown;
 use std::alloc::{AllocError, Global};
+use vurloske_answers::answers::{Answer, ShownAnswer};
+use vurloske_ast::ast::{Ast, Attr, AttrArg, AttrValue, Ident, Position, Run, Symbol, TermId};
+use vurloske_ast::mistake::Mistake;
+use vurloske_ast::phrase::Phrase;
 use vurloske_items::names::ItemNames;
-use vurloske_syntax::ast::{Ast, Attr, AttrArg, AttrValue, Ident, Position, Run, Symbol, TermId};
-use vurloske_syntax::mistake::Mistake;
-use vurloske_syntax::phrase::Phrase;
 
 /// What `#[expect(..)]` says, and where it stands.
 #[derive(Clone, Copy)]

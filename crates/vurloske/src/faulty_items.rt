@@ -3,10 +3,10 @@ use goal_tables::faults::TableFault;
 use goal_tables::rows::{ImplPolarity, ImplRow, InherentRow, TraitRow};
 use goal_terms::ids::{ImplId, InherentId, TraitId};
 use std::alloc::Global;
-use vurloske_items::definitions::Definitions;
-use vurloske_items::definitions::places::Places;
+use vurloske_ast::ast::{Ast, Position};
 use vurloske_items::rows::lower_items;
-use vurloske_syntax::ast::{Ast, Position};
+use vurloske_names::definitions::Definitions;
+use vurloske_names::definitions::places::Places;
 
 /// Where the item stands that a fault is about, if its row alone says so.
 pub fn faulty_item(

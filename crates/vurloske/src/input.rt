@@ -2,9 +2,9 @@
 use crate::endings::Ending;
 use std::alloc::Global;
 use std::io::{BufReader, ErrorKind, Read};
-use vurloske_syntax::ast::Position;
-use vurloske_syntax::mistake::{Found, Mistake};
-use vurloske_syntax::phrase::{Expected, Phrase};
+use vurloske_ast::ast::Position;
+use vurloske_ast::mistake::{Found, Mistake};
+use vurloske_ast::phrase::{Expected, Phrase};
 
 /// The text that a reader has, to its end. A mistake where it is no UTF-8.
 pub fn read_text<R: Read + Drop>(alloc: Global, reader: R) -> Result<String, Ending> {

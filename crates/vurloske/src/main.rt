@@ -1,13 +1,11 @@
 //! Reads items and goals from standard input, and prints a line for each goal: its answer.
 #![tactic(auto)]
 
-mod answers;
 mod asking;
 mod endings;
 mod expectations;
 mod faulty_items;
 mod input;
-mod modes;
 mod printing;
 mod program;
 mod records;
@@ -15,7 +13,7 @@ mod scenes;
 mod session;
 mod table_faults;
 
-use endings::{Ending, ShownEnding};
+use endings::{Ending, ShownEnding, output};
 use std::alloc::Global;
 use std::io;
 use std::io::{BufWriter, Write};
@@ -50,7 +48,7 @@ fn print_answers<W: Write + Drop>(alloc: Global, out: W, text: &str) -> Result<(
     let ended = program::answer_text(alloc, text, &mut out);
     let flushed = out.flush();
     ended?;
-    flushed.map_err(|_| Ending::Output)
+    output(flushed)
 }
 
 /// Says on standard error why a program ended early.

@@ -1,13 +1,13 @@
 //! What is printed.
-use crate::answers::{Answer, ShownAnswer};
-use crate::endings::Ending;
+use crate::endings::{Ending, output};
 use crate::records::ShownValues;
 use goal_terms::terms::Term;
 use std::{fmt, io};
+use vurloske_answers::answers::{Answer, ShownAnswer};
+use vurloske_ast::ast::Goal;
+use vurloske_ast::mistake::piece;
 use vurloske_items::names::ItemNames;
-use vurloske_items::prelude::PRELUDE;
-use vurloske_syntax::ast::Goal;
-use vurloske_syntax::mistake::piece;
+use vurloske_names::prelude::PRELUDE;
 
 /// What the line of a goal of a text says: on which line the goal stands, its answer, and what its variables become.
 #[derive(Clone, Copy)]
@@ -41,14 +41,13 @@ impl AnswerLine<'_> {
                 writeln!(out, "{line}: {text} => {shown}{values}")
             }
         };
-        written.map_err(|_| Ending::Output)
+        output(written)
     }
 }
 
 /// Prints the items of the prelude.
 pub fn print_prelude<W: io::Write>(out: &mut W) -> Result<(), Ending> {
-    out.write_all(PRELUDE.as_bytes())
-        .map_err(|_| Ending::Output)
+    output(out.write_all(PRELUDE.as_bytes()))
 }
 
 /// A text whose white space is shown as single spaces.

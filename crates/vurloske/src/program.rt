@@ -1,5 +1,5 @@
 //! A text that was understood, with the tables of its items.
-use crate::endings::Ending;
+use crate::endings::{Ending, output};
 use crate::faulty_items::faulty_item;
 use crate::session::answer_statements;
 use crate::table_faults::expected_tables;
@@ -7,12 +7,13 @@ use goal_tables::checked::{CheckedTables, check_tables};
 use goal_tables::faults::TableFault;
 use std::alloc::Global;
 use std::io;
-use vurloske_items::definitions::Definitions;
+use vurloske_ast::ast::Ast;
+use vurloske_items::definitions::define;
 use vurloske_items::environment::Environment;
 use vurloske_items::names::ItemNames;
-use vurloske_items::prelude::{PRELUDE, check_names, has_lang_items};
 use vurloske_items::rows::lower_items;
-use vurloske_syntax::ast::Ast;
+use vurloske_names::definitions::Definitions;
+use vurloske_names::prelude::{PRELUDE, check_names, has_lang_items};
 use vurloske_syntax::{parse, parse_onto};
 
 /// A text that was understood, with the tables of its items.
@@ -58,7 +59,7 @@ fn answer_ast<W: io::Write>(
     out: &mut W,
 ) -> Result<(), Ending> {
     let expected = expected_tables(ast)?;
-    let definitions = Definitions::new(alloc, ast)?;
+    let definitions = define(alloc, ast)?;
     match checked_tables(alloc, ast, &definitions)? {
         Ok(tables) => {
             if let Some(expected) = expected {
@@ -76,7 +77,7 @@ fn answer_ast<W: io::Write>(
         Err(fault) => match expected {
             Some(expected) => {
                 expected.check(alloc, ast, fault)?;
-                writeln!(out, "tables refused {fault:?}").map_err(|_| Ending::Output)
+                output(writeln!(out, "tables refused {fault:?}"))
             }
             None => {
                 let place = faulty_item(alloc, ast, &definitions, fault);

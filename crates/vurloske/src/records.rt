@@ -1,7 +1,7 @@
 //! What the last goal's context recorded, and what its answer equates and gives variables.
 ghost use Rattle.std.specs.Prelude.{◌≡◌, [], OnOk};
 
-use crate::endings::Ending;
+use crate::endings::{Ending, output};
 use goal_solver::context::EvalCtxt;
 use goal_tables::checked::CheckedTables;
 use goal_terms::answers::{Certainty, DelayedFault, OpaqueAccess, Response};
@@ -106,7 +106,7 @@ impl Records {
             accesses: &self.accesses,
             names,
         };
-        writeln!(out, "accesses: {shown}").map_err(|_| Ending::Output)
+        output(writeln!(out, "accesses: {shown}"))
     }
 
     /// Prints which lifetimes the answer equates: `regions: 'a == 'b`.
@@ -119,7 +119,7 @@ impl Records {
             equations: &self.equations,
             names,
         };
-        writeln!(out, "regions: {shown}").map_err(|_| Ending::Output)
+        output(writeln!(out, "regions: {shown}"))
     }
 
     /// Prints the faults of the items that were met: `faults: MissingItem(A of Tr)`.
@@ -134,7 +134,7 @@ impl Records {
             tables,
             names,
         };
-        writeln!(out, "faults: {shown}").map_err(|_| Ending::Output)
+        output(writeln!(out, "faults: {shown}"))
     }
 }
 

@@ -1,10 +1,10 @@
 //! What statements stand in.
 ghost use Rattle.std.specs.Prelude.{◌≡◌};
 
-use crate::modes::Mode;
 use crate::records::Records;
 use std::alloc::Global;
 use vurloske_items::environment::Environment;
+use vurloske_names::modes::Mode;
 
 /// What the blocks around a statement say: what is assumed, and in which mode goals are asked.
 pub struct Scene {

@@ -1,21 +1,21 @@
 //! Goes through the statements of a text in order.
 ghost use Rattle.std.specs.Prelude.{◌≡◌, ◌↔◌, ◌+◌, IsErr, IfOk};
 
-use crate::answers::Answer;
 use crate::asking::ask;
 use crate::endings::Ending;
 use crate::expectations::{Expectation, expectation_of};
-use crate::modes::Mode;
 use crate::printing::{AnswerLine, print_prelude};
 use crate::program::Program;
 use crate::scenes::{Progress, Scene};
 use goal_terms::terms::Term;
 use std::{io, mem};
+use vurloske_answers::answers::Answer;
+use vurloske_ast::ast::{Goal, Ident, Position, Run, Statement, StatementKind};
+use vurloske_ast::mistake::{Found, Mistake};
+use vurloske_ast::phrase::{Expected, Phrase};
 use vurloske_items::environment::Environment;
 use vurloske_items::goals::{AskedGoal, lower_goal};
-use vurloske_syntax::ast::{Goal, Ident, Position, Run, Statement, StatementKind};
-use vurloske_syntax::mistake::{Found, Mistake};
-use vurloske_syntax::phrase::{Expected, Phrase};
+use vurloske_names::modes::Mode;
 
 /// How deep blocks may nest.
 const MAX_NESTING: u32 = 500;

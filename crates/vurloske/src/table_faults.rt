@@ -2,9 +2,9 @@
 use crate::endings::{Ending, Unexpected};
 use goal_tables::faults::TableFault;
 use std::alloc::Global;
-use vurloske_syntax::ast::{Ast, Attr, AttrArg, AttrValue, Position, Symbol};
-use vurloske_syntax::mistake::Mistake;
-use vurloske_syntax::phrase::Phrase;
+use vurloske_ast::ast::{Ast, Attr, AttrArg, AttrValue, Position, Symbol};
+use vurloske_ast::mistake::Mistake;
+use vurloske_ast::phrase::Phrase;
 
 /// That the tables are to be refused for a fault of this name.
 #[derive(Clone, Copy)]

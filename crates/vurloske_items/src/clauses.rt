@@ -1,7 +1,4 @@
 //! Bounds and where clauses as clauses.
-use crate::definitions::Definitions;
-use crate::elaboration::dyn_clauses;
-use crate::faults::{ItemFault, wrong, wrong_name};
 use crate::scope::{Binder, ParamName};
 use crate::terms::parts::{position, wanted_of};
 use crate::terms::{DEPTH, Lowering};
@@ -12,10 +9,13 @@ use goal_terms::predicates::{
 };
 use goal_terms::terms::{DynClause, Ty};
 use std::alloc::Global;
-use vurloske_syntax::ast::{
+use vurloske_ast::ast::{
     self, Ast, Bound, Constness, Generics, Ident, Position, Run, TermId, WhereClause, WhereKind,
 };
-use vurloske_syntax::phrase::Phrase;
+use vurloske_ast::phrase::Phrase;
+use vurloske_names::definitions::Definitions;
+use vurloske_names::elaboration::dyn_clauses;
+use vurloske_names::faults::{ItemFault, wrong, wrong_name};
 
 /// What a `[const]` bound is beside its plain form.
 #[derive(Clone, Copy)]

@@ -2,14 +2,14 @@
 ghost use Rattle.std.specs.Prelude.{◌≡◌, []};
 
 use crate::clauses::{Conditions, MaybeConst};
-use crate::definitions::Definitions;
-use crate::elaboration::elaborate;
-use crate::faults::ItemFault;
 use crate::scope::{Params, Scope};
 use crate::terms::Lowering;
 use goal_terms::predicates::Clause;
 use std::alloc::Global;
-use vurloske_syntax::ast::{Ast, Position, Run};
+use vurloske_ast::ast::{Ast, Position, Run};
+use vurloske_names::definitions::Definitions;
+use vurloske_names::elaboration::elaborate;
+use vurloske_names::faults::ItemFault;
 
 /// Parameters and clauses that hold in a block, the outermost block's first.
 pub struct Environment {

@@ -1,7 +1,5 @@
 //! Goals that are asked.
-use crate::definitions::Definitions;
 use crate::environment::Environment;
-use crate::faults::{ItemFault, wrong, wrong_name};
 use crate::scope::Scope;
 use crate::terms::parts::{has_equations, wanted_of};
 use crate::terms::{Lowering, Wanted};
@@ -11,8 +9,10 @@ use goal_terms::predicates::{
 };
 use goal_terms::terms::{AliasTerm, Term};
 use std::alloc::Global;
-use vurloske_syntax::ast::{Ast, Bound, Constness, Goal, GoalKind, TermId};
-use vurloske_syntax::phrase::Phrase;
+use vurloske_ast::ast::{Ast, Bound, Constness, Goal, GoalKind, TermId};
+use vurloske_ast::phrase::Phrase;
+use vurloske_names::definitions::Definitions;
+use vurloske_names::faults::{ItemFault, wrong, wrong_name};
 
 /// What a goal asks.
 #[derive(Drop)]

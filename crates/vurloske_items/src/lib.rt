@@ -1,16 +1,11 @@
-//! What the items, terms and goals of a text mean: its names, its clauses and its environments.
+//! What the items, terms and goals of a text mean: its clauses, its environments and the rows of its items.
 #![tactic(auto)]
 
-mod attributes;
-mod builtins;
 pub mod clauses;
 pub mod definitions;
-pub mod elaboration;
 pub mod environment;
-pub mod faults;
 pub mod goals;
 pub mod names;
-pub mod prelude;
 pub mod rows;
 pub mod scope;
 pub mod terms;

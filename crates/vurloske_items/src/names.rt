@@ -1,11 +1,11 @@
 //! The names by which terms are shown.
-use crate::definitions::places::Places;
 use crate::scope::Params;
 use goal_terms::ids::{
     AdtId, ClosureId, FnId, ForeignId, FreeId, InherentId, ItemId, OpaqueId, TraitId,
 };
 use goal_terms::names::{Name, TermNames, parameter_name};
-use vurloske_syntax::ast::{Ast, Ident};
+use vurloske_ast::ast::{Ast, Ident};
+use vurloske_names::definitions::places::Places;
 
 /// The names of a text's items, and of parameters.
 #[derive(Clone, Copy)]

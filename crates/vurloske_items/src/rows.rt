@@ -14,17 +14,18 @@ mod opaque_types;
 mod sources;
 mod traits;
 
-use crate::definitions::Definitions;
-use crate::faults::{ItemFault, wrong_name};
 use crate::terms::Lowering;
 use definitions::DefSites;
 use goal_tables::rows::Tables;
 use goal_terms::answers::ParamKind;
 use goal_terms::ids::TraitId;
 use std::alloc::Global;
-use vurloske_syntax::ast;
-use vurloske_syntax::ast::{Ast, Generics, Run, Segment};
-use vurloske_syntax::phrase::Phrase;
+use vurloske_ast::ast;
+use vurloske_ast::ast::{Ast, Generics, Run, Segment, TermId};
+use vurloske_ast::phrase::Phrase;
+use vurloske_names::attributes::term_in_attr;
+use vurloske_names::definitions::Definitions;
+use vurloske_names::faults::{ItemFault, wrong_name};
 
 /// The rows of a text's items, in order of their ids.
 ///
@@ -127,6 +128,18 @@ impl Lowering<'_> {
             self.scope.fault.keep(kinds.push(kind_of(param.kind)));
         }
         kinds
+    }
+
+    /// The one term of the attribute of a name, where there is this attribute.
+    fn term_of_attr(&mut self, attrs: Run, name: &str) -> Option<TermId> {
+        let attr = self.ast.attr_named(attrs, name)?;
+        match term_in_attr(self.ast, &attr) {
+            Ok(term) => Some(term),
+            Err(fault) => {
+                self.scope.fault.fail(fault);
+                None
+            }
+        }
     }
 }
 

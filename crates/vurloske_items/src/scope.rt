@@ -1,15 +1,15 @@
 //! The parameters, lifetimes and variables that a term may name.
-use crate::definitions::Definitions;
-use crate::faults::{FirstFault, ItemFault, wrong};
 use goal_terms::answers::{ParamKind, VarKind};
 use goal_terms::ids::TraitId;
 use goal_terms::terms::{Const, GenericArg, Region, Ty};
 use indexmap::IndexMap;
 use std::alloc::{AllocError, Global};
-use vurloske_syntax::ast::{
+use vurloske_ast::ast::{
     Ast, Bound, Ident, Lifetime, LifetimeKind, Position, Run, Segment, Symbol, TermId,
 };
-use vurloske_syntax::phrase::Phrase;
+use vurloske_ast::phrase::Phrase;
+use vurloske_names::definitions::Definitions;
+use vurloske_names::faults::{FirstFault, ItemFault, wrong};
 
 /// How a parameter is named.
 #[derive(Clone, Copy, PartialEq, Eq, Hash)]
@@ -285,7 +285,12 @@ impl Binder {
 
 /// The place of the first lifetime that has a name.
 fn place_of(lifetimes: &[Ident], name: Symbol) -> Option<usize> {
-    lifetimes.iter().position(|ident| ident.name == name)
+    for (place, ident) in lifetimes.iter().enumerate() {
+        if ident.name == name {
+            return Some(place);
+        }
+    }
+    None
 }
 
 /// The parameters, lifetimes and variables that a term may name. An environment's own parameters

@@ -3,8 +3,6 @@ mod found;
 pub(crate) mod lower;
 pub(crate) mod parts;
 
-use crate::definitions::Definitions;
-use crate::faults::{ItemFault, wrong};
 use crate::scope::{ParamName, Scope, SelfTerm};
 use goal_terms::answers::ParamKind;
 use goal_terms::ids::TraitId;
@@ -12,11 +10,13 @@ use goal_terms::predicates::TraitRef;
 use goal_terms::terms::{AliasTerm, AliasTermKind, Const, FnSig, Term, Ty};
 use parts::position;
 use std::alloc::Global;
-use vurloske_syntax::ast;
-use vurloske_syntax::ast::{
+use vurloske_ast::ast;
+use vurloske_ast::ast::{
     Ast, FnPtr, Generics, Ident, Impl, Position, Run, Segment, TermId, WhereKind,
 };
-use vurloske_syntax::phrase::Phrase;
+use vurloske_ast::phrase::Phrase;
+use vurloske_names::definitions::Definitions;
+use vurloske_names::faults::{ItemFault, wrong};
 
 /// How deep terms may nest. What a text's own nesting is allowed to be fits in.
 pub const DEPTH: u32 = 600;

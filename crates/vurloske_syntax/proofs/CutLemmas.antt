@@ -1,5 +1,5 @@
-use Rattle.std.proofs.Common.{◌≡◌, ℕ, ◌+◌, ◌-◌, ◌<◌, ◌≤◌, List, [], ◌∷◌, ◌++◌, length, arith}
-use Rattle.vurloske_syntax.specs.declared.token.Token.{Token}
+use Rattle.std.proofs.Common.{◌≡◌, ℕ, ◌<◌, ◌≤◌, List, [], ◌∷◌, ◌++◌, length, arith}
+use Rattle.vurloske_ast.specs.declared.token.Token.{Token}
 use Rattle.vurloske_syntax.specs.declared.scanner.Scanner.{Scanner}
 use Rattle.vurloske_syntax.specs.Cuts.{InOrder, offset_of, IsWithin, Advances, Cuts}
 

@@ -1,5 +1,5 @@
-use Rattle.std.specs.Prelude.{◌≡◌, ℕ, ◌+◌, ◌-◌, ◌<◌, ◌≤◌, List, [], ◌∷◌, length}
-use Rattle.vurloske_syntax.specs.declared.token.Token.{Token}
+use Rattle.std.specs.Prelude.{◌≡◌, ℕ, ◌-◌, ◌<◌, ◌≤◌, List, [], ◌∷◌, length}
+use Rattle.vurloske_ast.specs.declared.token.Token.{Token}
 use Rattle.vurloske_syntax.specs.declared.scanner.Scanner.{Scanner}
 
 -- tokens that lie in order between two places, none of them empty

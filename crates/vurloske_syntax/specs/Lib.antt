@@ -1,4 +1,1 @@
-pub mod Lists
 pub mod Cuts
-pub mod Spelling
-pub mod Names

@@ -2,14 +2,14 @@
 ghost use Rattle.std.specs.Prelude.{◌≤◌, ◌≡◌, length, IfOk};
 ghost use Rattle.vurloske_syntax.specs.Cuts.{offset_of, Advances, Cuts, InOrder, IsWithin};
 
-use crate::ast::{LifetimeKind, Span, intern};
-use crate::mistake::{SyntaxFault, is_name_byte};
-use crate::phrase::Phrase;
 use crate::scanner::{Mark, Scanner};
-use crate::token::{Keyword, Sign, Token, TokenKind};
 use indexmap::IndexSet;
 use std::alloc::{AllocError, Global};
 use std::str::from_utf8;
+use vurloske_ast::ast::{LifetimeKind, Span, intern};
+use vurloske_ast::mistake::{SyntaxFault, is_name_byte};
+use vurloske_ast::phrase::Phrase;
+use vurloske_ast::token::{Keyword, Sign, Token, TokenKind};
 
 /// The tokens of a text in order, whose names are added to a list.
 ///
@@ -206,17 +206,19 @@ fn is_width(bytes: &[u8]) -> bool {
 fn sign<'t>(scanner: &mut Scanner<'t>, mark: Mark<'t>) -> Result<TokenKind, SyntaxFault>
     ensures { Advances scanner.old scanner.new }
 {
-    if let [first, second, ..] = mark.rest {
-        if let Some(sign) = Sign::of_two(*first, *second) {
-            scanner.skip(1);
-            return Ok(TokenKind::Sign(sign));
-        }
+    if let Some(sign) = sign_in_front(mark.rest, 2) {
+        scanner.skip(1);
+        return Ok(TokenKind::Sign(sign));
     }
-    if let [first, ..] = mark.rest {
-        if let Some(sign) = Sign::of_one(*first) {
-            return Ok(TokenKind::Sign(sign));
-        }
+    if let Some(sign) = sign_in_front(mark.rest, 1) {
+        return Ok(TokenKind::Sign(sign));
     }
     scanner.skip_character();
     Err(scanner.mistake_since(mark, Phrase::WORD_OR_A_SIGN))
+}
+
+/// The sign that so many bytes at the front are.
+fn sign_in_front(bytes: &[u8], len: usize) -> Option<Sign> {
+    let text = from_utf8(bytes.get(..len)?).ok()?;
+    Sign::of(text)
 }

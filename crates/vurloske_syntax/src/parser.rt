@@ -13,14 +13,14 @@ mod scraps;
 mod statements;
 mod terms;
 
-use crate::ast::Ast;
-use crate::mistake::SyntaxFault;
 use crate::reader::Reader;
 use attributes::parse_inner_attrs;
 use nesting::MAX_NESTING;
 use scraps::append;
 use statements::parse_contents;
 use std::alloc::Global;
+use vurloske_ast::ast::Ast;
+use vurloske_ast::mistake::SyntaxFault;
 
 /// Reads a text: its items, its goals and the blocks in which they stand. What stands in no block
 /// comes last among the statements.

@@ -1,10 +1,10 @@
 //! The tokens that are still to be read, and what was made of those before.
-use crate::ast::{Ast, Ident, Position, Run, TermId, TermKind};
 use crate::lexer::lex;
-use crate::mistake::{Found, Mistake, SyntaxFault};
-use crate::phrase::{Expected, Phrase};
-use crate::token::{Keyword, Sign, Token, TokenKind};
 use std::alloc::{AllocError, AllocFailed, Global};
+use vurloske_ast::ast::{Ast, Ident, Position, Run, TermId, TermKind};
+use vurloske_ast::mistake::{Found, Mistake, SyntaxFault};
+use vurloske_ast::phrase::{Expected, Phrase};
+use vurloske_ast::token::{Keyword, Sign, Token, TokenKind};
 
 /// Reads a text into an `Ast`.
 ///

@@ -1,10 +1,10 @@
 //! How far a text is cut.
 ghost use Rattle.std.specs.Prelude.{◌≡◌, length, drop};
 
-use crate::ast::{Position, Span};
-use crate::mistake::{Found, Mistake, SyntaxFault, name_prefix};
-use crate::phrase::{Expected, Phrase};
 use std::str::from_utf8;
+use vurloske_ast::ast::{Position, Span};
+use vurloske_ast::mistake::{Found, Mistake, SyntaxFault, name_prefix};
+use vurloske_ast::phrase::{Expected, Phrase};
 
 /// A text, what is left of it, and the line that is reached.
 #[derive(Drop)]

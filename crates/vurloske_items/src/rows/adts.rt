@@ -1,7 +1,4 @@
 //! The rows of structs, enums and unions.
-use crate::attributes::{args_in_attr, expect_attrs};
-use crate::definitions::places::attrs_at;
-use crate::faults::{ItemFault, wrong_name};
 use crate::rows::{Text, count};
 use crate::terms::Lowering;
 use goal_tables::rows::{AdtKind, AdtRow, FieldInfo};
@@ -9,9 +6,12 @@ use goal_terms::ids::AdtId;
 use goal_terms::predicates::TraitRef;
 use goal_terms::scalars::UintTy;
 use goal_terms::terms::Ty;
-use vurloske_syntax::ast;
-use vurloske_syntax::ast::{Adt, Ast, Attr, AttrArg, Run, TermId};
-use vurloske_syntax::phrase::Phrase;
+use vurloske_ast::ast;
+use vurloske_ast::ast::{Adt, Ast, Attr, AttrArg, Run, TermId};
+use vurloske_ast::phrase::Phrase;
+use vurloske_names::attributes::{args_in_attr, expect_attrs};
+use vurloske_names::definitions::places::attrs_at;
+use vurloske_names::faults::{ItemFault, wrong_name};
 
 /// The attributes that a struct, an enum or a union may have.
 const ATTRS: [&str; 6] = [

@@ -1,15 +1,15 @@
 //! The rows of closures.
-use crate::attributes::{args_in_attr, expect_attrs};
-use crate::definitions::places::attrs_at;
-use crate::faults::{ItemFault, wrong_name};
 use crate::rows::functions::signature;
 use crate::rows::{Text, count};
 use crate::terms::Lowering;
 use goal_tables::rows::{ClosureKind, ClosureRow};
 use goal_terms::ids::ClosureId;
 use goal_terms::terms::{FnSig, Ty};
-use vurloske_syntax::ast::{Args, AttrArg, Closure, Ident, Run};
-use vurloske_syntax::phrase::Phrase;
+use vurloske_ast::ast::{Args, AttrArg, Closure, Ident, Run};
+use vurloske_ast::phrase::Phrase;
+use vurloske_names::attributes::{args_in_attr, expect_attrs};
+use vurloske_names::definitions::places::attrs_at;
+use vurloske_names::faults::{ItemFault, wrong_name};
 
 impl Text<'_> {
     /// Adds the rows of the closures.

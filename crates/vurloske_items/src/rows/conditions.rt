@@ -1,14 +1,14 @@
 //! What parameters, where clauses and bounds of an item say.
 use crate::clauses::{Conditions, MaybeConst};
-use crate::definitions::Definitions;
-use crate::elaboration::{elaborate, elaborate_const};
-use crate::faults::ItemFault;
 use crate::terms::Lowering;
 use goal_tables::rows::ConstBounds;
 use goal_terms::predicates::{Clause, TraitRef};
 use goal_terms::terms::{Term, Ty};
 use std::alloc::Global;
-use vurloske_syntax::ast::{Generics, Position, Run, TermId};
+use vurloske_ast::ast::{Generics, Position, Run, TermId};
+use vurloske_names::definitions::Definitions;
+use vurloske_names::elaboration::{elaborate, elaborate_const};
+use vurloske_names::faults::ItemFault;
 
 impl Lowering<'_> {
     /// The predicates and the const conditions of parameters and where clauses.

@@ -1,6 +1,4 @@
 //! The rows of definitions, which stand in traits and in impls.
-use crate::definitions::places::ItemEntry;
-use crate::faults::{ItemFault, wrong_name};
 use crate::rows::impl_items::{Written, assoc_item, gives_value, how_written};
 use crate::rows::impls::polarity;
 use crate::rows::{Text, count};
@@ -8,8 +6,10 @@ use crate::terms::Lowering;
 use goal_tables::rows::{Container, DefRow, DefValue};
 use goal_terms::ids::{DefId, ImplId, ItemId, TraitId};
 use indexmap::IndexSet;
-use vurloske_syntax::ast::{AssocItem, Impl};
-use vurloske_syntax::phrase::Phrase;
+use vurloske_ast::ast::{AssocItem, Impl};
+use vurloske_ast::phrase::Phrase;
+use vurloske_names::definitions::places::ItemEntry;
+use vurloske_names::faults::{ItemFault, wrong_name};
 
 /// Where a definition stands, and of which item it is.
 #[derive(Clone, Copy, PartialEq, Eq, Hash)]

@@ -1,12 +1,12 @@
 //! The rows of free type aliases and constants.
-use crate::attributes::expect_attrs;
-use crate::definitions::places::attrs_at;
-use crate::faults::ItemFault;
 use crate::rows::{Text, count};
 use crate::terms::Lowering;
 use goal_tables::rows::FreeRow;
 use goal_terms::ids::FreeId;
-use vurloske_syntax::ast::{Free, FreeValue, TermId};
+use vurloske_ast::ast::{Free, FreeValue, TermId};
+use vurloske_names::attributes::expect_attrs;
+use vurloske_names::definitions::places::attrs_at;
+use vurloske_names::faults::ItemFault;
 
 impl Text<'_> {
     /// Adds the rows of the free aliases and constants.

@@ -1,12 +1,12 @@
 //! The rows of functions.
-use crate::attributes::expect_attrs;
-use crate::definitions::places::attrs_at;
-use crate::faults::ItemFault;
 use crate::rows::{Text, count};
 use crate::terms::Lowering;
 use goal_tables::rows::FnRow;
 use goal_terms::ids::FnId;
-use vurloske_syntax::ast::{Fn, FnPtr, Run, TermId};
+use vurloske_ast::ast::{Fn, FnPtr, Run, TermId};
+use vurloske_names::attributes::expect_attrs;
+use vurloske_names::definitions::places::attrs_at;
+use vurloske_names::faults::ItemFault;
 
 impl Text<'_> {
     /// Adds the rows of the functions.

@@ -1,11 +1,11 @@
 //! What impls say of the items of their traits.
-use crate::attributes::{expect_attrs, name_in_attr, number_in_attr};
-use crate::definitions::places::Places;
-use crate::faults::{ItemFault, wrong_name};
 use crate::rows::Text;
 use goal_terms::ids::{ItemId, TraitId};
-use vurloske_syntax::ast::{AssocItem, Ast, Ident, Run};
-use vurloske_syntax::phrase::Phrase;
+use vurloske_ast::ast::{AssocItem, Ast, Ident, Run};
+use vurloske_ast::phrase::Phrase;
+use vurloske_names::attributes::{expect_attrs, name_in_attr, number_in_attr};
+use vurloske_names::definitions::places::Places;
+use vurloske_names::faults::{ItemFault, wrong_name};
 
 /// Where an item that an impl writes gets its value.
 #[derive(Clone, Copy)]

@@ -1,14 +1,14 @@
 //! The rows of impls of traits.
-use crate::attributes::expect_attrs;
-use crate::definitions::places::{Places, attrs_at};
-use crate::faults::{ItemFault, wrong_name};
 use crate::rows::{Text, count};
 use crate::terms::Lowering;
 use goal_tables::rows::{ImplPolarity, ImplRow};
 use goal_terms::ids::{ImplId, TraitId};
 use goal_terms::predicates::TraitRef;
-use vurloske_syntax::ast::{Ast, Impl, Segment};
-use vurloske_syntax::phrase::Phrase;
+use vurloske_ast::ast::{Ast, Impl, Segment};
+use vurloske_ast::phrase::Phrase;
+use vurloske_names::attributes::expect_attrs;
+use vurloske_names::definitions::places::{Places, attrs_at};
+use vurloske_names::faults::{ItemFault, wrong_name};
 
 impl Text<'_> {
     /// Adds the rows of the impls of traits.

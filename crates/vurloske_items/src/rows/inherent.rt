@@ -1,12 +1,12 @@
 //! The rows of impls of no trait, and of their items.
-use crate::attributes::expect_attrs;
-use crate::definitions::places::{InherentEntry, attrs_at};
-use crate::faults::ItemFault;
 use crate::rows::{Text, count};
 use crate::terms::Lowering;
 use goal_tables::rows::{InherentImplRow, InherentRow};
 use goal_terms::ids::{InherentId, InherentImplId};
-use vurloske_syntax::ast::{AssocItem, Impl};
+use vurloske_ast::ast::{AssocItem, Impl};
+use vurloske_names::attributes::expect_attrs;
+use vurloske_names::definitions::places::{InherentEntry, attrs_at};
+use vurloske_names::faults::ItemFault;
 
 impl Text<'_> {
     /// Adds the rows of the impls of no trait.

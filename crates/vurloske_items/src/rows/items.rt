@@ -1,13 +1,13 @@
 //! The rows of the items of traits.
-use crate::attributes::expect_attrs;
-use crate::definitions::places::ItemEntry;
-use crate::faults::ItemFault;
 use crate::rows::conditions::const_bounds;
 use crate::rows::{Text, count};
 use crate::terms::Lowering;
 use goal_tables::rows::ItemRow;
 use goal_terms::ids::{ItemId, TraitId};
-use vurloske_syntax::ast::AssocItem;
+use vurloske_ast::ast::AssocItem;
+use vurloske_names::attributes::expect_attrs;
+use vurloske_names::definitions::places::ItemEntry;
+use vurloske_names::faults::ItemFault;
 
 impl Text<'_> {
     /// Adds the rows of the items of traits.

@@ -1,7 +1,7 @@
 //! Which rows lang items name.
-use crate::faults::ItemFault;
 use crate::rows::Text;
 use goal_tables::lang::LangRow;
+use vurloske_names::faults::ItemFault;
 
 impl Text<'_> {
     /// Adds what the text says of lang items.

@@ -1,15 +1,15 @@
 //! The rows of opaque types.
-use crate::attributes::expect_attrs;
-use crate::definitions::places::attrs_at;
-use crate::faults::{ItemFault, wrong_name};
 use crate::rows::conditions::const_bounds;
 use crate::rows::{Text, count};
 use crate::scope::{Scope, SelfTerm};
 use crate::terms::Lowering;
 use goal_tables::rows::OpaqueRow;
 use goal_terms::ids::OpaqueId;
-use vurloske_syntax::ast::{Free, FreeValue, Run, TermId};
-use vurloske_syntax::phrase::Phrase;
+use vurloske_ast::ast::{Free, FreeValue, Run, TermId};
+use vurloske_ast::phrase::Phrase;
+use vurloske_names::attributes::expect_attrs;
+use vurloske_names::definitions::places::attrs_at;
+use vurloske_names::faults::{ItemFault, wrong_name};
 
 impl Text<'_> {
     /// Adds the rows of the opaque types.

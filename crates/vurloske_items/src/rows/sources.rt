@@ -1,13 +1,13 @@
 //! Which definitions impls use.
-use crate::faults::{ItemFault, wrong_name};
 use crate::rows::definitions::{DefSite, DefSites};
 use crate::rows::impl_items::{Written, assoc_item, how_written};
 use crate::rows::impls::polarity;
 use crate::rows::{Text, count};
 use goal_tables::rows::{Source, SourceRow};
 use goal_terms::ids::{ImplId, ItemId, TraitId};
-use vurloske_syntax::ast::{AssocItem, Ident, Impl};
-use vurloske_syntax::phrase::Phrase;
+use vurloske_ast::ast::{AssocItem, Ident, Impl};
+use vurloske_ast::phrase::Phrase;
+use vurloske_names::faults::{ItemFault, wrong_name};
 
 impl Text<'_> {
     /// Adds a row for each item of the trait of each positive impl.

@@ -1,14 +1,14 @@
 //! The rows of traits.
-use crate::attributes::expect_attrs;
 use crate::clauses::{Conditions, MaybeConst};
-use crate::definitions::places::attrs_at;
-use crate::faults::ItemFault;
 use crate::rows::{Text, count};
 use crate::terms::Lowering;
 use goal_tables::rows::TraitRow;
 use goal_terms::ids::{ItemId, TraitId};
 use goal_terms::terms::Ty;
-use vurloske_syntax::ast::Trait;
+use vurloske_ast::ast::Trait;
+use vurloske_names::attributes::expect_attrs;
+use vurloske_names::definitions::places::attrs_at;
+use vurloske_names::faults::ItemFault;
 
 impl Text<'_> {
     /// Adds the rows of the traits.

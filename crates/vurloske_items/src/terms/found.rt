@@ -1,8 +1,4 @@
 //! Which item an alias names.
-use crate::definitions::Definition;
-use crate::definitions::places::InherentEntry;
-use crate::elaboration::elaborate;
-use crate::faults::{ItemFault, wrong, wrong_name};
 use crate::scope::{ParamName, SelfTerm};
 use crate::terms::parts::position;
 use crate::terms::{Lowering, no_alias};
@@ -10,8 +6,12 @@ use goal_terms::ids::{InherentId, ItemId, TraitId};
 use goal_terms::predicates::{Clause, ClauseKind, TraitPredicate, TraitRef};
 use goal_terms::terms::{AliasTerm, AliasTermKind, GenericArg, Ty};
 use std::alloc::Global;
-use vurloske_syntax::ast::{Ident, Run, Segment, TermId, TermKind};
-use vurloske_syntax::phrase::Phrase;
+use vurloske_ast::ast::{Ident, Run, Segment, TermId, TermKind};
+use vurloske_ast::phrase::Phrase;
+use vurloske_names::definitions::Definition;
+use vurloske_names::definitions::places::InherentEntry;
+use vurloske_names::elaboration::elaborate;
+use vurloske_names::faults::{ItemFault, wrong, wrong_name};
 
 /// What an alias names, with the arguments before the item's own, and the item's own parameters.
 pub(super) struct Found {

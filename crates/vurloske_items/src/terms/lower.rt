@@ -1,6 +1,5 @@
 //! Terms of what was written. `depth` is how deep what is written may still nest.
 use crate::clauses::{Conditions, MaybeConst};
-use crate::faults::ItemFault;
 use crate::scope::Binder;
 use crate::terms::found::Found;
 use crate::terms::parts::{
@@ -8,11 +7,10 @@ use crate::terms::parts::{
 };
 use crate::terms::{Lowering, Wanted};
 use goal_terms::predicates::{ProjectionPredicate, TraitRef};
-use goal_terms::terms::{AliasTerm, AliasTermKind, FnSig, GenericArg, InferTy, Term, Ty};
-use vurloske_syntax::ast::{Arg, Args, Bound, FnPtr, Lifetime, Run, Segment, TermId, TermKind};
-
-/// The variable that stands for the self type in the bounds of a `dyn` type. No goal has it.
-pub(crate) const DYN_SELF: InferTy = InferTy::TyVar(u32::MAX);
+use goal_terms::terms::{AliasTerm, AliasTermKind, FnSig, GenericArg, Term, Ty};
+use vurloske_ast::ast::{Arg, Args, Bound, FnPtr, Lifetime, Run, Segment, TermId, TermKind};
+use vurloske_names::elaboration::DYN_SELF;
+use vurloske_names::faults::ItemFault;
 
 impl Lowering<'_> {
     /// A type or a constant.

@@ -1,17 +1,17 @@
 //! Small parts of terms, which lead to no others.
 ghost use Rattle.std.specs.Prelude.{◌≤◌, IfSome};
 
-use crate::definitions::Definition;
-use crate::faults::{FirstFault, ItemFault, wrong, wrong_name};
 use crate::scope::{Param, ParamName, SelfTerm, UnknownNames};
 use crate::terms::{Lowering, Wanted};
 use goal_terms::answers::{ParamKind, VarKind};
 use goal_terms::scalars;
 use goal_terms::terms::{AliasTerm, AliasTermKind, Const, GenericArg, InferTy, Region, Term, Ty};
-use vurloske_syntax::ast::{
+use vurloske_ast::ast::{
     self, Arg, Args, Ast, Ident, Mutability, Position, Run, Segment, Symbol, TermId, TermKind,
 };
-use vurloske_syntax::phrase::Phrase;
+use vurloske_ast::phrase::Phrase;
+use vurloske_names::definitions::Definition;
+use vurloske_names::faults::{FirstFault, ItemFault, wrong, wrong_name};
 
 impl Wanted {
     /// What stands for a term with a fault.
@@ -269,17 +269,28 @@ pub(crate) fn position(ast: &Ast, id: TermId) -> Position {
 
 /// How many lifetimes are left out before the arguments that are written.
 pub(super) fn elided(ast: &Ast, args: Args, params: Run) -> usize {
-    if let Args::Angle(run) = args {
-        let written = ast.args(run);
-        if written.iter().any(|arg| matches!(arg, Arg::Lifetime(_))) {
-            return 0;
+    if has_lifetimes(ast, args) {
+        return 0;
+    }
+    let mut count = 0usize;
+    for param in ast.params(params) {
+        if param.kind == ast::ParamKind::Lifetime {
+            count = count.saturating_add(1);
         }
     }
-    let params = ast.params(params);
-    params
-        .iter()
-        .filter(|param| param.kind == ast::ParamKind::Lifetime)
-        .count()
+    count
+}
+
+/// Whether a lifetime is written among arguments.
+fn has_lifetimes(ast: &Ast, args: Args) -> bool {
+    if let Args::Angle(run) = args {
+        for arg in ast.args(run) {
+            if let Arg::Lifetime(_) = arg {
+                return true;
+            }
+        }
+    }
+    false
 }
 
 /// What the parameter at a place takes.
@@ -295,11 +306,17 @@ pub(crate) fn has_equations(ast: &Ast, args: Args) -> bool {
     match args {
         Args::Absent | Args::Paren(_, None) => false,
         Args::Paren(_, Some(_)) => true,
-        Args::Angle(run) => {
-            let args = ast.args(run);
-            args.iter().any(|arg| matches!(arg, Arg::Binding(_, _)))
+        Args::Angle(run) => has_bindings(ast.args(run)),
+    }
+}
+
+fn has_bindings(args: &[Arg]) -> bool {
+    for arg in args {
+        if let Arg::Binding(_, _) = arg {
+            return true;
         }
     }
+    false
 }
 
 /// Whether no arguments are written.

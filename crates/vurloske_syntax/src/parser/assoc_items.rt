@@ -1,11 +1,11 @@
 //! The items of traits and impls.
-use crate::ast::{AssocItem, Generics, Run, TermId};
 use crate::parser::attributes::parse_attrs;
 use crate::parser::generics::{parse_own_bounds, parse_params, parse_where, skip_type};
 use crate::parser::terms::parse_term;
-use crate::phrase::Phrase;
 use crate::reader::Reader;
-use crate::token::{Keyword, Sign};
+use vurloske_ast::ast::{AssocItem, Generics, Run, TermId};
+use vurloske_ast::phrase::Phrase;
+use vurloske_ast::token::{Keyword, Sign};
 
 /// `{ type A; .. }` or `;`
 pub(crate) fn parse_body(reader: &mut Reader, depth: u32) -> Run {

@@ -1,10 +1,10 @@
 //! Attributes.
-use crate::ast::{Attr, AttrArg, AttrValue, Run};
 use crate::parser::bounds::parse_bounds;
 use crate::parser::terms::parse_term;
-use crate::phrase::Phrase;
 use crate::reader::Reader;
-use crate::token::{Sign, TokenKind};
+use vurloske_ast::ast::{Attr, AttrArg, AttrValue, Run};
+use vurloske_ast::phrase::Phrase;
+use vurloske_ast::token::{Sign, TokenKind};
 
 /// `#[..]`, as many as there are.
 pub(crate) fn parse_attrs(reader: &mut Reader, depth: u32) -> Run {

@@ -1,10 +1,10 @@
 //! Bounds, and the objects that are made of them.
-use crate::ast::{Bound, Constness, Run, TermKind};
 use crate::parser::scraps::{append, erased, parse_binder, some_lifetime};
 use crate::parser::terms::parse_segment;
-use crate::phrase::Phrase;
 use crate::reader::Reader;
-use crate::token::{Keyword, Sign, TokenKind};
+use vurloske_ast::ast::{Bound, Constness, Run, TermKind};
+use vurloske_ast::phrase::Phrase;
+use vurloske_ast::token::{Keyword, Sign, TokenKind};
 
 /// `dyn Tr + Other + 'a`
 #[cycle(terms)]

@@ -1,11 +1,11 @@
 //! Structs, enums and unions, functions and closures.
-use crate::ast::{Adt, AdtKind, Closure, Fn, Generics, ItemKind, Run};
 use crate::parser::generics::{parse_clauses, parse_params, parse_where};
 use crate::parser::scraps::append;
 use crate::parser::terms::{parse_output, parse_segment, parse_term, parse_terms};
-use crate::phrase::Phrase;
 use crate::reader::Reader;
-use crate::token::{Keyword, Sign, TokenKind};
+use vurloske_ast::ast::{Adt, AdtKind, Closure, Fn, Generics, ItemKind, Run};
+use vurloske_ast::phrase::Phrase;
+use vurloske_ast::token::{Keyword, Sign, TokenKind};
 
 /// `struct S<T> where .. { a: T }`, `enum E { A, B(u8) }`, `union U(u8);`
 pub(crate) fn parse_adt(reader: &mut Reader, depth: u32) -> ItemKind {
@@ -99,7 +99,7 @@ fn skip_name(reader: &mut Reader, close: Sign) {
     if sees_field_name(reader) {
         reader.advance();
         reader.expect(Sign::Colon);
-    } else if close == Sign::CloseBrace {
+    } else if matches!(close, Sign::CloseBrace) {
         reader.mistake(Phrase::NAME_AND_COLON);
     }
 }

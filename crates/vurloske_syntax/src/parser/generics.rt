@@ -1,11 +1,11 @@
 //! Parameters and where clauses.
-use crate::ast::{Ident, Param, ParamKind, Run, TermId, WhereClause, WhereKind};
 use crate::parser::bounds::parse_bounds;
 use crate::parser::scraps::{lifetime_ident, parse_binder};
 use crate::parser::terms::parse_term;
-use crate::phrase::Phrase;
 use crate::reader::Reader;
-use crate::token::{Keyword, Sign, TokenKind};
+use vurloske_ast::ast::{Ident, Param, ParamKind, Run, TermId, WhereClause, WhereKind};
+use vurloske_ast::phrase::Phrase;
+use vurloske_ast::token::{Keyword, Sign, TokenKind};
 
 /// `<'a, T: Tr, const N: usize>` or nothing.
 pub(crate) fn parse_params(reader: &mut Reader, depth: u32) -> Run {

@@ -1,10 +1,10 @@
 //! Goals.
-use crate::ast::{Bound, Goal, GoalKind, Run, Span, TermId};
 use crate::parser::bounds::parse_constness;
 use crate::parser::terms::{parse_segment, parse_term};
-use crate::phrase::Phrase;
 use crate::reader::Reader;
-use crate::token::Sign;
+use vurloske_ast::ast::{Bound, Goal, GoalKind, Run, Span, TermId};
+use vurloske_ast::phrase::Phrase;
+use vurloske_ast::token::Sign;
 
 /// `T: Tr;`, `<T as Tr>::A = ?;`, `<T as Tr>::A == u8;`, behind its attributes.
 pub(crate) fn parse_goal(reader: &mut Reader, depth: u32, attrs: Run) -> Goal {

@@ -1,5 +1,4 @@
 //! Items, and what they have in common.
-use crate::ast::{Free, FreeValue, Generics, Impl, ItemKind, Run, Segment, TermId, Trait};
 use crate::parser::assoc_items::parse_body;
 use crate::parser::bounds::parse_bounds;
 use crate::parser::definitions::{parse_adt, parse_closure, parse_fn};
@@ -7,9 +6,10 @@ use crate::parser::generics::{
     parse_clauses, parse_own_bounds, parse_params, parse_where, skip_type,
 };
 use crate::parser::terms::{parse_segment, parse_term};
-use crate::phrase::Phrase;
 use crate::reader::Reader;
-use crate::token::{Keyword, Sign, TokenKind};
+use vurloske_ast::ast::{Free, FreeValue, Generics, Impl, ItemKind, Run, Segment, TermId, Trait};
+use vurloske_ast::phrase::Phrase;
+use vurloske_ast::token::{Keyword, Sign, TokenKind};
 
 /// Whether an item is next.
 pub(crate) fn begins_item(reader: &Reader) -> bool {

@@ -1,8 +1,8 @@
 //! How deep a text may nest.
 ghost use Rattle.std.specs.Prelude.{◌≡◌, ◌+◌, IfSome};
 
-use crate::phrase::Phrase;
 use crate::reader::Reader;
+use vurloske_ast::phrase::Phrase;
 
 /// How many levels may stand in one another.
 pub(crate) const MAX_NESTING: u32 = 500;

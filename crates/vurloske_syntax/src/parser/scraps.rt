@@ -1,11 +1,11 @@
 //! What is read alike in many places.
 ghost use Rattle.std.specs.Prelude.{◌≡◌, ◌+◌, ◌++◌, vec_len, IfOk, OnOk};
 
-use crate::ast::{Ident, Lifetime, LifetimeKind, Mutability, Run};
-use crate::phrase::Phrase;
 use crate::reader::Reader;
-use crate::token::{Keyword, Sign, TokenKind};
 use std::alloc::AllocError;
+use vurloske_ast::ast::{Ident, Lifetime, LifetimeKind, Mutability, Run};
+use vurloske_ast::phrase::Phrase;
+use vurloske_ast::token::{Keyword, Sign, TokenKind};
 
 /// Adds parts at a list's end.
 pub(crate) fn append<T: Copy + Drop>(list: &mut Vec<T>, parts: &[T]) -> Result<Run, AllocError>

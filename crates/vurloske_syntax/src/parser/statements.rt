@@ -1,14 +1,14 @@
 //! Statements, and the blocks in which they stand.
-use crate::ast::{Item, Run, Statement, StatementKind};
 use crate::parser::attributes::parse_attrs;
 use crate::parser::generics::parse_env_clauses;
 use crate::parser::goals::parse_goal;
 use crate::parser::items::{begins_item, parse_item_kind};
 use crate::parser::nesting::{MAX_NESTING, deeper};
 use crate::parser::scraps::append;
-use crate::phrase::Phrase;
 use crate::reader::Reader;
-use crate::token::{Keyword, Sign, TokenKind};
+use vurloske_ast::ast::{Item, Run, Statement, StatementKind};
+use vurloske_ast::phrase::Phrase;
+use vurloske_ast::token::{Keyword, Sign, TokenKind};
 
 /// Items and statements up to the text's end. The items are added to those of the `Ast`.
 pub(crate) fn parse_contents(reader: &mut Reader) -> Vec<Statement> {

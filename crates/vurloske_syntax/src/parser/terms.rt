@@ -1,13 +1,13 @@
 //! Types and constants, with the arguments in them.
-use crate::ast::{Arg, Args, FnPtr, Run, Segment, TermId, TermKind};
 use crate::parser::bounds::parse_dyn;
 use crate::parser::nesting::deeper;
 use crate::parser::scraps::{
     append, lifetime_or_erased, mutability, parse_binder, raw_mutability, some_lifetime,
 };
-use crate::phrase::Phrase;
 use crate::reader::Reader;
-use crate::token::{Keyword, Sign, TokenKind};
+use vurloske_ast::ast::{Arg, Args, FnPtr, Run, Segment, TermId, TermKind};
+use vurloske_ast::phrase::Phrase;
+use vurloske_ast::token::{Keyword, Sign, TokenKind};
 
 /// Terms between parentheses.
 #[derive(Clone, Copy)]

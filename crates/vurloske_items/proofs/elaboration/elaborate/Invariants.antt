@@ -1,5 +1,0 @@
-use Rattle.vurloske_items.specs.Growth.{BeginsWith}
-use Rattle.vurloske_items.proofs.elaboration.elaborate.Given as goal
-
-abbrev pub invariant-loop-generation : goal.invariant-loop-generation
-invariant-loop-generation l = BeginsWith l.clauses.items l.fn.clauses.items

@@ -1,5 +1,0 @@
-use Rattle.vurloske_items.specs.Growth.{BeginsWith}
-use Rattle.vurloske_items.proofs.elaboration.push_new.Given as goal
-
-abbrev pub invariant-loop-clause : goal.invariant-loop-clause
-invariant-loop-clause l = BeginsWith l.clauses.items l.fn.clauses.items

@@ -1,0 +1,4 @@
+pub mod Spelling
+pub mod Growth
+pub mod Names
+pub mod Modes
