@@ -57,5 +57,7 @@ pub mod PromiseLemmas
 pub mod RerunLemmas
 pub mod ComparisonLemmas
 pub mod HostGoalLemmas
+pub mod OpenFormLemmas
+pub mod OpenedSelfLemmas
 pub mod HiddenTypeLemmas
 pub mod DefinedGoalLemmas

@@ -226,7 +226,7 @@ by-classes K g s z u r o w considers is back by =
     let f = subst (λ x. ConsidersRules K g s x z) is considers in
     let mode : z.typing_mode ≡ s.typing_mode = ap (λ (x : State). x.typing_mode) back in
     answered-map (ByClasses (AreOfClass z.typing_mode w) w.param_env.items trait_classes z r u) (MergesGoal K g s r u) r
-    (λ b. inr (inr (
+    (λ b. inr (inr (inl (
       f.considered,
       z,
       f.considers,
@@ -234,9 +234,9 @@ by-classes K g s z u r o w considers is back by =
       classes-mapped (AreOfClass z.typing_mode w) (CollectsFor K s.tables f.considered) f.considered.param_env.items trait_classes z u r
           (λ m c rs h. of-class K s.tables f.considered w s.typing_mode m c rs f.collected (h.0 ∙ mode, h.1))
           (subst (λ es. ByClasses (AreOfClass z.typing_mode w) es trait_classes z r u) f.environment b),
-    ))) by
+    )))) by
 
-pub none-left : (o : Option Response) → ((x : Response) → o ≡ Some x → ⊥) → o ≡ None
+pub none-left : {A : Type 0} (o : Option A) → ((x : A) → o ≡ Some x → ⊥) → o ≡ None
 none-left None n = refl
 none-left (Some x) n = absurd (n x refl)
 

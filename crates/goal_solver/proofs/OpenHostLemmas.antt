@@ -1,5 +1,5 @@
 -- Goals of const traits with inference variables: how their groups answer, and how they are answered by their plain goals.
-use Rattle.std.proofs.Common.{◌≡◌, ◌-◌, ℕ, suc, false, Option, Some, None, Result, Ok, Err, List, [], ◌∷◌, inl, inr, refl, sym, ap, subst, ◌∙◌}
+use Rattle.std.proofs.Common.{◌≡◌, ◌-◌, ℕ, suc, Option, Some, None, Result, Ok, Err, List, [], ◌∷◌, inl, inr, refl, ap, subst}
 use Rattle.goal_terms.specs.declared.answers.Certainty.TheVariants as certainty
 use Rattle.goal_terms.specs.declared.answers.Response.{Response}
 use Rattle.goal_terms.specs.declared.answers.TraitGoalProvenVia.{TraitGoalProvenVia}
@@ -14,7 +14,7 @@ use Rattle.goal_solver.specs.Collecting.{KindWords}
 use Rattle.goal_solver.specs.GoingBack.{restored}
 use Rattle.goal_solver.specs.MergedRules.{MergesRules}
 use Rattle.goal_solver.specs.OpenGoals.{IsFormless, WhenAnswered, at_depth}
-use Rattle.goal_solver.specs.OpenHostGoals.{rules_of_groups, GroupAnswers, ByRuleGroups, MergesConst, host_words, IsPlain, AnswersPlain, ByPlainClass, ByPlain, MergesHostEffect}
+use Rattle.goal_solver.specs.OpenHostGoals.{rules_of_groups, GroupAnswers, ByRuleGroups, MergesConst, host_words, IsPlain, AnswersPlain, ByPlainClass, MergesHostEffect}
 use Rattle.goal_solver.specs.OpenProjections.{ConsidersGroups, proven_class}
 use Rattle.goal_solver.specs.State.{State}
 use Rattle.goal_solver.specs.declared.normalizes_to.groups.GroupRules.{GroupRules}
@@ -58,10 +58,6 @@ group-none env es ds first qs later ls s z u o p e f d l h none k other =
     inr (z, answers-by env es first qs s z o None e f h none, inr (u, answers-by env ds later ls z u p None d l k other, (refl, refl)))
 
 -- a goal is answered through a class
-pub const-left : {P : Type 0} (K : KindWords P) (c : TraitGoalProvenVia) (g : Goal P) (s u : State) (o : Option GroupRules) (r : Response) → ConsidersGroups K c g s o u → o ≡ None →
-    r.certainty ≡ certainty.Maybe → MergesConst K c g s (Ok r) u
-const-left K c g s u o r h e maybe = inl (subst (λ x. ConsidersGroups K c g s x u) e h, maybe)
-
 pub const-formless : {P : Type 0} (K : KindWords P) (c : TraitGoalProvenVia) (g : Goal P) (s u : State) (f : Fault) → (f ≡ fault.NoSolution → IsFormless K.self_type g s u) →
     WhenAnswered (Err f) (MergesConst K c g s (Err f) u)
 const-formless K c g s u f h = when-refused (MergesConst K c g s (Err f) u) f (λ e. inr (inl (h e, ap Err e)))
@@ -70,7 +66,7 @@ pub const-grouped : {P : Type 0} (K : KindWords P) (c : TraitGoalProvenVia) (g :
     WhenAnswered r (ByRuleGroups w.param_env.items (rules_of_groups w) z r u) → WhenAnswered r (MergesConst K c g s r u)
 const-grouped K c g s z u o w r h e by =
     answered-map (ByRuleGroups w.param_env.items (rules_of_groups w) z r u) (MergesConst K c g s r u) r
-    (λ b. inr (inr (w, z, subst (λ x. ConsidersGroups K c g s x z) e h, b))) by
+    (λ b. inr (inr (inl (w, z, subst (λ x. ConsidersGroups K c g s x z) e h, b)))) by
 
 -- a goal is answered by its plain goal
 pub const-at_once : (g : Goal HostEffectPredicate) (s : State) (r : Response) → s.remaining_depth ≡ 0 → r.certainty ≡ certainty.Maybe → MergesHostEffect g s (Ok r) s

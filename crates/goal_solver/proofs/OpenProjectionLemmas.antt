@@ -10,7 +10,6 @@ use Rattle.goal_terms.specs.declared.answers.Certainty.TheVariants as certainty
 use Rattle.goal_terms.specs.declared.answers.Response.{Response}
 use Rattle.goal_terms.specs.declared.answers.TraitGoalProvenVia.{TraitGoalProvenVia}
 use Rattle.goal_terms.specs.declared.answers.TraitGoalProvenVia.TheVariants as class
-use Rattle.goal_terms.specs.declared.modes.TypingMode.{TypingMode}
 use Rattle.goal_terms.specs.declared.predicates.Clause.{Clause}
 use Rattle.goal_terms.specs.declared.predicates.Goal.{Goal}
 use Rattle.goal_terms.specs.declared.predicates.NormalizesTo.{NormalizesTo}
@@ -18,7 +17,6 @@ use Rattle.goal_terms.specs.declared.predicates.ProjectionPredicate.{ProjectionP
 use Rattle.goal_terms.specs.declared.predicates.TraitPredicate.{TraitPredicate}
 use Rattle.goal_terms.specs.declared.terms.GenericArg.{GenericArg}
 use Rattle.goal_terms.specs.declared.terms.Term.{Term}
-use Rattle.goal_tables.specs.declared.rows.Tables.{Tables}
 use Rattle.goal_kinds.specs.ProjectionKind.{projected_trait}
 use Rattle.goal_kinds.specs.ProjectionLists.{equation_list}
 use Rattle.goal_kinds.specs.Projections.{projected_item}
@@ -33,8 +31,8 @@ use Rattle.goal_solver.specs.GoingBack.{GoesBack, restored}
 use Rattle.goal_solver.specs.Collecting.{KindWords, CollectsFor}
 use Rattle.goal_solver.specs.MergedRules.{MergesRules}
 use Rattle.goal_solver.specs.HiddenTypes.{AsksForm, tree_in}
-use Rattle.goal_solver.specs.OpenGoals.{Considers, FormsGoal, IsFormless, IsLeft, WhenAnswered, has_kind_fault}
-use Rattle.goal_solver.specs.OpenProjections.{CollectsAll, is_formed, Forms, FormsAll, RefusesForm, LacksForm, WithForms, IsRigidList, IsRigid, own_args, proven_class, classes_behind, CollectsGroups, ConsidersGroups, MergesGroup, ByBounds, ByRest, ByLater, ByGroups, alias_words, ByClass, MergesThrough, MergesProjection, IsAliasRule, RunsAlias, RunsEquation, AsksItsTrait, AnswersTrait}
+use Rattle.goal_solver.specs.OpenGoals.{FormsGoal, IsFormless, WhenAnswered, has_kind_fault}
+use Rattle.goal_solver.specs.OpenProjections.{CollectsAll, is_formed, Forms, FormsAll, RefusesForm, LacksForm, WithForms, IsRigidList, IsRigid, own_args, proven_class, classes_behind, CollectsGroups, ConsidersGroups, ByBounds, ByRest, ByLater, ByGroups, alias_words, ByClass, MergesThrough, MergesProjection, IsAliasRule, RunsAlias, RunsEquation, AsksItsTrait, AnswersTrait}
 use Rattle.goal_solver.specs.OpenRuns.{RunsOpen}
 use Rattle.goal_solver.specs.Refusals.{WhenRefused, IsRefusedOpen}
 use Rattle.goal_solver.specs.Relating.{IsFaultFor}
@@ -178,79 +176,57 @@ when-map A B (Err fault.RerunNonErased) f h = tt
 when-map A B (Err fault.OutOfMemory) f h = tt
 when-map A B (Err fault.NotForThisKind) f h = tt
 
--- how the rules of classes are collected
-abbrev CollectsBy : Type 1
-CollectsBy = TypingMode → TraitGoalProvenVia → List Rule → Type 0
-
 tables-kept : (s z : State) → z ≡ restored s z → z.tables ≡ s.tables
 tables-kept s z e = ap (λ (x : State). x.tables) e
 
--- the rules of a group are run and merged, by what a context shows of it
-pub group-merges : {P : Type 0} (K : KindWords P) (x a u : State) (g : Goal P) (env es : List Clause) (cs : List TraitGoalProvenVia) (rules qs : List Rule) (r : Result Merged Fault) → x ≡ a → es ≡ env → qs ≡ rules →
-    CollectsAll (CollectsFor K x.tables g x.typing_mode) cs rules → IfOk r (λ m. MergesRules es qs a m u) → IfOk r (λ m. MergesGroup (CollectsFor K a.tables g) env cs a m u)
-group-merges K x a u g env es cs rules qs (Ok m) e f h collects merges = (
-  rules,
-  subst (λ (s : State). CollectsAll (CollectsFor K s.tables g s.typing_mode) cs rules) e collects,
-  subst (λ xs. MergesRules env xs a m u) h (subst (λ xs. MergesRules xs qs a m u) f merges),
-)
-group-merges K x a u g env es cs rules qs (Err f) e f' h collects merges = tt
+-- the rules of a group are run and merged, by what is read of them
+pub rules-merged : (env es : List Clause) (rules qs : List Rule) (s u : State) (m n : Merged) → es ≡ env → qs ≡ rules → m ≡ n → MergesRules es qs s m u → MergesRules env rules s n u
+rules-merged env es rules qs s u m n e f is merges =
+    subst (λ x. MergesRules env rules s x u) is (subst (λ xs. MergesRules env xs s m u) f (subst (λ xs. MergesRules xs qs s m u) e merges))
 
 -- the environment answers
-pub environment-answers : (C : CollectsBy) (c : TraitGoalProvenVia) (env : List Clause) (p : NormalizesTo) (s z u : State) (q : Response) (r : Result Response Fault) → z ≡ restored s z →
-    MergesGroup C env (class.ParamEnv ∷ []) s (merged.Answered q) z → WhenAnswered r (WithForms env (own_args z.tables p.alias) q z r u) →
-    WhenAnswered r (ByGroups C c env (own_args s.tables p.alias) p s r u)
-environment-answers C c env p s z u q r e m h =
-    when-map (WithForms env (own_args z.tables p.alias) q z r u) (ByGroups C c env (own_args s.tables p.alias) p s r u) r
+pub environment-answers : (c : TraitGoalProvenVia) (env : List Clause) (es ls : List Rule) (p : NormalizesTo) (s z u : State) (q : Response) (r : Result Response Fault) → z ≡ restored s z →
+    MergesRules env es s (merged.Answered q) z → WhenAnswered r (WithForms env (own_args z.tables p.alias) q z r u) → WhenAnswered r (ByGroups c env es ls (own_args s.tables p.alias) p s r u)
+environment-answers c env es ls p s z u q r e m h =
+    when-map (WithForms env (own_args z.tables p.alias) q z r u) (ByGroups c env es ls (own_args s.tables p.alias) p s r u) r
     (λ k. inl (merged.Answered q, z, m, subst (λ t. WithForms env (own_args t p.alias) q z r u) (tables-kept s z e) k)) h
 
-pub environment-splits : (C : CollectsBy) (c : TraitGoalProvenVia) (env : List Clause) (own : List GenericArg) (p : NormalizesTo) (s z : State) (r : Response) →
-    MergesGroup C env (class.ParamEnv ∷ []) s merged.Split z → r.certainty ≡ certainty.Maybe → ByGroups C c env own p s (Ok r) z
-environment-splits C c env own p s z r m h = inl (merged.Split, z, m, (h, refl))
+pub environment-splits : (c : TraitGoalProvenVia) (env : List Clause) (es ls : List Rule) (own : List GenericArg) (p : NormalizesTo) (s z : State) (r : Response) →
+    MergesRules env es s merged.Split z → r.certainty ≡ certainty.Maybe → ByGroups c env es ls own p s (Ok r) z
+environment-splits c env es ls own p s z r m h = inl (merged.Split, z, m, (h, refl))
 
 -- or the groups after it
-pub later-answers : (C : Tables → CollectsBy) (c : TraitGoalProvenVia) (env : List Clause) (p : NormalizesTo) (s z u : State) (r : Result Response Fault) → z ≡ restored s z →
-    MergesGroup (C s.tables) env (class.ParamEnv ∷ []) s merged.Refuted z → WhenAnswered r (ByLater c (C z.tables) env (own_args z.tables p.alias) p z r u) →
-    WhenAnswered r (ByGroups (C s.tables) c env (own_args s.tables p.alias) p s r u)
-later-answers C c env p s z u r e m h =
-    when-map (ByLater c (C z.tables) env (own_args z.tables p.alias) p z r u) (ByGroups (C s.tables) c env (own_args s.tables p.alias) p s r u) r
-    (λ k. inr (z, m, subst (λ t. ByLater c (C t) env (own_args t p.alias) p z r u) (tables-kept s z e) k)) h
+pub later-answers : (c : TraitGoalProvenVia) (env : List Clause) (es ls : List Rule) (p : NormalizesTo) (s z u : State) (r : Result Response Fault) → z ≡ restored s z →
+    MergesRules env es s merged.Refuted z → WhenAnswered r (ByLater c env ls (own_args z.tables p.alias) p z r u) → WhenAnswered r (ByGroups c env es ls (own_args s.tables p.alias) p s r u)
+later-answers c env es ls p s z u r e m h =
+    when-map (ByLater c env ls (own_args z.tables p.alias) p z r u) (ByGroups c env es ls (own_args s.tables p.alias) p s r u) r
+    (λ k. inr (z, m, subst (λ t. ByLater c env ls (own_args t p.alias) p z r u) (tables-kept s z e) k)) h
 
 -- the bounds answer
-pub bounds-answer : (C : CollectsBy) (env : List Clause) (p : NormalizesTo) (s z u : State) (q : Response) (r : Result Response Fault) → z ≡ restored s z →
-    MergesGroup C env (class.AliasBound ∷ []) s (merged.Answered q) z → WhenAnswered r (WithForms env (own_args z.tables p.alias) q z r u) →
-    WhenAnswered r (ByBounds C env (own_args s.tables p.alias) p s r u)
-bounds-answer C env p s z u q r e m h =
-    when-map (WithForms env (own_args z.tables p.alias) q z r u) (ByBounds C env (own_args s.tables p.alias) p s r u) r
+pub bounds-answer : (env : List Clause) (ls : List Rule) (p : NormalizesTo) (s z u : State) (q : Response) (r : Result Response Fault) → z ≡ restored s z →
+    MergesRules env ls s (merged.Answered q) z → WhenAnswered r (WithForms env (own_args z.tables p.alias) q z r u) → WhenAnswered r (ByBounds env ls (own_args s.tables p.alias) p s r u)
+bounds-answer env ls p s z u q r e m h =
+    when-map (WithForms env (own_args z.tables p.alias) q z r u) (ByBounds env ls (own_args s.tables p.alias) p s r u) r
     (λ k. (merged.Answered q, z, m, subst (λ t. WithForms env (own_args t p.alias) q z r u) (tables-kept s z e) k)) h
 
-pub bounds-split : (C : CollectsBy) (env : List Clause) (own : List GenericArg) (p : NormalizesTo) (s z : State) (r : Response) →
-    MergesGroup C env (class.AliasBound ∷ []) s merged.Split z → r.certainty ≡ certainty.Maybe → ByBounds C env own p s (Ok r) z
-bounds-split C env own p s z r m h = (merged.Split, z, m, (h, refl))
+pub bounds-split : (env : List Clause) (ls : List Rule) (own : List GenericArg) (p : NormalizesTo) (s z : State) (r : Response) →
+    MergesRules env ls s merged.Split z → r.certainty ≡ certainty.Maybe → ByBounds env ls own p s (Ok r) z
+bounds-split env ls own p s z r m h = (merged.Split, z, m, (h, refl))
 
 -- or the alias is rigid
-pub bounds-rigid : (C : CollectsBy) (env : List Clause) (own : List GenericArg) (p : NormalizesTo) (s z u : State) (r : Result Response Fault) →
-    MergesGroup C env (class.AliasBound ∷ []) s merged.Refuted z → WhenAnswered r (IsRigid env p z r u) → WhenAnswered r (ByBounds C env own p s r u)
-bounds-rigid C env own p s z u r m h = when-map (IsRigid env p z r u) (ByBounds C env own p s r u) r (λ k. (merged.Refuted, z, m, k)) h
+pub bounds-rigid : (env : List Clause) (ls : List Rule) (own : List GenericArg) (p : NormalizesTo) (s z u : State) (r : Result Response Fault) →
+    MergesRules env ls s merged.Refuted z → WhenAnswered r (IsRigid env p z r u) → WhenAnswered r (ByBounds env ls own p s r u)
+bounds-rigid env ls own p s z u r m h = when-map (IsRigid env p z r u) (ByBounds env ls own p s r u) r (λ k. (merged.Refuted, z, m, k)) h
 
 -- the bounds and the rest answer
-pub rest-answers : (C : CollectsBy) (env : List Clause) (s z : State) (q : Response) →
-    MergesGroup C env (class.AliasBound ∷ class.Misc ∷ []) s (merged.Answered q) z → ByRest C env s (Ok q) z
-rest-answers C env s z q m = (merged.Answered q, z, m, (refl, refl))
+pub rest-answers : (env : List Clause) (ls : List Rule) (s z : State) (q : Response) → MergesRules env ls s (merged.Answered q) z → ByRest env ls s (Ok q) z
+rest-answers env ls s z q m = (merged.Answered q, z, m, (refl, refl))
 
-pub rest-splits : (C : CollectsBy) (env : List Clause) (s z : State) (r : Response) →
-    MergesGroup C env (class.AliasBound ∷ class.Misc ∷ []) s merged.Split z → r.certainty ≡ certainty.Maybe → ByRest C env s (Ok r) z
-rest-splits C env s z r m h = (merged.Split, z, m, (h, refl))
+pub rest-splits : (env : List Clause) (ls : List Rule) (s z : State) (r : Response) → MergesRules env ls s merged.Split z → r.certainty ≡ certainty.Maybe → ByRest env ls s (Ok r) z
+rest-splits env ls s z r m h = (merged.Split, z, m, (h, refl))
 
-pub rest-refuses : (C : CollectsBy) (env : List Clause) (s z : State) (r : Result Response Fault) →
-    MergesGroup C env (class.AliasBound ∷ class.Misc ∷ []) s merged.Refuted z → r ≡ Err fault.NoSolution → ByRest C env s r z
-rest-refuses C env s z r m h = (merged.Refuted, z, m, (h, refl))
-
--- the classes after the environment are those of the class through which the trait goal holds
-pub by-later-bounds : (c : TraitGoalProvenVia) (C : CollectsBy) (env : List Clause) (own : List GenericArg) (p : NormalizesTo) (s u : State) (r : Result Response Fault) →
-    (c ≡ class.Misc → ⊥) → ByBounds C env own p s r u → ByLater c C env own p s r u
-by-later-bounds class.ParamEnv C env own p s u r n h = h
-by-later-bounds class.AliasBound C env own p s u r n h = h
-by-later-bounds class.Misc C env own p s u r n h = absurd (n refl)
+pub rest-refuses : (env : List Clause) (ls : List Rule) (s z : State) (r : Result Response Fault) → MergesRules env ls s merged.Refuted z → r ≡ Err fault.NoSolution → ByRest env ls s r z
+rest-refuses env ls s z r m h = (merged.Refuted, z, m, (h, refl))
 
 -- the rules of the groups of a goal that is considered are collected
 pub collects-groups : {P : Type 0} (K : KindWords P) (c : TraitGoalProvenVia) (g h : Goal P) (s x z : State) (w : GroupRules) (o : Option (Goal P)) →
@@ -269,27 +245,18 @@ collects-groups K c g h s x z w o forms is same back env first later =
     }
 
 -- a goal is answered through a class
-pub through-left : {P : Type 0} (K : KindWords P) (p : NormalizesTo) (c : TraitGoalProvenVia) (g : Goal P) (s u : State) (r : Response) →
-    IsLeft K.self_type K.is_with_self (has_kind_fault K.has_fault s.tables) g s u → r.certainty ≡ certainty.Maybe → MergesThrough K p c g s (Ok r) u
-through-left K p c g s u r h e = inl (h, e)
-
 pub through-formless : {P : Type 0} (K : KindWords P) (p : NormalizesTo) (c : TraitGoalProvenVia) (g : Goal P) (s u : State) (f : Fault) →
     (f ≡ fault.NoSolution → IsFormless K.self_type g s u) → WhenAnswered (Err f) (MergesThrough K p c g s (Err f) u)
 through-formless K p c g s u f h = when-refused (MergesThrough K p c g s (Err f) u) f (λ e. inr (inl (h e, ap Err e)))
 
-pub through-groups : {P : Type 0} (K : KindWords P) (p : NormalizesTo) (c : TraitGoalProvenVia) (g h : Goal P) (s z u : State) (r : Result Response Fault) → z ≡ restored s z →
-    Considers K.self_type K.is_with_self g h s z → has_kind_fault K.has_fault s.tables h ≡ false →
-    WhenAnswered r (ByGroups (CollectsFor K z.tables h) c h.param_env.items (own_args z.tables p.alias) p z r u) → WhenAnswered r (MergesThrough K p c g s r u)
-through-groups K p c g h s z u r e considers none m =
-    when-map (ByGroups (CollectsFor K z.tables h) c h.param_env.items (own_args z.tables p.alias) p z r u) (MergesThrough K p c g s r u) r
-    (λ k. inr (inr (h, z, considers, none, subst (λ t. ByGroups (CollectsFor K t h) c h.param_env.items (own_args t p.alias) p z r u) (tables-kept s z e) k))) m
-
--- so it is where its self type has a head form
-pub through-formed : {P : Type 0} (K : KindWords P) (p : NormalizesTo) (c : TraitGoalProvenVia) (g h : Goal P) (s z u : State) (r : Result Response Fault) (o : Option (Goal P)) →
-    FormsGoal K.self_type K.is_with_self (has_kind_fault K.has_fault s.tables) g s z o → o ≡ Some h → z ≡ restored s z →
-    WhenAnswered r (ByGroups (CollectsFor K z.tables h) c h.param_env.items (own_args z.tables p.alias) p z r u) → WhenAnswered r (MergesThrough K p c g s r u)
-through-formed K p c g h s z u r o forms is e m =
-    let f = subst (λ x. FormsGoal K.self_type K.is_with_self (has_kind_fault K.has_fault s.tables) g s z x) is forms in through-groups K p c g h s z u r e f.0 f.1 m
+-- by its groups, where rules are collected for it
+pub through-groups : {P : Type 0} (K : KindWords P) (p : NormalizesTo) (c : TraitGoalProvenVia) (g : Goal P) (s z u : State) (r : Result Response Fault) (o : Option GroupRules) (w : GroupRules) →
+    ConsidersGroups K c g s o z → o ≡ Some w → z ≡ restored s z →
+    WhenAnswered r (ByGroups c w.param_env.items w.environment.items w.later.items (own_args z.tables p.alias) p z r u) → WhenAnswered r (MergesThrough K p c g s r u)
+through-groups K p c g s z u r o w considers is e m =
+    let f = subst (λ x. ConsidersGroups K c g s x z) is considers in
+    when-map (ByGroups c w.param_env.items w.environment.items w.later.items (own_args z.tables p.alias) p z r u) (MergesThrough K p c g s r u) r
+    (λ k. inr (inr (inl (w, z, f, subst (λ t. ByGroups c w.param_env.items w.environment.items w.later.items (own_args t p.alias) p z r u) (tables-kept s z e) k)))) m
 
 -- the trait goal of a projection is asked for, by what a context shows of its tables
 pub asks-its-trait : (s a : State) (g : Goal NormalizesTo) (o : Option (Goal TraitPredicate)) (q : Goal TraitPredicate) → s ≡ a → o ≡ Some q →
@@ -302,10 +269,6 @@ pub no-trait : (s a : State) (g : Goal NormalizesTo) (o : Option (Goal TraitPred
     MatchOption o (projected_trait s.tables g.predicate.alias ≡ None) (AsksItsTrait s.tables g) → projected_trait a.tables g.predicate.alias ≡ None
 no-trait s a g o e is h =
     subst (λ (x : State). projected_trait x.tables g.predicate.alias ≡ None) e (subst (λ x. MatchOption x (projected_trait s.tables g.predicate.alias ≡ None) (AsksItsTrait s.tables g)) is h)
-
-pub none-left : {A : Type 0} (o : Option A) → ((x : A) → o ≡ Some x → ⊥) → o ≡ None
-none-left None n = refl
-none-left (Some x) n = absurd (n x refl)
 
 -- a projection is answered by its trait goal
 pub projects-alias : (g : Goal NormalizesTo) (s u : State) (r : Result Response Fault) → projected_trait s.tables g.predicate.alias ≡ None → WhenAnswered r (RunsAlias g s r u) →

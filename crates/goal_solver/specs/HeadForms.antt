@@ -1,10 +1,10 @@
 -- What is answered for the head form of a term in a context.
-use Rattle.std.specs.Prelude.{◌≡◌, false, ◌||◌, Option, Some, None, Result, Ok, Err, List}
+use Rattle.std.specs.Prelude.{◌≡◌, Bool, false, ◌||◌, ◌&&◌, Option, Some, None, Result, Ok, Err, List}
 use Rattle.goal_terms.specs.Erased.{erased}
 use Rattle.goal_terms.specs.NodeTests.{is_any_infer, some_node}
 use Rattle.goal_terms.specs.Sorts.{IsTerm}
 use Rattle.goal_terms.specs.TableMeaning.{HasTerm}
-use Rattle.goal_terms.specs.Tree.{Tree}
+use Rattle.goal_terms.specs.Tree.{Tree, node_of}
 use Rattle.goal_terms.specs.TreeOf.{tree_of_term}
 use Rattle.goal_terms.specs.declared.modes.TypingMode.{TypingMode}
 use Rattle.goal_terms.specs.declared.predicates.Clause.{Clause}
@@ -12,6 +12,7 @@ use Rattle.goal_terms.specs.declared.terms.Term.{Term}
 use Rattle.goal_tables.specs.Predicates.{some_in_env}
 use Rattle.goal_infer.specs.Replacement.{replaced}
 use Rattle.goal_infer.specs.Resolution.{resolution}
+use Rattle.goal_infer.specs.Unification.{is_alias}
 use Rattle.goal_kinds.specs.Interned.{erased_at}
 use Rattle.goal_kinds.specs.Level.{Level, HasHeadForm, HeadFormRefuted}
 use Rattle.goal_kinds.specs.declared.faults.Fault.{Fault}
@@ -20,6 +21,8 @@ use Rattle.goal_solver.specs.Answers.{level_over}
 use Rattle.goal_solver.specs.State.{State}
 use Rattle.goal_eval.specs.declared.eval.outcomes.Found.{Found}
 use Rattle.goal_eval.specs.declared.eval.outcomes.Found.TheVariants as found
+use Rattle.goal_eval.specs.declared.eval.outcomes.Stop.{Stop}
+use Rattle.goal_eval.specs.declared.eval.outcomes.Stop.TheVariants as stop
 
 -- a term with the bindings of a context followed, lifetimes aside
 abbrev pub bound_term : State → Term → Tree
@@ -62,6 +65,24 @@ abbrev pub IsFoundItself : Tree → List Tree → Found → Type 0
 IsFoundItself t T (found.Is id) = HasTerm T id × (erased_at T id ≡ t)
 IsFoundItself t T found.Refuted = ⊥
 IsFoundItself t T found.Undecided = ⊥
+
+-- whether a tree is an alias that holds an inference variable, or that is asked for in an environment with one
+abbrev pub is_open_form : Tree → List Clause → Bool
+is_open_form t env = is_alias (node_of t) && (some_node is_any_infer t || some_in_env is_any_infer env)
+
+-- the head form of a term that is no such alias is answered by a derivation or a refutation
+abbrev pub AnswersForm : State → TypingMode → List Clause → Term → Result (Option Term) Fault → Type 0
+AnswersForm s m env e answer = is_open_form (bound_term s e) env ≡ false → IsFormAnswer (level_over s m env) (bound_term s e) answer
+
+-- nothing is answered, or memory ran out
+abbrev pub IsLeftOpen : Result (Option Term) Fault → Type 0
+IsLeftOpen (Ok o) = o ≡ None
+IsLeftOpen (Err f) = f ≡ fault.OutOfMemory
+
+-- nothing is found, or memory ran out
+abbrev pub IsLeftUndecided : Result Found Stop → Type 0
+IsLeftUndecided (Ok f) = f ≡ found.Undecided
+IsLeftUndecided (Err s) = s ≡ stop.OutOfMemory
 
 -- where the head form of a closed term is left undecided there is none, nor is it refuted
 abbrev pub LeavesFormOpen : State → TypingMode → List Clause → Term → Result (Option Term) Fault → Type 0

@@ -23,7 +23,7 @@ use Rattle.goal_solver.specs.HeadForms.{IsClosedForm, IsFormAnswer, IsFormOpen, 
 use Rattle.goal_eval.specs.Pending.{is_alias}
 use Rattle.goal_solver.specs.State.{State}
 
--- the head form of a term is asked for, as `structurally_normalize_term` answers it
+-- the head form of a term is asked for, as `structurally_normalize_term` answers it, but that an alias with inference variables has none
 pub record AsksForm (env : List Clause) (t : Tree) (old new : State) (r : Result (Option Term) Fault) : Type 0 where
   pub sound : (m : TypingMode) → IsOwed new m → IsFormAnswer (level_over old m env) (bound_term old t) r
   pub decided : (m : TypingMode) → IsOwed new m → IsClosedForm (bound_term old t) env → r ≡ Ok None → IsFormOpen (level_over old m env) (bound_term old t)

@@ -23,6 +23,7 @@ pub mod Refusals
 pub mod Assembled
 pub mod TranslatedArgs
 pub mod Collecting
+pub mod OpenForms
 pub mod OpenGoals
 pub mod OpenProjections
 pub mod OpenHostGoals

@@ -2,7 +2,8 @@
 use Rattle.std.specs.Prelude.{◌≡◌, ◌⊎◌, ℕ, Bool, true, false, ◌||◌, List, [], ◌∷◌, Option, Some, None, Result, Ok, Err}
 use Rattle.goal_terms.specs.NodeTests.{general_variable_at}
 use Rattle.goal_terms.specs.Tree.{Tree, node_of}
-use Rattle.goal_terms.specs.TreeOf.{tree_of_ty}
+use Rattle.goal_terms.specs.Erased.{erased}
+use Rattle.goal_terms.specs.TreeOf.{tree_of_alias, tree_of_ty}
 use Rattle.goal_terms.specs.declared.answers.Certainty.{Certainty}
 use Rattle.goal_terms.specs.declared.answers.Certainty.TheVariants as certainty
 use Rattle.goal_terms.specs.declared.answers.Response.{Response}
@@ -12,6 +13,7 @@ use Rattle.goal_terms.specs.declared.modes.TypingMode.{TypingMode}
 use Rattle.goal_terms.specs.declared.predicates.Clause.{Clause}
 use Rattle.goal_terms.specs.declared.predicates.Goal.{Goal}
 use Rattle.goal_terms.specs.declared.predicates.TraitPredicate.{TraitPredicate}
+use Rattle.goal_terms.specs.declared.terms.AliasTerm.{AliasTerm}
 use Rattle.goal_terms.specs.declared.terms.Term.{Term}
 use Rattle.goal_terms.specs.declared.terms.Term.TheVariants as term
 use Rattle.goal_terms.specs.declared.terms.Ty.{Ty}
@@ -24,7 +26,13 @@ use Rattle.goal_kinds.specs.declared.faults.Fault.TheVariants as fault
 use Rattle.goal_kinds.specs.declared.rules.Rule.{Rule}
 use Rattle.goal_solver.specs.Answers.{IsMaybe}
 use Rattle.goal_solver.specs.Collecting.{KindWords, trait_words, CollectsFor}
+use Rattle.goal_solver.specs.Binding.{Applies, bound_term}
+use Rattle.goal_solver.specs.GoingBack.{begun, restored}
+use Rattle.goal_solver.specs.HeadForms.{is_open_form}
 use Rattle.goal_solver.specs.HiddenTypes.{AsksForm}
+use Rattle.goal_solver.specs.OpenForms.{OpensForm, answers_somehow}
+use Rattle.goal_solver.specs.Relating.{ChangesRecords}
+use Rattle.goal_solver.specs.Responses.{ListsSinceMark}
 use Rattle.goal_solver.specs.MergedRules.{MergesRules}
 use Rattle.goal_solver.specs.State.{State}
 use Rattle.goal_solver.specs.TranslatedArgs.{IsSameEnvironment}
@@ -125,6 +133,12 @@ WhenAnswered (Ok r) A = A
 WhenAnswered (Err fault.NoSolution) A = A
 WhenAnswered (Err f) A = Unit {0}
 
+-- so it is of one that may be missing
+abbrev pub WhenTried : Result (Option Response) Fault → Type 0 → Type 0
+WhenTried (Ok r) A = A
+WhenTried (Err fault.NoSolution) A = A
+WhenTried (Err f) A = Unit {0}
+
 -- the rules of a goal's candidates are collected, class by class, for the goal that is considered in its place
 pub record CollectsClasses {P : Type 0} (K : KindWords P) (g : Goal P) (s z : State) (w : ClassRules) : Type 0 where
   pub considered : Goal P
@@ -138,16 +152,106 @@ abbrev pub ConsidersRules : {P : Type 0} → KindWords P → Goal P → State �
 ConsidersRules K g s None z = IsLeft K.self_type K.is_with_self (has_kind_fault K.has_fault s.tables) g s z
 ConsidersRules K g s (Some w) z = CollectsClasses K g s z w
 
+-- an alias with inference variables, or in an environment with some, is the self type of a goal
+pub record AsksOpenSelf {P : Type 0} (self_of : P → Option Ty) (g : Goal P) (s : State) : Type 0 where
+  pub self : Ty
+  pub asked : self_of g.predicate ≡ Some self
+  pub holds_some : is_open_form (bound_term s (tree_of_ty self)) g.param_env.items ≡ true
+
+-- this alias, bindings followed
+pub record IsSelfAlias {P : Type 0} (self_of : P → Option Ty) (g : Goal P) (s : State) (a : AliasTerm) : Type 0 where
+  pub self : AsksOpenSelf self_of g s
+  pub same : erased (tree_of_alias a) ≡ bound_term s (tree_of_ty self.self)
+
+-- in a trial its head form is asked for
+pub record OpensSelf {P : Type 0} (self_of : P → Option Ty) (g : Goal P) (s : State) (a : Result (Option Term) Fault) (z : State) : Type 0 where
+  pub self : AsksOpenSelf self_of g s
+  pub opens : OpensForm answers_somehow g.param_env.items (bound_term s (tree_of_ty self.self)) (begun s) a z
+  pub alone : ChangesRecords (begun s) z
+
+-- a goal is considered for a head form of its self type, in the same environment
+pub record TakesSelf {P : Type 0} (with_self : P → Tree → P → Type 0) (g h : Goal P) (a : Option Term) : Type 0 where
+  pub form : Ty
+  pub found : a ≡ Some (term.Ty form)
+  pub general : general_variable_at (node_of (tree_of_ty form)) ≡ None
+  pub replaced : with_self g.predicate (tree_of_ty form) h.predicate
+  pub environment : IsSameEnvironment g.param_env.items h.param_env.items
+
+-- there is no such form, or the goal for it isn't one that a check accepts
+abbrev pub PassesSelf : {P : Type 0} → (P → Tree → P → Type 0) → (Goal P → Bool) → Goal P → Option Term → Type 0
+PassesSelf {P} with_self lies g a = IsNoForm a ⊎ ((h : Goal P) × TakesSelf with_self g h a × (lies h ≡ true))
+
+-- the rules of its candidates are collected for that goal, class by class
+pub record ClassesForSelf {P : Type 0} (K : KindWords P) (t : Tables) (m : TypingMode) (g : Goal P) (a : Option Term) (w : ClassRules) : Type 0 where
+  pub considered : Goal P
+  pub takes : TakesSelf K.is_with_self g considered a
+  pub accepted : has_kind_fault K.has_fault t considered ≡ false
+  pub environment : w.param_env.items ≡ considered.param_env.items
+  pub collected : (c : TraitGoalProvenVia) → CollectsFor K t considered m c (rules_of_class w c)
+
+-- there are none where no goal is considered
+abbrev pub ClassesForForm : {P : Type 0} → KindWords P → Tables → TypingMode → Goal P → Option Term → Option ClassRules → Type 0
+ClassesForForm K t m g a None = PassesSelf K.is_with_self (has_kind_fault K.has_fault t) g a
+ClassesForForm K t m g a (Some w) = ClassesForSelf K t m g a w
+
+-- beside what came before it in a trial a response is applied, and all that came is listed
+pub record IsBeside (s : State) (q r : Response) (u : State) : Type 0 where
+  pub applied : State
+  pub applies : Applies s applied q
+  pub listed : Response
+  pub lists : ListsSinceMark applied q.certainty listed
+  pub is : r ≡ record listed { proven_via = q.proven_via }
+  pub left : u ≡ record applied { terms = u.terms }
+
+-- a response lists what came in a trial
+abbrev pub IsListedIn : State → Response → Type 0
+IsListedIn s r = (l : Response) × ListsSinceMark s l.certainty l × (r ≡ record l { proven_via = r.proven_via })
+
+-- so what is answered there is
+abbrev pub AnswersBeside : State → Result Response Fault → Result (Option Response) Fault → State → Type 0
+AnswersBeside s (Ok q) r u = (x : Response) × IsBeside s q x u × (r ≡ Ok (Some x))
+AnswersBeside s (Err f) r u = (r ≡ Err f) × (u ≡ s)
+
+-- by its classes, for what is answered for the head form of its self type; a refused form refuses, and without candidates there is no answer
+abbrev pub ByFormedClasses : {P : Type 0} → KindWords P → Goal P → Result (Option Term) Fault → State → Result (Option Response) Fault → State → Type 0
+ByFormedClasses K g (Err f) z r u = (r ≡ Err f) × (u ≡ z)
+ByFormedClasses K g (Ok a) z r u =
+    (PassesSelf K.is_with_self (has_kind_fault K.has_fault z.tables) g a × (r ≡ Ok None) × (u ≡ z))
+    ⊎ ((w : ClassRules)
+    × (q : Result Response Fault)
+    × (y : State)
+    × ClassesForSelf K z.tables z.typing_mode g a w
+    × ByClasses (AreOfClass z.typing_mode w) w.param_env.items trait_classes z q y
+    × AnswersBeside y q r u)
+
+-- what is answered after a trial: without an answer there the goal is undecided
+abbrev pub IsAfterTrial : Result (Option Response) Fault → Result Response Fault → Type 0
+IsAfterTrial (Ok None) r = IsMaybe r
+IsAfterTrial (Ok (Some x)) r = r ≡ Ok x
+IsAfterTrial (Err f) r = r ≡ Err f
+
+-- in a trial the head form of such an alias is asked for, the goal answered by it, and then everything goes back but terms and records
+pub record MergesOpened {P : Type 0} (self_of : P → Option Ty) (By : Result (Option Term) Fault → State → Result (Option Response) Fault → State → Type 0) (g : Goal P) (s : State) (r : Result Response Fault) (u : State) : Type 0 where
+  pub form : Result (Option Term) Fault
+  pub formed : State
+  pub opens : OpensSelf self_of g s form formed
+  pub answer : Result (Option Response) Fault
+  pub last : State
+  pub by : By form formed answer last
+  pub after : IsAfterTrial answer r
+  pub back : u ≡ restored s last
+
 -- a goal is answered by its candidates: undecided where it isn't considered, refused where it is refuted that its self type has a head form, and else by its classes
 abbrev pub MergesGoal : {P : Type 0} → KindWords P → Goal P → State → Result Response Fault → State → Type 0
 MergesGoal {P} K g s r u =
-    (IsLeft K.self_type K.is_with_self (has_kind_fault K.has_fault s.tables) g s u × IsMaybe r)
+    ((z : State) × IsLeft K.self_type K.is_with_self (has_kind_fault K.has_fault s.tables) g s z × (AsksOpenSelf K.self_type g z → ⊥) × (u ≡ restored z u) × IsMaybe r)
     ⊎ (IsFormless K.self_type g s u × (r ≡ Err fault.NoSolution))
     ⊎ ((h : Goal P)
     × (z : State)
     × Considers K.self_type K.is_with_self g h s z
     × (has_kind_fault K.has_fault s.tables h ≡ false)
     × ByClasses (CollectsFor K s.tables h) h.param_env.items trait_classes z r u)
+    ⊎ ((z : State) × (z ≡ restored s z) × MergesOpened K.self_type (ByFormedClasses K g) g z r u)
 
 -- so a trait goal is
 abbrev pub MergesTrait : Goal TraitPredicate → State → Result Response Fault → State → Type 0

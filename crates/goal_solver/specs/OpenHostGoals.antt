@@ -7,6 +7,7 @@ use Rattle.goal_terms.specs.declared.predicates.Clause.{Clause}
 use Rattle.goal_terms.specs.declared.predicates.Goal.{Goal}
 use Rattle.goal_terms.specs.declared.predicates.HostEffectPredicate.{HostEffectPredicate}
 use Rattle.goal_terms.specs.declared.predicates.TraitPredicate.{TraitPredicate}
+use Rattle.goal_terms.specs.declared.terms.Term.{Term}
 use Rattle.goal_tables.specs.Clauses.{lies_in_const_ref}
 use Rattle.goal_kinds.specs.CandidateRules.{asked_trait, first_type}
 use Rattle.goal_kinds.specs.EffectKind.{EffectCandidateHolds, EffectCandidateRefuted, implied_bounds_for, IsEffectWithSelf, is_effect_rule_for, may_match_effect}
@@ -18,8 +19,8 @@ use Rattle.goal_solver.specs.Answers.{IsMaybe}
 use Rattle.goal_solver.specs.Collecting.{KindWords, kind_words}
 use Rattle.goal_solver.specs.GoingBack.{restored}
 use Rattle.goal_solver.specs.MergedRules.{MergesRules}
-use Rattle.goal_solver.specs.OpenGoals.{IsLeft, IsFormless, WhenAnswered, MergesTrait, at_depth, has_kind_fault}
-use Rattle.goal_solver.specs.OpenProjections.{CollectsGroups, proven_class}
+use Rattle.goal_solver.specs.OpenGoals.{AnswersBeside, AsksOpenSelf, IsLeft, IsFormless, MergesOpened, PassesSelf, WhenAnswered, MergesTrait, at_depth, has_kind_fault}
+use Rattle.goal_solver.specs.OpenProjections.{CollectsGroups, GroupsForSelf, proven_class}
 use Rattle.goal_solver.specs.State.{State}
 use Rattle.goal_solver.specs.TranslatedArgs.{IsSameEnvironment}
 use Rattle.goal_solver.specs.declared.normalizes_to.groups.GroupRules.{GroupRules}
@@ -48,12 +49,25 @@ ByRuleGroups env (rules ∷ groups) s r u =
     ((a : Response) × GroupAnswers env rules s (Some a) u × (r ≡ Ok a))
     ⊎ ((z : State) × GroupAnswers env rules s None z × ByRuleGroups env groups z r u)
 
+-- by its groups, for what is answered for the head form of its self type; a refused form refuses, and without candidates there is no answer
+abbrev pub ByFormedRuleGroups : {P : Type 0} → KindWords P → TraitGoalProvenVia → Goal P → Result (Option Term) Fault → State → Result (Option Response) Fault → State → Type 0
+ByFormedRuleGroups K c g (Err f) z r u = (r ≡ Err f) × (u ≡ z)
+ByFormedRuleGroups K c g (Ok a) z r u =
+    (PassesSelf K.is_with_self (has_kind_fault K.has_fault z.tables) g a × (r ≡ Ok None) × (u ≡ z))
+    ⊎ ((w : GroupRules)
+    × (q : Result Response Fault)
+    × (y : State)
+    × GroupsForSelf K z.tables z.typing_mode c g a w
+    × ByRuleGroups w.param_env.items (rules_of_groups w) z q y
+    × AnswersBeside y q r u)
+
 -- a goal whose plain goal holds through a class is answered by its candidates: undecided where it isn't considered, refused where it is refuted that its self type has a head form, and else by its groups
 abbrev pub MergesConst : {P : Type 0} → KindWords P → TraitGoalProvenVia → Goal P → State → Result Response Fault → State → Type 0
-MergesConst K c g s r u =
-    (IsLeft K.self_type K.is_with_self (has_kind_fault K.has_fault s.tables) g s u × IsMaybe r)
+MergesConst {P} K c g s r u =
+    ((z : State) × IsLeft K.self_type K.is_with_self (has_kind_fault K.has_fault s.tables) g s z × (AsksOpenSelf K.self_type g z → ⊥) × (u ≡ restored z u) × IsMaybe r)
     ⊎ (IsFormless K.self_type g s u × (r ≡ Err fault.NoSolution))
     ⊎ ((w : GroupRules) × (z : State) × CollectsGroups K c g s z w × ByRuleGroups w.param_env.items (rules_of_groups w) z r u)
+    ⊎ ((z : State) × (z ≡ restored s z) × MergesOpened K.self_type (ByFormedRuleGroups K c g) g z r u)
 
 -- goals of const traits, as a kind of goals
 abbrev pub host_words : KindWords HostEffectPredicate

@@ -43,7 +43,8 @@ use Rattle.goal_solver.specs.Collecting.{KindWords, kind_words, CollectsFor}
 use Rattle.goal_solver.specs.GoingBack.{restored}
 use Rattle.goal_solver.specs.MergedRules.{MergesRules}
 use Rattle.goal_solver.specs.HiddenTypes.{AsksForm, tree_in}
-use Rattle.goal_solver.specs.OpenGoals.{Considers, IsLeft, IsFormless, WhenAnswered, MergesTrait, at_depth, has_kind_fault}
+use Rattle.goal_solver.specs.OpenForms.{with_taking}
+use Rattle.goal_solver.specs.OpenGoals.{AnswersBeside, AsksOpenSelf, Considers, IsFormless, IsLeft, MergesOpened, MergesTrait, PassesSelf, TakesSelf, WhenAnswered, at_depth, has_kind_fault}
 use Rattle.goal_solver.specs.OpenRuns.{RunsOpen}
 use Rattle.goal_solver.specs.Refusals.{IsRefusedOpen}
 use Rattle.goal_solver.specs.State.{State}
@@ -95,10 +96,6 @@ abbrev pub classes_behind : TraitGoalProvenVia → List TraitGoalProvenVia
 classes_behind class.ParamEnv = class.AliasBound ∷ []
 classes_behind class.AliasBound = class.AliasBound ∷ []
 classes_behind class.Misc = class.AliasBound ∷ class.Misc ∷ []
-
--- they are run and merged
-abbrev pub MergesGroup : (TypingMode → TraitGoalProvenVia → List Rule → Type 0) → List Clause → List TraitGoalProvenVia → State → Merged → State → Type 0
-MergesGroup Collects env cs s m u = (rules : List Rule) × CollectsAll (Collects s.typing_mode) cs rules × MergesRules env rules s m u
 
 -- whether a head form is there, and no general variable
 abbrev pub is_formed : Option Term → Bool
@@ -173,23 +170,23 @@ IsGivenByRest merged.Refuted s r u = (r ≡ Err fault.NoSolution) × (u ≡ s)
 IsGivenByRest (merged.Answered q) s r u = (r ≡ Ok q) × (u ≡ s)
 IsGivenByRest merged.Split s r u = IsMaybe r × (u ≡ s)
 
--- the groups after the environment are looked at, by the class through which the trait goal holds
-abbrev pub ByBounds : (TypingMode → TraitGoalProvenVia → List Rule → Type 0) → List Clause → List GenericArg → NormalizesTo → State → Result Response Fault → State → Type 0
-ByBounds Collects env own p s r u = (m : Merged) × (z : State) × MergesGroup Collects env (class.AliasBound ∷ []) s m z × IsGivenByBounds env own p m z r u
+-- the rules of the group after the environment are run and merged, by the class through which the trait goal holds
+abbrev pub ByBounds : List Clause → List Rule → List GenericArg → NormalizesTo → State → Result Response Fault → State → Type 0
+ByBounds env ls own p s r u = (m : Merged) × (z : State) × MergesRules env ls s m z × IsGivenByBounds env own p m z r u
 
-abbrev pub ByRest : (TypingMode → TraitGoalProvenVia → List Rule → Type 0) → List Clause → State → Result Response Fault → State → Type 0
-ByRest Collects env s r u = (m : Merged) × (z : State) × MergesGroup Collects env (class.AliasBound ∷ class.Misc ∷ []) s m z × IsGivenByRest m z r u
+abbrev pub ByRest : List Clause → List Rule → State → Result Response Fault → State → Type 0
+ByRest env ls s r u = (m : Merged) × (z : State) × MergesRules env ls s m z × IsGivenByRest m z r u
 
-abbrev pub ByLater : TraitGoalProvenVia → (TypingMode → TraitGoalProvenVia → List Rule → Type 0) → List Clause → List GenericArg → NormalizesTo → State → Result Response Fault → State → Type 0
-ByLater class.ParamEnv Collects env own p s r u = ByBounds Collects env own p s r u
-ByLater class.AliasBound Collects env own p s r u = ByBounds Collects env own p s r u
-ByLater class.Misc Collects env own p s r u = ByRest Collects env s r u
+abbrev pub ByLater : TraitGoalProvenVia → List Clause → List Rule → List GenericArg → NormalizesTo → State → Result Response Fault → State → Type 0
+ByLater class.ParamEnv env ls own p s r u = ByBounds env ls own p s r u
+ByLater class.AliasBound env ls own p s r u = ByBounds env ls own p s r u
+ByLater class.Misc env ls own p s r u = ByRest env ls s r u
 
--- the environment decides, or the groups after it
-abbrev pub ByGroups : (TypingMode → TraitGoalProvenVia → List Rule → Type 0) → TraitGoalProvenVia → List Clause → List GenericArg → NormalizesTo → State → Result Response Fault → State → Type 0
-ByGroups Collects c env own p s r u =
-    ((m : Merged) × (z : State) × MergesGroup Collects env (class.ParamEnv ∷ []) s m z × IsGiven env own m z r u)
-    ⊎ ((z : State) × MergesGroup Collects env (class.ParamEnv ∷ []) s merged.Refuted z × ByLater c Collects env own p z r u)
+-- the environment's rules decide, or those of the group after it
+abbrev pub ByGroups : TraitGoalProvenVia → List Clause → List Rule → List Rule → List GenericArg → NormalizesTo → State → Result Response Fault → State → Type 0
+ByGroups c env es ls own p s r u =
+    ((m : Merged) × (z : State) × MergesRules env es s m z × IsGiven env own m z r u)
+    ⊎ ((z : State) × MergesRules env es s merged.Refuted z × ByLater c env ls own p z r u)
 
 -- the rules of a goal's candidates are collected, group by group, for the goal that is considered in its place
 pub record CollectsGroups {P : Type 0} (K : KindWords P) (c : TraitGoalProvenVia) (g : Goal P) (s z : State) (w : GroupRules) : Type 0 where
@@ -205,16 +202,41 @@ abbrev pub ConsidersGroups : {P : Type 0} → KindWords P → TraitGoalProvenVia
 ConsidersGroups K c g s None z = IsLeft K.self_type K.is_with_self (has_kind_fault K.has_fault s.tables) g s z
 ConsidersGroups K c g s (Some w) z = CollectsGroups K c g s z w
 
+-- the same for a head form of its self type that was opened
+pub record GroupsForSelf {P : Type 0} (K : KindWords P) (t : Tables) (m : TypingMode) (c : TraitGoalProvenVia) (g : Goal P) (a : Option Term) (w : GroupRules) : Type 0 where
+  pub considered : Goal P
+  pub takes : TakesSelf K.is_with_self g considered a
+  pub accepted : has_kind_fault K.has_fault t considered ≡ false
+  pub environment : w.param_env.items ≡ considered.param_env.items
+  pub first : CollectsAll (CollectsFor K t considered m) (class.ParamEnv ∷ []) w.environment.items
+  pub later : CollectsAll (CollectsFor K t considered m) (classes_behind c) w.later.items
+
+abbrev pub GroupsForForm : {P : Type 0} → KindWords P → Tables → TypingMode → TraitGoalProvenVia → Goal P → Option Term → Option GroupRules → Type 0
+GroupsForForm K t m c g a None = PassesSelf K.is_with_self (has_kind_fault K.has_fault t) g a
+GroupsForForm K t m c g a (Some w) = GroupsForSelf K t m c g a w
+
+-- by its groups, for what is answered for the head form of its self type; a refused form refuses, and without candidates there is no answer
+abbrev pub ByFormedGroups : {P : Type 0} → KindWords P → NormalizesTo → TraitGoalProvenVia → Goal P → Result (Option Term) Fault → State → Result (Option Response) Fault → State → Type 0
+ByFormedGroups K p c g (Err f) z r u = (r ≡ Err f) × (u ≡ z)
+ByFormedGroups K p c g (Ok a) z r u =
+    (PassesSelf K.is_with_self (has_kind_fault K.has_fault z.tables) g a × (r ≡ Ok None) × (u ≡ z))
+    ⊎ ((w : GroupRules)
+    × (q : Result Response Fault)
+    × (y : State)
+    × GroupsForSelf K z.tables z.typing_mode c g a w
+    × ByGroups c w.param_env.items w.environment.items w.later.items (own_args z.tables p.alias) p z q y
+    × AnswersBeside y q r u)
+
 -- a projection whose trait goal holds through a class is answered by its candidates: undecided where it isn't considered, refused where it is refuted that its self type has a head form, and else by its groups
 abbrev pub MergesThrough : {P : Type 0} → KindWords P → NormalizesTo → TraitGoalProvenVia → Goal P → State → Result Response Fault → State → Type 0
 MergesThrough {P} K p c g s r u =
-    (IsLeft K.self_type K.is_with_self (has_kind_fault K.has_fault s.tables) g s u × IsMaybe r)
+    ((z : State) × IsLeft K.self_type K.is_with_self (has_kind_fault K.has_fault s.tables) g s z × (AsksOpenSelf K.self_type g z → ⊥) × (u ≡ restored z u) × IsMaybe r)
     ⊎ (IsFormless K.self_type g s u × (r ≡ Err fault.NoSolution))
-    ⊎ ((h : Goal P)
+    ⊎ ((w : GroupRules)
     × (z : State)
-    × Considers K.self_type K.is_with_self g h s z
-    × (has_kind_fault K.has_fault s.tables h ≡ false)
-    × ByGroups (CollectsFor K s.tables h) c h.param_env.items (own_args s.tables p.alias) p z r u)
+    × CollectsGroups K c g s z w
+    × ByGroups c w.param_env.items w.environment.items w.later.items (own_args s.tables p.alias) p z r u)
+    ⊎ ((z : State) × (z ≡ restored s z) × MergesOpened K.self_type (ByFormedGroups K p c g) g z r u)
 
 -- goals of the terms of aliases, as a kind of goals
 abbrev pub alias_words : KindWords NormalizesTo
@@ -256,3 +278,9 @@ abbrev pub MergesProjection : Goal NormalizesTo → State → Result Response Fa
 MergesProjection g s r u =
     ((projected_trait s.tables g.predicate.alias ≡ None) × RunsAlias g s r u)
     ⊎ ((q : Goal TraitPredicate) × (a : Result Response Fault) × (z : State) × AsksItsTrait s.tables g q × AnswersTrait q s z a × ByTrait a g z r u)
+
+-- the goal of the term of an alias with inference variables, which a fresh variable takes, is answered as `compute_normalizes_to_goal` does it
+abbrev pub answers_term : Goal NormalizesTo → State → Result Response Fault → State → Type 0
+answers_term g s r u =
+    (u ≡ restored (with_taking g.predicate.alias.kind s) u)
+    × ((n : ℕ) → s.remaining_depth ≡ suc n → MergesProjection g (at_depth n (with_taking g.predicate.alias.kind s)) r (at_depth n u))

@@ -45,10 +45,11 @@ impl EvalCtxt<'_> {
     /// expected one is answered by its candidates as that call does it once the trait goal holds. For a host effect
     /// goal `proven_via` is taken for the class through which its plain goal holds. Where that does hold through the
     /// class at the remaining depth, a closed goal is answered as [`EvalCtxt::compute_host_effect_goal`] would answer
-    /// it one above; one with inference variables is `Maybe` so far. Without a class a projection and a host effect
-    /// goal are `Maybe`. In the erased mode what is answered to a closed goal is so of each headline mode, as long as
-    /// no access is recorded. The response to a closed goal lists the expected variable's value alone, and names no
-    /// class but a trait goal's. Inference state, added goals and storage are as before.
+    /// it one above; one with inference variables by its candidates, as that call does it. Without a class a
+    /// projection and a host effect goal are `Maybe`. In the erased mode what is answered to a closed goal is so of
+    /// each headline mode, as long as no access is recorded. The response to a closed goal lists the expected
+    /// variable's value alone, and names no class but a trait goal's. Inference state, added goals and storage are
+    /// as before.
     pub fn assemble_and_merge_candidates<G: GoalKind + Drop>(
         &mut self,
         proven_via: Option<TraitGoalProvenVia>,

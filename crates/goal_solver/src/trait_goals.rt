@@ -61,6 +61,7 @@ impl EvalCtxt<'_> {
     }
 
     /// What `compute_trait_goal` answers, clause by clause.
+    #[cycle(open)]
     pub(crate) fn trait_goal_response(
         &mut self,
         goal: &Goal<TraitPredicate>,

@@ -8,6 +8,7 @@ ghost use Rattle.goal_infer.specs.Unification.{is_made_in};
 ghost use Rattle.goal_solver.specs.Accesses.{RecordsCausedFaults};
 ghost use Rattle.goal_solver.specs.Binding.{IsApplicable, Applies, CanBeListed, GetValues, EntersAll, IsSameEntry, with_equations, with_entries};
 ghost use Rattle.goal_solver.specs.GoingBack.{GoesBack, restored};
+ghost use Rattle.goal_solver.specs.OpenForms.{AppliesSure, IsUnsure};
 ghost use Rattle.goal_solver.specs.Relating.{ChangesRecords};
 ghost use Rattle.goal_solver.specs.Stored.{HasOneTypeAKey};
 ghost use Rattle.goal_solver.specs.Variables.{with_variables};
@@ -47,6 +48,8 @@ impl EvalCtxt<'_> {
     /// refused; then inference state is as before.
     pub(crate) fn apply_sure(&mut self, response: &Response) -> Result<Certainty, Fault>
         requires { IsApplicable self.old response.now }
+        ensures applied { IfOk result (λ c. c ≡ Certainty.Yes → AppliesSure self.old self.new response.now) }
+        ensures left { IfOk result (λ c. c ≡ Certainty.Maybe → IsUnsure response.now) }
         ensures alone { ChangesRecords self.old self.new }
         ensures goes_back { GoesBack self.old self.new }
         ensures only_memory { IsOkUnless result Fault.OutOfMemory }

@@ -10,6 +10,7 @@ ghost use Rattle.goal_solver.specs.AddedGoals.{AreSplit, AreClosedAt, LeavesUnde
 ghost use Rattle.goal_solver.specs.Answers.{IsOwed};
 ghost use Rattle.goal_solver.specs.Binding.{IsApplicable};
 ghost use Rattle.goal_solver.specs.GoingBack.{BeginsWith, GoesBack, lengths_of, restored};
+ghost use Rattle.goal_solver.specs.OpenForms.{is_sure};
 ghost use Rattle.goal_solver.specs.Refusals.{WhenRefused, RefusesGoal, RefusesListed, RefusesOne};
 ghost use Rattle.goal_solver.specs.Relating.{ChangesRecords, IsFaultFor, SaysYes, LeavesOpen};
 
@@ -19,6 +20,7 @@ use crate::faults::Fault;
 use goal_eval::eval::outcomes::{Outcome, Stop};
 use goal_terms::answers::{Certainty, GoalSource, Response};
 use goal_terms::predicates::{Goal, Predicate};
+use goal_terms::terms::AliasTerm;
 use std::mem;
 
 /// How many times the goals are gone over at most.
@@ -30,9 +32,10 @@ impl EvalCtxt<'_> {
     /// `NoSolution`: one is refuted. `Maybe`: some are undecided.
     ///
     /// A goal is asked with the bindings of its variables followed. While one is left in it or one stands in its
-    /// environment, a goal of a trait or a const trait is answered by its candidates at one less of the depth, and an answer that is sure
-    /// is applied; an alias and a term are made equal; the term of an alias without variables is given to the
-    /// goal's expected variable; and any other goal is undecided. So goals may bind variables, and these bindings
+    /// environment, a goal of a trait or a const trait is answered by its candidates at one less of the depth, and an
+    /// answer that is sure is applied; the term of an alias is the alias's head form, as
+    /// `structurally_normalize_term` answers it; an alias and a term are made equal; and any other goal is undecided.
+    /// The term of an alias is given to the goal's expected variable. So goals may bind variables, and these bindings
     /// stay. After a fault inference state, goals and storage are as before.
     #[cycle(open)]
     pub fn try_evaluate_added_goals(&mut self) -> Result<Certainty, Fault>
@@ -179,11 +182,74 @@ impl EvalCtxt<'_> {
     {
         match self.open_goal(goal)? {
             Some(asked) => self.evaluate_open(&asked),
-            None => self.evaluate_other(goal),
+            None => self.evaluate_alias_or_other(goal),
         }
     }
 
     /// What a goal comes to at the remaining depth, if its candidates aren't asked for it.
+    #[cycle(open)]
+    fn evaluate_alias_or_other(&mut self, goal: &Goal<Predicate>) -> Result<Certainty, Fault>
+        ensures answer { (m : modes) → IsOwed self.new m → IsClosedGoal goal.now.predicate goal.now.param_env.items → IsGoalAnswer self.old m goal.now result }
+        ensures refused { WhenRefused result (RefusesGoal self.old self.new goal.now) }
+        ensures closed { IsClosedGoal goal.now.predicate goal.now.param_env.items → self.new.inference ≡ self.old.inference }
+        ensures alone { ChangesRecords self.old self.new }
+        ensures faults { RecordsCausedFaults self.old self.new }
+        ensures goes_back { GoesBack self.old self.new }
+        ensures fault { IsFaultFor self.old self.new result }
+    {
+        match self.open_normalization(goal)? {
+            Some(alias) => self.evaluate_open_alias(goal, alias),
+            None => self.evaluate_other(goal),
+        }
+    }
+
+    /// What a goal of the term of an alias with inference variables comes to: the alias's head form is made equal to
+    /// the goal's expected term. Where that isn't sure nothing is bound.
+    #[cycle(open)]
+    fn evaluate_open_alias(
+        &mut self,
+        goal: &Goal<Predicate>,
+        alias: AliasTerm,
+    ) -> Result<Certainty, Fault>
+        ensures unchanged { is_sure result ≡ false → self.new ≡ restored self.old self.new }
+        ensures alone { ChangesRecords self.old self.new }
+        ensures faults { RecordsCausedFaults self.old self.new }
+        ensures goes_back { GoesBack self.old self.new }
+        ensures fault { IsFaultFor self.old self.new result }
+    {
+        self.holds_together();
+        let before = self.snapshot();
+        let answered = self.expected_form(goal, alias);
+        if !is_sure(&answered) {
+            self.rollback(before);
+        }
+        answered
+    }
+
+    /// The head form of an alias, made equal to the term that a goal expects.
+    #[cycle(open)]
+    fn expected_form(
+        &mut self,
+        goal: &Goal<Predicate>,
+        alias: AliasTerm,
+    ) -> Result<Certainty, Fault>
+        ensures alone { ChangesRecords self.old self.new }
+        ensures faults { RecordsCausedFaults self.old self.new }
+        ensures goes_back { GoesBack self.old self.new }
+        ensures fault { IsFaultFor self.old self.new result }
+    {
+        let Predicate::NormalizesTo(asked) = &goal.predicate else {
+            return Ok(Certainty::Maybe);
+        };
+        let Some(form) = self.form_of_open(&goal.param_env, alias)? else {
+            return Ok(Certainty::Maybe);
+        };
+        let outcome = self.expect_form(&goal.param_env, &asked.term, &form);
+        self.verdict(outcome)
+    }
+
+    /// What a goal comes to at the remaining depth, if its candidates aren't asked for it, and it isn't one of the term of
+    /// an alias in which a variable is left.
     fn evaluate_other(&mut self, goal: &Goal<Predicate>) -> Result<Certainty, Fault>
         ensures answer { (m : modes) → IsOwed self.new m → IsClosedGoal goal.now.predicate goal.now.param_env.items → IsGoalAnswer self.old m goal.now result }
         ensures refused { WhenRefused result (RefusesGoal self.old self.new goal.now) }
@@ -258,6 +324,13 @@ impl EvalCtxt<'_> {
             Err(stop) => self.undecided_by(stop),
         }
     }
+}
+
+/// Whether an answer is a yes.
+fn is_sure(answered: &Result<Certainty, Fault>) -> bool
+    ensures { result ≡ is_sure answered.now }
+{
+    matches!(answered, Ok(Certainty::Yes))
 }
 
 fn goal_at(goals: &[(GoalSource, Goal<Predicate>)], place: usize) -> &(GoalSource, Goal<Predicate>)

@@ -15,7 +15,7 @@ ghost use Rattle.goal_solver.specs.Relating.{ChangesRecords};
 
 use crate::context::EvalCtxt;
 use crate::context::rebuilding::rebuilt_args;
-use crate::eval::closed_goals::has_variable;
+use crate::eval::closed_goals::{has_variable, is_closed_alias};
 use crate::eval::open_terms::any_variable;
 use crate::eval::predicate_views::PredicateView;
 use crate::eval::where_goals::copied_clauses;
@@ -32,7 +32,7 @@ use goal_terms::predicates::{
     Clause, Goal, HostEffectPredicate, NormalizesTo, Predicate, TraitPredicate, TraitRef,
 };
 use goal_terms::term_nodes::TermId;
-use goal_terms::terms::Term;
+use goal_terms::terms::{AliasTerm, Term};
 
 /// A goal with inference variables that its candidates are asked for.
 #[derive(Drop)]
@@ -159,6 +159,45 @@ impl EvalCtxt<'_> {
         let args = rebuilt_args(&self.terms, ids.as_slice())?;
         let def_id = asked.def_id;
         Ok(TraitRef { def_id, args })
+    }
+
+    /// The alias whose term a goal asks for with the bindings of its variables followed, if a variable is left in it or
+    /// stands in the goal's environment. Nothing changes but that there may be more terms. Only memory is refused.
+    pub(crate) fn open_normalization(
+        &mut self,
+        goal: &Goal<Predicate>,
+    ) -> Result<Option<AliasTerm>, Fault>
+        ensures closed { IsClosedGoal goal.now.predicate goal.now.param_env.items → IfOk result (λ o. o ≡ None) }
+        ensures unchanged { self.new ≡ record self.old { terms = self.new.terms } }
+        ensures kept { Keeps self.old.terms self.new.terms }
+        ensures only_memory { IsOkUnless result Fault.OutOfMemory }
+    {
+        match &goal.predicate {
+            Predicate::NormalizesTo(asked) => {
+                if is_closed_alias(&asked.alias, &goal.param_env) {
+                    return Ok(None);
+                }
+                let Ok(followed) = self.followed_alias(&asked.alias) else {
+                    return Err(Fault::OutOfMemory);
+                };
+                Ok(alias_if_open(followed, &goal.param_env))
+            }
+            _ => Ok(None),
+        }
+    }
+
+    /// An alias with the bindings of the variables in its arguments followed. Nothing changes but that there may be
+    /// more terms.
+    fn followed_alias(&mut self, alias: &AliasTerm) -> Result<AliasTerm, Stop>
+        ensures kept { Keeps self.old.terms self.new.terms }
+        ensures unchanged { self.new ≡ record self.old { terms = self.new.terms } }
+        ensures stops { IfErr result (λ s. s ≡ Stop.OutOfMemory) }
+    {
+        let ids = self.interned_args(alias.args.as_slice())?;
+        let ids = self.followed_args(ids.as_slice())?;
+        let args = rebuilt_args(&self.terms, ids.as_slice())?;
+        let kind = alias.kind;
+        Ok(AliasTerm { kind, args })
     }
 
     /// Whether a goal's predicate holds at the remaining depth.
@@ -331,6 +370,22 @@ impl EvalCtxt<'_> {
         }
     }
 
+    /// Makes an expected term a head form.
+    pub(crate) fn expect_form(
+        &mut self,
+        environment: &[Clause],
+        expected: &Term,
+        form: &Term,
+    ) -> Result<Outcome, Stop>
+        ensures alone { ChangesRecords self.old self.new }
+        ensures faults { RecordsCausedFaults self.old self.new }
+        ensures goes_back { GoesBack self.old self.new }
+        ensures stops { StopsForMemory self.old result }
+    {
+        let found = self.interned_term(form)?;
+        self.expect_term(environment, expected, found)
+    }
+
     /// Makes an expected term the term that was found. An unbound general variable is bound to it as it stands,
     /// and anything else is made equal to it at the remaining depth.
     fn expect_term(
@@ -388,4 +443,13 @@ fn if_open(goal: OpenGoal) -> Option<OpenGoal> {
         OpenGoal::HostEffect(goal) => has_variable(goal),
     };
     if is_open { Some(goal) } else { None }
+}
+
+/// An alias, if an inference variable stands in it or in an environment.
+fn alias_if_open(alias: AliasTerm, environment: &[Clause]) -> Option<AliasTerm> {
+    if is_closed_alias(&alias, environment) {
+        None
+    } else {
+        Some(alias)
+    }
 }

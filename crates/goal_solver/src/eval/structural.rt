@@ -12,7 +12,9 @@ ghost use Rattle.goal_kinds.specs.Settings.{is_headline};
 ghost use Rattle.goal_solver.specs.Accesses.{RecordsCausedFaults};
 ghost use Rattle.goal_solver.specs.Answers.{IsOwed, level_over};
 ghost use Rattle.goal_solver.specs.GoingBack.{GoesBack, restored};
-ghost use Rattle.goal_solver.specs.HeadForms.{bound_term, IsClosedForm, IsFormAnswer, IsAnswered, IsFormFound, IsFormUnfound, IsFoundItself, LeavesFormOpen};
+ghost use Rattle.goal_solver.specs.HeadForms.{bound_term, IsClosedForm, IsFormAnswer, IsFormOpen, IsAnswered, IsFormFound, IsFormUnfound, IsFoundItself, LeavesFormOpen, AnswersForm, is_open_form, IsLeftOpen, IsLeftUndecided};
+ghost use Rattle.goal_solver.specs.OpenForms.{OpensTerm, gives_form};
+ghost use Rattle.goal_solver.specs.OpenProjections.{answers_term};
 ghost use Rattle.goal_eval.specs.Outcomes.{RunsAs, SaysWhich, FoundIn};
 ghost use Rattle.goal_solver.specs.Relating.{IsFaultFor};
 
@@ -33,14 +35,42 @@ impl EvalCtxt<'_> {
     /// The head form of a term at the remaining depth, lifetimes aside: what an alias normalizes to, and each other
     /// term itself, in every mode. The bindings of variables are followed first. A term: a derivation no higher
     /// than the remaining depth gives it. `None`, for a closed term and environment in a headline mode: no type
-    /// and no constant is the head form, nor is it refuted. An alias that holds an inference variable, or that
-    /// is asked for in an environment with one, is `None`. In the erased mode an opaque type is itself, which is
+    /// and no constant is the head form, nor is it refuted. In the erased mode an opaque type is itself, which is
     /// recorded.
     ///
+    /// An alias that holds an inference variable, or that is asked for in an environment with one, is normalized to a
+    /// fresh variable as [`EvalCtxt::compute_normalizes_to_goal`] does it. If the answer is sure and enters no hidden
+    /// type it is applied, and the head form is what the variable stands for then; else there is none so far.
+    ///
     /// `NoSolution`: a refutation no higher shows that there is no head form. `RerunNonErased`: the erased mode
-    /// doesn't suffice. `OutOfMemory`: a growth was refused. `NotForThisKind` is never answered. Inference state,
-    /// added goals and hidden types are as before in every case.
+    /// doesn't suffice. `OutOfMemory`: a growth was refused. `NotForThisKind` is never answered. After a fault, and
+    /// where there is no head form, inference state, added goals and hidden types are as before.
     pub fn structurally_normalize_term(
+        &mut self,
+        environment: &[Clause],
+        term: &Term,
+    ) -> Result<Option<Term>, Fault>
+        ensures sound { (m : modes) → IsOwed self.new m → AnswersForm self.old m environment.now term.now result }
+        ensures decided { (m : modes) → IsOwed self.new m → LeavesFormOpen self.old m environment.now term.now result }
+        ensures itself { is_alias (node_of (bound_term self.old term.now)) ≡ false → IfOk result (IsAnswered (bound_term self.old term.now)) }
+        ensures only_memory { is_alias (node_of (bound_term self.old term.now)) ≡ false → IfErr result (λ f. f ≡ Fault.OutOfMemory) }
+        ensures opens { OpensTerm answers_term environment.now term.now self.old result self.new }
+        ensures kept { is_open_form (bound_term self.old term.now) environment.now ≡ false → self.new ≡ restored self.old self.new }
+        ensures unchanged { gives_form result ≡ false → self.new ≡ restored self.old self.new }
+        ensures faults { RecordsCausedFaults self.old self.new }
+        ensures goes_back { GoesBack self.old self.new }
+        ensures fault { IsFaultFor self.old self.new result }
+    {
+        self.holds_together();
+        match self.closed_form(environment, term)? {
+            Some(form) => Ok(Some(form)),
+            None => self.open_form(environment, term),
+        }
+    }
+
+    /// The head form of a term, where an alias that holds an inference variable, or that is asked for in an
+    /// environment with one, has none. Nothing changes but that there may be more terms, accesses and delayed faults.
+    pub(crate) fn closed_form(
         &mut self,
         environment: &[Clause],
         term: &Term,
@@ -49,6 +79,7 @@ impl EvalCtxt<'_> {
         ensures decided { (m : modes) → IsOwed self.new m → LeavesFormOpen self.old m environment.now term.now result }
         ensures itself { is_alias (node_of (bound_term self.old term.now)) ≡ false → IfOk result (IsAnswered (bound_term self.old term.now)) }
         ensures only_memory { is_alias (node_of (bound_term self.old term.now)) ≡ false → IfErr result (λ f. f ≡ Fault.OutOfMemory) }
+        ensures left { is_open_form (bound_term self.old term.now) environment.now ≡ true → IsLeftOpen result }
         ensures unchanged { self.new ≡ restored self.old self.new }
         ensures faults { RecordsCausedFaults self.old self.new }
         ensures goes_back { GoesBack self.old self.new }
@@ -77,6 +108,7 @@ impl EvalCtxt<'_> {
         ensures decided { (m : modes) → IsOwed self.new m → IsClosedForm (bound_term self.old term.now) environment.now → IfOk result (IsFormUnfound (level_over self.old m environment.now) (bound_term self.old term.now)) }
         ensures itself { is_alias (node_of (bound_term self.old term.now)) ≡ false → IfOk result (IsFoundItself (bound_term self.old term.now) self.new.terms) }
         ensures only_memory { is_alias (node_of (bound_term self.old term.now)) ≡ false → IfErr result (λ s. s ≡ Stop.OutOfMemory) }
+        ensures left { is_open_form (bound_term self.old term.now) environment.now ≡ true → IsLeftUndecided result }
         ensures stops { is_headline self.old.typing_mode ≡ true → IfErr result (λ s. s ≡ Stop.OutOfMemory) }
     {
         self.holds_together();
@@ -91,7 +123,7 @@ impl EvalCtxt<'_> {
     }
 
     /// The number of a term with its bindings followed. Nothing changes but that there may be more terms.
-    fn bound_form(&mut self, term: &Term) -> Result<TermId, Stop>
+    pub(crate) fn bound_form(&mut self, term: &Term) -> Result<TermId, Stop>
         ensures kept { Keeps self.old.terms self.new.terms }
         ensures unchanged { self.new ≡ record self.old { terms = self.new.terms } }
         ensures term { IfOk result (HasTerm self.new.terms) }
@@ -104,7 +136,7 @@ impl EvalCtxt<'_> {
 
     #[tactic(auto, using(crate::proofs::FormAnswerLemmas::forms))]
     /// Whether the term of a number is an alias.
-    fn is_alias_at(&self, id: TermId) -> bool
+    pub(crate) fn is_alias_at(&self, id: TermId) -> bool
         requires { IsIn self.now.terms id }
         ensures { result ≡ is_alias (node_of (erased_at self.now.terms id)) }
     {
@@ -113,7 +145,7 @@ impl EvalCtxt<'_> {
 
     #[tactic(auto, using(crate::proofs::FormAnswerLemmas::forms))]
     /// Whether an inference variable stands in a term or in an environment.
-    fn is_open(&self, environment: &[Clause], id: TermId) -> bool
+    pub(crate) fn is_open(&self, environment: &[Clause], id: TermId) -> bool
         requires { IsIn self.now.terms id }
         ensures { result ≡ (some_node is_any_infer (erased_at self.now.terms id) || some_env is_any_infer environment.now) }
     {
@@ -175,7 +207,7 @@ impl EvalCtxt<'_> {
     }
 
     /// The term of a number, if it is a type or a constant. Only memory is refused.
-    fn form_at(&self, id: TermId) -> Result<Option<Term>, Fault>
+    pub(crate) fn form_at(&self, id: TermId) -> Result<Option<Term>, Fault>
         ensures found { HasTerm self.now.terms id → IfOk result (IsAnswered (erased_at self.now.terms id)) }
         ensures none { (HasTerm self.now.terms id → ⊥) → IfOk result (λ o. o ≡ None) }
         ensures only_memory { IfErr result (λ f. f ≡ Fault.OutOfMemory) }

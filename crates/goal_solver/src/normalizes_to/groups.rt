@@ -2,16 +2,18 @@
 ghost use Rattle.std.specs.Prelude.{◌≡◌, ◌∷◌, [], false, IfOk, IsOkUnless};
 ghost use Rattle.goal_solver.specs.Collecting.{kind_words, CollectsFor};
 ghost use Rattle.goal_solver.specs.OpenGoals.{has_kind_fault};
-ghost use Rattle.goal_solver.specs.OpenProjections.{CollectsAll, classes_behind};
+ghost use Rattle.goal_solver.specs.OpenProjections.{CollectsAll, GroupsForForm, classes_behind};
 
 use crate::assembly::collecting::{class_rules, push_rules};
 use crate::faults::Fault;
+use crate::trait_goals::open::considered_for;
 use goal_kinds::goal_kind::GoalKind;
 use goal_kinds::rules::Rule;
 use goal_tables::checked::CheckedTables;
 use goal_terms::answers::TraitGoalProvenVia;
 use goal_terms::modes::TypingMode;
 use goal_terms::predicates::{Clause, Goal};
+use goal_terms::terms::Term;
 
 /// The rules of the groups of a goal's candidates: of the clauses of its environment, and of the candidates after them.
 /// They are run under the environment.
@@ -42,6 +44,24 @@ pub(crate) fn rules_by_group<G: GoalKind + Drop>(
         environment,
         later,
     })
+}
+
+/// The rules of a goal's candidates, by their groups, for what was found as the head form of its self type, if
+/// candidates are considered for it. Only memory is refused.
+pub(crate) fn groups_for_form<G: GoalKind + Drop>(
+    tables: &CheckedTables,
+    mode: &TypingMode,
+    class: TraitGoalProvenVia,
+    goal: &Goal<G>,
+    found: Option<Term>,
+) -> Result<Option<GroupRules>, Fault>
+    ensures rules { IfOk result (λ o. GroupsForForm (kind_words G.merging G.has_term G.self_type G.is_with_self G.has_fault G.trait_asked G.passes G.is_impl_for G.candidate_gives G.candidate_refuted G.is_for G.additional) tables.now mode.now class goal.now found o) }
+    ensures only_memory { IsOkUnless result Fault.OutOfMemory }
+{
+    match considered_for(tables, goal, found)? {
+        None => Ok(None),
+        Some(considered) => Ok(Some(rules_by_group(tables, mode, class, considered)?)),
+    }
 }
 
 /// The rules of the candidates of a goal after those of its environment. Want of memory is the only refusal.
@@ -75,7 +95,7 @@ fn later_rules<G: GoalKind>(
 
 /// The rules of the candidates of some classes for a goal, one class after the other. Want of memory is the only
 /// refusal.
-pub(crate) fn rules_of<G: GoalKind>(
+fn rules_of<G: GoalKind>(
     tables: &CheckedTables,
     mode: &TypingMode,
     goal: &Goal<G>,

@@ -1,18 +1,20 @@
 //! Goals of the terms of projections with inference variables.
-ghost use Rattle.std.specs.Prelude.{◌≡◌, ◌<◌, ◌⊎◌, ℕ, suc, true, false, drop, None, Err, IfOk, IfErr, IsOkUnless, MatchOption};
+ghost use Rattle.std.specs.Prelude.{◌≡◌, ◌<◌, ◌⊎◌, ℕ, suc, true, false, drop, Option, Result, None, IfOk, IfErr, IfSome, IsOkUnless, MatchOption};
 ghost use Rattle.std.specs.Option.{option_map};
+ghost use Rattle.goal_terms.specs.Erased.{erased};
 ghost use Rattle.goal_terms.specs.TreeOf.{tree_of_alias, tree_of_term};
 ghost use Rattle.goal_kinds.specs.ProjectionKind.{projected_trait};
-ghost use Rattle.goal_solver.specs.Answers.{is_closed_alias, expected_variable};
+ghost use Rattle.goal_solver.specs.Answers.{is_closed_alias, expected_variable, IsMaybe};
 ghost use Rattle.goal_solver.specs.Binding.{IsApplicable};
-ghost use Rattle.goal_solver.specs.Collecting.{kind_words, CollectsFor};
+ghost use Rattle.goal_solver.specs.Collecting.{kind_words};
 ghost use Rattle.goal_solver.specs.GoingBack.{GoesBack, restored};
 ghost use Rattle.goal_solver.specs.HiddenTypes.{tree_in};
-ghost use Rattle.goal_solver.specs.MergedRules.{IfAnswered};
-ghost use Rattle.goal_solver.specs.OpenGoals.{IsFormless, WhenAnswered, has_kind_fault, at_depth};
-ghost use Rattle.goal_solver.specs.OpenProjections.{AsksItsTrait, proven_class, own_args, ConsidersGroups, MergesGroup, is_formed, Forms, FormsAll, RefusesForm, LacksForm, WithForms, IsRigidList, IsRigid, ByBounds, ByRest, ByLater, ByGroups, MergesThrough, MergesProjection, RunsAlias};
+ghost use Rattle.goal_solver.specs.OpenForms.{OpensFrom, answers_somehow};
+ghost use Rattle.goal_solver.specs.OpenGoals.{AsksOpenSelf, IsSelfAlias, IsListedIn, MergesOpened, WhenAnswered, WhenTried, IsFormless, at_depth};
+ghost use Rattle.goal_solver.specs.OpenProjections.{AsksItsTrait, proven_class, own_args, alias_words, ByFormedGroups, ConsidersGroups, is_formed, Forms, FormsAll, RefusesForm, LacksForm, WithForms, IsRigidList, IsRigid, ByBounds, ByRest, ByLater, ByGroups, MergesThrough, MergesProjection, RunsAlias};
 ghost use Rattle.goal_solver.specs.Refusals.{WhenRefused};
-ghost use Rattle.goal_solver.specs.Relating.{IsFaultFor};
+ghost use Rattle.goal_solver.specs.Relating.{ChangesRecords, IsFaultFor};
+ghost use Rattle.goal_solver.specs.State.{State as state};
 
 use crate::assembly::merged_rules::Merged;
 use crate::context::EvalCtxt;
@@ -20,13 +22,12 @@ use crate::context::respond::copied_args;
 use crate::eval::closed_goals::is_closed_alias;
 use crate::eval::where_goals::copied_clauses;
 use crate::faults::Fault;
-use crate::normalizes_to::groups::{GroupRules, rules_by_group, rules_of};
+use crate::normalizes_to::groups::{GroupRules, groups_for_form, rules_by_group};
 use goal_kinds::goal_kind::GoalKind;
 use goal_kinds::rules::aliases::alias_rule;
 use goal_kinds::rules::{RuleEntry, RuleTerm};
 use goal_tables::checked::CheckedTables;
 use goal_terms::answers::{Certainty, Response, TraitGoalProvenVia};
-use goal_terms::modes::TypingMode;
 use goal_terms::node_tests::general_variable;
 use goal_terms::predicates::{Clause, Goal, NormalizesTo, TraitPredicate, TraitRef};
 use goal_terms::term_nodes::OutOfMemory;
@@ -36,6 +37,7 @@ impl EvalCtxt<'_> {
     /// What the goal of an alias's term is answered, at one less of the depth, where inference variables stand in
     /// it: for a projection, by its trait goal and then by its candidates; for another alias, by its list.
     /// Inference state, added goals and storage are as before.
+    #[cycle(open)]
     pub(crate) fn project_below(&mut self, goal: &Goal<NormalizesTo>) -> Result<Response, Fault>
         requires positive { 0 < self.old.remaining_depth }
         ensures merges { (n : ℕ) → self.old.remaining_depth ≡ suc n → WhenAnswered result (MergesProjection goal.now (at_depth n self.old) result (at_depth n self.new)) }
@@ -54,6 +56,7 @@ impl EvalCtxt<'_> {
 
     /// What the goal of an alias's term is answered, where inference variables stand in it. A projection's trait
     /// goal is answered first: its refusal is the answer, and where it is undecided so is the goal.
+    #[cycle(open)]
     fn project(&mut self, goal: &Goal<NormalizesTo>) -> Result<Response, Fault>
         ensures merges { WhenAnswered result (MergesProjection goal.now self.old result self.new) }
         ensures applies { IfOk result (IsApplicable self.new) }
@@ -68,11 +71,12 @@ impl EvalCtxt<'_> {
         let answer = self.trait_goal_response(&asked)?;
         match proven_class(&answer) {
             None => Ok(self.respond(Certainty::Maybe, None)),
-            Some(class) => self.merge_through(class, &goal.predicate, goal),
+            Some(class) => self.merge_alias(class, goal),
         }
     }
 
     /// Runs the list of an alias that is no projection. One of a projection whose item has no row is undecided.
+    #[cycle(open)]
     fn run_alias_rule(&mut self, goal: &Goal<NormalizesTo>) -> Result<Response, Fault>
         ensures runs { WhenAnswered result (RunsAlias goal.now self.old result self.new) }
         ensures applies { IfOk result (IsApplicable self.new) }
@@ -89,6 +93,97 @@ impl EvalCtxt<'_> {
     }
 
     /// What the candidates of a projection make of its goal at the remaining depth, if its trait goal holds
+    /// through a class. Inference state, added goals and storage are as before.
+    #[cycle(open)]
+    fn merge_alias(
+        &mut self,
+        class: TraitGoalProvenVia,
+        goal: &Goal<NormalizesTo>,
+    ) -> Result<Response, Fault>
+        ensures merges { WhenAnswered result (MergesThrough alias_words goal.now.predicate class goal.now self.old result self.new) }
+        ensures applies { IfOk result (IsApplicable self.new) }
+        ensures unchanged { self.new ≡ restored self.old self.new }
+        ensures goes_back { GoesBack self.old self.new }
+        ensures fault { IsFaultFor self.old self.new result }
+    {
+        match self.considered_groups(class, goal)? {
+            None => self.merge_open_alias(class, goal),
+            Some(rules) => self.merge_groups(class, &goal.predicate, &rules),
+        }
+    }
+
+    /// What the candidates of a projection make of its goal where no candidates are considered, or where the self type is an alias with inference variables: it is
+    /// undecided, or answered in a trial.
+    #[cycle(open)]
+    fn merge_open_alias(
+        &mut self,
+        class: TraitGoalProvenVia,
+        goal: &Goal<NormalizesTo>,
+    ) -> Result<Response, Fault>
+        ensures undecided { (AsksOpenSelf alias_words.self_type goal.now self.old → ⊥) → WhenAnswered result (IsMaybe result) }
+        ensures opened { AsksOpenSelf alias_words.self_type goal.now self.old → (z : state) × (z ≡ restored self.old z) × WhenAnswered result (MergesOpened alias_words.self_type (ByFormedGroups alias_words goal.now.predicate class goal.now) goal.now z result self.new) }
+        ensures applies { IfOk result (IsApplicable self.new) }
+        ensures unchanged { self.new ≡ restored self.old self.new }
+        ensures goes_back { GoesBack self.old self.new }
+        ensures fault { IsFaultFor self.old self.new result }
+    {
+        self.is_well_formed();
+        match self.open_self(goal)? {
+            None => Ok(self.respond(Certainty::Maybe, None)),
+            Some(alias) => self.merge_opened_alias(class, goal, alias),
+        }
+    }
+
+    /// What the candidates of a projection make of its goal in a trial, beside what the head form of the self type binds.
+    #[cycle(open)]
+    fn merge_opened_alias(
+        &mut self,
+        class: TraitGoalProvenVia,
+        goal: &Goal<NormalizesTo>,
+        alias: AliasTerm,
+    ) -> Result<Response, Fault>
+        requires opens { IsSelfAlias alias_words.self_type goal.now self.old alias }
+        ensures merges { WhenAnswered result (MergesOpened alias_words.self_type (ByFormedGroups alias_words goal.now.predicate class goal.now) goal.now self.old result self.new) }
+        ensures applies { IfOk result (IsApplicable self.new) }
+        ensures unchanged { self.new ≡ restored self.old self.new }
+        ensures goes_back { GoesBack self.old self.new }
+        ensures fault { IsFaultFor self.old self.new result }
+    {
+        self.holds_together();
+        self.is_well_formed();
+        let before = self.snapshot();
+        let around = self.begin();
+        let answer = self.answer_opened_alias(class, goal, alias);
+        self.holds_together();
+        self.is_well_formed();
+        self.rollback(before);
+        self.end(around);
+        self.or_undecided(answer)
+    }
+
+    /// What the candidates of a projection make of its goal for the head form of the self type. There is no answer where none are considered.
+    #[cycle(open)]
+    fn answer_opened_alias(
+        &mut self,
+        class: TraitGoalProvenVia,
+        goal: &Goal<NormalizesTo>,
+        alias: AliasTerm,
+    ) -> Result<Option<Response>, Fault>
+        ensures by { WhenTried result ((a : Result (Option Term) Fault) × (z : state) × OpensFrom answers_somehow goal.now.param_env.items (erased (tree_of_alias alias)) self.old a z × ChangesRecords self.old z × ByFormedGroups alias_words goal.now.predicate class goal.now a z result self.new) }
+        ensures lists { IfOk result (λ o. IfSome o (IsListedIn self.new)) }
+        ensures goes_back { GoesBack self.old self.new }
+        ensures fault { IsFaultFor self.old self.new result }
+    {
+        let found = self.form_of_open(&goal.param_env, alias)?;
+        let Some(rules) = groups_for_form(self.tables, &self.typing_mode, class, goal, found)?
+        else {
+            return Ok(None);
+        };
+        let answer = self.merge_groups(class, &goal.predicate, &rules)?;
+        self.beside(answer)
+    }
+
+    /// What the candidates of a projection make of a goal of a kind at the remaining depth, if its trait goal holds
     /// through a class. The goal is one for the term of an alias. Inference state, added goals and storage are as
     /// before.
     pub(crate) fn merge_through<G: GoalKind + Drop>(
@@ -103,11 +198,81 @@ impl EvalCtxt<'_> {
         ensures goes_back { GoesBack self.old self.new }
         ensures fault { IsFaultFor self.old self.new result }
     {
-        self.is_well_formed();
-        match self.with_normalized_self_ty(goal)? {
-            None => Ok(self.respond(Certainty::Maybe, None)),
-            Some(normalized) => self.merge_groups(class, asked, &normalized),
+        match self.considered_groups(class, goal)? {
+            None => self.merge_open_through(class, asked, goal),
+            Some(rules) => self.merge_groups(class, asked, &rules),
         }
+    }
+
+    /// What the candidates of a projection make of a goal of a kind where no candidates are considered, or where the self type is an alias with inference variables: it is
+    /// undecided, or answered in a trial.
+    fn merge_open_through<G: GoalKind + Drop>(
+        &mut self,
+        class: TraitGoalProvenVia,
+        asked: &NormalizesTo,
+        goal: &Goal<G>,
+    ) -> Result<Response, Fault>
+        ensures undecided { (AsksOpenSelf G.self_type goal.now self.old → ⊥) → WhenAnswered result (IsMaybe result) }
+        ensures opened { AsksOpenSelf G.self_type goal.now self.old → (z : state) × (z ≡ restored self.old z) × WhenAnswered result (MergesOpened G.self_type (ByFormedGroups (kind_words G.merging G.has_term G.self_type G.is_with_self G.has_fault G.trait_asked G.passes G.is_impl_for G.candidate_gives G.candidate_refuted G.is_for G.additional) asked.now class goal.now) goal.now z result self.new) }
+        ensures applies { IfOk result (IsApplicable self.new) }
+        ensures unchanged { self.new ≡ restored self.old self.new }
+        ensures goes_back { GoesBack self.old self.new }
+        ensures fault { IsFaultFor self.old self.new result }
+    {
+        self.is_well_formed();
+        match self.open_self(goal)? {
+            None => Ok(self.respond(Certainty::Maybe, None)),
+            Some(alias) => self.merge_opened_through(class, asked, goal, alias),
+        }
+    }
+
+    /// What the candidates of a projection make of a goal of a kind in a trial, beside what the head form of the self type binds.
+    fn merge_opened_through<G: GoalKind + Drop>(
+        &mut self,
+        class: TraitGoalProvenVia,
+        asked: &NormalizesTo,
+        goal: &Goal<G>,
+        alias: AliasTerm,
+    ) -> Result<Response, Fault>
+        requires opens { IsSelfAlias G.self_type goal.now self.old alias }
+        ensures merges { WhenAnswered result (MergesOpened G.self_type (ByFormedGroups (kind_words G.merging G.has_term G.self_type G.is_with_self G.has_fault G.trait_asked G.passes G.is_impl_for G.candidate_gives G.candidate_refuted G.is_for G.additional) asked.now class goal.now) goal.now self.old result self.new) }
+        ensures applies { IfOk result (IsApplicable self.new) }
+        ensures unchanged { self.new ≡ restored self.old self.new }
+        ensures goes_back { GoesBack self.old self.new }
+        ensures fault { IsFaultFor self.old self.new result }
+    {
+        self.holds_together();
+        self.is_well_formed();
+        let before = self.snapshot();
+        let around = self.begin();
+        let answer = self.answer_opened_through(class, asked, goal, alias);
+        self.holds_together();
+        self.is_well_formed();
+        self.rollback(before);
+        self.end(around);
+        self.or_undecided(answer)
+    }
+
+    /// What the candidates of a projection make of a goal of a kind for the head form of the self type. There is no answer where none are considered.
+    fn answer_opened_through<G: GoalKind + Drop>(
+        &mut self,
+        class: TraitGoalProvenVia,
+        asked: &NormalizesTo,
+        goal: &Goal<G>,
+        alias: AliasTerm,
+    ) -> Result<Option<Response>, Fault>
+        ensures by { WhenTried result ((a : Result (Option Term) Fault) × (z : state) × OpensFrom answers_somehow goal.now.param_env.items (erased (tree_of_alias alias)) self.old a z × ChangesRecords self.old z × ByFormedGroups (kind_words G.merging G.has_term G.self_type G.is_with_self G.has_fault G.trait_asked G.passes G.is_impl_for G.candidate_gives G.candidate_refuted G.is_for G.additional) asked.now class goal.now a z result self.new) }
+        ensures lists { IfOk result (λ o. IfSome o (IsListedIn self.new)) }
+        ensures goes_back { GoesBack self.old self.new }
+        ensures fault { IsFaultFor self.old self.new result }
+    {
+        let found = self.form_of_open(&goal.param_env, alias)?;
+        let Some(rules) = groups_for_form(self.tables, &self.typing_mode, class, goal, found)?
+        else {
+            return Ok(None);
+        };
+        let answer = self.merge_groups(class, asked, &rules)?;
+        self.beside(answer)
     }
 
     /// The rules of the groups of a goal's candidates for the head form of its self type, if candidates are considered
@@ -132,103 +297,80 @@ impl EvalCtxt<'_> {
 
     /// What the groups of candidates make of a goal, whose self type is a head form: the environment, then those
     /// that go with the class.
-    fn merge_groups<G: GoalKind>(
+    #[cycle(open)]
+    fn merge_groups(
         &mut self,
         class: TraitGoalProvenVia,
         asked: &NormalizesTo,
-        goal: &Goal<G>,
+        rules: &GroupRules,
     ) -> Result<Response, Fault>
-        requires accepted { has_kind_fault G.has_fault self.old.tables goal.now ≡ false }
-        ensures decides { WhenAnswered result (ByGroups (CollectsFor (kind_words G.merging G.has_term G.self_type G.is_with_self G.has_fault G.trait_asked G.passes G.is_impl_for G.candidate_gives G.candidate_refuted G.is_for G.additional) self.old.tables goal.now) class goal.now.param_env.items (own_args self.old.tables asked.now.alias) asked.now self.old result self.new) }
+        ensures decides { WhenAnswered result (ByGroups class rules.now.param_env.items rules.now.environment.items rules.now.later.items (own_args self.old.tables asked.now.alias) asked.now self.old result self.new) }
         ensures applies { IfOk result (IsApplicable self.new) }
         ensures unchanged { self.new ≡ restored self.old self.new }
         ensures goes_back { GoesBack self.old self.new }
         ensures fault { IsFaultFor self.old self.new result }
     {
         self.is_well_formed();
-        match self.merge_group(goal, &[TraitGoalProvenVia::ParamEnv])? {
-            Merged::Refuted => self.merge_later(class, asked, goal),
-            Merged::Answered(response) => self.with_forms(asked, &goal.param_env, response),
+        match self.merge_rules(&rules.param_env, &rules.environment)? {
+            Merged::Refuted => self.merge_later(class, asked, rules),
+            Merged::Answered(response) => self.with_forms(asked, &rules.param_env, response),
             Merged::Split => Ok(self.respond(Certainty::Maybe, None)),
         }
     }
 
     /// What the candidates after the environment make of a goal, by the class through which its trait goal holds.
-    fn merge_later<G: GoalKind>(
+    #[cycle(open)]
+    fn merge_later(
         &mut self,
         class: TraitGoalProvenVia,
         asked: &NormalizesTo,
-        goal: &Goal<G>,
+        rules: &GroupRules,
     ) -> Result<Response, Fault>
-        requires accepted { has_kind_fault G.has_fault self.old.tables goal.now ≡ false }
-        ensures decides { WhenAnswered result (ByLater class (CollectsFor (kind_words G.merging G.has_term G.self_type G.is_with_self G.has_fault G.trait_asked G.passes G.is_impl_for G.candidate_gives G.candidate_refuted G.is_for G.additional) self.old.tables goal.now) goal.now.param_env.items (own_args self.old.tables asked.now.alias) asked.now self.old result self.new) }
+        ensures decides { WhenAnswered result (ByLater class rules.now.param_env.items rules.now.later.items (own_args self.old.tables asked.now.alias) asked.now self.old result self.new) }
         ensures applies { IfOk result (IsApplicable self.new) }
         ensures unchanged { self.new ≡ restored self.old self.new }
         ensures goes_back { GoesBack self.old self.new }
         ensures fault { IsFaultFor self.old self.new result }
     {
         match class {
-            TraitGoalProvenVia::ParamEnv => self.merge_bounds(asked, goal),
-            TraitGoalProvenVia::AliasBound => self.merge_bounds(asked, goal),
-            TraitGoalProvenVia::Misc => self.merge_rest(goal),
+            TraitGoalProvenVia::ParamEnv => self.merge_bounds(asked, rules),
+            TraitGoalProvenVia::AliasBound => self.merge_bounds(asked, rules),
+            TraitGoalProvenVia::Misc => self.merge_rest(rules),
         }
     }
 
     /// What the bounds make of a goal. Where all of them are refused the alias is rigid.
-    fn merge_bounds<G: GoalKind>(
-        &mut self,
-        asked: &NormalizesTo,
-        goal: &Goal<G>,
-    ) -> Result<Response, Fault>
-        requires accepted { has_kind_fault G.has_fault self.old.tables goal.now ≡ false }
-        ensures decides { WhenAnswered result (ByBounds (CollectsFor (kind_words G.merging G.has_term G.self_type G.is_with_self G.has_fault G.trait_asked G.passes G.is_impl_for G.candidate_gives G.candidate_refuted G.is_for G.additional) self.old.tables goal.now) goal.now.param_env.items (own_args self.old.tables asked.now.alias) asked.now self.old result self.new) }
+    #[cycle(open)]
+    fn merge_bounds(&mut self, asked: &NormalizesTo, rules: &GroupRules) -> Result<Response, Fault>
+        ensures decides { WhenAnswered result (ByBounds rules.now.param_env.items rules.now.later.items (own_args self.old.tables asked.now.alias) asked.now self.old result self.new) }
         ensures applies { IfOk result (IsApplicable self.new) }
         ensures unchanged { self.new ≡ restored self.old self.new }
         ensures goes_back { GoesBack self.old self.new }
         ensures fault { IsFaultFor self.old self.new result }
     {
         self.is_well_formed();
-        match self.merge_group(goal, &[TraitGoalProvenVia::AliasBound])? {
-            Merged::Refuted => self.rigid(&goal.param_env, asked),
-            Merged::Answered(response) => self.with_forms(asked, &goal.param_env, response),
+        match self.merge_rules(&rules.param_env, &rules.later)? {
+            Merged::Refuted => self.rigid(&rules.param_env, asked),
+            Merged::Answered(response) => self.with_forms(asked, &rules.param_env, response),
             Merged::Split => Ok(self.respond(Certainty::Maybe, None)),
         }
     }
 
     /// What the bounds and the rest make of a goal together. Where all of them are refused the goal is.
-    fn merge_rest<G: GoalKind>(&mut self, goal: &Goal<G>) -> Result<Response, Fault>
-        requires accepted { has_kind_fault G.has_fault self.old.tables goal.now ≡ false }
-        ensures decides { WhenAnswered result (ByRest (CollectsFor (kind_words G.merging G.has_term G.self_type G.is_with_self G.has_fault G.trait_asked G.passes G.is_impl_for G.candidate_gives G.candidate_refuted G.is_for G.additional) self.old.tables goal.now) goal.now.param_env.items self.old result self.new) }
+    #[cycle(open)]
+    fn merge_rest(&mut self, rules: &GroupRules) -> Result<Response, Fault>
+        ensures decides { WhenAnswered result (ByRest rules.now.param_env.items rules.now.later.items self.old result self.new) }
         ensures applies { IfOk result (IsApplicable self.new) }
         ensures unchanged { self.new ≡ restored self.old self.new }
         ensures goes_back { GoesBack self.old self.new }
         ensures fault { IsFaultFor self.old self.new result }
     {
         self.is_well_formed();
-        let classes = [TraitGoalProvenVia::AliasBound, TraitGoalProvenVia::Misc];
-        match self.merge_group(goal, &classes)? {
+        match self.merge_rules(&rules.param_env, &rules.later)? {
             Merged::Refuted => Err(Fault::NoSolution),
             Merged::Answered(response) => Ok(response),
             Merged::Split => Ok(self.respond(Certainty::Maybe, None)),
         }
-    }
-
-    /// What the candidates of some classes make of a goal together.
-    fn merge_group<G: GoalKind>(
-        &mut self,
-        goal: &Goal<G>,
-        classes: &[TraitGoalProvenVia],
-    ) -> Result<Merged, Fault>
-        requires accepted { has_kind_fault G.has_fault self.old.tables goal.now ≡ false }
-        ensures merges { IfOk result (λ m. MergesGroup (CollectsFor (kind_words G.merging G.has_term G.self_type G.is_with_self G.has_fault G.trait_asked G.passes G.is_impl_for G.candidate_gives G.candidate_refuted G.is_for G.additional) self.old.tables goal.now) goal.now.param_env.items classes.now self.old m self.new) }
-        ensures applies { IfOk result (λ m. IfAnswered m (IsApplicable self.new)) }
-        ensures never { result ≡ Err Fault.NoSolution → ⊥ }
-        ensures unchanged { self.new ≡ restored self.old self.new }
-        ensures goes_back { GoesBack self.old self.new }
-        ensures fault { IsFaultFor self.old self.new result }
-    {
-        let rules = rules_of(self.tables, &self.typing_mode, goal, classes)?;
-        self.merge_rules(&goal.param_env, &rules)
     }
 
     /// A response, where each own argument of the alias has a head form that is no general variable, or where the
@@ -286,11 +428,12 @@ impl EvalCtxt<'_> {
         let Some(term) = term_in(arg)? else {
             return Ok(true);
         };
-        let found = self.structurally_normalize_term(environment, &term)?;
+        let found = self.closed_form(environment, &term)?;
         Ok(is_formed(&found))
     }
 
     /// The answer where an alias is rigid: its expected term is given the alias as it stands.
+    #[cycle(open)]
     fn rigid(&mut self, environment: &[Clause], asked: &NormalizesTo) -> Result<Response, Fault>
         ensures rigid { WhenAnswered result (IsRigid environment.now asked.now self.old result self.new) }
         ensures applies { IfOk result (IsApplicable self.new) }

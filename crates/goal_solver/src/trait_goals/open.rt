@@ -1,11 +1,16 @@
 //! Trait goals with inference variables.
-ghost use Rattle.std.specs.Prelude.{◌≡◌, ◌<◌, ℕ, suc, Err, IfOk, IfErr, IfSome, IsOkUnless};
-ghost use Rattle.goal_terms.specs.TreeOf.{tree_of_ty};
+ghost use Rattle.std.specs.Prelude.{◌≡◌, ◌<◌, ℕ, suc, [], false, true, is_some, length, Option, Result, None, Ok, Err, IfOk, IfErr, IfSome, IsOkUnless};
+ghost use Rattle.goal_terms.specs.Erased.{erased};
+ghost use Rattle.goal_terms.specs.TableMeaning.{Keeps};
+ghost use Rattle.goal_terms.specs.TreeOf.{tree_of_alias, tree_of_ty};
 ghost use Rattle.goal_solver.specs.Binding.{IsApplicable};
-ghost use Rattle.goal_solver.specs.Collecting.{kind_words};
+ghost use Rattle.goal_solver.specs.Answers.{IsMaybe, IsQuiet};
+ghost use Rattle.goal_solver.specs.Collecting.{kind_words, trait_words};
 ghost use Rattle.goal_solver.specs.GoingBack.{GoesBack, restored};
-ghost use Rattle.goal_solver.specs.OpenGoals.{FormsGoal, IsFormless, MergesGoal, MergesTrait, WhenAnswered, at_depth, has_kind_fault, IsConsidered, AreOfClass, ConsidersRules, ClassAnswers, ByClasses, proven_by, trait_classes};
-ghost use Rattle.goal_solver.specs.Relating.{IsFaultFor};
+ghost use Rattle.goal_solver.specs.OpenGoals.{FormsGoal, IsFormless, MergesGoal, MergesTrait, WhenAnswered, at_depth, has_kind_fault, IsConsidered, AreOfClass, ConsidersRules, ClassAnswers, ByClasses, proven_by, trait_classes, AsksOpenSelf, IsSelfAlias, MergesOpened, WhenTried, ByFormedClasses, ClassesForForm, IsListedIn, IsBeside, IsAfterTrial, TakesSelf, PassesSelf};
+ghost use Rattle.goal_solver.specs.OpenForms.{OpensFrom, answers_somehow};
+ghost use Rattle.goal_solver.specs.Relating.{ChangesRecords, IsFaultFor};
+ghost use Rattle.goal_solver.specs.State.{State as state, kinds_of};
 ghost use Rattle.goal_solver.specs.TranslatedArgs.{IsSameEnvironment};
 
 use crate::assembly::class_rules::{ClassRules, rules_by_class};
@@ -18,9 +23,10 @@ use goal_kinds::goal_kind::GoalKind;
 use goal_tables::checked::CheckedTables;
 use goal_tables::sites::TermFault;
 use goal_terms::answers::{Certainty, Response, TraitGoalProvenVia};
+use goal_terms::modes::TypingMode;
 use goal_terms::node_tests::general_variable;
 use goal_terms::predicates::{Goal, TraitPredicate};
-use goal_terms::terms::{Term, Ty};
+use goal_terms::terms::{AliasTerm, Term, Ty};
 
 impl EvalCtxt<'_> {
     /// What a trait goal with inference variables is answered: by its candidates, at one less of the depth.
@@ -52,11 +58,74 @@ impl EvalCtxt<'_> {
         ensures goes_back { GoesBack self.old self.new }
         ensures fault { IsFaultFor self.old self.new result }
     {
-        self.is_well_formed();
         match self.considered_rules(goal)? {
-            None => Ok(self.respond(Certainty::Maybe, None)),
+            None => self.merge_open_trait(goal),
             Some(rules) => self.merge_classes(&rules),
         }
+    }
+
+    /// What the candidates of a trait goal make of it where no candidates are considered, or where the self type is an alias with inference variables: it is
+    /// undecided, or answered in a trial.
+    #[cycle(open)]
+    fn merge_open_trait(&mut self, goal: &Goal<TraitPredicate>) -> Result<Response, Fault>
+        ensures undecided { (AsksOpenSelf trait_words.self_type goal.now self.old → ⊥) → WhenAnswered result (IsMaybe result) }
+        ensures opened { AsksOpenSelf trait_words.self_type goal.now self.old → (z : state) × (z ≡ restored self.old z) × WhenAnswered result (MergesOpened trait_words.self_type (ByFormedClasses trait_words goal.now) goal.now z result self.new) }
+        ensures applies { IfOk result (IsApplicable self.new) }
+        ensures unchanged { self.new ≡ restored self.old self.new }
+        ensures goes_back { GoesBack self.old self.new }
+        ensures fault { IsFaultFor self.old self.new result }
+    {
+        self.is_well_formed();
+        match self.open_self(goal)? {
+            None => Ok(self.respond(Certainty::Maybe, None)),
+            Some(alias) => self.merge_opened_trait(goal, alias),
+        }
+    }
+
+    /// What the candidates of a trait goal make of it in a trial, beside what the head form of the self type binds.
+    #[cycle(open)]
+    fn merge_opened_trait(
+        &mut self,
+        goal: &Goal<TraitPredicate>,
+        alias: AliasTerm,
+    ) -> Result<Response, Fault>
+        requires opens { IsSelfAlias trait_words.self_type goal.now self.old alias }
+        ensures merges { WhenAnswered result (MergesOpened trait_words.self_type (ByFormedClasses trait_words goal.now) goal.now self.old result self.new) }
+        ensures applies { IfOk result (IsApplicable self.new) }
+        ensures unchanged { self.new ≡ restored self.old self.new }
+        ensures goes_back { GoesBack self.old self.new }
+        ensures fault { IsFaultFor self.old self.new result }
+    {
+        self.holds_together();
+        self.is_well_formed();
+        let before = self.snapshot();
+        let around = self.begin();
+        let answer = self.answer_opened_trait(goal, alias);
+        self.holds_together();
+        self.is_well_formed();
+        self.rollback(before);
+        self.end(around);
+        self.or_undecided(answer)
+    }
+
+    /// What the candidates of a trait goal make of it for the head form of the self type. There is no answer where none are considered.
+    #[cycle(open)]
+    fn answer_opened_trait(
+        &mut self,
+        goal: &Goal<TraitPredicate>,
+        alias: AliasTerm,
+    ) -> Result<Option<Response>, Fault>
+        ensures by { WhenTried result ((a : Result (Option Term) Fault) × (z : state) × OpensFrom answers_somehow goal.now.param_env.items (erased (tree_of_alias alias)) self.old a z × ChangesRecords self.old z × ByFormedClasses trait_words goal.now a z result self.new) }
+        ensures lists { IfOk result (λ o. IfSome o (IsListedIn self.new)) }
+        ensures goes_back { GoesBack self.old self.new }
+        ensures fault { IsFaultFor self.old self.new result }
+    {
+        let found = self.form_of_open(&goal.param_env, alias)?;
+        let Some(rules) = classes_for_form(self.tables, &self.typing_mode, goal, found)? else {
+            return Ok(None);
+        };
+        let answer = self.merge_classes(&rules)?;
+        self.beside(answer)
     }
 
     /// What the candidates of a goal make of it at the remaining depth, by the classes of a trait goal. Inference
@@ -71,10 +140,123 @@ impl EvalCtxt<'_> {
         ensures goes_back { GoesBack self.old self.new }
         ensures fault { IsFaultFor self.old self.new result }
     {
-        self.is_well_formed();
         match self.considered_rules(goal)? {
-            None => Ok(self.respond(Certainty::Maybe, None)),
+            None => self.merge_open_goal(goal),
             Some(rules) => self.merge_classes(&rules),
+        }
+    }
+
+    /// What the candidates of a goal make of it where no candidates are considered, or where the self type is an alias with inference variables: it is
+    /// undecided, or answered in a trial.
+    fn merge_open_goal<G: GoalKind + Drop>(&mut self, goal: &Goal<G>) -> Result<Response, Fault>
+        ensures undecided { (AsksOpenSelf G.self_type goal.now self.old → ⊥) → WhenAnswered result (IsMaybe result) }
+        ensures opened { AsksOpenSelf G.self_type goal.now self.old → (z : state) × (z ≡ restored self.old z) × WhenAnswered result (MergesOpened G.self_type (ByFormedClasses (kind_words G.merging G.has_term G.self_type G.is_with_self G.has_fault G.trait_asked G.passes G.is_impl_for G.candidate_gives G.candidate_refuted G.is_for G.additional) goal.now) goal.now z result self.new) }
+        ensures applies { IfOk result (IsApplicable self.new) }
+        ensures unchanged { self.new ≡ restored self.old self.new }
+        ensures goes_back { GoesBack self.old self.new }
+        ensures fault { IsFaultFor self.old self.new result }
+    {
+        self.is_well_formed();
+        match self.open_self(goal)? {
+            None => Ok(self.respond(Certainty::Maybe, None)),
+            Some(alias) => self.merge_opened_goal(goal, alias),
+        }
+    }
+
+    /// What the candidates of a goal make of it in a trial, beside what the head form of the self type binds.
+    fn merge_opened_goal<G: GoalKind + Drop>(
+        &mut self,
+        goal: &Goal<G>,
+        alias: AliasTerm,
+    ) -> Result<Response, Fault>
+        requires opens { IsSelfAlias G.self_type goal.now self.old alias }
+        ensures merges { WhenAnswered result (MergesOpened G.self_type (ByFormedClasses (kind_words G.merging G.has_term G.self_type G.is_with_self G.has_fault G.trait_asked G.passes G.is_impl_for G.candidate_gives G.candidate_refuted G.is_for G.additional) goal.now) goal.now self.old result self.new) }
+        ensures applies { IfOk result (IsApplicable self.new) }
+        ensures unchanged { self.new ≡ restored self.old self.new }
+        ensures goes_back { GoesBack self.old self.new }
+        ensures fault { IsFaultFor self.old self.new result }
+    {
+        self.holds_together();
+        self.is_well_formed();
+        let before = self.snapshot();
+        let around = self.begin();
+        let answer = self.answer_opened_goal(goal, alias);
+        self.holds_together();
+        self.is_well_formed();
+        self.rollback(before);
+        self.end(around);
+        self.or_undecided(answer)
+    }
+
+    /// What the candidates of a goal make of it for the head form of the self type. There is no answer where none are considered.
+    fn answer_opened_goal<G: GoalKind + Drop>(
+        &mut self,
+        goal: &Goal<G>,
+        alias: AliasTerm,
+    ) -> Result<Option<Response>, Fault>
+        ensures by { WhenTried result ((a : Result (Option Term) Fault) × (z : state) × OpensFrom answers_somehow goal.now.param_env.items (erased (tree_of_alias alias)) self.old a z × ChangesRecords self.old z × ByFormedClasses (kind_words G.merging G.has_term G.self_type G.is_with_self G.has_fault G.trait_asked G.passes G.is_impl_for G.candidate_gives G.candidate_refuted G.is_for G.additional) goal.now a z result self.new) }
+        ensures lists { IfOk result (λ o. IfSome o (IsListedIn self.new)) }
+        ensures goes_back { GoesBack self.old self.new }
+        ensures fault { IsFaultFor self.old self.new result }
+    {
+        let found = self.form_of_open(&goal.param_env, alias)?;
+        let Some(rules) = classes_for_form(self.tables, &self.typing_mode, goal, found)? else {
+            return Ok(None);
+        };
+        let answer = self.merge_classes(&rules)?;
+        self.beside(answer)
+    }
+
+    /// The alias that the self type of a goal is, bindings followed, if an inference variable stands in it or in the
+    /// environment. Nothing changes but that there may be more terms. Only memory is refused.
+    pub(crate) fn open_self<G: GoalKind>(
+        &mut self,
+        goal: &Goal<G>,
+    ) -> Result<Option<AliasTerm>, Fault>
+        ensures none { result ≡ Ok None → AsksOpenSelf G.self_type goal.now self.old → ⊥ }
+        ensures asks { IfOk result (λ o. IfSome o (λ a. AsksOpenSelf G.self_type goal.now self.old)) }
+        ensures alias { IfOk result (λ o. IfSome o (IsSelfAlias G.self_type goal.now self.new)) }
+        ensures kept { Keeps self.old.terms self.new.terms }
+        ensures unchanged { self.new ≡ record self.old { terms = self.new.terms } }
+        ensures only_memory { IsOkUnless result Fault.OutOfMemory }
+    {
+        self.holds_together();
+        let Some(self_ty) = goal.predicate.self_ty() else {
+            return Ok(None);
+        };
+        let asked = Term::Ty(copied_type(self_ty)?);
+        self.open_alias(&goal.param_env, &asked)
+    }
+
+    /// A response beside what came before it in the trial: it is applied, and all that came is listed. Only memory is
+    /// refused.
+    pub(crate) fn beside(&mut self, answer: Response) -> Result<Option<Response>, Fault>
+        requires applies { IsApplicable self.old answer }
+        ensures beside { IfOk result (λ o. IfSome o (λ r. IsBeside self.old answer r self.new) × (is_some o ≡ true)) }
+        ensures lists { IfOk result (λ o. IfSome o (IsListedIn self.new)) }
+        ensures goes_back { GoesBack self.old self.new }
+        ensures only_memory { IsOkUnless result Fault.OutOfMemory }
+    {
+        self.apply_response(&answer)?;
+        self.holds_together();
+        let listed = self.response_since_mark(answer.certainty)?;
+        Ok(Some(Response {
+            proven_via: answer.proven_via,
+            ..listed
+        }))
+    }
+
+    /// What is answered after a trial: without an answer there the goal is undecided. It takes no memory.
+    pub(crate) fn or_undecided(
+        &self,
+        answer: Result<Option<Response>, Fault>,
+    ) -> Result<Response, Fault>
+        ensures after { IsAfterTrial answer result }
+        ensures left { answer ≡ Ok None → IfOk result (λ r. (r.var_values.items ≡ []) × IsQuiet (length (kinds_of self.now)) r) }
+    {
+        match answer? {
+            Some(response) => Ok(response),
+            None => Ok(self.respond(Certainty::Maybe, None)),
         }
     }
 
@@ -113,7 +295,7 @@ impl EvalCtxt<'_> {
             return Ok(None);
         };
         let asked = Term::Ty(copied_type(self_ty)?);
-        let found = self.structurally_normalize_term(&goal.param_env, &asked)?;
+        let found = self.closed_form(&goal.param_env, &asked)?;
         let Some(form) = form_to_consider(found) else {
             return Ok(None);
         };
@@ -182,6 +364,44 @@ fn proven_by(class: TraitGoalProvenVia, response: Response) -> Response
         proven_via,
         ..response
     }
+}
+
+/// The rules of a goal's candidates, by their classes, for what was found as the head form of its self type, if
+/// candidates are considered for it. Only memory is refused.
+fn classes_for_form<G: GoalKind + Drop>(
+    tables: &CheckedTables,
+    mode: &TypingMode,
+    goal: &Goal<G>,
+    found: Option<Term>,
+) -> Result<Option<ClassRules>, Fault>
+    ensures rules { IfOk result (λ o. ClassesForForm (kind_words G.merging G.has_term G.self_type G.is_with_self G.has_fault G.trait_asked G.passes G.is_impl_for G.candidate_gives G.candidate_refuted G.is_for G.additional) tables.now mode.now goal.now found o) }
+    ensures only_memory { IsOkUnless result Fault.OutOfMemory }
+{
+    match considered_for(tables, goal, found)? {
+        None => Ok(None),
+        Some(considered) => Ok(Some(rules_by_class(tables, mode, considered)?)),
+    }
+}
+
+/// The goal to consider candidates for, by what was found as the head form of its self type. There is none where that
+/// is undecided or a general variable, or where the goal isn't one that a check accepts. Only memory is refused.
+pub(crate) fn considered_for<G: GoalKind + Drop>(
+    tables: &CheckedTables,
+    goal: &Goal<G>,
+    found: Option<Term>,
+) -> Result<Option<Goal<G>>, Fault>
+    ensures takes { IfOk result (λ o. IfSome o (λ h. TakesSelf G.is_with_self goal.now h found × (has_kind_fault G.has_fault tables.now h ≡ false))) }
+    ensures passes { result ≡ Ok None → PassesSelf G.is_with_self (has_kind_fault G.has_fault tables.now) goal.now found }
+    ensures only_memory { IsOkUnless result Fault.OutOfMemory }
+{
+    let Some(form) = form_to_consider(found) else {
+        return Ok(None);
+    };
+    let replaced = with_form(goal, form)?;
+    if has_kind_fault(tables, &replaced) {
+        return Ok(None);
+    }
+    Ok(Some(replaced))
 }
 
 /// The goal with another self type, in the same environment.

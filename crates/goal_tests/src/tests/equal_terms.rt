@@ -5,7 +5,7 @@ use crate::tests::sketches::{
     A_OF_X, A_OF_Z, BOOL, I32, STR, STRUCT_P, T, TR_A, TermSketch, TypeSketch, U8, U16, V0, V1,
 };
 use crate::tests::steps::{AT_ONCE, Scene, Step, TWO_VARIABLES, assert_scene, assert_scenes};
-use goal_program::names::{FREE_F, VEC};
+use goal_program::names::{BOX, FREE_F, PAIR_A, VEC};
 use goal_solver::faults::Fault;
 use goal_terms::answers::VarKind;
 use goal_terms::scalars::FloatTy;
@@ -190,4 +190,50 @@ const DEEPER_FORMS: &[Scene] = &[
 #[test]
 fn deeper_head_forms(rt: HostRuntime) -> Result<(), Fail> {
     assert_scenes(&rt, rt.alloc(), DEEPER_FORMS)
+}
+
+/// `<Vec<v0> as Pair<u8>>::A`: the one impl of `Pair<T>` for `Vec<T>` says that it is `Box<T>`.
+const VEC_PAIRED: TermSketch = TermSketch::Ty(TypeSketch::Alias(A_OF_PAIR, &[VEC_OF_V0, U8]));
+
+/// `<Box<v0> as Pair<u8>>::A`, for which there is no impl.
+const BOX_PAIRED: TermSketch = TermSketch::Ty(TypeSketch::Alias(A_OF_PAIR, &[BOX_OF_V0, U8]));
+
+const A_OF_PAIR: AliasTermKind = AliasTermKind::ProjectionTy(PAIR_A);
+
+const BOX_OF_V0: TypeSketch = TypeSketch::Adt(BOX, &[V0]);
+
+const BOX_OF_U8: TypeSketch = TypeSketch::Adt(BOX, &[U8]);
+
+/// What the head form of an alias binds stays bound; where there is none nothing is.
+const OPEN_FORMS: &[Scene] = &[
+    Scene {
+        limit: 2,
+        variables: TWO_VARIABLES,
+        turns: &[
+            &[
+                Step::Equation(Equation::Form(VEC_PAIRED, Ok(Some(TermSketch::Ty(BOX_OF_U8))))),
+                Step::Equation(Equation::Two(V0, U16, NO)),
+                Step::Equation(Equation::Two(V0, U8, YES)),
+            ],
+            &[
+                Step::Equation(Equation::Form(BOX_PAIRED, Err(Fault::NoSolution))),
+                Step::Equation(Equation::Two(V0, BOOL, YES)),
+            ],
+        ],
+        ..AT_ONCE
+    },
+    Scene {
+        limit: 1,
+        variables: TWO_VARIABLES,
+        turns: &[&[
+            Step::Equation(Equation::Form(VEC_PAIRED, Ok(None))),
+            Step::Equation(Equation::Two(V0, BOOL, YES)),
+        ]],
+        ..AT_ONCE
+    },
+];
+
+#[test]
+fn head_forms_with_variables(rt: HostRuntime) -> Result<(), Fail> {
+    assert_scenes(&rt, rt.alloc(), OPEN_FORMS)
 }

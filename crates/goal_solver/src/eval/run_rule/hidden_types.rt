@@ -188,7 +188,7 @@ impl EvalCtxt<'_> {
             };
             return Ok(Some(copy));
         };
-        let form = self.structurally_normalize_term(environment, &term)?;
+        let form = self.closed_form(environment, &term)?;
         Ok(arg_of(form))
     }
 }

@@ -1,7 +1,7 @@
-use Rattle.goal_solver.proofs.AnswerLemmas.{goes_back-grown}
+use Rattle.goal_solver.proofs.AnswerLemmas.{goes_back-grown, open-ground}
 use Rattle.goal_solver.proofs.BindingLemmas.{on_ok-map}
 use Rattle.goal_solver.proofs.OpenStepLemmas.{evaluation-step}
-use Rattle.std.proofs.Common.{◌≡◌, ◌++◌, ℕ, List, Vec, Global, Result, length, get_or, drop, refl, sym, ◌∙◌, subst, arith, [], ap, inl, Some, None, Ok, Err, ◌∷◌}
+use Rattle.std.proofs.Common.{◌≡◌, ◌++◌, ℕ, List, Vec, Global, Result, length, get_or, drop, refl, sym, ◌∙◌, subst, arith, [], ap, inl, Some, None, Ok, Err, ◌∷◌, Option, inr}
 use Rattle.std.specs.Prelude.{IfOk, IfErr, IfSome}
 use Rattle.std.proofs.Math.Seq.{take-length}
 use Rattle.goal_terms.specs.declared.answers.Certainty.{Certainty}
@@ -37,21 +37,35 @@ use Rattle.goal_solver.specs.Binding.{IsApplicable}
 use Rattle.goal_solver.proofs.ListedLemmas.{listed-applies}
 use Rattle.goal_solver.proofs.LaterLemmas.{merged-later}
 use Rattle.goal_solver.proofs.MergedLemmas.{runs-none, merged-next}
-use Rattle.goal_solver.proofs.BelowLemmas.{applies-below, merges-below}
+use Rattle.goal_solver.proofs.BelowLemmas.{applies-below, merges-below, projects-below}
 use Rattle.goal_terms.specs.declared.answers.Response.{Response}
-use Rattle.goal_terms.specs.declared.answers.TraitGoalProvenVia.TheVariants as class
-use Rattle.goal_kinds.specs.declared.faults.Fault.TheVariants as fault
+use Rattle.goal_eval.specs.ErasedArgs.{erased_args}
 use Rattle.goal_solver.specs.Answers.{IsQuiet}
 use Rattle.goal_solver.specs.Collecting.{trait_words}
-use Rattle.goal_solver.specs.OpenGoals.{AreOfClass, rules_of_class}
-use Rattle.goal_solver.specs.declared.assembly.merged_rules.Merged.TheVariants as merged
-use Rattle.goal_solver.proofs.ApplicableLemmas.{nothing-applies-after}
+use Rattle.goal_solver.specs.OpenGoals.{AsksOpenSelf, WhenTried, ConsidersRules, AreOfClass, rules_of_class, trait_classes, WhenAnswered, ByClasses, ByFormedClasses}
+use Rattle.goal_solver.proofs.ApplicableLemmas.{nothing-applies-after, nothing-applies}
 use Rattle.goal_solver.proofs.OpenClassLemmas.{answered-in, by-classes, class-answers, first-answers, next-answers, none-answers, none-left}
 use Rattle.goal_solver.proofs.OpenTraitLemmas.{grown-records, some-unless, restored-records, let-go, let-go-back, let-go-caused, let-go-fault}
-use Rattle.goal_solver.specs.OpenGoals.{WhenAnswered}
-use Rattle.goal_solver.specs.OpenHostGoals.{host_words, AnswersPlain, MergesHostEffect}
-use Rattle.goal_solver.proofs.ApplicableLemmas.{nothing-applies}
-use Rattle.goal_solver.proofs.OpenHostLemmas.{const-at_once, const-below, const-grouped, const-left, const-refused, const-through, const-unproven, group-answered, group-first, group-later, group-none, group-refuted, group-split}
+use Rattle.goal_solver.specs.OpenHostGoals.{host_words, rules_of_groups, AnswersPlain, ByFormedRuleGroups, ByRuleGroups, MergesHostEffect}
+use Rattle.goal_solver.proofs.OpenHostLemmas.{const-at_once, const-below, const-grouped, const-refused, const-through, const-unproven, group-answered, group-first, group-later, group-none, group-refuted, group-split}
+use Rattle.goal_solver.specs.OpenProjections.{ConsidersGroups, AnswersTrait, IsAliasRule, MergesProjection, IsRigid, WithForms, alias_words, own_args, answers_term, ByFormedGroups, ByGroups}
+use Rattle.goal_solver.proofs.OpenProjectionLemmas.{alias-none, alias-run, asks-its-trait, no-trait, projects-alias, projects-refused, projects-unproven, projects-through, rules-merged, environment-answers, environment-splits, later-answers, bounds-answer, bounds-split, bounds-rigid, rest-answers, rest-splits, rest-refuses, through-groups, not-maybe}
+use Rattle.goal_kinds.specs.Answers.{setting_of}
+use Rattle.goal_solver.proofs.PromiseLemmas.{leaves-undecided}
+use Rattle.goal_solver.proofs.AccessLemmas.{none-recorded}
+use Rattle.goal_terms.specs.declared.predicates.Clause.{Clause}
+use Rattle.goal_terms.specs.Erased.{erased}
+use Rattle.goal_terms.specs.TreeOf.{tree_of_alias}
+use Rattle.goal_terms.specs.declared.terms.Term.{Term}
+use Rattle.goal_kinds.specs.Interned.{erased_at}
+use Rattle.goal_solver.specs.OpenForms.{OpensFrom}
+use Rattle.goal_solver.proofs.OpenFormLemmas.{answers-err, answers-ok, asks-term, grown-left, known, made-records, opens-answered, opens-let_go, opens-refused, opens-undone, refuses-term, same-records, undone-fault, with-fresh, restored-grown, restored-twice}
+use Rattle.goal_terms.specs.declared.terms.AliasTerm.{AliasTerm}
+use Rattle.goal_solver.proofs.OpenedSelfLemmas.{left-or_opened, left-or_opened-const, left-or_opened-through, InTrial, after-fault, classes-passed, classes-shown, form-passed, form-refused, groups-passed, groups-shown, merge-answered, merge-refused, opened-applies, opened-merges, opened-unsaid}
+use Rattle.goal_solver.specs.Accesses.{uncaused}
+use Rattle.goal_terms.specs.declared.answers.TraitGoalProvenVia.TheVariants as class
+use Rattle.goal_kinds.specs.declared.faults.Fault.TheVariants as fault
+use Rattle.goal_solver.specs.declared.assembly.merged_rules.Merged.TheVariants as merged
 use Rattle.goal_solver.proofs.context.EvalCtxt.+open.Goals as goal
 
 pub evaluate_round-loop-i-init : goal.evaluate_round-loop-i-init
@@ -672,11 +686,6 @@ pub merge_classes-returns-clause-goes_back : goal.merge_classes-returns-clause-g
 merge_classes-returns-clause-goes_back t c =
     goes_back-through c.args.self.now c.class_answer-2.new.self c.class_answer-3.new.self (goes_back-through c.args.self.now c.class_answer.new.self c.class_answer-2.new.self c.class_answer.ensures.goes_back c.class_answer-2.ensures.goes_back) c.class_answer-3.ensures.goes_back
 
-pub merge_trait-returns-in-None-clause-applies : goal.merge_trait-returns-in-None-clause-applies
-merge_trait-returns-in-None-clause-applies t c =
-    nothing-applies-after c.args.self.now c.considered_rules.new.self c.respond.result c.considered_rules.ensures.unchanged c.is_well_formed.ensures.storage
-    (subst (λ (s : State). IsQuiet (length (kinds_of s)) c.respond.result) c.considered_rules.ensures.unchanged c.respond.ensures.quiet) c.respond.ensures.values
-
 pub merge_trait-returns-in-Some-clause-merges : goal.merge_trait-returns-in-Some-clause-merges
 merge_trait-returns-in-Some-clause-merges t c =
     by-classes trait_words c.args.goal.now c.args.self.now c.considered_rules.new.self c.merge_classes.new.self c.merge_classes.result c.in_ok-considered_rules.field-0 c.in-Some.rules
@@ -738,13 +747,9 @@ hold_const-returns-clause-goes_back t c =
 
 pub merge_const_through-returns-in-None-clause-merges : goal.merge_const_through-returns-in-None-clause-merges
 merge_const_through-returns-in-None-clause-merges t c =
-    const-left host_words c.args.class c.args.goal.now c.args.self.now c.considered_groups.new.self c.in_ok-considered_groups.field-0 c.respond.result c.in_ok-considered_groups.ensures.considers c.in-None.is
-    c.respond.ensures.certainty
-
-pub merge_const_through-returns-in-None-clause-applies : goal.merge_const_through-returns-in-None-clause-applies
-merge_const_through-returns-in-None-clause-applies t c =
-    nothing-applies-after c.args.self.now c.considered_groups.new.self c.respond.result c.considered_groups.ensures.unchanged c.is_well_formed.ensures.storage
-    (subst (λ (s : State). IsQuiet (length (kinds_of s)) c.respond.result) c.considered_groups.ensures.unchanged c.respond.ensures.quiet) c.respond.ensures.values
+    left-or_opened-const host_words c.args.class c.args.goal.now c.args.self.now c.considered_groups.new.self c.merge_open_const.new.self c.merge_open_const.result
+    (subst (λ o. ConsidersGroups host_words c.args.class c.args.goal.now c.args.self.now o c.considered_groups.new.self) c.in-None.is c.in_ok-considered_groups.ensures.considers) c.considered_groups.ensures.unchanged
+    c.merge_open_const.ensures.unchanged c.merge_open_const.ensures.undecided c.merge_open_const.ensures.opened
 
 pub merge_const_through-returns-in-Some-clause-merges : goal.merge_const_through-returns-in-Some-clause-merges
 merge_const_through-returns-in-Some-clause-merges t c =
@@ -819,33 +824,95 @@ evaluate_goal-returns-in_err-asked-clause-goes_back t c =
 
 pub evaluate_goal-returns-in-None-clause-answer : goal.evaluate_goal-returns-in-None-clause-answer
 evaluate_goal-returns-in-None-clause-answer t c = λ m owed closed.
-    answer-before c.args.self.now c.open_goal.new.self m c.args.goal.now c.evaluate_other.result (grown-records c.args.self.now c.open_goal.new.self c.open_goal.ensures.unchanged)
-    (c.evaluate_other.ensures.answer m owed closed)
+    answer-before c.args.self.now c.open_goal.new.self m c.args.goal.now c.evaluate_alias_or_other.result (grown-records c.args.self.now c.open_goal.new.self c.open_goal.ensures.unchanged)
+    (c.evaluate_alias_or_other.ensures.answer m owed closed)
 
 pub evaluate_goal-returns-in-None-clause-refused : goal.evaluate_goal-returns-in-None-clause-refused
 evaluate_goal-returns-in-None-clause-refused t c =
-    refused-map c.evaluate_other.result
-    (λ h. refuses-later c.args.self.now c.open_goal.new.self c.evaluate_other.new.self c.args.goal.now
+    refused-map c.evaluate_alias_or_other.result
+    (λ h. refuses-later c.args.self.now c.open_goal.new.self c.evaluate_alias_or_other.new.self c.args.goal.now
     (grown-records c.args.self.now c.open_goal.new.self c.open_goal.ensures.unchanged) h)
-    c.evaluate_other.ensures.refused
+    c.evaluate_alias_or_other.ensures.refused
 
 pub evaluate_goal-returns-in-None-clause-closed : goal.evaluate_goal-returns-in-None-clause-closed
-evaluate_goal-returns-in-None-clause-closed t c = λ h. c.evaluate_other.ensures.closed h ∙ ap (λ (s : State). s.inference) c.open_goal.ensures.unchanged
+evaluate_goal-returns-in-None-clause-closed t c = λ h. c.evaluate_alias_or_other.ensures.closed h ∙ ap (λ (s : State). s.inference) c.open_goal.ensures.unchanged
 
 pub evaluate_goal-returns-in-None-clause-alone : goal.evaluate_goal-returns-in-None-clause-alone
 evaluate_goal-returns-in-None-clause-alone t c =
-    records-through c.args.self.now c.open_goal.new.self c.evaluate_other.new.self (grown-records c.args.self.now c.open_goal.new.self c.open_goal.ensures.unchanged) c.evaluate_other.ensures.alone
+    records-through c.args.self.now c.open_goal.new.self c.evaluate_alias_or_other.new.self (grown-records c.args.self.now c.open_goal.new.self c.open_goal.ensures.unchanged) c.evaluate_alias_or_other.ensures.alone
 
 pub evaluate_goal-returns-in-None-clause-faults : goal.evaluate_goal-returns-in-None-clause-faults
-evaluate_goal-returns-in-None-clause-faults t c = c.evaluate_other.ensures.faults ∙ grown-faults c.args.self.now c.open_goal.new.self c.open_goal.ensures.unchanged
+evaluate_goal-returns-in-None-clause-faults t c = c.evaluate_alias_or_other.ensures.faults ∙ grown-faults c.args.self.now c.open_goal.new.self c.open_goal.ensures.unchanged
 
 pub evaluate_goal-returns-in-None-clause-goes_back : goal.evaluate_goal-returns-in-None-clause-goes_back
 evaluate_goal-returns-in-None-clause-goes_back t c =
-    goes_back-through c.args.self.now c.open_goal.new.self c.evaluate_other.new.self (goes_back-grown c.args.self.now c.open_goal.new.self c.open_goal.ensures.unchanged c.open_goal.ensures.kept) c.evaluate_other.ensures.goes_back
+    goes_back-through c.args.self.now c.open_goal.new.self c.evaluate_alias_or_other.new.self (goes_back-grown c.args.self.now c.open_goal.new.self c.open_goal.ensures.unchanged c.open_goal.ensures.kept) c.evaluate_alias_or_other.ensures.goes_back
 
 pub evaluate_goal-returns-in-None-clause-fault : goal.evaluate_goal-returns-in-None-clause-fault
 evaluate_goal-returns-in-None-clause-fault t c =
-    fault-later c.args.self.now c.open_goal.new.self c.evaluate_other.new.self c.evaluate_other.result (goes_back-grown c.args.self.now c.open_goal.new.self c.open_goal.ensures.unchanged c.open_goal.ensures.kept) c.evaluate_other.ensures.fault
+    fault-later c.args.self.now c.open_goal.new.self c.evaluate_alias_or_other.new.self c.evaluate_alias_or_other.result (goes_back-grown c.args.self.now c.open_goal.new.self c.open_goal.ensures.unchanged c.open_goal.ensures.kept) c.evaluate_alias_or_other.ensures.fault
+
+pub evaluate_alias_or_other-returns-in-Some-clause-answer : goal.evaluate_alias_or_other-returns-in-Some-clause-answer
+evaluate_alias_or_other-returns-in-Some-clause-answer t c = λ m owed closed.
+    absurd (some-unless (IsClosedGoal c.args.goal.now.predicate c.args.goal.now.param_env.items) c.in_ok-alias.field-0 c.in-Some.alias c.in_ok-alias.ensures.closed c.in-Some.is closed)
+
+pub evaluate_alias_or_other-returns-in-Some-clause-closed : goal.evaluate_alias_or_other-returns-in-Some-clause-closed
+evaluate_alias_or_other-returns-in-Some-clause-closed t c = λ closed.
+    absurd (some-unless (IsClosedGoal c.args.goal.now.predicate c.args.goal.now.param_env.items) c.in_ok-alias.field-0 c.in-Some.alias c.in_ok-alias.ensures.closed c.in-Some.is closed)
+
+pub evaluate_alias_or_other-returns-in-Some-clause-refused : goal.evaluate_alias_or_other-returns-in-Some-clause-refused
+evaluate_alias_or_other-returns-in-Some-clause-refused t c =
+    open-goal-refused c.args.self.now c.evaluate_open_alias.new.self c.args.goal.now c.evaluate_open_alias.result
+    (some-unless (IsClosedGoal c.args.goal.now.predicate c.args.goal.now.param_env.items) c.in_ok-alias.field-0 c.in-Some.alias c.in_ok-alias.ensures.closed c.in-Some.is)
+
+pub evaluate_alias_or_other-returns-in-Some-clause-alone : goal.evaluate_alias_or_other-returns-in-Some-clause-alone
+evaluate_alias_or_other-returns-in-Some-clause-alone t c =
+    records-through c.args.self.now c.open_normalization.new.self c.evaluate_open_alias.new.self (grown-records c.args.self.now c.open_normalization.new.self c.open_normalization.ensures.unchanged) c.evaluate_open_alias.ensures.alone
+
+pub evaluate_alias_or_other-returns-in-Some-clause-faults : goal.evaluate_alias_or_other-returns-in-Some-clause-faults
+evaluate_alias_or_other-returns-in-Some-clause-faults t c = c.evaluate_open_alias.ensures.faults ∙ grown-faults c.args.self.now c.open_normalization.new.self c.open_normalization.ensures.unchanged
+
+pub evaluate_alias_or_other-returns-in-Some-clause-goes_back : goal.evaluate_alias_or_other-returns-in-Some-clause-goes_back
+evaluate_alias_or_other-returns-in-Some-clause-goes_back t c =
+    goes_back-through c.args.self.now c.open_normalization.new.self c.evaluate_open_alias.new.self (goes_back-grown c.args.self.now c.open_normalization.new.self c.open_normalization.ensures.unchanged c.open_normalization.ensures.kept) c.evaluate_open_alias.ensures.goes_back
+
+pub evaluate_alias_or_other-returns-in-Some-clause-fault : goal.evaluate_alias_or_other-returns-in-Some-clause-fault
+evaluate_alias_or_other-returns-in-Some-clause-fault t c =
+    fault-later c.args.self.now c.open_normalization.new.self c.evaluate_open_alias.new.self c.evaluate_open_alias.result (goes_back-grown c.args.self.now c.open_normalization.new.self c.open_normalization.ensures.unchanged c.open_normalization.ensures.kept) c.evaluate_open_alias.ensures.fault
+
+pub evaluate_alias_or_other-returns-in_err-alias-clause-goes_back : goal.evaluate_alias_or_other-returns-in_err-alias-clause-goes_back
+evaluate_alias_or_other-returns-in_err-alias-clause-goes_back t c =
+    goes_back-grown c.args.self.now c.open_normalization.new.self c.open_normalization.ensures.unchanged c.open_normalization.ensures.kept
+
+pub evaluate_alias_or_other-returns-in-None-clause-answer : goal.evaluate_alias_or_other-returns-in-None-clause-answer
+evaluate_alias_or_other-returns-in-None-clause-answer t c = λ m owed closed.
+    answer-before c.args.self.now c.open_normalization.new.self m c.args.goal.now c.evaluate_other.result (grown-records c.args.self.now c.open_normalization.new.self c.open_normalization.ensures.unchanged)
+    (c.evaluate_other.ensures.answer m owed closed)
+
+pub evaluate_alias_or_other-returns-in-None-clause-refused : goal.evaluate_alias_or_other-returns-in-None-clause-refused
+evaluate_alias_or_other-returns-in-None-clause-refused t c =
+    refused-map c.evaluate_other.result
+    (λ h. refuses-later c.args.self.now c.open_normalization.new.self c.evaluate_other.new.self c.args.goal.now
+    (grown-records c.args.self.now c.open_normalization.new.self c.open_normalization.ensures.unchanged) h)
+    c.evaluate_other.ensures.refused
+
+pub evaluate_alias_or_other-returns-in-None-clause-closed : goal.evaluate_alias_or_other-returns-in-None-clause-closed
+evaluate_alias_or_other-returns-in-None-clause-closed t c = λ h. c.evaluate_other.ensures.closed h ∙ ap (λ (s : State). s.inference) c.open_normalization.ensures.unchanged
+
+pub evaluate_alias_or_other-returns-in-None-clause-alone : goal.evaluate_alias_or_other-returns-in-None-clause-alone
+evaluate_alias_or_other-returns-in-None-clause-alone t c =
+    records-through c.args.self.now c.open_normalization.new.self c.evaluate_other.new.self (grown-records c.args.self.now c.open_normalization.new.self c.open_normalization.ensures.unchanged) c.evaluate_other.ensures.alone
+
+pub evaluate_alias_or_other-returns-in-None-clause-faults : goal.evaluate_alias_or_other-returns-in-None-clause-faults
+evaluate_alias_or_other-returns-in-None-clause-faults t c = c.evaluate_other.ensures.faults ∙ grown-faults c.args.self.now c.open_normalization.new.self c.open_normalization.ensures.unchanged
+
+pub evaluate_alias_or_other-returns-in-None-clause-goes_back : goal.evaluate_alias_or_other-returns-in-None-clause-goes_back
+evaluate_alias_or_other-returns-in-None-clause-goes_back t c =
+    goes_back-through c.args.self.now c.open_normalization.new.self c.evaluate_other.new.self (goes_back-grown c.args.self.now c.open_normalization.new.self c.open_normalization.ensures.unchanged c.open_normalization.ensures.kept) c.evaluate_other.ensures.goes_back
+
+pub evaluate_alias_or_other-returns-in-None-clause-fault : goal.evaluate_alias_or_other-returns-in-None-clause-fault
+evaluate_alias_or_other-returns-in-None-clause-fault t c =
+    fault-later c.args.self.now c.open_normalization.new.self c.evaluate_other.new.self c.evaluate_other.result (goes_back-grown c.args.self.now c.open_normalization.new.self c.open_normalization.ensures.unchanged c.open_normalization.ensures.kept) c.evaluate_other.ensures.fault
 
 pub evaluate_open-returns-then-self-eq0-clause-goes_back : goal.evaluate_open-returns-then-self-eq0-clause-goes_back
 evaluate_open-returns-then-self-eq0-clause-goes_back t c =
@@ -894,3 +961,753 @@ step_or_evaluate-returns-in-Evaluation-clause-refused t c =
 pub step_or_evaluate-returns-in-Evaluation-clause-listed : goal.step_or_evaluate-returns-in-Evaluation-clause-listed
 step_or_evaluate-returns-in-Evaluation-clause-listed t c =
     step-caused c.args.self.now c.evaluate_pending.new.self (c.args.entry.now ∷ []) c.evaluate_pending.ensures.goes_back c.evaluate_pending.ensures.faults
+
+pub project_below-returns-clause-merges : goal.project_below-returns-clause-merges
+project_below-returns-clause-merges t c = λ n depth.
+    projects-below _ c.args.self.now _ c.project-answer.new.self n c.args.goal.now c.project-answer.result c.self.view_is c.self-2.view_is c.project-answer.ensures.unchanged depth
+    c.project-answer.ensures.merges
+
+pub project_below-returns-clause-applies : goal.project_below-returns-clause-applies
+project_below-returns-clause-applies t c =
+    applies-below _ c.args.self.now _ c.project-answer.new.self _ c.self.inside.remaining_depth c.project-answer.result c.self.view_is c.self-2.view_is c.project-answer.ensures.unchanged
+    c.project-answer.ensures.goes_back c.holds_together.ensures.solved c.project-answer.ensures.applies
+
+pub project-returns-in_err-asked-clause-goes_back : goal.project-returns-in_err-asked-clause-goes_back
+project-returns-in_err-asked-clause-goes_back t c = goes_back-same c.args.self.now
+
+pub project-returns-in_default-clause-merges : goal.project-returns-in_default-clause-merges
+project-returns-in_default-clause-merges t c =
+    projects-alias c.args.goal.now c.args.self.now c.run_alias_rule.new.self c.run_alias_rule.result
+    (no-trait _ c.args.self.now c.args.goal.now c.in_ok-asked.field-0 c.self.view_is (none-left c.in_ok-asked.field-0 c.in_default.not-Some) c.in_ok-asked.ensures.asks) c.run_alias_rule.ensures.runs
+
+pub project-returns-in_err-answer-clause-merges : goal.project-returns-in_err-answer-clause-merges
+project-returns-in_err-answer-clause-merges t c =
+    handed-on c.from_residual-in_err-answer.result c.in_err-answer.field-0.0 (λ (r : Result Response Fault). WhenAnswered r (MergesProjection c.args.goal.now c.args.self.now r c.trait_goal_response.new.self))
+    c.from_residual-in_err-answer.ensures.1
+    (projects-refused c.args.goal.now c.in-Some.asked c.args.self.now c.trait_goal_response.new.self c.in_err-answer.field-0.0
+    (asks-its-trait _ c.args.self.now c.args.goal.now _ c.in-Some.asked c.self.view_is c.in-Some.is c.in_ok-asked.ensures.asks)
+    (λ is. subst (AnswersTrait c.in-Some.asked c.args.self.now c.trait_goal_response.new.self) c.in_err-answer.was
+    (record {
+      sound = c.trait_goal_response.ensures.sound;
+      decided = c.trait_goal_response.ensures.decided;
+      merges = c.trait_goal_response.ensures.merged;
+      back = c.trait_goal_response.ensures.unchanged;
+    })))
+
+pub project-returns-in-None-clause-merges : goal.project-returns-in-None-clause-merges
+project-returns-in-None-clause-merges t c =
+    projects-unproven c.args.goal.now c.in-Some.asked c.args.self.now c.trait_goal_response.new.self c.in_ok-answer.answer c.respond.result
+    (asks-its-trait _ c.args.self.now c.args.goal.now _ c.in-Some.asked c.self.view_is c.in-Some.is c.in_ok-asked.ensures.asks)
+    (subst (AnswersTrait c.in-Some.asked c.args.self.now c.trait_goal_response.new.self) c.in_ok-answer.was
+    (record {
+      sound = c.trait_goal_response.ensures.sound;
+      decided = c.trait_goal_response.ensures.decided;
+      merges = c.trait_goal_response.ensures.merged;
+      back = c.trait_goal_response.ensures.unchanged;
+    }))
+    (sym c.in-None.is ∙ c.proven_class.ensures) c.respond.ensures.certainty
+
+pub project-returns-in-None-clause-applies : goal.project-returns-in-None-clause-applies
+project-returns-in-None-clause-applies t c =
+    nothing-applies-after c.args.self.now c.trait_goal_response.new.self c.respond.result c.trait_goal_response.ensures.unchanged c.is_well_formed.ensures.storage
+    (subst (λ (s : State). IsQuiet (length (kinds_of s)) c.respond.result) c.trait_goal_response.ensures.unchanged c.respond.ensures.quiet) c.respond.ensures.values
+
+pub project-returns-clause-merges : goal.project-returns-clause-merges
+project-returns-clause-merges t c =
+    projects-through c.args.goal.now c.in-Some.asked c.in-Some-proven_class.class c.args.self.now c.trait_goal_response.new.self c.merge_alias.new.self c.in_ok-answer.answer c.merge_alias.result
+    (asks-its-trait _ c.args.self.now c.args.goal.now _ c.in-Some.asked c.self.view_is c.in-Some.is c.in_ok-asked.ensures.asks)
+    (subst (AnswersTrait c.in-Some.asked c.args.self.now c.trait_goal_response.new.self) c.in_ok-answer.was
+    (record {
+      sound = c.trait_goal_response.ensures.sound;
+      decided = c.trait_goal_response.ensures.decided;
+      merges = c.trait_goal_response.ensures.merged;
+      back = c.trait_goal_response.ensures.unchanged;
+    }))
+    (sym c.in-Some-proven_class.is ∙ c.proven_class.ensures) c.merge_alias.ensures.merges
+
+pub project-returns-clause-goes_back : goal.project-returns-clause-goes_back
+project-returns-clause-goes_back t c =
+    goes_back-through c.args.self.now c.trait_goal_response.new.self c.merge_alias.new.self c.trait_goal_response.ensures.goes_back c.merge_alias.ensures.goes_back
+
+pub run_alias_rule-returns-in-Ok-clause-runs : goal.run_alias_rule-returns-in-Ok-clause-runs
+run_alias_rule-returns-in-Ok-clause-runs t c =
+    alias-run c.args.goal.now c.args.self.now c.run_open.new.self c.in-Ok.rule c.deref.result.now c.deref-in-Ok.result.now c.run_open.result c.deref.ensures.value c.deref-in-Ok.ensures.value
+    (subst (λ (s : State). IsAliasRule s.tables s.typing_mode c.args.goal.now c.in-Ok.rule) c.self.view_is (record { list = c.in-Ok.ensures.list c.args.goal.now.param_env.items; expected = c.in-Ok.ensures.expected }))
+    c.run_open.ensures.chain c.run_open.ensures.refused
+
+pub run_alias_rule-returns-in-Err-NotForThisKind-clause-runs : goal.run_alias_rule-returns-in-Err-NotForThisKind-clause-runs
+run_alias_rule-returns-in-Err-NotForThisKind-clause-runs t c =
+    alias-none c.args.goal.now c.args.self.now c.in-Err-NotForThisKind.field-0 c.respond.result c.in-Err-NotForThisKind.ensures.faults c.in-Err-NotForThisKind.field-0-is c.respond.ensures.certainty
+
+pub run_alias_rule-returns-in-Err-NotForThisKind-clause-applies : goal.run_alias_rule-returns-in-Err-NotForThisKind-clause-applies
+run_alias_rule-returns-in-Err-NotForThisKind-clause-applies t c = nothing-applies c.args.self.now c.respond.result c.is_well_formed.ensures.storage c.respond.ensures.quiet c.respond.ensures.values
+
+pub run_alias_rule-returns-in-Err-NotForThisKind-clause-goes_back : goal.run_alias_rule-returns-in-Err-NotForThisKind-clause-goes_back
+run_alias_rule-returns-in-Err-NotForThisKind-clause-goes_back t c = goes_back-same c.args.self.now
+
+pub run_alias_rule-returns-in-Err-clause-goes_back : goal.run_alias_rule-returns-in-Err-clause-goes_back
+run_alias_rule-returns-in-Err-clause-goes_back t c = goes_back-same c.args.self.now
+
+pub rigid-returns-in_err-entries-clause-goes_back : goal.rigid-returns-in_err-entries-clause-goes_back
+rigid-returns-in_err-entries-clause-goes_back t c = goes_back-same c.args.self.now
+
+pub trait_goal_response-returns-then-remaining_depth-eq0-clause-decided : goal.trait_goal_response-returns-then-remaining_depth-eq0-clause-decided
+trait_goal_response-returns-then-remaining_depth-eq0-clause-decided t c = λ m owed closed undecided.
+    open-ground (setting_of c.args.self.now.tables m c.args.goal.now.param_env.items) c.args.self.now.remaining_depth (omega (arith, c.remaining_depth.ensures, c.if-remaining_depth-eq0.true))
+    c.args.goal.now.predicate.trait_ref.def_id (erased_args c.args.goal.now.predicate.trait_ref.args.items)
+
+pub trait_goal_response-returns-then-remaining_depth-eq0-clause-goes_back : goal.trait_goal_response-returns-then-remaining_depth-eq0-clause-goes_back
+trait_goal_response-returns-then-remaining_depth-eq0-clause-goes_back t c = goes_back-same c.args.self.now
+
+pub trait_goal_response-returns-then-remaining_depth-eq0-clause-applies : goal.trait_goal_response-returns-then-remaining_depth-eq0-clause-applies
+trait_goal_response-returns-then-remaining_depth-eq0-clause-applies t c = nothing-applies c.args.self.now c.respond.result c.is_well_formed.ensures.storage c.respond.ensures.quiet c.respond.ensures.values
+
+pub trait_goal_response-returns-then-remaining_depth-eq0-clause-at_once : goal.trait_goal_response-returns-then-remaining_depth-eq0-clause-at_once
+trait_goal_response-returns-then-remaining_depth-eq0-clause-at_once t c = λ z.
+    leaves-undecided c.args.self.now c.respond.result c.respond.ensures.certainty c.respond.ensures.proven_via c.respond.ensures.values c.respond.ensures.quiet
+
+pub trait_goal_response-returns-then-remaining_depth-eq0-clause-caused : goal.trait_goal_response-returns-then-remaining_depth-eq0-clause-caused
+trait_goal_response-returns-then-remaining_depth-eq0-clause-caused t c = λ closed. none-recorded c.args.self.now _ refl
+
+pub trait_goal_response-returns-clause-caused : goal.trait_goal_response-returns-clause-caused
+trait_goal_response-returns-clause-caused t c = λ closed. c.answer_trait.ensures.caused
+
+pub merge_alias-returns-in-Some-clause-merges : goal.merge_alias-returns-in-Some-clause-merges
+merge_alias-returns-in-Some-clause-merges t c =
+    through-groups alias_words c.args.goal.now.predicate c.args.class c.args.goal.now c.args.self.now c.considered_groups.new.self c.merge_groups.new.self c.merge_groups.result
+    c.in_ok-considered_groups.field-0 c.in-Some.rules c.in_ok-considered_groups.ensures.considers c.in-Some.is c.considered_groups.ensures.unchanged c.merge_groups.ensures.decides
+
+pub merge_groups-returns-in-Refuted-clause-decides : goal.merge_groups-returns-in-Refuted-clause-decides
+merge_groups-returns-in-Refuted-clause-decides t c =
+    later-answers c.args.class c.args.rules.now.param_env.items c.args.rules.now.environment.items c.args.rules.now.later.items c.args.asked.now c.args.self.now c.merge_rules.new.self c.merge_later.new.self c.merge_later.result
+    c.merge_rules.ensures.unchanged
+    (rules-merged c.args.rules.now.param_env.items c.deref.result.now c.args.rules.now.environment.items c.deref-2.result.now c.args.self.now c.merge_rules.new.self c.in_ok-merge_rules.field-0 merged.Refuted
+    c.deref.ensures.value c.deref-2.ensures.value c.in-Refuted.is c.in_ok-merge_rules.ensures.merges) c.merge_later.ensures.decides
+
+pub merge_groups-returns-in-Answered-clause-decides : goal.merge_groups-returns-in-Answered-clause-decides
+merge_groups-returns-in-Answered-clause-decides t c =
+    environment-answers c.args.class c.args.rules.now.param_env.items c.args.rules.now.environment.items c.args.rules.now.later.items c.args.asked.now c.args.self.now c.merge_rules.new.self c.with_forms.new.self c.in-Answered.response c.with_forms.result
+    c.merge_rules.ensures.unchanged
+    (rules-merged c.args.rules.now.param_env.items c.deref.result.now c.args.rules.now.environment.items c.deref-2.result.now c.args.self.now c.merge_rules.new.self c.in_ok-merge_rules.field-0 (merged.Answered c.in-Answered.response)
+    c.deref.ensures.value c.deref-2.ensures.value c.in-Answered.is c.in_ok-merge_rules.ensures.merges)
+    (subst (λ (xs : List Clause). WhenAnswered c.with_forms.result (WithForms xs (own_args c.merge_rules.new.self.tables c.args.asked.now.alias) c.in-Answered.response c.merge_rules.new.self c.with_forms.result c.with_forms.new.self)) c.deref-in-Answered.ensures.value c.with_forms.ensures.forms)
+
+pub merge_groups-returns-in-Split-clause-decides : goal.merge_groups-returns-in-Split-clause-decides
+merge_groups-returns-in-Split-clause-decides t c =
+    environment-splits c.args.class c.args.rules.now.param_env.items c.args.rules.now.environment.items c.args.rules.now.later.items (own_args c.args.self.now.tables c.args.asked.now.alias) c.args.asked.now c.args.self.now c.merge_rules.new.self c.respond.result
+    (rules-merged c.args.rules.now.param_env.items c.deref.result.now c.args.rules.now.environment.items c.deref-2.result.now c.args.self.now c.merge_rules.new.self c.in_ok-merge_rules.field-0 merged.Split
+    c.deref.ensures.value c.deref-2.ensures.value c.in-Split.is c.in_ok-merge_rules.ensures.merges) c.respond.ensures.certainty
+
+pub merge_groups-returns-in-Split-clause-applies : goal.merge_groups-returns-in-Split-clause-applies
+merge_groups-returns-in-Split-clause-applies t c =
+    nothing-applies-after c.args.self.now c.merge_rules.new.self c.respond.result c.merge_rules.ensures.unchanged c.is_well_formed.ensures.storage
+    (subst (λ (s : State). IsQuiet (length (kinds_of s)) c.respond.result) c.merge_rules.ensures.unchanged c.respond.ensures.quiet) c.respond.ensures.values
+
+pub merge_bounds-returns-in-Refuted-clause-decides : goal.merge_bounds-returns-in-Refuted-clause-decides
+merge_bounds-returns-in-Refuted-clause-decides t c =
+    bounds-rigid c.args.rules.now.param_env.items c.args.rules.now.later.items (own_args c.args.self.now.tables c.args.asked.now.alias) c.args.asked.now c.args.self.now c.merge_rules.new.self c.rigid.new.self c.rigid.result
+    (rules-merged c.args.rules.now.param_env.items c.deref.result.now c.args.rules.now.later.items c.deref-2.result.now c.args.self.now c.merge_rules.new.self c.in_ok-merge_rules.field-0 merged.Refuted
+    c.deref.ensures.value c.deref-2.ensures.value c.in-Refuted.is c.in_ok-merge_rules.ensures.merges)
+    (subst (λ (xs : List Clause). WhenAnswered c.rigid.result (IsRigid xs c.args.asked.now c.merge_rules.new.self c.rigid.result c.rigid.new.self)) c.deref-in-Refuted.ensures.value c.rigid.ensures.rigid)
+
+pub merge_bounds-returns-in-Answered-clause-decides : goal.merge_bounds-returns-in-Answered-clause-decides
+merge_bounds-returns-in-Answered-clause-decides t c =
+    bounds-answer c.args.rules.now.param_env.items c.args.rules.now.later.items c.args.asked.now c.args.self.now c.merge_rules.new.self c.with_forms.new.self c.in-Answered.response c.with_forms.result
+    c.merge_rules.ensures.unchanged
+    (rules-merged c.args.rules.now.param_env.items c.deref.result.now c.args.rules.now.later.items c.deref-2.result.now c.args.self.now c.merge_rules.new.self c.in_ok-merge_rules.field-0 (merged.Answered c.in-Answered.response)
+    c.deref.ensures.value c.deref-2.ensures.value c.in-Answered.is c.in_ok-merge_rules.ensures.merges)
+    (subst (λ (xs : List Clause). WhenAnswered c.with_forms.result (WithForms xs (own_args c.merge_rules.new.self.tables c.args.asked.now.alias) c.in-Answered.response c.merge_rules.new.self c.with_forms.result c.with_forms.new.self)) c.deref-in-Answered.ensures.value c.with_forms.ensures.forms)
+
+pub merge_bounds-returns-in-Split-clause-decides : goal.merge_bounds-returns-in-Split-clause-decides
+merge_bounds-returns-in-Split-clause-decides t c =
+    bounds-split c.args.rules.now.param_env.items c.args.rules.now.later.items (own_args c.args.self.now.tables c.args.asked.now.alias) c.args.asked.now c.args.self.now c.merge_rules.new.self c.respond.result
+    (rules-merged c.args.rules.now.param_env.items c.deref.result.now c.args.rules.now.later.items c.deref-2.result.now c.args.self.now c.merge_rules.new.self c.in_ok-merge_rules.field-0 merged.Split
+    c.deref.ensures.value c.deref-2.ensures.value c.in-Split.is c.in_ok-merge_rules.ensures.merges) c.respond.ensures.certainty
+
+pub merge_bounds-returns-in-Split-clause-applies : goal.merge_bounds-returns-in-Split-clause-applies
+merge_bounds-returns-in-Split-clause-applies t c =
+    nothing-applies-after c.args.self.now c.merge_rules.new.self c.respond.result c.merge_rules.ensures.unchanged c.is_well_formed.ensures.storage
+    (subst (λ (s : State). IsQuiet (length (kinds_of s)) c.respond.result) c.merge_rules.ensures.unchanged c.respond.ensures.quiet) c.respond.ensures.values
+
+pub merge_rest-returns-in-Refuted-clause-decides : goal.merge_rest-returns-in-Refuted-clause-decides
+merge_rest-returns-in-Refuted-clause-decides t c =
+    rest-refuses c.args.rules.now.param_env.items c.args.rules.now.later.items c.args.self.now c.merge_rules.new.self (Err fault.NoSolution)
+    (rules-merged c.args.rules.now.param_env.items c.deref.result.now c.args.rules.now.later.items c.deref-2.result.now c.args.self.now c.merge_rules.new.self c.in_ok-merge_rules.field-0 merged.Refuted
+    c.deref.ensures.value c.deref-2.ensures.value c.in-Refuted.is c.in_ok-merge_rules.ensures.merges) refl
+
+pub merge_rest-returns-in-Answered-clause-decides : goal.merge_rest-returns-in-Answered-clause-decides
+merge_rest-returns-in-Answered-clause-decides t c =
+    rest-answers c.args.rules.now.param_env.items c.args.rules.now.later.items c.args.self.now c.merge_rules.new.self c.in-Answered.response
+    (rules-merged c.args.rules.now.param_env.items c.deref.result.now c.args.rules.now.later.items c.deref-2.result.now c.args.self.now c.merge_rules.new.self c.in_ok-merge_rules.field-0 (merged.Answered c.in-Answered.response)
+    c.deref.ensures.value c.deref-2.ensures.value c.in-Answered.is c.in_ok-merge_rules.ensures.merges)
+
+pub merge_rest-returns-in-Split-clause-decides : goal.merge_rest-returns-in-Split-clause-decides
+merge_rest-returns-in-Split-clause-decides t c =
+    rest-splits c.args.rules.now.param_env.items c.args.rules.now.later.items c.args.self.now c.merge_rules.new.self c.respond.result
+    (rules-merged c.args.rules.now.param_env.items c.deref.result.now c.args.rules.now.later.items c.deref-2.result.now c.args.self.now c.merge_rules.new.self c.in_ok-merge_rules.field-0 merged.Split
+    c.deref.ensures.value c.deref-2.ensures.value c.in-Split.is c.in_ok-merge_rules.ensures.merges) c.respond.ensures.certainty
+
+pub merge_rest-returns-in-Split-clause-applies : goal.merge_rest-returns-in-Split-clause-applies
+merge_rest-returns-in-Split-clause-applies t c =
+    nothing-applies-after c.args.self.now c.merge_rules.new.self c.respond.result c.merge_rules.ensures.unchanged c.is_well_formed.ensures.storage
+    (subst (λ (s : State). IsQuiet (length (kinds_of s)) c.respond.result) c.merge_rules.ensures.unchanged c.respond.ensures.quiet) c.respond.ensures.values
+
+pub form_of_open-returns-then-self-eq0-clause-goes_back : goal.form_of_open-returns-then-self-eq0-clause-goes_back
+form_of_open-returns-then-self-eq0-clause-goes_back t c =
+    goes_back-same c.args.self.now
+
+pub form_of_open-rollback-requires : goal.form_of_open-rollback-requires
+form_of_open-rollback-requires t c =
+    record { valid = (c.args.self.now, c.snapshot-before.ensures, (let-go-back c.args.self.now c.found_form-found.new.self c.keep_caused_faults.new.self c.len-known.result (c.len-known.ensures ∙ c.self.inside.delayed_faults.ok.0 ∙ ap (λ (s : State). length s.delayed_faults) c.self.view_is) c.found_form-found.ensures.goes_back c.keep_caused_faults.ensures.unchanged c.keep_caused_faults.ensures.kept), c.holds_together.ensures) }
+
+pub form_of_open-returns-then-not-gives_form-clause-opens : goal.form_of_open-returns-then-not-gives_form-clause-opens
+form_of_open-returns-then-not-gives_form-clause-opens t c =
+    opens-undone answers_term c.args.environment.now (erased (tree_of_alias c.args.alias)) c.args.self.now c.found_form-found.new.self c.rollback.new.self c.found_form-found.result (sym c.gives_form.ensures ∙ c.if-not-gives_form.true) c.found_form-found.ensures.opens
+
+pub form_of_open-returns-then-not-gives_form-clause-unchanged : goal.form_of_open-returns-then-not-gives_form-clause-unchanged
+form_of_open-returns-then-not-gives_form-clause-unchanged t c =
+    λ none. restored-itself c.args.self.now c.keep_caused_faults.new.self c.rollback.new.self (c.rollback.ensures.undone c.args.self.now c.snapshot-before.ensures (let-go-back c.args.self.now c.found_form-found.new.self c.keep_caused_faults.new.self c.len-known.result (c.len-known.ensures ∙ c.self.inside.delayed_faults.ok.0 ∙ ap (λ (s : State). length s.delayed_faults) c.self.view_is) c.found_form-found.ensures.goes_back c.keep_caused_faults.ensures.unchanged c.keep_caused_faults.ensures.kept))
+
+pub form_of_open-returns-then-not-gives_form-clause-alone : goal.form_of_open-returns-then-not-gives_form-clause-alone
+form_of_open-returns-then-not-gives_form-clause-alone t c =
+    restored-records c.args.self.now c.rollback.new.self (restored-itself c.args.self.now c.keep_caused_faults.new.self c.rollback.new.self (c.rollback.ensures.undone c.args.self.now c.snapshot-before.ensures (let-go-back c.args.self.now c.found_form-found.new.self c.keep_caused_faults.new.self c.len-known.result (c.len-known.ensures ∙ c.self.inside.delayed_faults.ok.0 ∙ ap (λ (s : State). length s.delayed_faults) c.self.view_is) c.found_form-found.ensures.goes_back c.keep_caused_faults.ensures.unchanged c.keep_caused_faults.ensures.kept)))
+
+pub form_of_open-returns-then-not-gives_form-clause-faults : goal.form_of_open-returns-then-not-gives_form-clause-faults
+form_of_open-returns-then-not-gives_form-clause-faults t c =
+    undone-faults c.args.self.now c.keep_caused_faults.new.self c.rollback.new.self (let-go-back c.args.self.now c.found_form-found.new.self c.keep_caused_faults.new.self c.len-known.result (c.len-known.ensures ∙ c.self.inside.delayed_faults.ok.0 ∙ ap (λ (s : State). length s.delayed_faults) c.self.view_is) c.found_form-found.ensures.goes_back c.keep_caused_faults.ensures.unchanged c.keep_caused_faults.ensures.kept) (let-go-caused c.args.self.now c.found_form-found.new.self c.keep_caused_faults.new.self c.len-known.result (c.len-known.ensures ∙ c.self.inside.delayed_faults.ok.0 ∙ ap (λ (s : State). length s.delayed_faults) c.self.view_is) c.found_form-found.ensures.goes_back c.keep_caused_faults.ensures.caused) (c.rollback.ensures.undone c.args.self.now c.snapshot-before.ensures (let-go-back c.args.self.now c.found_form-found.new.self c.keep_caused_faults.new.self c.len-known.result (c.len-known.ensures ∙ c.self.inside.delayed_faults.ok.0 ∙ ap (λ (s : State). length s.delayed_faults) c.self.view_is) c.found_form-found.ensures.goes_back c.keep_caused_faults.ensures.unchanged c.keep_caused_faults.ensures.kept))
+
+pub form_of_open-returns-then-not-gives_form-clause-goes_back : goal.form_of_open-returns-then-not-gives_form-clause-goes_back
+form_of_open-returns-then-not-gives_form-clause-goes_back t c =
+    subst (GoesBack c.args.self.now) (sym (c.rollback.ensures.undone c.args.self.now c.snapshot-before.ensures (let-go-back c.args.self.now c.found_form-found.new.self c.keep_caused_faults.new.self c.len-known.result (c.len-known.ensures ∙ c.self.inside.delayed_faults.ok.0 ∙ ap (λ (s : State). length s.delayed_faults) c.self.view_is) c.found_form-found.ensures.goes_back c.keep_caused_faults.ensures.unchanged c.keep_caused_faults.ensures.kept))) (goes_back-restored c.args.self.now c.keep_caused_faults.new.self (let-go-back c.args.self.now c.found_form-found.new.self c.keep_caused_faults.new.self c.len-known.result (c.len-known.ensures ∙ c.self.inside.delayed_faults.ok.0 ∙ ap (λ (s : State). length s.delayed_faults) c.self.view_is) c.found_form-found.ensures.goes_back c.keep_caused_faults.ensures.unchanged c.keep_caused_faults.ensures.kept))
+
+pub form_of_open-returns-then-not-gives_form-clause-fault : goal.form_of_open-returns-then-not-gives_form-clause-fault
+form_of_open-returns-then-not-gives_form-clause-fault t c =
+    undone-fault (Option Term) c.args.self.now c.keep_caused_faults.new.self c.rollback.new.self c.found_form-found.result (c.rollback.ensures.undone c.args.self.now c.snapshot-before.ensures (let-go-back c.args.self.now c.found_form-found.new.self c.keep_caused_faults.new.self c.len-known.result (c.len-known.ensures ∙ c.self.inside.delayed_faults.ok.0 ∙ ap (λ (s : State). length s.delayed_faults) c.self.view_is) c.found_form-found.ensures.goes_back c.keep_caused_faults.ensures.unchanged c.keep_caused_faults.ensures.kept)) (let-go-fault (Option Term) c.args.self.now c.found_form-found.new.self c.keep_caused_faults.new.self c.found_form-found.result c.keep_caused_faults.ensures.unchanged c.found_form-found.ensures.fault)
+
+pub form_of_open-returns-else-not-gives_form-clause-opens : goal.form_of_open-returns-else-not-gives_form-clause-opens
+form_of_open-returns-else-not-gives_form-clause-opens t c =
+    opens-let_go answers_term c.args.environment.now (erased (tree_of_alias c.args.alias)) c.args.self.now c.found_form-found.new.self c.keep_caused_faults.new.self c.found_form-found.result c.keep_caused_faults.ensures.unchanged c.found_form-found.ensures.opens
+
+pub form_of_open-returns-else-not-gives_form-clause-unchanged : goal.form_of_open-returns-else-not-gives_form-clause-unchanged
+form_of_open-returns-else-not-gives_form-clause-unchanged t c =
+    λ none. absurd (false≢true (sym none ∙ sym c.gives_form.ensures ∙ c.if-not-gives_form.false))
+
+pub form_of_open-returns-else-not-gives_form-clause-alone : goal.form_of_open-returns-else-not-gives_form-clause-alone
+form_of_open-returns-else-not-gives_form-clause-alone t c =
+    let-go c.args.self.now c.found_form-found.new.self c.keep_caused_faults.new.self c.found_form-found.ensures.alone c.keep_caused_faults.ensures.unchanged
+
+pub form_of_open-returns-else-not-gives_form-clause-faults : goal.form_of_open-returns-else-not-gives_form-clause-faults
+form_of_open-returns-else-not-gives_form-clause-faults t c =
+    let-go-caused c.args.self.now c.found_form-found.new.self c.keep_caused_faults.new.self c.len-known.result (c.len-known.ensures ∙ c.self.inside.delayed_faults.ok.0 ∙ ap (λ (s : State). length s.delayed_faults) c.self.view_is) c.found_form-found.ensures.goes_back c.keep_caused_faults.ensures.caused
+
+pub form_of_open-returns-else-not-gives_form-clause-goes_back : goal.form_of_open-returns-else-not-gives_form-clause-goes_back
+form_of_open-returns-else-not-gives_form-clause-goes_back t c =
+    let-go-back c.args.self.now c.found_form-found.new.self c.keep_caused_faults.new.self c.len-known.result (c.len-known.ensures ∙ c.self.inside.delayed_faults.ok.0 ∙ ap (λ (s : State). length s.delayed_faults) c.self.view_is) c.found_form-found.ensures.goes_back c.keep_caused_faults.ensures.unchanged c.keep_caused_faults.ensures.kept
+
+pub form_of_open-returns-else-not-gives_form-clause-fault : goal.form_of_open-returns-else-not-gives_form-clause-fault
+form_of_open-returns-else-not-gives_form-clause-fault t c =
+    let-go-fault (Option Term) c.args.self.now c.found_form-found.new.self c.keep_caused_faults.new.self c.found_form-found.result c.keep_caused_faults.ensures.unchanged c.found_form-found.ensures.fault
+
+pub found_form-returns-in_err-expected-clause-alone : goal.found_form-returns-in_err-expected-clause-alone
+found_form-returns-in_err-expected-clause-alone t c =
+    same-records c.args.self.now c.fresh_term.new.self c.in_err-expected.ensures.unchanged
+
+pub found_form-returns-in_err-asked-clause-alone : goal.found_form-returns-in_err-asked-clause-alone
+found_form-returns-in_err-asked-clause-alone t c =
+    made-records c.args.self.now c.fresh_term.new.self _ c.in_ok-expected.ensures.made
+
+pub found_form-returns-in_err-response-clause-opens : goal.found_form-returns-in_err-response-clause-opens
+found_form-returns-in_err-response-clause-opens t c =
+    handed-on c.from_residual-in_err-response.result c.in_err-response.field-0.0 (λ (r : Result (Option Term) Fault). OpensFrom answers_term c.args.environment.now (erased (tree_of_alias c.args.alias)) c.args.self.now r c.project_below.new.self) c.from_residual-in_err-response.ensures.1
+    (opens-refused answers_term c.args.environment.now (erased (tree_of_alias c.args.alias)) c.args.self.now c.project_below.new.self c.in_err-response.field-0.0
+    (refuses-term answers_term c.args.environment.now (erased (tree_of_alias c.args.alias)) c.args.self.now c.project_below.new.self c.in_ok-asked.asked c.in_err-response.field-0.0 (asks-term c.args.environment.now c.args.alias c.in_ok-expected.expected c.is_type.result c.args.self.now c.in_ok-asked.asked c.in_ok-asked.ensures.alias c.in_ok-asked.ensures.term c.in_ok-asked.ensures.environment c.is_type.ensures c.in_ok-expected.ensures.fresh)
+    (answers-err c.in_ok-asked.asked c.args.self.now c.fresh_term.new.self c.project_below.new.self c.project_below.result c.in_err-response.field-0.0 (with-fresh c.args.alias c.is_type.result c.in_ok-asked.asked c.args.self.now c.fresh_term.new.self c.in_ok-asked.ensures.alias c.is_type.ensures c.in_ok-expected.ensures.made) c.in_err-response.was c.project_below.ensures.unchanged c.project_below.ensures.merges)))
+
+pub found_form-returns-in_err-response-clause-alone : goal.found_form-returns-in_err-response-clause-alone
+found_form-returns-in_err-response-clause-alone t c =
+    records-through c.args.self.now c.fresh_term.new.self c.project_below.new.self (made-records c.args.self.now c.fresh_term.new.self _ c.in_ok-expected.ensures.made) (restored-records c.fresh_term.new.self c.project_below.new.self c.project_below.ensures.unchanged)
+
+pub found_form-returns-in_err-response-clause-goes_back : goal.found_form-returns-in_err-response-clause-goes_back
+found_form-returns-in_err-response-clause-goes_back t c =
+    goes_back-through c.args.self.now c.fresh_term.new.self c.project_below.new.self c.fresh_term.ensures.goes_back c.project_below.ensures.goes_back
+
+pub found_form-returns-in_err-response-clause-fault : goal.found_form-returns-in_err-response-clause-fault
+found_form-returns-in_err-response-clause-fault t c =
+    handed-on c.from_residual-in_err-response.result c.in_err-response.field-0.0 (λ (r : Result (Option Term) Fault). IsFaultFor c.args.self.now c.project_below.new.self r) c.from_residual-in_err-response.ensures.1
+    (fault-before Response (Option Term) c.args.self.now c.fresh_term.new.self c.project_below.new.self c.in_err-response.field-0.0 c.fresh_term.ensures.goes_back c.in_err-response.ensures.fault)
+
+pub found_form-returns-in_err-apply_sure-clause-alone : goal.found_form-returns-in_err-apply_sure-clause-alone
+found_form-returns-in_err-apply_sure-clause-alone t c =
+    records-through c.args.self.now c.project_below.new.self c.apply_sure.new.self (records-through c.args.self.now c.fresh_term.new.self c.project_below.new.self (made-records c.args.self.now c.fresh_term.new.self _ c.in_ok-expected.ensures.made) (restored-records c.fresh_term.new.self c.project_below.new.self c.project_below.ensures.unchanged)) c.apply_sure.ensures.alone
+
+pub found_form-returns-in_err-apply_sure-clause-goes_back : goal.found_form-returns-in_err-apply_sure-clause-goes_back
+found_form-returns-in_err-apply_sure-clause-goes_back t c =
+    goes_back-through c.args.self.now c.project_below.new.self c.apply_sure.new.self (goes_back-through c.args.self.now c.fresh_term.new.self c.project_below.new.self c.fresh_term.ensures.goes_back c.project_below.ensures.goes_back) c.apply_sure.ensures.goes_back
+
+pub found_form-returns-in-Maybe-clause-opens : goal.found_form-returns-in-Maybe-clause-opens
+found_form-returns-in-Maybe-clause-opens t c =
+    inr (record { asked = c.in_ok-asked.asked; asks = (asks-term c.args.environment.now c.args.alias c.in_ok-expected.expected c.is_type.result c.args.self.now c.in_ok-asked.asked c.in_ok-asked.ensures.alias c.in_ok-asked.ensures.term c.in_ok-asked.ensures.environment c.is_type.ensures c.in_ok-expected.ensures.fresh); response = c.in_ok-response.response; answered = c.project_below.new.self; answers = (answers-ok c.in_ok-asked.asked c.args.self.now c.fresh_term.new.self c.project_below.new.self c.project_below.result c.in_ok-response.response (with-fresh c.args.alias c.is_type.result c.in_ok-asked.asked c.args.self.now c.fresh_term.new.self c.in_ok-asked.ensures.alias c.is_type.ensures c.in_ok-expected.ensures.made) c.in_ok-response.was c.project_below.ensures.unchanged c.project_below.ensures.merges); unsure = c.in_ok-apply_sure.ensures.left c.in-Maybe.is })
+
+pub found_form-returns-in-Maybe-clause-alone : goal.found_form-returns-in-Maybe-clause-alone
+found_form-returns-in-Maybe-clause-alone t c =
+    records-through c.args.self.now c.project_below.new.self c.apply_sure.new.self (records-through c.args.self.now c.fresh_term.new.self c.project_below.new.self (made-records c.args.self.now c.fresh_term.new.self _ c.in_ok-expected.ensures.made) (restored-records c.fresh_term.new.self c.project_below.new.self c.project_below.ensures.unchanged)) c.apply_sure.ensures.alone
+
+pub found_form-returns-in-Maybe-clause-goes_back : goal.found_form-returns-in-Maybe-clause-goes_back
+found_form-returns-in-Maybe-clause-goes_back t c =
+    goes_back-through c.args.self.now c.project_below.new.self c.apply_sure.new.self (goes_back-through c.args.self.now c.fresh_term.new.self c.project_below.new.self c.fresh_term.ensures.goes_back c.project_below.ensures.goes_back) c.apply_sure.ensures.goes_back
+
+pub found_form-returns-in_default-bound_form-clause-goes_back : goal.found_form-returns-in_default-bound_form-clause-goes_back
+found_form-returns-in_default-bound_form-clause-goes_back t c =
+    goes_back-through c.args.self.now c.apply_sure.new.self c.bound_form.new.self (goes_back-through c.args.self.now c.project_below.new.self c.apply_sure.new.self (goes_back-through c.args.self.now c.fresh_term.new.self c.project_below.new.self c.fresh_term.ensures.goes_back c.project_below.ensures.goes_back) c.apply_sure.ensures.goes_back) (goes_back-grown c.apply_sure.new.self c.bound_form.new.self c.bound_form.ensures.unchanged c.bound_form.ensures.kept)
+
+pub found_form-returns-clause-opens : goal.found_form-returns-clause-opens
+found_form-returns-clause-opens t c =
+    opens-answered answers_term c.args.environment.now (erased (tree_of_alias c.args.alias)) (erased_at c.bound_form.new.self.terms c.in-Ok.id) c.args.self.now c.bound_form.new.self c.form_at.result (c.form_at.ensures.found c.in-Ok.ensures.term) c.form_at.ensures.only_memory
+    (λ x form. record {
+      asked = c.in_ok-asked.asked;
+      asks = (asks-term c.args.environment.now c.args.alias c.in_ok-expected.expected c.is_type.result c.args.self.now c.in_ok-asked.asked c.in_ok-asked.ensures.alias c.in_ok-asked.ensures.term c.in_ok-asked.ensures.environment c.is_type.ensures c.in_ok-expected.ensures.fresh);
+      response = c.in_ok-response.response;
+      answered = c.project_below.new.self;
+      answers = (answers-ok c.in_ok-asked.asked c.args.self.now c.fresh_term.new.self c.project_below.new.self c.project_below.result c.in_ok-response.response (with-fresh c.args.alias c.is_type.result c.in_ok-asked.asked c.args.self.now c.fresh_term.new.self c.in_ok-asked.ensures.alias c.is_type.ensures c.in_ok-expected.ensures.made) c.in_ok-response.was c.project_below.ensures.unchanged c.project_below.ensures.merges);
+      applied = c.apply_sure.new.self;
+      applies = c.in_ok-apply_sure.ensures.applied (not-maybe c.in_ok-apply_sure.field-0 c.in_default.not-Maybe);
+      form = form ∙ c.in-Ok.ensures.tree;
+      left = grown-left c.apply_sure.new.self c.bound_form.new.self c.bound_form.ensures.unchanged;
+    })
+
+pub found_form-returns-clause-alone : goal.found_form-returns-clause-alone
+found_form-returns-clause-alone t c =
+    records-through c.args.self.now c.apply_sure.new.self c.bound_form.new.self (records-through c.args.self.now c.project_below.new.self c.apply_sure.new.self (records-through c.args.self.now c.fresh_term.new.self c.project_below.new.self (made-records c.args.self.now c.fresh_term.new.self _ c.in_ok-expected.ensures.made) (restored-records c.fresh_term.new.self c.project_below.new.self c.project_below.ensures.unchanged)) c.apply_sure.ensures.alone) (grown-records c.apply_sure.new.self c.bound_form.new.self c.bound_form.ensures.unchanged)
+
+pub found_form-returns-clause-goes_back : goal.found_form-returns-clause-goes_back
+found_form-returns-clause-goes_back t c =
+    goes_back-through c.args.self.now c.apply_sure.new.self c.bound_form.new.self (goes_back-through c.args.self.now c.project_below.new.self c.apply_sure.new.self (goes_back-through c.args.self.now c.fresh_term.new.self c.project_below.new.self c.fresh_term.ensures.goes_back c.project_below.ensures.goes_back) c.apply_sure.ensures.goes_back) (goes_back-grown c.apply_sure.new.self c.bound_form.new.self c.bound_form.ensures.unchanged c.bound_form.ensures.kept)
+
+pub merge_open_trait-returns-in_err-open_self-clause-opened : goal.merge_open_trait-returns-in_err-open_self-clause-opened
+merge_open_trait-returns-in_err-open_self-clause-opened t c =
+    λ asks. opened-unsaid trait_words.self_type (ByFormedClasses trait_words c.args.goal.now) c.args.goal.now c.args.self.now c.open_self.new.self c.from_residual.result c.in_err-open_self.field-0.0 c.open_self.ensures.unchanged c.from_residual.ensures.1 c.in_err-open_self.ensures.only_memory
+
+pub merge_open_trait-returns-in_err-open_self-clause-goes_back : goal.merge_open_trait-returns-in_err-open_self-clause-goes_back
+merge_open_trait-returns-in_err-open_self-clause-goes_back t c =
+    goes_back-grown c.args.self.now c.open_self.new.self c.open_self.ensures.unchanged c.open_self.ensures.kept
+
+pub merge_open_trait-returns-in-None-clause-opened : goal.merge_open_trait-returns-in-None-clause-opened
+merge_open_trait-returns-in-None-clause-opened t c =
+    λ asks. absurd (c.open_self.ensures.none (c.in_ok-open_self.was ∙ ap (λ (o : Option AliasTerm). Ok o) c.in-None.is) asks)
+
+pub merge_open_trait-returns-in-None-clause-applies : goal.merge_open_trait-returns-in-None-clause-applies
+merge_open_trait-returns-in-None-clause-applies t c =
+    nothing-applies-after c.args.self.now c.open_self.new.self c.respond.result (restored-grown c.args.self.now c.open_self.new.self c.open_self.ensures.unchanged) c.is_well_formed.ensures.storage
+    (subst (λ (s : State). IsQuiet (length (kinds_of s)) c.respond.result) c.open_self.ensures.unchanged c.respond.ensures.quiet) c.respond.ensures.values
+
+pub merge_open_trait-returns-in-None-clause-goes_back : goal.merge_open_trait-returns-in-None-clause-goes_back
+merge_open_trait-returns-in-None-clause-goes_back t c =
+    goes_back-grown c.args.self.now c.open_self.new.self c.open_self.ensures.unchanged c.open_self.ensures.kept
+
+pub merge_open_trait-returns-in-Some-clause-undecided : goal.merge_open_trait-returns-in-Some-clause-undecided
+merge_open_trait-returns-in-Some-clause-undecided t c =
+    λ other. absurd (other (known c.in_ok-open_self.field-0 c.in-Some.alias (λ a. AsksOpenSelf trait_words.self_type c.args.goal.now c.args.self.now) c.in-Some.is c.in_ok-open_self.ensures.asks))
+
+pub merge_open_trait-returns-in-Some-clause-opened : goal.merge_open_trait-returns-in-Some-clause-opened
+merge_open_trait-returns-in-Some-clause-opened t c =
+    λ asks. (c.open_self.new.self, restored-grown c.args.self.now c.open_self.new.self c.open_self.ensures.unchanged, c.merge_opened_trait.ensures.merges)
+
+pub merge_open_trait-returns-in-Some-clause-unchanged : goal.merge_open_trait-returns-in-Some-clause-unchanged
+merge_open_trait-returns-in-Some-clause-unchanged t c =
+    restored-twice c.args.self.now c.open_self.new.self c.merge_opened_trait.new.self (restored-grown c.args.self.now c.open_self.new.self c.open_self.ensures.unchanged) c.merge_opened_trait.ensures.unchanged
+
+pub merge_open_trait-returns-in-Some-clause-goes_back : goal.merge_open_trait-returns-in-Some-clause-goes_back
+merge_open_trait-returns-in-Some-clause-goes_back t c =
+    goes_back-through c.args.self.now c.open_self.new.self c.merge_opened_trait.new.self (goes_back-grown c.args.self.now c.open_self.new.self c.open_self.ensures.unchanged c.open_self.ensures.kept) c.merge_opened_trait.ensures.goes_back
+
+pub merge_open_trait-returns-in-Some-clause-fault : goal.merge_open_trait-returns-in-Some-clause-fault
+merge_open_trait-returns-in-Some-clause-fault t c =
+    fault-later c.args.self.now c.open_self.new.self c.merge_opened_trait.new.self c.merge_opened_trait.result (goes_back-grown c.args.self.now c.open_self.new.self c.open_self.ensures.unchanged c.open_self.ensures.kept) c.merge_opened_trait.ensures.fault
+
+pub merge_opened_trait-rollback-requires : goal.merge_opened_trait-rollback-requires
+merge_opened_trait-rollback-requires t c =
+    let back : GoesBack (begun c.args.self.now) c.answer_opened_trait-answer.new.self = subst (λ (z : State). GoesBack z c.answer_opened_trait-answer.new.self) c.begin-around.ensures.began c.answer_opened_trait-answer.ensures.goes_back in
+    record { valid = (begun c.args.self.now, c.snapshot-before.ensures, back, valid-begun c.args.self.now c.holds_together.ensures) }
+
+pub merge_opened_trait-returns-clause-merges : goal.merge_opened_trait-returns-clause-merges
+merge_opened_trait-returns-clause-merges t c =
+    let back : GoesBack (begun c.args.self.now) c.answer_opened_trait-answer.new.self = subst (λ (z : State). GoesBack z c.answer_opened_trait-answer.new.self) c.begin-around.ensures.began c.answer_opened_trait-answer.ensures.goes_back in
+    let undone : c.end.new.self ≡ restored c.args.self.now c.answer_opened_trait-answer.new.self =
+    c.end.ensures ∙ ap (λ (z : State). record z { mark = c.begin-around.result }) (c.rollback.ensures.undone (begun c.args.self.now) c.snapshot-before.ensures back)
+    ∙ ap (λ m. record (restored (begun c.args.self.now) c.answer_opened_trait-answer.new.self) { mark = m }) c.begin-around.ensures.around in
+    opened-merges trait_words.self_type (ByFormedClasses trait_words c.args.goal.now) c.args.goal.now c.args.alias c.args.self.now c.begin-around.new.self c.answer_opened_trait-answer.new.self c.end.new.self c.answer_opened_trait-answer.result c.or_undecided.result
+    c.begin-around.ensures.began undone c.requires.opens c.answer_opened_trait-answer.ensures.by c.or_undecided.ensures.after
+
+pub merge_opened_trait-returns-clause-applies : goal.merge_opened_trait-returns-clause-applies
+merge_opened_trait-returns-clause-applies t c =
+    let back : GoesBack (begun c.args.self.now) c.answer_opened_trait-answer.new.self = subst (λ (z : State). GoesBack z c.answer_opened_trait-answer.new.self) c.begin-around.ensures.began c.answer_opened_trait-answer.ensures.goes_back in
+    let undone : c.end.new.self ≡ restored c.args.self.now c.answer_opened_trait-answer.new.self =
+    c.end.ensures ∙ ap (λ (z : State). record z { mark = c.begin-around.result }) (c.rollback.ensures.undone (begun c.args.self.now) c.snapshot-before.ensures back)
+    ∙ ap (λ m. record (restored (begun c.args.self.now) c.answer_opened_trait-answer.new.self) { mark = m }) c.begin-around.ensures.around in
+    opened-applies c.args.self.now c.answer_opened_trait-answer.new.self c.end.new.self c.answer_opened_trait-answer.result c.or_undecided.result back undone c.holds_together.ensures.solved c.holds_together-2.ensures.solved
+    c.is_well_formed.ensures.storage c.is_well_formed-2.ensures.storage c.answer_opened_trait-answer.ensures.lists c.or_undecided.ensures.left c.or_undecided.ensures.after
+
+pub merge_opened_trait-returns-clause-unchanged : goal.merge_opened_trait-returns-clause-unchanged
+merge_opened_trait-returns-clause-unchanged t c =
+    let back : GoesBack (begun c.args.self.now) c.answer_opened_trait-answer.new.self = subst (λ (z : State). GoesBack z c.answer_opened_trait-answer.new.self) c.begin-around.ensures.began c.answer_opened_trait-answer.ensures.goes_back in
+    let undone : c.end.new.self ≡ restored c.args.self.now c.answer_opened_trait-answer.new.self =
+    c.end.ensures ∙ ap (λ (z : State). record z { mark = c.begin-around.result }) (c.rollback.ensures.undone (begun c.args.self.now) c.snapshot-before.ensures back)
+    ∙ ap (λ m. record (restored (begun c.args.self.now) c.answer_opened_trait-answer.new.self) { mark = m }) c.begin-around.ensures.around in
+    undone ∙ sym (ap (restored c.args.self.now) undone)
+
+pub merge_opened_trait-returns-clause-goes_back : goal.merge_opened_trait-returns-clause-goes_back
+merge_opened_trait-returns-clause-goes_back t c =
+    let back : GoesBack (begun c.args.self.now) c.answer_opened_trait-answer.new.self = subst (λ (z : State). GoesBack z c.answer_opened_trait-answer.new.self) c.begin-around.ensures.began c.answer_opened_trait-answer.ensures.goes_back in
+    let undone : c.end.new.self ≡ restored c.args.self.now c.answer_opened_trait-answer.new.self =
+    c.end.ensures ∙ ap (λ (z : State). record z { mark = c.begin-around.result }) (c.rollback.ensures.undone (begun c.args.self.now) c.snapshot-before.ensures back)
+    ∙ ap (λ m. record (restored (begun c.args.self.now) c.answer_opened_trait-answer.new.self) { mark = m }) c.begin-around.ensures.around in
+    subst (GoesBack c.args.self.now) (sym undone) (goes_back-tried c.args.self.now c.answer_opened_trait-answer.new.self back)
+
+pub merge_opened_trait-returns-clause-fault : goal.merge_opened_trait-returns-clause-fault
+merge_opened_trait-returns-clause-fault t c =
+    let back : GoesBack (begun c.args.self.now) c.answer_opened_trait-answer.new.self = subst (λ (z : State). GoesBack z c.answer_opened_trait-answer.new.self) c.begin-around.ensures.began c.answer_opened_trait-answer.ensures.goes_back in
+    let undone : c.end.new.self ≡ restored c.args.self.now c.answer_opened_trait-answer.new.self =
+    c.end.ensures ∙ ap (λ (z : State). record z { mark = c.begin-around.result }) (c.rollback.ensures.undone (begun c.args.self.now) c.snapshot-before.ensures back)
+    ∙ ap (λ m. record (restored (begun c.args.self.now) c.answer_opened_trait-answer.new.self) { mark = m }) c.begin-around.ensures.around in
+    after-fault c.args.self.now c.end.new.self c.answer_opened_trait-answer.result c.or_undecided.result
+    (fault-tried c.args.self.now c.begin-around.new.self c.answer_opened_trait-answer.new.self c.end.new.self c.answer_opened_trait-answer.result c.begin-around.ensures.began undone c.answer_opened_trait-answer.ensures.fault) c.or_undecided.ensures.after
+
+pub answer_opened_trait-returns-in_err-found-clause-by : goal.answer_opened_trait-returns-in_err-found-clause-by
+answer_opened_trait-returns-in_err-found-clause-by t c =
+    handed-on c.from_residual.result c.in_err-found.field-0.0 (λ (r : Result (Option Response) Fault). WhenTried r (InTrial (ByFormedClasses trait_words c.args.goal.now) c.args.goal.now.param_env.items c.args.alias c.args.self.now r c.form_of_open.new.self)) c.from_residual.ensures.1
+    (form-refused (ByFormedClasses trait_words c.args.goal.now) c.args.goal.now.param_env.items c.args.alias c.args.self.now c.form_of_open.new.self c.in_err-found.field-0.0 (subst (λ (es : List Clause). OpensFrom answers_term es (erased (tree_of_alias c.args.alias)) c.args.self.now (Err c.in_err-found.field-0.0) c.form_of_open.new.self) c.deref.ensures.value c.in_err-found.ensures.opens) c.form_of_open.ensures.alone (refl, refl))
+
+pub answer_opened_trait-returns-in_default-clause-by : goal.answer_opened_trait-returns-in_default-clause-by
+answer_opened_trait-returns-in_default-clause-by t c =
+    form-passed (ByFormedClasses trait_words c.args.goal.now) c.args.goal.now.param_env.items c.args.alias c.args.self.now c.form_of_open.new.self c.in_ok-found.found (subst (λ (es : List Clause). OpensFrom answers_term es (erased (tree_of_alias c.args.alias)) c.args.self.now (Ok c.in_ok-found.found) c.form_of_open.new.self) c.deref.ensures.value c.in_ok-found.ensures.opens) c.form_of_open.ensures.alone
+    (inl (classes-passed trait_words _ c.form_of_open.new.self c.args.goal.now c.in_ok-found.found c.in_ok-rules.field-0 c.self.view_is (none-left _ c.in_default.not-Some) c.in_ok-rules.ensures.rules, refl, refl))
+
+pub answer_opened_trait-returns-in_err-answer-clause-by : goal.answer_opened_trait-returns-in_err-answer-clause-by
+answer_opened_trait-returns-in_err-answer-clause-by t c =
+    handed-on c.from_residual-in_err-answer.result c.in_err-answer.field-0.0 (λ (r : Result (Option Response) Fault). WhenTried r (InTrial (ByFormedClasses trait_words c.args.goal.now) c.args.goal.now.param_env.items c.args.alias c.args.self.now r c.merge_classes.new.self)) c.from_residual-in_err-answer.ensures.1
+    (merge-refused (ByFormedClasses trait_words c.args.goal.now) (λ x. ByClasses (AreOfClass c.form_of_open.new.self.typing_mode c.in-Some.rules) c.in-Some.rules.param_env.items trait_classes c.form_of_open.new.self x c.merge_classes.new.self) c.args.goal.now.param_env.items c.args.alias c.args.self.now c.form_of_open.new.self c.merge_classes.new.self c.in_ok-found.found c.merge_classes.result c.in_err-answer.field-0.0 c.in_err-answer.was (subst (λ (es : List Clause). OpensFrom answers_term es (erased (tree_of_alias c.args.alias)) c.args.self.now (Ok c.in_ok-found.found) c.form_of_open.new.self) c.deref.ensures.value c.in_ok-found.ensures.opens) c.form_of_open.ensures.alone c.merge_classes.ensures.decides
+    (λ d. inr (c.in-Some.rules, Err c.in_err-answer.field-0.0, c.merge_classes.new.self, classes-shown trait_words _ c.form_of_open.new.self c.args.goal.now c.in_ok-found.found c.in_ok-rules.field-0 c.in-Some.rules c.self.view_is c.in-Some.is c.in_ok-rules.ensures.rules, d, (refl, refl))))
+
+pub answer_opened_trait-returns-clause-by : goal.answer_opened_trait-returns-clause-by
+answer_opened_trait-returns-clause-by t c =
+    merge-answered (ByFormedClasses trait_words c.args.goal.now) (λ x. ByClasses (AreOfClass c.form_of_open.new.self.typing_mode c.in-Some.rules) c.in-Some.rules.param_env.items trait_classes c.form_of_open.new.self x c.merge_classes.new.self) c.args.goal.now.param_env.items c.args.alias c.args.self.now c.form_of_open.new.self c.merge_classes.new.self c.beside.new.self c.in_ok-found.found c.merge_classes.result c.in_ok-answer.answer c.beside.result c.in_ok-answer.was (subst (λ (es : List Clause). OpensFrom answers_term es (erased (tree_of_alias c.args.alias)) c.args.self.now (Ok c.in_ok-found.found) c.form_of_open.new.self) c.deref.ensures.value c.in_ok-found.ensures.opens) c.form_of_open.ensures.alone c.merge_classes.ensures.decides c.beside.ensures.beside c.beside.ensures.only_memory
+    (λ x b d. inr (c.in-Some.rules, Ok c.in_ok-answer.answer, c.merge_classes.new.self, classes-shown trait_words _ c.form_of_open.new.self c.args.goal.now c.in_ok-found.found c.in_ok-rules.field-0 c.in-Some.rules c.self.view_is c.in-Some.is c.in_ok-rules.ensures.rules, d, (x, b, refl)))
+
+pub answer_opened_trait-returns-in_err-answer-clause-goes_back : goal.answer_opened_trait-returns-in_err-answer-clause-goes_back
+answer_opened_trait-returns-in_err-answer-clause-goes_back t c =
+    goes_back-through c.args.self.now c.form_of_open.new.self c.merge_classes.new.self c.form_of_open.ensures.goes_back c.merge_classes.ensures.goes_back
+
+pub answer_opened_trait-returns-clause-goes_back : goal.answer_opened_trait-returns-clause-goes_back
+answer_opened_trait-returns-clause-goes_back t c =
+    goes_back-through c.args.self.now c.merge_classes.new.self c.beside.new.self (goes_back-through c.args.self.now c.form_of_open.new.self c.merge_classes.new.self c.form_of_open.ensures.goes_back c.merge_classes.ensures.goes_back) c.beside.ensures.goes_back
+
+pub answer_opened_trait-returns-in_err-answer-clause-fault : goal.answer_opened_trait-returns-in_err-answer-clause-fault
+answer_opened_trait-returns-in_err-answer-clause-fault t c =
+    handed-on c.from_residual-in_err-answer.result c.in_err-answer.field-0.0 (λ (r : Result (Option Response) Fault). IsFaultFor c.args.self.now c.merge_classes.new.self r) c.from_residual-in_err-answer.ensures.1
+    (fault-before Response (Option Response) c.args.self.now c.form_of_open.new.self c.merge_classes.new.self c.in_err-answer.field-0.0 c.form_of_open.ensures.goes_back c.in_err-answer.ensures.fault)
+
+pub merge_open_alias-returns-in_err-open_self-clause-opened : goal.merge_open_alias-returns-in_err-open_self-clause-opened
+merge_open_alias-returns-in_err-open_self-clause-opened t c =
+    λ asks. opened-unsaid alias_words.self_type (ByFormedGroups alias_words c.args.goal.now.predicate c.args.class c.args.goal.now) c.args.goal.now c.args.self.now c.open_self.new.self c.from_residual.result c.in_err-open_self.field-0.0 c.open_self.ensures.unchanged c.from_residual.ensures.1 c.in_err-open_self.ensures.only_memory
+
+pub merge_open_alias-returns-in_err-open_self-clause-goes_back : goal.merge_open_alias-returns-in_err-open_self-clause-goes_back
+merge_open_alias-returns-in_err-open_self-clause-goes_back t c =
+    goes_back-grown c.args.self.now c.open_self.new.self c.open_self.ensures.unchanged c.open_self.ensures.kept
+
+pub merge_open_alias-returns-in-None-clause-opened : goal.merge_open_alias-returns-in-None-clause-opened
+merge_open_alias-returns-in-None-clause-opened t c =
+    λ asks. absurd (c.open_self.ensures.none (c.in_ok-open_self.was ∙ ap (λ (o : Option AliasTerm). Ok o) c.in-None.is) asks)
+
+pub merge_open_alias-returns-in-None-clause-applies : goal.merge_open_alias-returns-in-None-clause-applies
+merge_open_alias-returns-in-None-clause-applies t c =
+    nothing-applies-after c.args.self.now c.open_self.new.self c.respond.result (restored-grown c.args.self.now c.open_self.new.self c.open_self.ensures.unchanged) c.is_well_formed.ensures.storage
+    (subst (λ (s : State). IsQuiet (length (kinds_of s)) c.respond.result) c.open_self.ensures.unchanged c.respond.ensures.quiet) c.respond.ensures.values
+
+pub merge_open_alias-returns-in-None-clause-goes_back : goal.merge_open_alias-returns-in-None-clause-goes_back
+merge_open_alias-returns-in-None-clause-goes_back t c =
+    goes_back-grown c.args.self.now c.open_self.new.self c.open_self.ensures.unchanged c.open_self.ensures.kept
+
+pub merge_open_alias-returns-in-Some-clause-undecided : goal.merge_open_alias-returns-in-Some-clause-undecided
+merge_open_alias-returns-in-Some-clause-undecided t c =
+    λ other. absurd (other (known c.in_ok-open_self.field-0 c.in-Some.alias (λ a. AsksOpenSelf alias_words.self_type c.args.goal.now c.args.self.now) c.in-Some.is c.in_ok-open_self.ensures.asks))
+
+pub merge_open_alias-returns-in-Some-clause-opened : goal.merge_open_alias-returns-in-Some-clause-opened
+merge_open_alias-returns-in-Some-clause-opened t c =
+    λ asks. (c.open_self.new.self, restored-grown c.args.self.now c.open_self.new.self c.open_self.ensures.unchanged, c.merge_opened_alias.ensures.merges)
+
+pub merge_open_alias-returns-in-Some-clause-unchanged : goal.merge_open_alias-returns-in-Some-clause-unchanged
+merge_open_alias-returns-in-Some-clause-unchanged t c =
+    restored-twice c.args.self.now c.open_self.new.self c.merge_opened_alias.new.self (restored-grown c.args.self.now c.open_self.new.self c.open_self.ensures.unchanged) c.merge_opened_alias.ensures.unchanged
+
+pub merge_open_alias-returns-in-Some-clause-goes_back : goal.merge_open_alias-returns-in-Some-clause-goes_back
+merge_open_alias-returns-in-Some-clause-goes_back t c =
+    goes_back-through c.args.self.now c.open_self.new.self c.merge_opened_alias.new.self (goes_back-grown c.args.self.now c.open_self.new.self c.open_self.ensures.unchanged c.open_self.ensures.kept) c.merge_opened_alias.ensures.goes_back
+
+pub merge_open_alias-returns-in-Some-clause-fault : goal.merge_open_alias-returns-in-Some-clause-fault
+merge_open_alias-returns-in-Some-clause-fault t c =
+    fault-later c.args.self.now c.open_self.new.self c.merge_opened_alias.new.self c.merge_opened_alias.result (goes_back-grown c.args.self.now c.open_self.new.self c.open_self.ensures.unchanged c.open_self.ensures.kept) c.merge_opened_alias.ensures.fault
+
+pub merge_opened_alias-rollback-requires : goal.merge_opened_alias-rollback-requires
+merge_opened_alias-rollback-requires t c =
+    let back : GoesBack (begun c.args.self.now) c.answer_opened_alias-answer.new.self = subst (λ (z : State). GoesBack z c.answer_opened_alias-answer.new.self) c.begin-around.ensures.began c.answer_opened_alias-answer.ensures.goes_back in
+    record { valid = (begun c.args.self.now, c.snapshot-before.ensures, back, valid-begun c.args.self.now c.holds_together.ensures) }
+
+pub merge_opened_alias-returns-clause-merges : goal.merge_opened_alias-returns-clause-merges
+merge_opened_alias-returns-clause-merges t c =
+    let back : GoesBack (begun c.args.self.now) c.answer_opened_alias-answer.new.self = subst (λ (z : State). GoesBack z c.answer_opened_alias-answer.new.self) c.begin-around.ensures.began c.answer_opened_alias-answer.ensures.goes_back in
+    let undone : c.end.new.self ≡ restored c.args.self.now c.answer_opened_alias-answer.new.self =
+    c.end.ensures ∙ ap (λ (z : State). record z { mark = c.begin-around.result }) (c.rollback.ensures.undone (begun c.args.self.now) c.snapshot-before.ensures back)
+    ∙ ap (λ m. record (restored (begun c.args.self.now) c.answer_opened_alias-answer.new.self) { mark = m }) c.begin-around.ensures.around in
+    opened-merges alias_words.self_type (ByFormedGroups alias_words c.args.goal.now.predicate c.args.class c.args.goal.now) c.args.goal.now c.args.alias c.args.self.now c.begin-around.new.self c.answer_opened_alias-answer.new.self c.end.new.self c.answer_opened_alias-answer.result c.or_undecided.result
+    c.begin-around.ensures.began undone c.requires.opens c.answer_opened_alias-answer.ensures.by c.or_undecided.ensures.after
+
+pub merge_opened_alias-returns-clause-applies : goal.merge_opened_alias-returns-clause-applies
+merge_opened_alias-returns-clause-applies t c =
+    let back : GoesBack (begun c.args.self.now) c.answer_opened_alias-answer.new.self = subst (λ (z : State). GoesBack z c.answer_opened_alias-answer.new.self) c.begin-around.ensures.began c.answer_opened_alias-answer.ensures.goes_back in
+    let undone : c.end.new.self ≡ restored c.args.self.now c.answer_opened_alias-answer.new.self =
+    c.end.ensures ∙ ap (λ (z : State). record z { mark = c.begin-around.result }) (c.rollback.ensures.undone (begun c.args.self.now) c.snapshot-before.ensures back)
+    ∙ ap (λ m. record (restored (begun c.args.self.now) c.answer_opened_alias-answer.new.self) { mark = m }) c.begin-around.ensures.around in
+    opened-applies c.args.self.now c.answer_opened_alias-answer.new.self c.end.new.self c.answer_opened_alias-answer.result c.or_undecided.result back undone c.holds_together.ensures.solved c.holds_together-2.ensures.solved
+    c.is_well_formed.ensures.storage c.is_well_formed-2.ensures.storage c.answer_opened_alias-answer.ensures.lists c.or_undecided.ensures.left c.or_undecided.ensures.after
+
+pub merge_opened_alias-returns-clause-unchanged : goal.merge_opened_alias-returns-clause-unchanged
+merge_opened_alias-returns-clause-unchanged t c =
+    let back : GoesBack (begun c.args.self.now) c.answer_opened_alias-answer.new.self = subst (λ (z : State). GoesBack z c.answer_opened_alias-answer.new.self) c.begin-around.ensures.began c.answer_opened_alias-answer.ensures.goes_back in
+    let undone : c.end.new.self ≡ restored c.args.self.now c.answer_opened_alias-answer.new.self =
+    c.end.ensures ∙ ap (λ (z : State). record z { mark = c.begin-around.result }) (c.rollback.ensures.undone (begun c.args.self.now) c.snapshot-before.ensures back)
+    ∙ ap (λ m. record (restored (begun c.args.self.now) c.answer_opened_alias-answer.new.self) { mark = m }) c.begin-around.ensures.around in
+    undone ∙ sym (ap (restored c.args.self.now) undone)
+
+pub merge_opened_alias-returns-clause-goes_back : goal.merge_opened_alias-returns-clause-goes_back
+merge_opened_alias-returns-clause-goes_back t c =
+    let back : GoesBack (begun c.args.self.now) c.answer_opened_alias-answer.new.self = subst (λ (z : State). GoesBack z c.answer_opened_alias-answer.new.self) c.begin-around.ensures.began c.answer_opened_alias-answer.ensures.goes_back in
+    let undone : c.end.new.self ≡ restored c.args.self.now c.answer_opened_alias-answer.new.self =
+    c.end.ensures ∙ ap (λ (z : State). record z { mark = c.begin-around.result }) (c.rollback.ensures.undone (begun c.args.self.now) c.snapshot-before.ensures back)
+    ∙ ap (λ m. record (restored (begun c.args.self.now) c.answer_opened_alias-answer.new.self) { mark = m }) c.begin-around.ensures.around in
+    subst (GoesBack c.args.self.now) (sym undone) (goes_back-tried c.args.self.now c.answer_opened_alias-answer.new.self back)
+
+pub merge_opened_alias-returns-clause-fault : goal.merge_opened_alias-returns-clause-fault
+merge_opened_alias-returns-clause-fault t c =
+    let back : GoesBack (begun c.args.self.now) c.answer_opened_alias-answer.new.self = subst (λ (z : State). GoesBack z c.answer_opened_alias-answer.new.self) c.begin-around.ensures.began c.answer_opened_alias-answer.ensures.goes_back in
+    let undone : c.end.new.self ≡ restored c.args.self.now c.answer_opened_alias-answer.new.self =
+    c.end.ensures ∙ ap (λ (z : State). record z { mark = c.begin-around.result }) (c.rollback.ensures.undone (begun c.args.self.now) c.snapshot-before.ensures back)
+    ∙ ap (λ m. record (restored (begun c.args.self.now) c.answer_opened_alias-answer.new.self) { mark = m }) c.begin-around.ensures.around in
+    after-fault c.args.self.now c.end.new.self c.answer_opened_alias-answer.result c.or_undecided.result
+    (fault-tried c.args.self.now c.begin-around.new.self c.answer_opened_alias-answer.new.self c.end.new.self c.answer_opened_alias-answer.result c.begin-around.ensures.began undone c.answer_opened_alias-answer.ensures.fault) c.or_undecided.ensures.after
+
+pub answer_opened_alias-returns-in_err-found-clause-by : goal.answer_opened_alias-returns-in_err-found-clause-by
+answer_opened_alias-returns-in_err-found-clause-by t c =
+    handed-on c.from_residual.result c.in_err-found.field-0.0 (λ (r : Result (Option Response) Fault). WhenTried r (InTrial (ByFormedGroups alias_words c.args.goal.now.predicate c.args.class c.args.goal.now) c.args.goal.now.param_env.items c.args.alias c.args.self.now r c.form_of_open.new.self)) c.from_residual.ensures.1
+    (form-refused (ByFormedGroups alias_words c.args.goal.now.predicate c.args.class c.args.goal.now) c.args.goal.now.param_env.items c.args.alias c.args.self.now c.form_of_open.new.self c.in_err-found.field-0.0 (subst (λ (es : List Clause). OpensFrom answers_term es (erased (tree_of_alias c.args.alias)) c.args.self.now (Err c.in_err-found.field-0.0) c.form_of_open.new.self) c.deref.ensures.value c.in_err-found.ensures.opens) c.form_of_open.ensures.alone (refl, refl))
+
+pub answer_opened_alias-returns-in_default-clause-by : goal.answer_opened_alias-returns-in_default-clause-by
+answer_opened_alias-returns-in_default-clause-by t c =
+    form-passed (ByFormedGroups alias_words c.args.goal.now.predicate c.args.class c.args.goal.now) c.args.goal.now.param_env.items c.args.alias c.args.self.now c.form_of_open.new.self c.in_ok-found.found (subst (λ (es : List Clause). OpensFrom answers_term es (erased (tree_of_alias c.args.alias)) c.args.self.now (Ok c.in_ok-found.found) c.form_of_open.new.self) c.deref.ensures.value c.in_ok-found.ensures.opens) c.form_of_open.ensures.alone
+    (inl (groups-passed alias_words _ c.form_of_open.new.self c.args.class c.args.goal.now c.in_ok-found.found c.in_ok-rules.field-0 c.self.view_is (none-left _ c.in_default.not-Some) c.in_ok-rules.ensures.rules, refl, refl))
+
+pub answer_opened_alias-returns-in_err-answer-clause-by : goal.answer_opened_alias-returns-in_err-answer-clause-by
+answer_opened_alias-returns-in_err-answer-clause-by t c =
+    handed-on c.from_residual-in_err-answer.result c.in_err-answer.field-0.0 (λ (r : Result (Option Response) Fault). WhenTried r (InTrial (ByFormedGroups alias_words c.args.goal.now.predicate c.args.class c.args.goal.now) c.args.goal.now.param_env.items c.args.alias c.args.self.now r c.merge_groups.new.self)) c.from_residual-in_err-answer.ensures.1
+    (merge-refused (ByFormedGroups alias_words c.args.goal.now.predicate c.args.class c.args.goal.now) (λ x. ByGroups c.args.class c.in-Some.rules.param_env.items c.in-Some.rules.environment.items c.in-Some.rules.later.items (own_args c.form_of_open.new.self.tables c.args.goal.now.predicate.alias) c.args.goal.now.predicate c.form_of_open.new.self x c.merge_groups.new.self) c.args.goal.now.param_env.items c.args.alias c.args.self.now c.form_of_open.new.self c.merge_groups.new.self c.in_ok-found.found c.merge_groups.result c.in_err-answer.field-0.0 c.in_err-answer.was (subst (λ (es : List Clause). OpensFrom answers_term es (erased (tree_of_alias c.args.alias)) c.args.self.now (Ok c.in_ok-found.found) c.form_of_open.new.self) c.deref.ensures.value c.in_ok-found.ensures.opens) c.form_of_open.ensures.alone c.merge_groups.ensures.decides
+    (λ d. inr (c.in-Some.rules, Err c.in_err-answer.field-0.0, c.merge_groups.new.self, groups-shown alias_words _ c.form_of_open.new.self c.args.class c.args.goal.now c.in_ok-found.found c.in_ok-rules.field-0 c.in-Some.rules c.self.view_is c.in-Some.is c.in_ok-rules.ensures.rules, d, (refl, refl))))
+
+pub answer_opened_alias-returns-clause-by : goal.answer_opened_alias-returns-clause-by
+answer_opened_alias-returns-clause-by t c =
+    merge-answered (ByFormedGroups alias_words c.args.goal.now.predicate c.args.class c.args.goal.now) (λ x. ByGroups c.args.class c.in-Some.rules.param_env.items c.in-Some.rules.environment.items c.in-Some.rules.later.items (own_args c.form_of_open.new.self.tables c.args.goal.now.predicate.alias) c.args.goal.now.predicate c.form_of_open.new.self x c.merge_groups.new.self) c.args.goal.now.param_env.items c.args.alias c.args.self.now c.form_of_open.new.self c.merge_groups.new.self c.beside.new.self c.in_ok-found.found c.merge_groups.result c.in_ok-answer.answer c.beside.result c.in_ok-answer.was (subst (λ (es : List Clause). OpensFrom answers_term es (erased (tree_of_alias c.args.alias)) c.args.self.now (Ok c.in_ok-found.found) c.form_of_open.new.self) c.deref.ensures.value c.in_ok-found.ensures.opens) c.form_of_open.ensures.alone c.merge_groups.ensures.decides c.beside.ensures.beside c.beside.ensures.only_memory
+    (λ x b d. inr (c.in-Some.rules, Ok c.in_ok-answer.answer, c.merge_groups.new.self, groups-shown alias_words _ c.form_of_open.new.self c.args.class c.args.goal.now c.in_ok-found.found c.in_ok-rules.field-0 c.in-Some.rules c.self.view_is c.in-Some.is c.in_ok-rules.ensures.rules, d, (x, b, refl)))
+
+pub answer_opened_alias-returns-in_err-answer-clause-goes_back : goal.answer_opened_alias-returns-in_err-answer-clause-goes_back
+answer_opened_alias-returns-in_err-answer-clause-goes_back t c =
+    goes_back-through c.args.self.now c.form_of_open.new.self c.merge_groups.new.self c.form_of_open.ensures.goes_back c.merge_groups.ensures.goes_back
+
+pub answer_opened_alias-returns-clause-goes_back : goal.answer_opened_alias-returns-clause-goes_back
+answer_opened_alias-returns-clause-goes_back t c =
+    goes_back-through c.args.self.now c.merge_groups.new.self c.beside.new.self (goes_back-through c.args.self.now c.form_of_open.new.self c.merge_groups.new.self c.form_of_open.ensures.goes_back c.merge_groups.ensures.goes_back) c.beside.ensures.goes_back
+
+pub answer_opened_alias-returns-in_err-answer-clause-fault : goal.answer_opened_alias-returns-in_err-answer-clause-fault
+answer_opened_alias-returns-in_err-answer-clause-fault t c =
+    handed-on c.from_residual-in_err-answer.result c.in_err-answer.field-0.0 (λ (r : Result (Option Response) Fault). IsFaultFor c.args.self.now c.merge_groups.new.self r) c.from_residual-in_err-answer.ensures.1
+    (fault-before Response (Option Response) c.args.self.now c.form_of_open.new.self c.merge_groups.new.self c.in_err-answer.field-0.0 c.form_of_open.ensures.goes_back c.in_err-answer.ensures.fault)
+
+pub merge_open_const-returns-in_err-open_self-clause-opened : goal.merge_open_const-returns-in_err-open_self-clause-opened
+merge_open_const-returns-in_err-open_self-clause-opened t c =
+    λ asks. opened-unsaid host_words.self_type (ByFormedRuleGroups host_words c.args.class c.args.goal.now) c.args.goal.now c.args.self.now c.open_self.new.self c.from_residual.result c.in_err-open_self.field-0.0 c.open_self.ensures.unchanged c.from_residual.ensures.1 c.in_err-open_self.ensures.only_memory
+
+pub merge_open_const-returns-in_err-open_self-clause-goes_back : goal.merge_open_const-returns-in_err-open_self-clause-goes_back
+merge_open_const-returns-in_err-open_self-clause-goes_back t c =
+    goes_back-grown c.args.self.now c.open_self.new.self c.open_self.ensures.unchanged c.open_self.ensures.kept
+
+pub merge_open_const-returns-in-None-clause-opened : goal.merge_open_const-returns-in-None-clause-opened
+merge_open_const-returns-in-None-clause-opened t c =
+    λ asks. absurd (c.open_self.ensures.none (c.in_ok-open_self.was ∙ ap (λ (o : Option AliasTerm). Ok o) c.in-None.is) asks)
+
+pub merge_open_const-returns-in-None-clause-applies : goal.merge_open_const-returns-in-None-clause-applies
+merge_open_const-returns-in-None-clause-applies t c =
+    nothing-applies-after c.args.self.now c.open_self.new.self c.respond.result (restored-grown c.args.self.now c.open_self.new.self c.open_self.ensures.unchanged) c.is_well_formed.ensures.storage
+    (subst (λ (s : State). IsQuiet (length (kinds_of s)) c.respond.result) c.open_self.ensures.unchanged c.respond.ensures.quiet) c.respond.ensures.values
+
+pub merge_open_const-returns-in-None-clause-goes_back : goal.merge_open_const-returns-in-None-clause-goes_back
+merge_open_const-returns-in-None-clause-goes_back t c =
+    goes_back-grown c.args.self.now c.open_self.new.self c.open_self.ensures.unchanged c.open_self.ensures.kept
+
+pub merge_open_const-returns-in-Some-clause-undecided : goal.merge_open_const-returns-in-Some-clause-undecided
+merge_open_const-returns-in-Some-clause-undecided t c =
+    λ other. absurd (other (known c.in_ok-open_self.field-0 c.in-Some.alias (λ a. AsksOpenSelf host_words.self_type c.args.goal.now c.args.self.now) c.in-Some.is c.in_ok-open_self.ensures.asks))
+
+pub merge_open_const-returns-in-Some-clause-opened : goal.merge_open_const-returns-in-Some-clause-opened
+merge_open_const-returns-in-Some-clause-opened t c =
+    λ asks. (c.open_self.new.self, restored-grown c.args.self.now c.open_self.new.self c.open_self.ensures.unchanged, c.merge_opened_const.ensures.merges)
+
+pub merge_open_const-returns-in-Some-clause-unchanged : goal.merge_open_const-returns-in-Some-clause-unchanged
+merge_open_const-returns-in-Some-clause-unchanged t c =
+    restored-twice c.args.self.now c.open_self.new.self c.merge_opened_const.new.self (restored-grown c.args.self.now c.open_self.new.self c.open_self.ensures.unchanged) c.merge_opened_const.ensures.unchanged
+
+pub merge_open_const-returns-in-Some-clause-goes_back : goal.merge_open_const-returns-in-Some-clause-goes_back
+merge_open_const-returns-in-Some-clause-goes_back t c =
+    goes_back-through c.args.self.now c.open_self.new.self c.merge_opened_const.new.self (goes_back-grown c.args.self.now c.open_self.new.self c.open_self.ensures.unchanged c.open_self.ensures.kept) c.merge_opened_const.ensures.goes_back
+
+pub merge_open_const-returns-in-Some-clause-fault : goal.merge_open_const-returns-in-Some-clause-fault
+merge_open_const-returns-in-Some-clause-fault t c =
+    fault-later c.args.self.now c.open_self.new.self c.merge_opened_const.new.self c.merge_opened_const.result (goes_back-grown c.args.self.now c.open_self.new.self c.open_self.ensures.unchanged c.open_self.ensures.kept) c.merge_opened_const.ensures.fault
+
+pub merge_opened_const-rollback-requires : goal.merge_opened_const-rollback-requires
+merge_opened_const-rollback-requires t c =
+    let back : GoesBack (begun c.args.self.now) c.answer_opened_const-answer.new.self = subst (λ (z : State). GoesBack z c.answer_opened_const-answer.new.self) c.begin-around.ensures.began c.answer_opened_const-answer.ensures.goes_back in
+    record { valid = (begun c.args.self.now, c.snapshot-before.ensures, back, valid-begun c.args.self.now c.holds_together.ensures) }
+
+pub merge_opened_const-returns-clause-merges : goal.merge_opened_const-returns-clause-merges
+merge_opened_const-returns-clause-merges t c =
+    let back : GoesBack (begun c.args.self.now) c.answer_opened_const-answer.new.self = subst (λ (z : State). GoesBack z c.answer_opened_const-answer.new.self) c.begin-around.ensures.began c.answer_opened_const-answer.ensures.goes_back in
+    let undone : c.end.new.self ≡ restored c.args.self.now c.answer_opened_const-answer.new.self =
+    c.end.ensures ∙ ap (λ (z : State). record z { mark = c.begin-around.result }) (c.rollback.ensures.undone (begun c.args.self.now) c.snapshot-before.ensures back)
+    ∙ ap (λ m. record (restored (begun c.args.self.now) c.answer_opened_const-answer.new.self) { mark = m }) c.begin-around.ensures.around in
+    opened-merges host_words.self_type (ByFormedRuleGroups host_words c.args.class c.args.goal.now) c.args.goal.now c.args.alias c.args.self.now c.begin-around.new.self c.answer_opened_const-answer.new.self c.end.new.self c.answer_opened_const-answer.result c.or_undecided.result
+    c.begin-around.ensures.began undone c.requires.opens c.answer_opened_const-answer.ensures.by c.or_undecided.ensures.after
+
+pub merge_opened_const-returns-clause-applies : goal.merge_opened_const-returns-clause-applies
+merge_opened_const-returns-clause-applies t c =
+    let back : GoesBack (begun c.args.self.now) c.answer_opened_const-answer.new.self = subst (λ (z : State). GoesBack z c.answer_opened_const-answer.new.self) c.begin-around.ensures.began c.answer_opened_const-answer.ensures.goes_back in
+    let undone : c.end.new.self ≡ restored c.args.self.now c.answer_opened_const-answer.new.self =
+    c.end.ensures ∙ ap (λ (z : State). record z { mark = c.begin-around.result }) (c.rollback.ensures.undone (begun c.args.self.now) c.snapshot-before.ensures back)
+    ∙ ap (λ m. record (restored (begun c.args.self.now) c.answer_opened_const-answer.new.self) { mark = m }) c.begin-around.ensures.around in
+    opened-applies c.args.self.now c.answer_opened_const-answer.new.self c.end.new.self c.answer_opened_const-answer.result c.or_undecided.result back undone c.holds_together.ensures.solved c.holds_together-2.ensures.solved
+    c.is_well_formed.ensures.storage c.is_well_formed-2.ensures.storage c.answer_opened_const-answer.ensures.lists c.or_undecided.ensures.left c.or_undecided.ensures.after
+
+pub merge_opened_const-returns-clause-unchanged : goal.merge_opened_const-returns-clause-unchanged
+merge_opened_const-returns-clause-unchanged t c =
+    let back : GoesBack (begun c.args.self.now) c.answer_opened_const-answer.new.self = subst (λ (z : State). GoesBack z c.answer_opened_const-answer.new.self) c.begin-around.ensures.began c.answer_opened_const-answer.ensures.goes_back in
+    let undone : c.end.new.self ≡ restored c.args.self.now c.answer_opened_const-answer.new.self =
+    c.end.ensures ∙ ap (λ (z : State). record z { mark = c.begin-around.result }) (c.rollback.ensures.undone (begun c.args.self.now) c.snapshot-before.ensures back)
+    ∙ ap (λ m. record (restored (begun c.args.self.now) c.answer_opened_const-answer.new.self) { mark = m }) c.begin-around.ensures.around in
+    undone ∙ sym (ap (restored c.args.self.now) undone)
+
+pub merge_opened_const-returns-clause-goes_back : goal.merge_opened_const-returns-clause-goes_back
+merge_opened_const-returns-clause-goes_back t c =
+    let back : GoesBack (begun c.args.self.now) c.answer_opened_const-answer.new.self = subst (λ (z : State). GoesBack z c.answer_opened_const-answer.new.self) c.begin-around.ensures.began c.answer_opened_const-answer.ensures.goes_back in
+    let undone : c.end.new.self ≡ restored c.args.self.now c.answer_opened_const-answer.new.self =
+    c.end.ensures ∙ ap (λ (z : State). record z { mark = c.begin-around.result }) (c.rollback.ensures.undone (begun c.args.self.now) c.snapshot-before.ensures back)
+    ∙ ap (λ m. record (restored (begun c.args.self.now) c.answer_opened_const-answer.new.self) { mark = m }) c.begin-around.ensures.around in
+    subst (GoesBack c.args.self.now) (sym undone) (goes_back-tried c.args.self.now c.answer_opened_const-answer.new.self back)
+
+pub merge_opened_const-returns-clause-fault : goal.merge_opened_const-returns-clause-fault
+merge_opened_const-returns-clause-fault t c =
+    let back : GoesBack (begun c.args.self.now) c.answer_opened_const-answer.new.self = subst (λ (z : State). GoesBack z c.answer_opened_const-answer.new.self) c.begin-around.ensures.began c.answer_opened_const-answer.ensures.goes_back in
+    let undone : c.end.new.self ≡ restored c.args.self.now c.answer_opened_const-answer.new.self =
+    c.end.ensures ∙ ap (λ (z : State). record z { mark = c.begin-around.result }) (c.rollback.ensures.undone (begun c.args.self.now) c.snapshot-before.ensures back)
+    ∙ ap (λ m. record (restored (begun c.args.self.now) c.answer_opened_const-answer.new.self) { mark = m }) c.begin-around.ensures.around in
+    after-fault c.args.self.now c.end.new.self c.answer_opened_const-answer.result c.or_undecided.result
+    (fault-tried c.args.self.now c.begin-around.new.self c.answer_opened_const-answer.new.self c.end.new.self c.answer_opened_const-answer.result c.begin-around.ensures.began undone c.answer_opened_const-answer.ensures.fault) c.or_undecided.ensures.after
+
+pub answer_opened_const-returns-in_err-found-clause-by : goal.answer_opened_const-returns-in_err-found-clause-by
+answer_opened_const-returns-in_err-found-clause-by t c =
+    handed-on c.from_residual.result c.in_err-found.field-0.0 (λ (r : Result (Option Response) Fault). WhenTried r (InTrial (ByFormedRuleGroups host_words c.args.class c.args.goal.now) c.args.goal.now.param_env.items c.args.alias c.args.self.now r c.form_of_open.new.self)) c.from_residual.ensures.1
+    (form-refused (ByFormedRuleGroups host_words c.args.class c.args.goal.now) c.args.goal.now.param_env.items c.args.alias c.args.self.now c.form_of_open.new.self c.in_err-found.field-0.0 (subst (λ (es : List Clause). OpensFrom answers_term es (erased (tree_of_alias c.args.alias)) c.args.self.now (Err c.in_err-found.field-0.0) c.form_of_open.new.self) c.deref.ensures.value c.in_err-found.ensures.opens) c.form_of_open.ensures.alone (refl, refl))
+
+pub answer_opened_const-returns-in_default-clause-by : goal.answer_opened_const-returns-in_default-clause-by
+answer_opened_const-returns-in_default-clause-by t c =
+    form-passed (ByFormedRuleGroups host_words c.args.class c.args.goal.now) c.args.goal.now.param_env.items c.args.alias c.args.self.now c.form_of_open.new.self c.in_ok-found.found (subst (λ (es : List Clause). OpensFrom answers_term es (erased (tree_of_alias c.args.alias)) c.args.self.now (Ok c.in_ok-found.found) c.form_of_open.new.self) c.deref.ensures.value c.in_ok-found.ensures.opens) c.form_of_open.ensures.alone
+    (inl (groups-passed host_words _ c.form_of_open.new.self c.args.class c.args.goal.now c.in_ok-found.found c.in_ok-rules.field-0 c.self.view_is (none-left _ c.in_default.not-Some) c.in_ok-rules.ensures.rules, refl, refl))
+
+pub answer_opened_const-returns-in_err-answer-clause-by : goal.answer_opened_const-returns-in_err-answer-clause-by
+answer_opened_const-returns-in_err-answer-clause-by t c =
+    handed-on c.from_residual-in_err-answer.result c.in_err-answer.field-0.0 (λ (r : Result (Option Response) Fault). WhenTried r (InTrial (ByFormedRuleGroups host_words c.args.class c.args.goal.now) c.args.goal.now.param_env.items c.args.alias c.args.self.now r c.merge_const_groups.new.self)) c.from_residual-in_err-answer.ensures.1
+    (merge-refused (ByFormedRuleGroups host_words c.args.class c.args.goal.now) (λ x. ByRuleGroups c.in-Some.rules.param_env.items (rules_of_groups c.in-Some.rules) c.form_of_open.new.self x c.merge_const_groups.new.self) c.args.goal.now.param_env.items c.args.alias c.args.self.now c.form_of_open.new.self c.merge_const_groups.new.self c.in_ok-found.found c.merge_const_groups.result c.in_err-answer.field-0.0 c.in_err-answer.was (subst (λ (es : List Clause). OpensFrom answers_term es (erased (tree_of_alias c.args.alias)) c.args.self.now (Ok c.in_ok-found.found) c.form_of_open.new.self) c.deref.ensures.value c.in_ok-found.ensures.opens) c.form_of_open.ensures.alone c.merge_const_groups.ensures.decides
+    (λ d. inr (c.in-Some.rules, Err c.in_err-answer.field-0.0, c.merge_const_groups.new.self, groups-shown host_words _ c.form_of_open.new.self c.args.class c.args.goal.now c.in_ok-found.found c.in_ok-rules.field-0 c.in-Some.rules c.self.view_is c.in-Some.is c.in_ok-rules.ensures.rules, d, (refl, refl))))
+
+pub answer_opened_const-returns-clause-by : goal.answer_opened_const-returns-clause-by
+answer_opened_const-returns-clause-by t c =
+    merge-answered (ByFormedRuleGroups host_words c.args.class c.args.goal.now) (λ x. ByRuleGroups c.in-Some.rules.param_env.items (rules_of_groups c.in-Some.rules) c.form_of_open.new.self x c.merge_const_groups.new.self) c.args.goal.now.param_env.items c.args.alias c.args.self.now c.form_of_open.new.self c.merge_const_groups.new.self c.beside.new.self c.in_ok-found.found c.merge_const_groups.result c.in_ok-answer.answer c.beside.result c.in_ok-answer.was (subst (λ (es : List Clause). OpensFrom answers_term es (erased (tree_of_alias c.args.alias)) c.args.self.now (Ok c.in_ok-found.found) c.form_of_open.new.self) c.deref.ensures.value c.in_ok-found.ensures.opens) c.form_of_open.ensures.alone c.merge_const_groups.ensures.decides c.beside.ensures.beside c.beside.ensures.only_memory
+    (λ x b d. inr (c.in-Some.rules, Ok c.in_ok-answer.answer, c.merge_const_groups.new.self, groups-shown host_words _ c.form_of_open.new.self c.args.class c.args.goal.now c.in_ok-found.found c.in_ok-rules.field-0 c.in-Some.rules c.self.view_is c.in-Some.is c.in_ok-rules.ensures.rules, d, (x, b, refl)))
+
+pub answer_opened_const-returns-in_err-answer-clause-goes_back : goal.answer_opened_const-returns-in_err-answer-clause-goes_back
+answer_opened_const-returns-in_err-answer-clause-goes_back t c =
+    goes_back-through c.args.self.now c.form_of_open.new.self c.merge_const_groups.new.self c.form_of_open.ensures.goes_back c.merge_const_groups.ensures.goes_back
+
+pub answer_opened_const-returns-clause-goes_back : goal.answer_opened_const-returns-clause-goes_back
+answer_opened_const-returns-clause-goes_back t c =
+    goes_back-through c.args.self.now c.merge_const_groups.new.self c.beside.new.self (goes_back-through c.args.self.now c.form_of_open.new.self c.merge_const_groups.new.self c.form_of_open.ensures.goes_back c.merge_const_groups.ensures.goes_back) c.beside.ensures.goes_back
+
+pub answer_opened_const-returns-in_err-answer-clause-fault : goal.answer_opened_const-returns-in_err-answer-clause-fault
+answer_opened_const-returns-in_err-answer-clause-fault t c =
+    handed-on c.from_residual-in_err-answer.result c.in_err-answer.field-0.0 (λ (r : Result (Option Response) Fault). IsFaultFor c.args.self.now c.merge_const_groups.new.self r) c.from_residual-in_err-answer.ensures.1
+    (fault-before Response (Option Response) c.args.self.now c.form_of_open.new.self c.merge_const_groups.new.self c.in_err-answer.field-0.0 c.form_of_open.ensures.goes_back c.in_err-answer.ensures.fault)
+
+pub merge_trait-returns-in-None-clause-merges : goal.merge_trait-returns-in-None-clause-merges
+merge_trait-returns-in-None-clause-merges t c =
+    left-or_opened trait_words c.args.goal.now c.args.self.now c.considered_rules.new.self c.merge_open_trait.new.self c.merge_open_trait.result
+    (subst (λ o. ConsidersRules trait_words c.args.goal.now c.args.self.now o c.considered_rules.new.self) c.in-None.is c.in_ok-considered_rules.ensures.considers) c.considered_rules.ensures.unchanged
+    c.merge_open_trait.ensures.unchanged c.merge_open_trait.ensures.undecided c.merge_open_trait.ensures.opened
+
+pub merge_alias-returns-in-None-clause-merges : goal.merge_alias-returns-in-None-clause-merges
+merge_alias-returns-in-None-clause-merges t c =
+    left-or_opened-through alias_words c.args.goal.now.predicate c.args.class c.args.goal.now c.args.self.now c.considered_groups.new.self c.merge_open_alias.new.self c.merge_open_alias.result
+    (subst (λ o. ConsidersGroups alias_words c.args.class c.args.goal.now c.args.self.now o c.considered_groups.new.self) c.in-None.is c.in_ok-considered_groups.ensures.considers) c.considered_groups.ensures.unchanged
+    c.merge_open_alias.ensures.unchanged c.merge_open_alias.ensures.undecided c.merge_open_alias.ensures.opened
+
+pub evaluate_open_alias-rollback-requires : goal.evaluate_open_alias-rollback-requires
+evaluate_open_alias-rollback-requires t c =
+    record { valid = (c.args.self.now, c.snapshot-before.ensures, c.expected_form-answered.ensures.goes_back, c.holds_together.ensures) }
+
+pub evaluate_open_alias-returns-then-not-is_sure-clause-unchanged : goal.evaluate_open_alias-returns-then-not-is_sure-clause-unchanged
+evaluate_open_alias-returns-then-not-is_sure-clause-unchanged t c =
+    λ unsure. restored-itself c.args.self.now c.expected_form-answered.new.self c.rollback.new.self (c.rollback.ensures.undone c.args.self.now c.snapshot-before.ensures c.expected_form-answered.ensures.goes_back)
+
+pub evaluate_open_alias-returns-then-not-is_sure-clause-alone : goal.evaluate_open_alias-returns-then-not-is_sure-clause-alone
+evaluate_open_alias-returns-then-not-is_sure-clause-alone t c =
+    restored-records c.args.self.now c.rollback.new.self (restored-itself c.args.self.now c.expected_form-answered.new.self c.rollback.new.self (c.rollback.ensures.undone c.args.self.now c.snapshot-before.ensures c.expected_form-answered.ensures.goes_back))
+
+pub evaluate_open_alias-returns-then-not-is_sure-clause-faults : goal.evaluate_open_alias-returns-then-not-is_sure-clause-faults
+evaluate_open_alias-returns-then-not-is_sure-clause-faults t c =
+    undone-faults c.args.self.now c.expected_form-answered.new.self c.rollback.new.self c.expected_form-answered.ensures.goes_back c.expected_form-answered.ensures.faults (c.rollback.ensures.undone c.args.self.now c.snapshot-before.ensures c.expected_form-answered.ensures.goes_back)
+
+pub evaluate_open_alias-returns-then-not-is_sure-clause-goes_back : goal.evaluate_open_alias-returns-then-not-is_sure-clause-goes_back
+evaluate_open_alias-returns-then-not-is_sure-clause-goes_back t c =
+    subst (GoesBack c.args.self.now) (sym (c.rollback.ensures.undone c.args.self.now c.snapshot-before.ensures c.expected_form-answered.ensures.goes_back)) (goes_back-restored c.args.self.now c.expected_form-answered.new.self c.expected_form-answered.ensures.goes_back)
+
+pub evaluate_open_alias-returns-then-not-is_sure-clause-fault : goal.evaluate_open_alias-returns-then-not-is_sure-clause-fault
+evaluate_open_alias-returns-then-not-is_sure-clause-fault t c =
+    undone-fault Certainty c.args.self.now c.expected_form-answered.new.self c.rollback.new.self c.expected_form-answered.result (c.rollback.ensures.undone c.args.self.now c.snapshot-before.ensures c.expected_form-answered.ensures.goes_back) c.expected_form-answered.ensures.fault
+
+pub evaluate_open_alias-returns-else-not-is_sure-clause-unchanged : goal.evaluate_open_alias-returns-else-not-is_sure-clause-unchanged
+evaluate_open_alias-returns-else-not-is_sure-clause-unchanged t c =
+    λ unsure. absurd (false≢true (sym unsure ∙ sym c.is_sure.ensures ∙ c.if-not-is_sure.false))
+
+pub expected_form-returns-in_default-clause-goes_back : goal.expected_form-returns-in_default-clause-goes_back
+expected_form-returns-in_default-clause-goes_back t c =
+    goes_back-same c.args.self.now
+
+pub expected_form-returns-clause-alone : goal.expected_form-returns-clause-alone
+expected_form-returns-clause-alone t c =
+    records-through c.args.self.now c.expect_form-outcome.new.self c.verdict.new.self (records-through c.args.self.now c.form_of_open.new.self c.expect_form-outcome.new.self c.form_of_open.ensures.alone c.expect_form-outcome.ensures.alone) (restored-records c.expect_form-outcome.new.self c.verdict.new.self c.verdict.ensures.unchanged)
+
+pub expected_form-returns-clause-faults : goal.expected_form-returns-clause-faults
+expected_form-returns-clause-faults t c =
+    ap (λ (s : State). uncaused s.tables s.delayed_faults) c.verdict.ensures.alone ∙ c.expect_form-outcome.ensures.faults ∙ c.form_of_open.ensures.faults
+
+pub expected_form-returns-clause-goes_back : goal.expected_form-returns-clause-goes_back
+expected_form-returns-clause-goes_back t c =
+    goes_back-through c.args.self.now c.expect_form-outcome.new.self c.verdict.new.self (goes_back-through c.args.self.now c.form_of_open.new.self c.expect_form-outcome.new.self c.form_of_open.ensures.goes_back c.expect_form-outcome.ensures.goes_back) c.verdict.ensures.goes_back
+
+pub expected_form-returns-clause-fault : goal.expected_form-returns-clause-fault
+expected_form-returns-clause-fault t c =
+    fault-later c.args.self.now c.expect_form-outcome.new.self c.verdict.new.self c.verdict.result (goes_back-through c.args.self.now c.form_of_open.new.self c.expect_form-outcome.new.self c.form_of_open.ensures.goes_back c.expect_form-outcome.ensures.goes_back) c.verdict.ensures.fault

@@ -13,82 +13,154 @@ use Rattle.goal_terms.specs.declared.answers.Certainty.TheVariants as certainty
 use Rattle.goal_solver.proofs.context.EvalCtxt.+open.Given as goal
 
 abbrev pub decreases-merge_below : goal.decreases-merge_below
-decreases-merge_below l = 22 * l.self.now.remaining_depth + 0
+decreases-merge_below l = 40 * l.self.now.remaining_depth + 0
+
+abbrev pub decreases-project_below : goal.decreases-project_below
+decreases-project_below l = 40 * l.self.now.remaining_depth + 0
 
 abbrev pub decreases-hold_const_below : goal.decreases-hold_const_below
-decreases-hold_const_below l = 22 * l.self.now.remaining_depth + 0
+decreases-hold_const_below l = 40 * l.self.now.remaining_depth + 0
+
+abbrev pub decreases-trait_goal_response : goal.decreases-trait_goal_response
+decreases-trait_goal_response l = 40 * l.self.now.remaining_depth + 1
 
 abbrev pub decreases-answer_below : goal.decreases-answer_below
-decreases-answer_below l = 22 * l.self.now.remaining_depth + 1
+decreases-answer_below l = 40 * l.self.now.remaining_depth + 1
 
 abbrev pub decreases-apply_below : goal.decreases-apply_below
-decreases-apply_below l = 22 * l.self.now.remaining_depth + 2
+decreases-apply_below l = 40 * l.self.now.remaining_depth + 2
+
+abbrev pub decreases-found_form : goal.decreases-found_form
+decreases-found_form l = 40 * l.self.now.remaining_depth + 1
 
 abbrev pub decreases-evaluate_open : goal.decreases-evaluate_open
-decreases-evaluate_open l = 22 * l.self.now.remaining_depth + 3
+decreases-evaluate_open l = 40 * l.self.now.remaining_depth + 3
+
+abbrev pub decreases-form_of_open : goal.decreases-form_of_open
+decreases-form_of_open l = 40 * l.self.now.remaining_depth + 2
+
+abbrev pub decreases-expected_form : goal.decreases-expected_form
+decreases-expected_form l = 40 * l.self.now.remaining_depth + 3
+
+abbrev pub decreases-evaluate_open_alias : goal.decreases-evaluate_open_alias
+decreases-evaluate_open_alias l = 40 * l.self.now.remaining_depth + 4
+
+abbrev pub decreases-evaluate_alias_or_other : goal.decreases-evaluate_alias_or_other
+decreases-evaluate_alias_or_other l = 40 * l.self.now.remaining_depth + 5
 
 abbrev pub decreases-evaluate_goal : goal.decreases-evaluate_goal
-decreases-evaluate_goal l = 22 * l.self.now.remaining_depth + 4
+decreases-evaluate_goal l = 40 * l.self.now.remaining_depth + 6
 
 abbrev pub decreases-evaluate_round : goal.decreases-evaluate_round
-decreases-evaluate_round l = 22 * l.self.now.remaining_depth + 5
+decreases-evaluate_round l = 40 * l.self.now.remaining_depth + 7
 
 abbrev pub decreases-evaluate_rounds : goal.decreases-evaluate_rounds
-decreases-evaluate_rounds l = 22 * l.self.now.remaining_depth + 6
+decreases-evaluate_rounds l = 40 * l.self.now.remaining_depth + 8
 
 abbrev pub decreases-evaluate_added_goals : goal.decreases-evaluate_added_goals
-decreases-evaluate_added_goals l = 22 * l.self.now.remaining_depth + 7
+decreases-evaluate_added_goals l = 40 * l.self.now.remaining_depth + 9
 
 abbrev pub decreases-try_evaluate_added_goals : goal.decreases-try_evaluate_added_goals
-decreases-try_evaluate_added_goals l = 22 * l.self.now.remaining_depth + 8
+decreases-try_evaluate_added_goals l = 40 * l.self.now.remaining_depth + 10
 
 abbrev pub decreases-evaluate_added_goals_and_make_canonical_response : goal.decreases-evaluate_added_goals_and_make_canonical_response
-decreases-evaluate_added_goals_and_make_canonical_response l = 22 * l.self.now.remaining_depth + 9
+decreases-evaluate_added_goals_and_make_canonical_response l = 40 * l.self.now.remaining_depth + 11
 
 abbrev pub decreases-evaluate_pending : goal.decreases-evaluate_pending
-decreases-evaluate_pending l = 22 * l.self.now.remaining_depth + 10
+decreases-evaluate_pending l = 40 * l.self.now.remaining_depth + 12
 
 abbrev pub decreases-step_or_evaluate : goal.decreases-step_or_evaluate
-decreases-step_or_evaluate l = 22 * l.self.now.remaining_depth + 11
+decreases-step_or_evaluate l = 40 * l.self.now.remaining_depth + 13
 
 abbrev pub decreases-run_through : goal.decreases-run_through
-decreases-run_through l = 22 * l.self.now.remaining_depth + 12
+decreases-run_through l = 40 * l.self.now.remaining_depth + 14
 
 abbrev pub decreases-answer_open : goal.decreases-answer_open
-decreases-answer_open l = 22 * l.self.now.remaining_depth + 13
+decreases-answer_open l = 40 * l.self.now.remaining_depth + 15
 
 abbrev pub decreases-run_open : goal.decreases-run_open
-decreases-run_open l = 22 * l.self.now.remaining_depth + 14
+decreases-run_open l = 40 * l.self.now.remaining_depth + 16
 
 abbrev pub decreases-run_unrefused : goal.decreases-run_unrefused
-decreases-run_unrefused l = 22 * l.self.now.remaining_depth + 15
+decreases-run_unrefused l = 40 * l.self.now.remaining_depth + 17
+
+abbrev pub decreases-rigid : goal.decreases-rigid
+decreases-rigid l = 40 * l.self.now.remaining_depth + 17
+
+abbrev pub decreases-run_alias_rule : goal.decreases-run_alias_rule
+decreases-run_alias_rule l = 40 * l.self.now.remaining_depth + 17
 
 abbrev pub decreases-merge_next : goal.decreases-merge_next
-decreases-merge_next l = 22 * l.self.now.remaining_depth + 16
+decreases-merge_next l = 40 * l.self.now.remaining_depth + 18
 
 abbrev pub decreases-merge_rules : goal.decreases-merge_rules
-decreases-merge_rules l = 22 * l.self.now.remaining_depth + 17
+decreases-merge_rules l = 40 * l.self.now.remaining_depth + 19
 
 abbrev pub decreases-class_answer : goal.decreases-class_answer
-decreases-class_answer l = 22 * l.self.now.remaining_depth + 18
+decreases-class_answer l = 40 * l.self.now.remaining_depth + 20
 
 abbrev pub decreases-group_answer : goal.decreases-group_answer
-decreases-group_answer l = 22 * l.self.now.remaining_depth + 18
+decreases-group_answer l = 40 * l.self.now.remaining_depth + 20
 
 abbrev pub decreases-merge_classes : goal.decreases-merge_classes
-decreases-merge_classes l = 22 * l.self.now.remaining_depth + 19
+decreases-merge_classes l = 40 * l.self.now.remaining_depth + 21
 
 abbrev pub decreases-merge_const_groups : goal.decreases-merge_const_groups
-decreases-merge_const_groups l = 22 * l.self.now.remaining_depth + 19
+decreases-merge_const_groups l = 40 * l.self.now.remaining_depth + 21
+
+abbrev pub decreases-answer_opened_trait : goal.decreases-answer_opened_trait
+decreases-answer_opened_trait l = 40 * l.self.now.remaining_depth + 22
+
+abbrev pub decreases-merge_opened_trait : goal.decreases-merge_opened_trait
+decreases-merge_opened_trait l = 40 * l.self.now.remaining_depth + 23
+
+abbrev pub decreases-merge_open_trait : goal.decreases-merge_open_trait
+decreases-merge_open_trait l = 40 * l.self.now.remaining_depth + 24
 
 abbrev pub decreases-merge_trait : goal.decreases-merge_trait
-decreases-merge_trait l = 22 * l.self.now.remaining_depth + 20
+decreases-merge_trait l = 40 * l.self.now.remaining_depth + 25
+
+abbrev pub decreases-answer_opened_const : goal.decreases-answer_opened_const
+decreases-answer_opened_const l = 40 * l.self.now.remaining_depth + 22
+
+abbrev pub decreases-merge_opened_const : goal.decreases-merge_opened_const
+decreases-merge_opened_const l = 40 * l.self.now.remaining_depth + 23
+
+abbrev pub decreases-merge_open_const : goal.decreases-merge_open_const
+decreases-merge_open_const l = 40 * l.self.now.remaining_depth + 24
 
 abbrev pub decreases-merge_const_through : goal.decreases-merge_const_through
-decreases-merge_const_through l = 22 * l.self.now.remaining_depth + 20
+decreases-merge_const_through l = 40 * l.self.now.remaining_depth + 25
 
 abbrev pub decreases-hold_const : goal.decreases-hold_const
-decreases-hold_const l = 22 * l.self.now.remaining_depth + 21
+decreases-hold_const l = 40 * l.self.now.remaining_depth + 26
+
+abbrev pub decreases-merge_bounds : goal.decreases-merge_bounds
+decreases-merge_bounds l = 40 * l.self.now.remaining_depth + 20
+
+abbrev pub decreases-merge_rest : goal.decreases-merge_rest
+decreases-merge_rest l = 40 * l.self.now.remaining_depth + 20
+
+abbrev pub decreases-merge_later : goal.decreases-merge_later
+decreases-merge_later l = 40 * l.self.now.remaining_depth + 21
+
+abbrev pub decreases-merge_groups : goal.decreases-merge_groups
+decreases-merge_groups l = 40 * l.self.now.remaining_depth + 22
+
+abbrev pub decreases-answer_opened_alias : goal.decreases-answer_opened_alias
+decreases-answer_opened_alias l = 40 * l.self.now.remaining_depth + 23
+
+abbrev pub decreases-merge_opened_alias : goal.decreases-merge_opened_alias
+decreases-merge_opened_alias l = 40 * l.self.now.remaining_depth + 24
+
+abbrev pub decreases-merge_open_alias : goal.decreases-merge_open_alias
+decreases-merge_open_alias l = 40 * l.self.now.remaining_depth + 25
+
+abbrev pub decreases-merge_alias : goal.decreases-merge_alias
+decreases-merge_alias l = 40 * l.self.now.remaining_depth + 26
+
+abbrev pub decreases-project : goal.decreases-project
+decreases-project l = 40 * l.self.now.remaining_depth + 27
 
 abbrev pub invariant-evaluate_round-loop-i : goal.invariant-evaluate_round-loop-i
 invariant-evaluate_round-loop-i l = record {

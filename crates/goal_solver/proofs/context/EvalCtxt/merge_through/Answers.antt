@@ -1,17 +1,17 @@
-use Rattle.std.proofs.Common.{subst, length}
-use Rattle.goal_solver.specs.Answers.{IsQuiet}
+use Rattle.std.proofs.Common.{subst}
 use Rattle.goal_solver.specs.Collecting.{kind_words}
-use Rattle.goal_solver.specs.State.{State, kinds_of}
-use Rattle.goal_solver.proofs.ApplicableLemmas.{nothing-applies-after}
-use Rattle.goal_solver.proofs.OpenProjectionLemmas.{through-formed}
+use Rattle.goal_solver.specs.OpenProjections.{ConsidersGroups}
+use Rattle.goal_solver.proofs.OpenedSelfLemmas.{left-or_opened-through}
+use Rattle.goal_solver.proofs.OpenProjectionLemmas.{through-groups}
 use Rattle.goal_solver.proofs.context.EvalCtxt.merge_through.Goals as goal
-
-pub returns-in-None-clause-applies : goal.returns-in-None-clause-applies
-returns-in-None-clause-applies g c =
-    nothing-applies-after c.args.self.now c.with_normalized_self_ty.new.self c.respond.result c.with_normalized_self_ty.ensures.unchanged c.is_well_formed.ensures.storage
-    (subst (λ (s : State). IsQuiet (length (kinds_of s)) c.respond.result) c.with_normalized_self_ty.ensures.unchanged c.respond.ensures.quiet) c.respond.ensures.values
 
 pub returns-in-Some-clause-merges : goal.returns-in-Some-clause-merges
 returns-in-Some-clause-merges g c =
-    through-formed (kind_words g.G.GoalKind.merging g.G.GoalKind.has_term g.G.GoalKind.self_type g.G.GoalKind.is_with_self g.G.PredicateTerms.has_fault g.G.GoalKind.trait_asked g.G.GoalKind.passes g.G.GoalKind.is_impl_for g.G.GoalKind.candidate_gives g.G.GoalKind.candidate_refuted g.G.GoalKind.is_for g.G.GoalKind.additional) c.args.asked.now c.args.class c.args.goal.now c.in-Some.normalized c.args.self.now c.with_normalized_self_ty.new.self c.merge_groups.new.self c.merge_groups.result c.in_ok-with_normalized_self_ty.field-0
-    c.in_ok-with_normalized_self_ty.ensures.forms c.in-Some.is c.with_normalized_self_ty.ensures.unchanged c.merge_groups.ensures.decides
+    through-groups (kind_words g.G.GoalKind.merging g.G.GoalKind.has_term g.G.GoalKind.self_type g.G.GoalKind.is_with_self g.G.PredicateTerms.has_fault g.G.GoalKind.trait_asked g.G.GoalKind.passes g.G.GoalKind.is_impl_for g.G.GoalKind.candidate_gives g.G.GoalKind.candidate_refuted g.G.GoalKind.is_for g.G.GoalKind.additional) c.args.asked.now c.args.class c.args.goal.now c.args.self.now c.considered_groups.new.self c.merge_groups.new.self c.merge_groups.result c.in_ok-considered_groups.field-0 c.in-Some.rules
+    c.in_ok-considered_groups.ensures.considers c.in-Some.is c.considered_groups.ensures.unchanged c.merge_groups.ensures.decides
+
+pub returns-in-None-clause-merges : goal.returns-in-None-clause-merges
+returns-in-None-clause-merges g c =
+    left-or_opened-through (kind_words g.G.GoalKind.merging g.G.GoalKind.has_term g.G.GoalKind.self_type g.G.GoalKind.is_with_self g.G.PredicateTerms.has_fault g.G.GoalKind.trait_asked g.G.GoalKind.passes g.G.GoalKind.is_impl_for g.G.GoalKind.candidate_gives g.G.GoalKind.candidate_refuted g.G.GoalKind.is_for g.G.GoalKind.additional) c.args.asked.now c.args.class c.args.goal.now c.args.self.now c.considered_groups.new.self c.merge_open_through.new.self c.merge_open_through.result
+    (subst (λ o. ConsidersGroups (kind_words g.G.GoalKind.merging g.G.GoalKind.has_term g.G.GoalKind.self_type g.G.GoalKind.is_with_self g.G.PredicateTerms.has_fault g.G.GoalKind.trait_asked g.G.GoalKind.passes g.G.GoalKind.is_impl_for g.G.GoalKind.candidate_gives g.G.GoalKind.candidate_refuted g.G.GoalKind.is_for g.G.GoalKind.additional) c.args.class c.args.goal.now c.args.self.now o c.considered_groups.new.self) c.in-None.is c.in_ok-considered_groups.ensures.considers) c.considered_groups.ensures.unchanged
+    c.merge_open_through.ensures.unchanged c.merge_open_through.ensures.undecided c.merge_open_through.ensures.opened
