@@ -1,15 +1,14 @@
 -- The terms that aliases of all kinds have at a depth.
-use Rattle.std.proofs.Common.{◌≡◌, ◌⊎◌, ◌++◌, ℕ, zero, suc, List, ◌∷◌, IfOk, Result, Ok, sym, ◌∙◌, subst, ⊎_elim}
-use Rattle.goal_terms.specs.Tree.{Tree, alias}
+use Rattle.std.proofs.Common.{◌≡◌, ◌⊎◌, ℕ, zero, suc, List, IfOk, Result, sym, ◌∙◌, subst, ⊎_elim}
+use Rattle.goal_terms.specs.Tree.{Tree}
 use Rattle.goal_terms.specs.declared.ids.ItemId.{ItemId}
 use Rattle.goal_terms.specs.declared.terms.AliasTermKind.{AliasTermKind}
 use Rattle.goal_terms.specs.declared.terms.AliasTermKind.TheVariants.{ProjectionTy, ProjectionConst}
-use Rattle.goal_terms.specs.declared.terms.Term.{Term}
 use Rattle.goal_kinds.specs.Aliases.{AliasGives, AliasRefuted}
 use Rattle.goal_kinds.specs.Levels.{level}
 use Rattle.goal_kinds.specs.Projections.{ProjectionGives, ProjectionRefuted}
 use Rattle.goal_kinds.specs.Settings.{Setting}
-use Rattle.goal_eval.specs.Outcomes.{Says, SaysWhich}
+use Rattle.goal_eval.specs.Outcomes.{SaysWhich}
 use Rattle.goal_eval.specs.declared.eval.outcomes.Found.{Found}
 use Rattle.goal_eval.specs.declared.eval.outcomes.Stop.{Stop}
 

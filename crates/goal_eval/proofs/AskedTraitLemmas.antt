@@ -1,5 +1,5 @@
 -- What the lists of candidates for a trait that is asked say, and what its candidates come to together.
-use Rattle.std.proofs.Common.{◌≡◌, ◌⊎◌, ◌↔◌, inl, inr, ℕ, ◌+◌, ◌<◌, ◌≤◌, ◌∙◌, Bool, true, false, List, length, map, get_or, take, Result, Option, Some, None, if◌then◌else◌, refl, sym, ap, ap₂, subst, ⊎_elim, true≢false}
+use Rattle.std.proofs.Common.{◌≡◌, ◌⊎◌, ◌↔◌, inl, inr, ℕ, ◌+◌, ◌<◌, ◌≤◌, ◌∙◌, Bool, true, false, List, length, map, get_or, take, Result, Option, Some, None, refl, sym, ap, ap₂, subst, ⊎_elim}
 use Rattle.std.specs.Prelude.{IfOk, Vec}
 use Rattle.std.specs.Global.{Global}
 use Rattle.std.specs.List.{All}
@@ -12,12 +12,13 @@ use Rattle.goal_terms.specs.declared.answers.TraitGoalProvenVia.TheVariants as c
 use Rattle.goal_terms.specs.declared.heads.Head.TheVariants.{Bool as bool_head}
 use Rattle.goal_terms.specs.declared.ids.TraitId.{TraitId}
 use Rattle.goal_terms.specs.declared.modes.TypingMode.{TypingMode}
-use Rattle.goal_terms.specs.declared.modes.TypingMode.TheVariants as mode
 use Rattle.goal_terms.specs.declared.predicates.BoundConstness.{BoundConstness}
 use Rattle.goal_terms.specs.declared.predicates.BoundConstness.TheVariants as constness
 use Rattle.goal_terms.specs.declared.term_nodes.OutOfMemory.{OutOfMemory}
+use Rattle.goal_terms.specs.declared.term_nodes.TermId.{TermId}
+use Rattle.goal_tables.specs.declared.rows.ImplRow.{ImplRow}
 use Rattle.goal_kinds.specs.Answers.{setting_of}
-use Rattle.goal_kinds.specs.Candidates.{Candidate, environment, class_of, second_group}
+use Rattle.goal_kinds.specs.Candidates.{Candidate, by_impl, environment, class_of, second_group}
 use Rattle.goal_kinds.specs.ConstGoals.{satisfies}
 use Rattle.goal_kinds.specs.EffectLists.{effect_list}
 use Rattle.goal_kinds.specs.Entries.{Entry, ListHolds, ListRefuted, ListAsksNoTerm}
@@ -27,14 +28,15 @@ use Rattle.goal_kinds.specs.InternedEntries.{list_at, setting_at}
 use Rattle.goal_kinds.specs.Laws.{IsConsistent}
 use Rattle.goal_kinds.specs.Level.{Level}
 use Rattle.goal_kinds.specs.Levels.{level}
-use Rattle.goal_kinds.specs.ListModes.{ListStandsIn, in_mode, erased_setting}
+use Rattle.goal_kinds.specs.ListModes.{in_mode, erased_setting}
 use Rattle.goal_kinds.specs.Settings.{Setting, is_headline}
 use Rattle.goal_kinds.specs.TraitLists.{trait_list}
 use Rattle.goal_kinds.specs.Words.{Each, Exists}
 use Rattle.goal_kinds.specs.declared.candidates.interned.InternedCandidate.{InternedCandidate}
 use Rattle.goal_kinds.specs.declared.lists.InternedEntry.{InternedEntry}
 use Rattle.goal_kinds.specs.declared.lists.ListSetting.{ListSetting}
-use Rattle.goal_kinds.proofs.CandidateLemmas.{no_candidate_refuted}
+use Rattle.goal_kinds.specs.TraitGoals.{ImplHolds, ImplRefuted, CandidateHolds, CandidateRefuted, PassedOver, Decides}
+use Rattle.goal_kinds.proofs.CandidateLemmas.{no_candidate_refuted, not_passed_over}
 use Rattle.goal_kinds.proofs.ConsistentLemmas.{each_level_is_consistent}
 use Rattle.goal_kinds.proofs.ConstLemmas.{no_const_candidate_refuted}
 use Rattle.goal_kinds.proofs.ContraryWords.{Exists-Each}
@@ -46,18 +48,20 @@ use Rattle.goal_kinds.proofs.ListModes.{trait_list-stands, effect_list-stands}
 use Rattle.goal_kinds.proofs.ListStandIns.{list_stands_in-same}
 use Rattle.goal_kinds.proofs.ListTerms.{trait_list-asks_none, effect_list-asks_none, asks_none-with, gives-holds}
 use Rattle.goal_kinds.proofs.TraitLists.{trait_list-holds, trait_list-refuted}
-use Rattle.goal_eval.specs.AskedTraits.{asked_list, candidate_list, AskedHolds, AskedRefuted, AskedIn, SaysCandidate, SaysCandidates, SaysGroups}
-use Rattle.goal_eval.specs.Joined.{one_of}
+use Rattle.goal_eval.specs.AskedTraits.{asked_list, candidate_list, AskedHolds, AskedRefuted, AskedDecides, AskedRuledOut, AskedIn, SaysListed, SaysCandidate, SaysCandidates, SaysGroups}
+use Rattle.goal_kinds.specs.Joined.{one_of, beside}
 use Rattle.goal_eval.specs.Lists.{list_mode, IsListFor, SaysList, list_held}
 use Rattle.goal_eval.specs.Outcomes.{RunsFor, setting_in, level_in, Says}
+use Rattle.goal_eval.specs.SpecialImpls.{SaysMoreSpecial}
 use Rattle.goal_eval.specs.declared.assembly.candidates.AskedTrait.{AskedTrait}
 use Rattle.goal_eval.specs.declared.eval.lists.ListOutcome.{ListOutcome}
 use Rattle.goal_eval.specs.declared.eval.lists.ListOutcome.TheVariants as list
-use Rattle.goal_eval.specs.declared.eval.outcomes.Outcome.{Outcome}
-use Rattle.goal_eval.specs.declared.eval.outcomes.Outcome.TheVariants as outcome
+use Rattle.goal_kinds.specs.declared.outcomes.Outcome.{Outcome}
+use Rattle.goal_kinds.specs.declared.outcomes.Outcome.TheVariants as outcome
 use Rattle.goal_eval.specs.declared.eval.outcomes.Setting as over
 use Rattle.goal_eval.specs.declared.eval.outcomes.Stop.{Stop}
 use Rattle.goal_eval.proofs.RunModes.{list-for}
+use Rattle.goal_eval.proofs.SpecialImplLemmas.{beside-says}
 use Rattle.goal_eval.proofs.OutcomeLists.{says-same, some-more, take-push, take-whole, Exists-taken, All-at}
 
 -- the list of a candidate for a trait that is asked doesn't read the mode
@@ -122,7 +126,7 @@ asked-refuted S e L None i args x = trait_list-refuted S e L i args x
 asked-refuted S e L (Some c) i args x = effect_list-refuted S e L c i args x
 
 pub asked-says : (S : Setting) → is_headline S.mode ≡ true → (L : Level) (T U : List Tree) (asked : AskedTrait) (x : Candidate) (r : ListOutcome) →
-    SaysList L (candidate_list S T asked x) U r → SaysCandidate S L T asked x (list_held r)
+    SaysList L (candidate_list S T asked x) U r → SaysListed S L T asked x (list_held r)
 asked-says S e L T U asked x r h =
     let o : Option BoundConstness = asked.constness in
     let args : List Tree = erased_all T asked.args.now in
@@ -131,6 +135,31 @@ asked-says S e L T U asked x r h =
     let refuted : ListRefuted L q ↔ AskedRefuted S L o asked.trait_id args x = asked-refuted S e L o asked.trait_id args x in
     says-same (ListHolds L q) (AskedHolds S L o asked.trait_id args x) (ListRefuted L q) (AskedRefuted S L o asked.trait_id args x) holds.0 holds.1 refuted.0 refuted.1
     (list_held r) (held-says L q U r (asked-asks_none S o asked.trait_id args x) h)
+
+-- so it is with the list of an impl for arguments of its trait
+pub impl-says : (S : Setting) → is_headline S.mode ≡ true → (L : Level) (U args : List Tree) (q : ImplRow) (r : ListOutcome) (o : Outcome) → o ≡ list_held r →
+    SaysList L (trait_list S q.trait_id args (by_impl q)) U r → Says (ImplHolds L args q) (ImplRefuted L args q) o
+unfolding CandidateHolds CandidateRefuted
+impl-says S e L U args q r o same h =
+    let x : Candidate = by_impl q in
+    let es : Option (List Entry) = trait_list S q.trait_id args x in
+    let holds : ListHolds L es ↔ CandidateHolds S L q.trait_id args x = trait_list-holds S e L q.trait_id args x in
+    let refuted : ListRefuted L es ↔ CandidateRefuted S L q.trait_id args x = trait_list-refuted S e L q.trait_id args x in
+    subst (Says (ImplHolds L args q) (ImplRefuted L args q)) (sym same)
+    (says-same (ListHolds L es) (ImplHolds L args q) (ListRefuted L es) (ImplRefuted L args q) holds.0 holds.1 refuted.0 refuted.1
+    (list_held r) (held-says L es U r (trait_list-asks_none S q.trait_id args x) h))
+
+-- and the list that is made of it is this one
+pub made-impl : (c : over.Setting) (lists : ListSetting) (T U : List Tree) (ids : List TermId) (q : ImplRow) (res : Result (Option (Vec InternedEntry Global)) OutOfMemory) →
+    lists.rows.now ≡ c.rows.now → lists.mode.now ≡ list_mode c →
+    IfOk res (λ o. list_at U o ≡ trait_list (setting_at lists c.environment.now) q.trait_id (erased_all T ids) (by_impl q)) →
+    (m : TypingMode) → RunsFor c m → IfOk res (λ o. IsListFor c.typing_mode.now (list_at U o) (trait_list (setting_in c m) q.trait_id (erased_all T ids) (by_impl q)))
+made-impl c lists T U ids q res e f h m s =
+    IfOk-weaker res (λ o. list_at U o ≡ trait_list (setting_at lists c.environment.now) q.trait_id (erased_all T ids) (by_impl q))
+    (λ o. IsListFor c.typing_mode.now (list_at U o) (trait_list (setting_in c m) q.trait_id (erased_all T ids) (by_impl q)))
+    (λ o k.
+    list_for-made c m s None q.trait_id (erased_all T ids) (by_impl q) (list_at U o)
+    (k ∙ ap (λ S. trait_list S q.trait_id (erased_all T ids) (by_impl q)) (ap₂ (λ t k. setting_of t k c.environment.now) e f))) h
 
 -- a candidate that shows what is asked isn't refuted
 satisfies-itself : (c : BoundConstness) → satisfies c c ≡ true
@@ -141,6 +170,33 @@ no_asked_refuted : (S : Setting) (L : Level) → IsConsistent L → (o : Option 
     AskedHolds S L o i args x → AskedRefuted S L o i args x → ⊥
 no_asked_refuted S L l None i args x = no_candidate_refuted S L l i args x
 no_asked_refuted S L l (Some c) i args x = no_const_candidate_refuted S L l c c (satisfies-itself c) i args x
+
+-- one that decides isn't ruled out
+no_asked_ruled_out : (S : Setting) (L : Level) → IsConsistent L → (o : Option BoundConstness) (i : TraitId) (args : List Tree) (x : Candidate) →
+    AskedDecides S L o i args x → AskedRuledOut S L o i args x → ⊥
+no_asked_ruled_out S L l o i args x h k = ⊎_elim (λ r. no_asked_refuted S L l o i args x h.0 r) (λ p. not_passed_over S L l args x h.1 p) k
+
+-- what a candidate's list says, beside the impls that are more special, of a table that has grown
+pub asked-beside : (c : over.Setting) (m : TypingMode) (n : ℕ) (T U : List Tree) (asked : AskedTrait) (x : InternedCandidate) (shown special o : Outcome) → Keeps T U → AreIn T asked.args.now →
+    CandidateIn T x → o ≡ beside shown special → SaysListed (setting_in c m) (level_in c m n) T asked (candidate_at T x) shown →
+    SaysMoreSpecial (setting_in c m) (level_in c m n) (erased_all U asked.args.now) (candidate_at U x) special → SaysCandidate (setting_in c m) (level_in c m n) T asked (candidate_at T x) o
+asked-beside c m n T U asked x shown special o keeps within x_in e listed more =
+    let S : Setting = setting_in c m in
+    let L : Level = level_in c m n in
+    let args : List Tree = erased_all T asked.args.now in
+    let same : SaysMoreSpecial S L args (candidate_at T x) special =
+    subst (λ ts. SaysMoreSpecial S L ts (candidate_at T x) special) (all_same-grown T U keeps asked.args.now within)
+    (subst (λ y. SaysMoreSpecial S L (erased_all U asked.args.now) y special) (candidate_same-grown T U keeps x x_in) more) in
+    subst (SaysCandidate S L T asked (candidate_at T x)) (sym e)
+    (beside-says (AskedHolds S L asked.constness asked.trait_id args (candidate_at T x)) (AskedRefuted S L asked.constness asked.trait_id args (candidate_at T x))
+    (PassedOver S L args (candidate_at T x)) (Decides S L args (candidate_at T x))
+    (no_asked_refuted S L (each_level_is_consistent S n) asked.constness asked.trait_id args (candidate_at T x))
+    (not_passed_over S L (each_level_is_consistent S n) args (candidate_at T x)) shown special listed same)
+
+-- one whose list is refuted is ruled out
+pub asked-out : (S : Setting) (L : Level) (T : List Tree) (asked : AskedTrait) (x : Candidate) (o : Outcome) → o ≡ outcome.Refuted → SaysListed S L T asked x o →
+    SaysCandidate S L T asked x outcome.Refuted
+asked-out S L T asked x o e h = inl (subst (SaysListed S L T asked x) e h)
 
 -- what is asked, in a table that has grown
 pub asked_in-grown : (T U : List Tree) (asked : AskedTrait) → Keeps T U → AskedIn T asked → AskedIn U asked
@@ -164,19 +220,19 @@ asked-more c n T U asked xs k x found next o keeps within all l at e so_far here
     let args : List Tree = erased_all T asked.args.now in
     let x_in : CandidateIn T x = All-at (CandidateIn T) xs k x all l at in
     let same : SaysCandidate S L T asked (candidate_at T x) next =
-    subst (λ ts. Says (AskedHolds S L asked.constness asked.trait_id ts (candidate_at T x)) (AskedRefuted S L asked.constness asked.trait_id ts (candidate_at T x)) next)
+    subst (λ ts. Says (AskedDecides S L asked.constness asked.trait_id ts (candidate_at T x)) (AskedRuledOut S L asked.constness asked.trait_id ts (candidate_at T x)) next)
     (all_same-grown T U keeps asked.args.now within.1)
     (subst (λ y. SaysCandidate S L U asked y next) (candidate_same-grown T U keeps x x_in) (here m s)) in
     subst (SaysCandidates S L T asked (take (k + 1) (map (candidate_at T) xs))) (sym e)
     (subst (λ ys. SaysCandidates S L T asked ys (one_of found next)) (sym (take-push (candidate_at T) xs k x l at))
-    (some-more (AskedHolds S L asked.constness asked.trait_id args) (AskedRefuted S L asked.constness asked.trait_id args)
-    (no_asked_refuted S L (each_level_is_consistent S n) asked.constness asked.trait_id args) (take k (map (candidate_at T) xs)) (candidate_at T x) found next (so_far m s) same))
+    (some-more (AskedDecides S L asked.constness asked.trait_id args) (AskedRuledOut S L asked.constness asked.trait_id args)
+    (no_asked_ruled_out S L (each_level_is_consistent S n) asked.constness asked.trait_id args) (take k (map (candidate_at T) xs)) (candidate_at T x) found next (so_far m s) same))
 
 -- one that holds shows it
 pub asked-shown : (c : over.Setting) (n : ℕ) (T : List Tree) (asked : AskedTrait) (xs : List InternedCandidate) (k : ℕ) (o : Outcome) → o ≡ outcome.Holds → AskedSoFar c n T asked xs k o →
     (m : TypingMode) → RunsFor c m → SaysCandidates (setting_in c m) (level_in c m n) T asked (map (candidate_at T) xs) outcome.Holds
 asked-shown c n T asked xs k o e so_far m s =
-    Exists-taken (AskedHolds (setting_in c m) (level_in c m n) asked.constness asked.trait_id (erased_all T asked.args.now)) k (map (candidate_at T) xs)
+    Exists-taken (AskedDecides (setting_in c m) (level_in c m n) asked.constness asked.trait_id (erased_all T asked.args.now)) k (map (candidate_at T) xs)
     (subst (AskedSoFar c n T asked xs k) e so_far m s)
 
 -- after the last place all have been asked
@@ -190,7 +246,7 @@ asked-back : (S : Setting) (L : Level) (T U : List Tree) (asked : AskedTrait) (x
     SaysCandidates S L U asked xs o → SaysCandidates S L T asked ys o
 asked-back S L T U asked xs ys o k h e s =
     subst (λ zs. SaysCandidates S L T asked zs o) e
-    (subst (λ ts. Says (Exists (AskedHolds S L asked.constness asked.trait_id ts) xs) (Each (AskedRefuted S L asked.constness asked.trait_id ts) xs) o) (all_same-grown T U k asked.args.now h) s)
+    (subst (λ ts. Says (Exists (AskedDecides S L asked.constness asked.trait_id ts) xs) (Each (AskedRuledOut S L asked.constness asked.trait_id ts) xs) o) (all_same-grown T U k asked.args.now h) s)
 
 -- candidates that may not fit are refuted, so those that may fit say all
 asked-passed : (S : Setting) (n : ℕ) (o : Option BoundConstness) (i : TraitId) (args : List Tree) (x : Candidate) → may_fit args x ≡ false → AskedRefuted S (level S n) o i (map erased args) x
@@ -198,24 +254,24 @@ asked-passed S n None i args x = candidate_refuted S n i args x
 asked-passed S n (Some c) i args x = const_candidate_refuted S n c i args x
 
 fitting-says : (S : Setting) (n : ℕ) (k : Option BoundConstness) (i : TraitId) (args : List Tree) (xs : List Candidate) (o : Outcome) →
-    Says (Exists (AskedHolds S (level S n) k i (map erased args)) (fitting args xs)) (Each (AskedRefuted S (level S n) k i (map erased args)) (fitting args xs)) o →
-    Says (Exists (AskedHolds S (level S n) k i (map erased args)) xs) (Each (AskedRefuted S (level S n) k i (map erased args)) xs) o
+    Says (Exists (AskedDecides S (level S n) k i (map erased args)) (fitting args xs)) (Each (AskedRuledOut S (level S n) k i (map erased args)) (fitting args xs)) o →
+    Says (Exists (AskedDecides S (level S n) k i (map erased args)) xs) (Each (AskedRuledOut S (level S n) k i (map erased args)) xs) o
 fitting-says S n k i args xs o =
-    let P : Candidate → Type 0 = AskedHolds S (level S n) k i (map erased args) in
-    let R : Candidate → Type 0 = AskedRefuted S (level S n) k i (map erased args) in
+    let P : Candidate → Type 0 = AskedDecides S (level S n) k i (map erased args) in
+    let R : Candidate → Type 0 = AskedRuledOut S (level S n) k i (map erased args) in
     let f : Candidate → Bool = may_fit args in
-    let passed : (x : Candidate) → f x ≡ false → R x = asked-passed S n k i args in
+    let passed : (x : Candidate) → f x ≡ false → R x = λ x e. inl (asked-passed S n k i args x e) in
     says-same (Exists P (fitting args xs)) (Exists P xs) (Each R (fitting args xs)) (Each R xs)
-    (exists-kept P f xs) (kept-exists P f (λ x e h. no_asked_refuted S (level S n) (each_level_is_consistent S n) k i (map erased args) x h (passed x e)) xs)
+    (exists-kept P f xs) (kept-exists P f (λ x e h. no_asked_ruled_out S (level S n) (each_level_is_consistent S n) k i (map erased args) x h (passed x e)) xs)
     (kept-each R f passed xs) (each-kept R f xs) o
 
 asked-fitting : (S : Setting) (n : ℕ) (T : List Tree) (asked : AskedTrait) (xs : List Candidate) (o : Outcome) →
     SaysCandidates S (level S n) T asked (fitting (trees_at T asked.args.now) xs) o → SaysCandidates S (level S n) T asked xs o
 asked-fitting S n T asked xs o h =
     let ts : List Tree = trees_at T asked.args.now in
-    subst (λ args. Says (Exists (AskedHolds S (level S n) asked.constness asked.trait_id args) xs) (Each (AskedRefuted S (level S n) asked.constness asked.trait_id args) xs) o) (trees-erased T asked.args.now)
+    subst (λ args. Says (Exists (AskedDecides S (level S n) asked.constness asked.trait_id args) xs) (Each (AskedRuledOut S (level S n) asked.constness asked.trait_id args) xs) o) (trees-erased T asked.args.now)
     (fitting-says S n asked.constness asked.trait_id ts xs o
-    (subst (λ args. Says (Exists (AskedHolds S (level S n) asked.constness asked.trait_id args) (fitting ts xs)) (Each (AskedRefuted S (level S n) asked.constness asked.trait_id args) (fitting ts xs)) o)
+    (subst (λ args. Says (Exists (AskedDecides S (level S n) asked.constness asked.trait_id args) (fitting ts xs)) (Each (AskedRuledOut S (level S n) asked.constness asked.trait_id args) (fitting ts xs)) o)
     (sym (trees-erased T asked.args.now)) h))
 
 pub asked-listed : (S : Setting) (n : ℕ) (T U : List Tree) (asked : AskedTrait) (xs ys : List Candidate) (res : Result Outcome Stop) → Keeps T U → AskedIn T asked →
@@ -231,12 +287,12 @@ of_self f T U asked k h = ap f (same-grown T U k asked.self_ty h.0)
 -- a class of candidates for a trait that isn't asked as a const trait
 pub plain-class : (S : Setting) (L : Level) (T U : List Tree) (asked : AskedTrait) (v : TraitGoalProvenVia) (o : Outcome) → Keeps T U → AskedIn T asked → asked.constness ≡ None →
     SaysCandidates S L U asked (class_of S asked.trait_id (erased_at U asked.self_ty) v) o →
-    Says (Exists (AskedHolds S L None asked.trait_id (erased_all T asked.args.now)) (class_of S asked.trait_id (erased_at T asked.self_ty) v))
-    (Each (AskedRefuted S L None asked.trait_id (erased_all T asked.args.now)) (class_of S asked.trait_id (erased_at T asked.self_ty) v)) o
+    Says (Exists (AskedDecides S L None asked.trait_id (erased_all T asked.args.now)) (class_of S asked.trait_id (erased_at T asked.self_ty) v))
+    (Each (AskedRuledOut S L None asked.trait_id (erased_all T asked.args.now)) (class_of S asked.trait_id (erased_at T asked.self_ty) v)) o
 plain-class S L T U asked v o k h e s =
     let xs : List Candidate = class_of S asked.trait_id (erased_at T asked.self_ty) v in
     let args : List Tree = erased_all T asked.args.now in
-    subst (λ y. Says (Exists (AskedHolds S L y asked.trait_id args) xs) (Each (AskedRefuted S L y asked.trait_id args) xs) o) e
+    subst (λ y. Says (Exists (AskedDecides S L y asked.trait_id args) xs) (Each (AskedRuledOut S L y asked.trait_id args) xs) o) e
     (asked-back S L T U asked (class_of S asked.trait_id (erased_at U asked.self_ty) v) xs o k h.1 (of_self (λ t. class_of S asked.trait_id t v) T U asked k h) s)
 
 -- the groups, where the environment decides
@@ -249,16 +305,16 @@ groups-first S L T asked v outcome.Undecided n h = (λ x. ⊎_elim h.0 (λ y. h.
 
 -- where it is refuted, the second group does
 second-only : (S : Setting) (n : ℕ) (T : List Tree) (asked : AskedTrait) (v : TraitGoalProvenVia) (o : Outcome) →
-    Each (AskedRefuted S (level S n) asked.constness asked.trait_id (erased_all T asked.args.now)) (environment S) →
+    Each (AskedRuledOut S (level S n) asked.constness asked.trait_id (erased_all T asked.args.now)) (environment S) →
     SaysCandidates S (level S n) T asked (second_group S asked.trait_id (erased_at T asked.self_ty) v) o → SaysGroups S (level S n) T asked v o
 second-only S n T asked v o refuted h =
     let L : Level = level S n in
     let args : List Tree = erased_all T asked.args.now in
     let xs : List Candidate = second_group S asked.trait_id (erased_at T asked.self_ty) v in
-    let P : Candidate → Type 0 = AskedHolds S L asked.constness asked.trait_id args in
-    let R : Candidate → Type 0 = AskedRefuted S L asked.constness asked.trait_id args in
+    let P : Candidate → Type 0 = AskedDecides S L asked.constness asked.trait_id args in
+    let R : Candidate → Type 0 = AskedRuledOut S L asked.constness asked.trait_id args in
     let none_shows : Exists P (environment S) → ⊥ =
-    λ x. Exists-Each P R (no_asked_refuted S L (each_level_is_consistent S n) asked.constness asked.trait_id args) (environment S) x refuted in
+    λ x. Exists-Each P R (no_asked_ruled_out S L (each_level_is_consistent S n) asked.constness asked.trait_id args) (environment S) x refuted in
     says-same (Exists P xs) (Exists P (environment S) ⊎ (Each R (environment S) × Exists P xs)) (Each R xs) (Each R (environment S) × Each R xs)
     (λ x. inr (refuted, x)) (λ x. ⊎_elim (λ y. absurd (none_shows y)) (λ y. y.1) x) (λ x. (refuted, x)) (λ x. x.1) o h
 

@@ -1,5 +1,5 @@
 -- An evaluation's effects stay sound, and the accesses of the lists that it runs have their cause in the tables.
-use Rattle.std.proofs.Common.{◌≡◌, ◌⊎◌, List, Option, Vec, Result, Ok, Err, sym, ap, subst, ⊎_elim}
+use Rattle.std.proofs.Common.{◌≡◌, ◌⊎◌, List, Option, Vec, Result, Ok, Err, sym, subst, ⊎_elim}
 use Rattle.std.specs.Prelude.{IfOk}
 use Rattle.std.specs.Global.{Global}
 use Rattle.std.specs.List.{All, Contains}

@@ -15,12 +15,12 @@ use Rattle.goal_kinds.proofs.ConsistentLemmas.{each_level_is_consistent}
 use Rattle.goal_kinds.proofs.EqualLemmas.{one_head_form, no_head_form_refuted}
 use Rattle.goal_kinds.proofs.InternedLemmas.{in-grown, same-grown}
 use Rattle.goal_eval.specs.Outcomes.{Says, SaysWhich, FoundIn}
-use Rattle.goal_eval.specs.Joined.{both}
+use Rattle.goal_kinds.specs.Joined.{both}
 use Rattle.goal_eval.specs.Pending.{Stands, Fails, forms_of, AllEqual, SomeUnequal, Relates, NeedForms, IsOpen, Adds}
 use Rattle.goal_eval.specs.declared.eval.outcomes.Found.{Found}
 use Rattle.goal_eval.specs.declared.eval.outcomes.Found.TheVariants as found
-use Rattle.goal_eval.specs.declared.eval.outcomes.Outcome.{Outcome}
-use Rattle.goal_eval.specs.declared.eval.outcomes.Outcome.TheVariants.{Holds, Refuted, Undecided}
+use Rattle.goal_kinds.specs.declared.outcomes.Outcome.{Outcome}
+use Rattle.goal_kinds.specs.declared.outcomes.Outcome.TheVariants.{Holds, Refuted, Undecided}
 use Rattle.goal_eval.specs.declared.relate.pairs.Forms.TheVariants as form
 use Rattle.goal_eval.specs.declared.relate.pairs.Pending.{Pending}
 use Rattle.goal_eval.specs.declared.relate.pairs.TermPair.{TermPair}

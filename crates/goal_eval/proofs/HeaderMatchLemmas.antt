@@ -2,7 +2,6 @@
 use Rattle.std.proofs.Common.{◌≡◌, ℕ, zero, suc, ◌+◌, Bool, true, false, ◌&&◌, List, [], ◌∷◌, map, Option, Some, None, refl, sym, ap, ◌∙◌, subst, arith}
 use Rattle.std.specs.Prelude.{◌↔◌, Result, Ok, Err, IfOk, slice_get, Vec}
 use Rattle.std.specs.Global.{Global}
-use Rattle.std.specs.Option.{option_map}
 use Rattle.std.proofs.lemmas.Bool.{false≢true}
 use Rattle.std.proofs.lemmas.Option.{same_Some}
 use Rattle.goal_terms.specs.TableMeaning.{Keeps}
@@ -11,7 +10,7 @@ use Rattle.goal_terms.specs.declared.answers.ParamKind.{ParamKind}
 use Rattle.goal_terms.specs.declared.answers.ParamKind.TheVariants as kind
 use Rattle.goal_terms.specs.declared.modes.TypingMode.{TypingMode}
 use Rattle.goal_terms.specs.declared.term_nodes.TermId.{TermId}
-use Rattle.goal_kinds.specs.Headers.{under, no_lifetime, PartAmong, is_term_kind, Known, PartsFrom, AllKnown, Fits, Clashes}
+use Rattle.goal_kinds.specs.Headers.{under, PartAmong, is_term_kind, Known, PartsFrom, AllKnown, Fits, Clashes}
 use Rattle.goal_kinds.specs.Interned.{erased_at, erased_all, AreIn}
 use Rattle.goal_kinds.specs.Laws.{IsConsistent}
 use Rattle.goal_kinds.specs.Level.{Level}
@@ -28,8 +27,8 @@ use Rattle.goal_eval.specs.HeaderWords.{IsKnown, known_trees, KnownIn, IsFilled,
 use Rattle.goal_eval.specs.Outcomes.{RunsFor, Says, SaysMatch, setting_in, level_in}
 use Rattle.goal_eval.specs.declared.eval.outcomes.HeaderMatch.{HeaderMatch}
 use Rattle.goal_eval.specs.declared.eval.outcomes.HeaderMatch.TheVariants as match
-use Rattle.goal_eval.specs.declared.eval.outcomes.Outcome.{Outcome}
-use Rattle.goal_eval.specs.declared.eval.outcomes.Outcome.TheVariants as outcome
+use Rattle.goal_kinds.specs.declared.outcomes.Outcome.{Outcome}
+use Rattle.goal_kinds.specs.declared.outcomes.Outcome.TheVariants as outcome
 use Rattle.goal_eval.specs.declared.eval.outcomes.Setting as over
 use Rattle.goal_eval.specs.declared.eval.outcomes.Stop.{Stop}
 use Rattle.goal_eval.proofs.HeaderArgLemmas.{known_same-grown}

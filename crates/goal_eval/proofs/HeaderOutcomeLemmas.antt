@@ -33,8 +33,8 @@ use Rattle.goal_eval.specs.HeaderWords.{erased_ref, is_any, is_whole, parameter_
 use Rattle.goal_eval.specs.Outcomes.{RunsFor, Says, setting_in, level_in}
 use Rattle.goal_eval.specs.declared.relate.header_questions.Question.{Question}
 use Rattle.goal_eval.specs.declared.relate.header_questions.Question.TheVariants as question
-use Rattle.goal_eval.specs.declared.eval.outcomes.Outcome.{Outcome}
-use Rattle.goal_eval.specs.declared.eval.outcomes.Outcome.TheVariants as outcome
+use Rattle.goal_kinds.specs.declared.outcomes.Outcome.{Outcome}
+use Rattle.goal_kinds.specs.declared.outcomes.Outcome.TheVariants as outcome
 use Rattle.goal_eval.specs.declared.eval.outcomes.Setting as over
 use Rattle.goal_eval.specs.declared.eval.outcomes.Stop.{Stop}
 use Rattle.goal_eval.proofs.HeaderPlaceLemmas.{IsAbove, below, level-above, parameter-erased}

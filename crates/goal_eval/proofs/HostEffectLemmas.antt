@@ -21,15 +21,15 @@ use Rattle.goal_kinds.proofs.ConsistentLemmas.{each_level_is_consistent}
 use Rattle.goal_kinds.proofs.EqualLemmas.{one_head_form, no_head_form_refuted}
 use Rattle.goal_kinds.proofs.InternedLemmas.{same-grown, all_same-grown}
 use Rattle.goal_eval.specs.AskedTraits.{GroupsHold, GroupsRefuted, SaysGroups}
-use Rattle.goal_eval.specs.Joined.{held}
+use Rattle.goal_kinds.specs.Joined.{held}
 use Rattle.goal_eval.specs.Outcomes.{Says, SaysThrough, SaysWhich}
 use Rattle.goal_eval.specs.declared.eval.outcomes.Found.{Found}
 use Rattle.goal_eval.specs.declared.eval.outcomes.Found.TheVariants as found
-use Rattle.goal_eval.specs.declared.eval.outcomes.Outcome.{Outcome}
-use Rattle.goal_eval.specs.declared.eval.outcomes.Outcome.TheVariants as outcome
+use Rattle.goal_kinds.specs.declared.outcomes.Outcome.{Outcome}
+use Rattle.goal_kinds.specs.declared.outcomes.Outcome.TheVariants as outcome
 use Rattle.goal_eval.specs.declared.eval.outcomes.Stop.{Stop}
-use Rattle.goal_eval.specs.declared.eval.outcomes.TraitOutcome.{TraitOutcome}
-use Rattle.goal_eval.specs.declared.eval.outcomes.TraitOutcome.TheVariants as trait_outcome
+use Rattle.goal_kinds.specs.declared.outcomes.TraitOutcome.{TraitOutcome}
+use Rattle.goal_kinds.specs.declared.outcomes.TraitOutcome.TheVariants as trait_outcome
 use Rattle.goal_eval.proofs.ConstOutcomeLemmas.{const-refuted, const-open}
 use Rattle.goal_eval.proofs.OutcomeLists.{says-same}
 

@@ -27,6 +27,8 @@ pub mod HeaderMatchLemmas
 pub mod ListRunLemmas
 pub mod ListEntryLemmas
 pub mod ListAnswerLemmas
+pub mod SpecialImplLemmas
+pub mod CandidateRowLemmas
 pub mod AskedTraitLemmas
 pub mod HostEffectLemmas
 pub mod ListedTermLemmas

@@ -24,8 +24,8 @@ use Rattle.goal_eval.specs.Combined.{SaysMatched}
 use Rattle.goal_eval.specs.Lists.{SaysNamed, SaysTerm, premises_of, SaysRow, chosen_term}
 use Rattle.goal_eval.specs.Outcomes.{Says, SaysWhich, SaysMatch}
 use Rattle.goal_eval.specs.declared.eval.lists.entries.RowPremises.{RowPremises}
-use Rattle.goal_eval.specs.declared.eval.outcomes.Outcome.{Outcome}
-use Rattle.goal_eval.specs.declared.eval.outcomes.Outcome.TheVariants as outcome
+use Rattle.goal_kinds.specs.declared.outcomes.Outcome.{Outcome}
+use Rattle.goal_kinds.specs.declared.outcomes.Outcome.TheVariants as outcome
 use Rattle.goal_eval.specs.declared.eval.outcomes.Found.{Found}
 use Rattle.goal_eval.specs.declared.eval.outcomes.Found.TheVariants as found
 use Rattle.goal_eval.specs.declared.eval.outcomes.HeaderMatch.{HeaderMatch}

@@ -37,8 +37,8 @@ use Rattle.goal_eval.specs.Outcomes.{Says, FoundIn, MatchIn}
 use Rattle.goal_eval.specs.declared.eval.lists.ListOutcome.{ListOutcome}
 use Rattle.goal_eval.specs.declared.eval.lists.ListOutcome.TheVariants as list
 use Rattle.goal_eval.specs.declared.eval.lists.progress.ListRun.{ListRun}
-use Rattle.goal_eval.specs.declared.eval.outcomes.Outcome.{Outcome}
-use Rattle.goal_eval.specs.declared.eval.outcomes.Outcome.TheVariants as outcome
+use Rattle.goal_kinds.specs.declared.outcomes.Outcome.{Outcome}
+use Rattle.goal_kinds.specs.declared.outcomes.Outcome.TheVariants as outcome
 use Rattle.goal_eval.specs.declared.eval.outcomes.Found.{Found}
 use Rattle.goal_eval.specs.declared.eval.outcomes.Found.TheVariants as found
 use Rattle.goal_eval.specs.declared.eval.outcomes.HeaderMatch.{HeaderMatch}

@@ -8,12 +8,12 @@ use Rattle.goal_kinds.specs.Words.{Each, Exists}
 use Rattle.goal_kinds.proofs.ContraryWords.{Exists-Each}
 use Rattle.goal_kinds.proofs.InternedLemmas.{in-grown, same-grown}
 use Rattle.goal_eval.specs.Outcomes.{Says, SaysWhich, FoundIn}
-use Rattle.goal_eval.specs.Joined.{both}
+use Rattle.goal_kinds.specs.Joined.{both}
 use Rattle.goal_eval.specs.ProjectionParts.{MergesTo}
 use Rattle.goal_eval.specs.declared.eval.outcomes.Found as founds
 use Rattle.goal_eval.specs.declared.eval.outcomes.Found.TheVariants as found
-use Rattle.goal_eval.specs.declared.eval.outcomes.Outcome as outcomes
-use Rattle.goal_eval.specs.declared.eval.outcomes.Outcome.TheVariants as outcome
+use Rattle.goal_kinds.specs.declared.outcomes.Outcome as outcomes
+use Rattle.goal_kinds.specs.declared.outcomes.Outcome.TheVariants as outcome
 use Rattle.goal_eval.proofs.BeforeLemmas.{EachBefore, SomeBefore, each_before-more, some_before-more, some_before-here, some_before-apart, each_before-end, some_before-whole, some_before-end, each-at, some_before-each_before, each_before-map, each-mapped, mapped-each, exists-mapped, mapped-exists}
 
 -- what holds of a value, by what implies it

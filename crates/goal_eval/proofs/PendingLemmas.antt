@@ -15,10 +15,10 @@ use Rattle.goal_kinds.specs.Levels.{level}
 use Rattle.goal_kinds.specs.Settings.{Setting}
 use Rattle.goal_kinds.specs.Words.{Each, Exists, Pairs, SomePair}
 use Rattle.goal_eval.specs.Outcomes.{Says}
-use Rattle.goal_eval.specs.Joined.{both}
+use Rattle.goal_kinds.specs.Joined.{both}
 use Rattle.goal_eval.specs.Pending.{Stands, Fails, AllEqual, SomeUnequal, Relates, HaveOneHead, NeedForms, AreOfOneKind, IsOpen, Adds}
-use Rattle.goal_eval.specs.declared.eval.outcomes.Outcome.{Outcome}
-use Rattle.goal_eval.specs.declared.eval.outcomes.Outcome.TheVariants.{Holds, Refuted, Undecided}
+use Rattle.goal_kinds.specs.declared.outcomes.Outcome.{Outcome}
+use Rattle.goal_kinds.specs.declared.outcomes.Outcome.TheVariants.{Holds, Refuted, Undecided}
 use Rattle.goal_eval.specs.declared.relate.pairs.Pending.{Pending}
 use Rattle.goal_eval.specs.declared.relate.pairs.TermPair.{TermPair}
 use Rattle.goal_eval.proofs.TopLemmas.{compares}

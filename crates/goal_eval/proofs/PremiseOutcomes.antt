@@ -24,14 +24,14 @@ use Rattle.goal_kinds.specs.Words.{Each, Exists}
 use Rattle.goal_kinds.proofs.ConsistentLemmas.{each_level_is_consistent}
 use Rattle.goal_kinds.proofs.InternedLemmas.{premise_in-grown, premise_same-grown, trait_in-grown, trait_same-grown}
 use Rattle.goal_kinds.proofs.PremiseLemmas.{no_premise_refuted}
-use Rattle.goal_eval.specs.Joined.{both, held}
+use Rattle.goal_kinds.specs.Joined.{both, held}
 use Rattle.goal_eval.specs.Outcomes.{RunsFor, setting_in, level_in, Says, SaysThrough}
 use Rattle.goal_eval.specs.declared.eval.outcomes.Setting as over
-use Rattle.goal_eval.specs.declared.eval.outcomes.Outcome.{Outcome}
-use Rattle.goal_eval.specs.declared.eval.outcomes.Outcome.TheVariants as outcome
+use Rattle.goal_kinds.specs.declared.outcomes.Outcome.{Outcome}
+use Rattle.goal_kinds.specs.declared.outcomes.Outcome.TheVariants as outcome
 use Rattle.goal_eval.specs.declared.eval.outcomes.Stop.{Stop}
-use Rattle.goal_eval.specs.declared.eval.outcomes.TraitOutcome.{TraitOutcome}
-use Rattle.goal_eval.specs.declared.eval.outcomes.TraitOutcome.TheVariants as trait_outcome
+use Rattle.goal_kinds.specs.declared.outcomes.TraitOutcome.{TraitOutcome}
+use Rattle.goal_kinds.specs.declared.outcomes.TraitOutcome.TheVariants as trait_outcome
 use Rattle.goal_eval.proofs.OutcomeLists.{all-more, take-push, take-whole, Exists-taken, All-at}
 
 -- what an outcome says of a premise

@@ -1,11 +1,11 @@
 -- What is found of the parts of a projection, and what that says of the whole.
-use Rattle.std.proofs.Common.{◌≡◌, ◌⊎◌, inl, inr, Bool, false, take, ℕ, zero, suc, ◌+◌, ◌<◌, ◌≤◌, List, [], ◌∷◌, length, map, get_or, drop, refl, sym, subst, ap, ◌∙◌, arith, Result}
-use Rattle.std.specs.Prelude.{IfOk}
+use Rattle.std.proofs.Common.{◌≡◌, ◌⊎◌, ⊎_elim, inl, inr, Bool, true, false, take, ℕ, zero, suc, ◌+◌, ◌<◌, ◌≤◌, List, [], ◌∷◌, length, map, get_or, drop, refl, sym, subst, ap, ◌∙◌, arith, Result}
+use Rattle.std.specs.Prelude.{IfOk, ◌||◌}
 use Rattle.std.specs.List.{All}
 use Rattle.std.proofs.lemmas.List.{drop-map, take-map}
 use Rattle.goal_terms.specs.Erased.{erased}
 use Rattle.goal_terms.specs.TableMeaning.{Keeps}
-use Rattle.goal_terms.specs.Tree.{Tree, alias}
+use Rattle.goal_terms.specs.Tree.{Tree}
 use Rattle.goal_terms.specs.declared.modes.TypingMode.{TypingMode}
 use Rattle.goal_terms.specs.declared.term_nodes.TermId.{TermId}
 use Rattle.goal_kinds.specs.Candidates.{Candidate}
@@ -15,7 +15,7 @@ use Rattle.goal_kinds.specs.Interned.{IsIn, AreIn, CandidateIn, erased_at, erase
 use Rattle.goal_kinds.specs.Laws.{IsConsistent}
 use Rattle.goal_kinds.specs.Level.{Level, HasHeadForm, HeadFormRefuted}
 use Rattle.goal_kinds.specs.Levels.{level}
-use Rattle.goal_kinds.specs.Projections.{CandidateGives, TermRefuted, GroupGives, GroupRefuted, OwnFormed, OwnUnformed}
+use Rattle.goal_kinds.specs.Projections.{CandidateGives, TermRefuted, TermDecides, TermRuledOut, GroupGives, GroupRefuted, OwnFormed, OwnUnformed}
 use Rattle.goal_kinds.specs.Settings.{Setting}
 use Rattle.goal_kinds.specs.declared.candidates.interned.InternedCandidate.{InternedCandidate}
 use Rattle.goal_kinds.proofs.ConsistentLemmas.{each_level_is_consistent}
@@ -23,17 +23,24 @@ use Rattle.goal_kinds.proofs.EqualLemmas.{no_head_form_refuted}
 use Rattle.goal_kinds.proofs.FilteredWords.{exists-kept, kept-exists, each-kept, kept-each}
 use Rattle.goal_kinds.proofs.FittingLemmas.{trees-erased, term_refuted}
 use Rattle.goal_kinds.proofs.InternedLemmas.{same-grown, all_same-grown, candidate_same-grown}
-use Rattle.goal_kinds.proofs.TermCandidateLemmas.{one_candidate_term, no_candidate_term_refuted}
+use Rattle.goal_kinds.proofs.TermCandidateLemmas.{one_candidate_term, no_candidate_term_refuted, no_term_ruled_out}
 use Rattle.goal_eval.specs.Outcomes.{Says, SaysWhich, FoundIn, ProjectionIn, projection_at, setting_in, level_in}
 use Rattle.goal_eval.specs.ProjectionParts.{MergesTo, IsFormed, HaveHeadForms, SomeUnformed, FormedGives}
 use Rattle.goal_eval.specs.declared.eval.outcomes.Setting as over
 use Rattle.goal_eval.specs.declared.eval.outcomes.Found as founds
 use Rattle.goal_eval.specs.declared.eval.outcomes.Found.TheVariants as found
-use Rattle.goal_eval.specs.declared.eval.outcomes.Outcome as outcomes
-use Rattle.goal_eval.specs.declared.eval.outcomes.Outcome.TheVariants as outcome
+use Rattle.goal_kinds.specs.declared.outcomes.Outcome as outcomes
+use Rattle.goal_kinds.specs.declared.outcomes.Outcome.TheVariants as outcome
 use Rattle.goal_eval.specs.declared.eval.outcomes.Projection as projections
-use Rattle.goal_eval.proofs.BeforeLemmas.{some_before-here, some_before-whole, exists-mapped}
-use Rattle.goal_eval.proofs.MergingLemmas.{ok-map, which-map, HeldBefore, held-more, held-undecided, held-end, says-mapped, AgreeBefore, agree-grown, agree-more, agree-end, which-mapped}
+use Rattle.goal_kinds.specs.Words.{Each, Exists}
+use Rattle.goal_kinds.proofs.CandidateLemmas.{not_passed_over}
+use Rattle.goal_kinds.proofs.ContraryWords.{Exists-Each}
+use Rattle.goal_kinds.proofs.WithinWords.{each-map, exists-map}
+use Rattle.goal_eval.specs.SpecialImpls.{SaysMoreSpecial, GivesUnpassed, GivesDecided, Tells, SaysGiven, given_beside, if_decided}
+use Rattle.goal_eval.specs.declared.normalizes_to.projection_candidates.GivenTerm.{GivenTerm}
+use Rattle.goal_eval.proofs.SpecialImplLemmas.{given-refuted, given-says}
+use Rattle.goal_eval.proofs.BeforeLemmas.{SomeBefore, some_before-here, some_before-more, some_before-apart, some_before-whole, some_before-end, exists-mapped, mapped-exists}
+use Rattle.goal_eval.proofs.MergingLemmas.{ok-map, which-map, HeldBefore, held-more, held-undecided, held-end, says-mapped, AgreeOn, AgreeBefore, agree-grown, agree-more, agree-end, which-mapped}
 
 -- each level is consistent
 pub consistent : (s : over.Setting) (m : TypingMode) (n : ℕ) → IsConsistent (level_in s m n)
@@ -48,50 +55,173 @@ pub head_form-back : (L : Level) (T U V : List Tree) → Keeps T U → (v : Term
     SaysWhich (HasHeadForm L (erased_at U v)) (HeadFormRefuted L (erased_at U v)) V f → SaysWhich (HasHeadForm L (erased_at T v)) (HeadFormRefuted L (erased_at T v)) V f
 head_form-back L T U V k v i f h = subst (λ t. SaysWhich (HasHeadForm L t) (HeadFormRefuted L t) V f) (same-grown T U k v i) h
 
--- what a candidate of a table says of a projection
+-- what a candidate of a table says of a projection: it gives a term and isn't passed over, or it is ruled out
 abbrev pub GivesOf : Setting → Level → List Tree → projections.Projection → Tree → InternedCandidate → Type 0
-GivesOf S L T p u x = CandidateGives S L (projection_at T p) (erased_at T p.rigid_alias) u (candidate_at T x)
+GivesOf S L T p u x = GivesUnpassed S L (projection_at T p) (erased_at T p.rigid_alias) u (candidate_at T x)
 
 abbrev pub NoneOf : Setting → Level → List Tree → projections.Projection → InternedCandidate → Type 0
-NoneOf S L T p x = TermRefuted S L (projection_at T p) (candidate_at T x)
+NoneOf S L T p x = TermRuledOut S L (projection_at T p) (candidate_at T x)
+
+-- it gives some term, and decides
+abbrev pub DecidesOf : Setting → Level → List Tree → projections.Projection → InternedCandidate → Type 0
+DecidesOf S L T p x = GivesDecided S L (projection_at T p) (erased_at T p.rigid_alias) (candidate_at T x)
 
 -- a candidate's term, from an earlier table
-candidate-back : (S : Setting) (L : Level) (T U V : List Tree) → Keeps T U → (p : projections.Projection) → ProjectionIn T p → (x : InternedCandidate) → CandidateIn T x → (f : founds.Found) →
-    SaysWhich (λ u. GivesOf S L U p u x) (NoneOf S L U p x) V f → SaysWhich (λ u. GivesOf S L T p u x) (NoneOf S L T p x) V f
-candidate-back S L T U V k p i x j f h =
-    subst (λ q. SaysWhich (λ u. CandidateGives S L q (erased_at T p.rigid_alias) u (candidate_at T x)) (TermRefuted S L q (candidate_at T x)) V f) (projection_same-grown T U k p i)
-    (subst (λ t. SaysWhich (λ u. CandidateGives S L (projection_at U p) t u (candidate_at T x)) (TermRefuted S L (projection_at U p) (candidate_at T x)) V f) (same-grown T U k p.rigid_alias i.1)
-    (subst (λ y. SaysWhich (λ u. CandidateGives S L (projection_at U p) (erased_at U p.rigid_alias) u y) (TermRefuted S L (projection_at U p) y) V f) (candidate_same-grown T U k x j) h))
+candidate-back : (S : Setting) (L : Level) (T U V : List Tree) → Keeps T U → (p : projections.Projection) → ProjectionIn T p → (x : InternedCandidate) → CandidateIn T x → (g : GivenTerm) →
+    SaysGiven S L (projection_at U p) (erased_at U p.rigid_alias) (candidate_at U x) V g → SaysGiven S L (projection_at T p) (erased_at T p.rigid_alias) (candidate_at T x) V g
+candidate-back S L T U V k p i x j g h =
+    subst (λ q. SaysGiven S L q (erased_at T p.rigid_alias) (candidate_at T x) V g) (projection_same-grown T U k p i)
+    (subst (λ t. SaysGiven S L (projection_at U p) t (candidate_at T x) V g) (same-grown T U k p.rigid_alias i.1)
+    (subst (λ y. SaysGiven S L (projection_at U p) (erased_at U p.rigid_alias) y V g) (candidate_same-grown T U k x j) h))
+
+-- a found term says the same in a table that has grown
+which-grown : (P : Tree → Type 0) (R : Type 0) (T U : List Tree) → Keeps T U → (f : founds.Found) → FoundIn T f → SaysWhich P R T f → SaysWhich P R U f
+which-grown P R T U k (found.Is id) i h = subst P (sym (same-grown T U k id i)) h
+which-grown P R T U k found.Refuted i h = h
+which-grown P R T U k found.Undecided i h = h
+
+-- what a candidate gives, once it is known what the impls come to that are more special
+pub given-beside : (S : Setting) (n : ℕ) (T U V : List Tree) → Keeps T U → Keeps U V → (p : projections.Projection) → ProjectionIn T p → (x : InternedCandidate) → CandidateIn T x →
+    (ids : List TermId) → ids ≡ take p.trait_params p.args.now → (f : founds.Found) → FoundIn U f → (o : outcomes.Outcome) → (g : GivenTerm) → g ≡ given_beside o f →
+    SaysWhich (λ u. CandidateGives S (level S n) (projection_at T p) (erased_at T p.rigid_alias) u (candidate_at T x)) (TermRefuted S (level S n) (projection_at T p) (candidate_at T x)) U f →
+    SaysMoreSpecial S (level S n) (erased_all U ids) (candidate_at U x) o → SaysGiven S (level S n) (projection_at T p) (erased_at T p.rigid_alias) (candidate_at T x) V g
+given-beside S n T U V k l p i x j ids e f within o g is gives more =
+    let L : Level = level S n in
+    let q : Projection = projection_at T p in
+    let args : erased_all U ids ≡ trait_args q =
+    ap (erased_all U) e ∙ sym (take-map (erased_at U) p.trait_params p.args.now) ∙ ap (take p.trait_params) (all_same-grown T U k p.args.now i.0) in
+    let same : SaysMoreSpecial S L (trait_args q) (candidate_at T x) o =
+    subst (λ ts. SaysMoreSpecial S L ts (candidate_at T x) o) args (subst (λ y. SaysMoreSpecial S L (erased_all U ids) y o) (candidate_same-grown T U k x j) more) in
+    subst (SaysGiven S L q (erased_at T p.rigid_alias) (candidate_at T x) V) (sym is)
+    (given-says S L (each_level_is_consistent S n) q (erased_at T p.rigid_alias) (candidate_at T x) V o f
+    (which-grown (λ u. CandidateGives S L q (erased_at T p.rigid_alias) u (candidate_at T x)) (TermRefuted S L q (candidate_at T x)) U V l f within gives) same)
+
+-- one that gives none
+pub given-none : (S : Setting) (n : ℕ) (T U : List Tree) (p : projections.Projection) (x : InternedCandidate) (f : founds.Found) → f ≡ found.Refuted →
+    SaysWhich (λ u. CandidateGives S (level S n) (projection_at T p) (erased_at T p.rigid_alias) u (candidate_at T x)) (TermRefuted S (level S n) (projection_at T p) (candidate_at T x)) U f →
+    SaysGiven S (level S n) (projection_at T p) (erased_at T p.rigid_alias) (candidate_at T x) U (record { found = found.Refuted; decides = false })
+given-none S n T U p x f e h =
+    let L : Level = level S n in
+    given-refuted S L (each_level_is_consistent S n) (projection_at T p) (erased_at T p.rigid_alias) (candidate_at T x) U
+    (subst (SaysWhich (λ u. CandidateGives S L (projection_at T p) (erased_at T p.rigid_alias) u (candidate_at T x)) (TermRefuted S L (projection_at T p) (candidate_at T x)) U) e h)
 
 -- one more candidate of a group
 pub group-more : (S : Setting) (L : Level) → IsConsistent L → (T U V : List Tree) → Keeps T U → Keeps U V → (p : projections.Projection) → ProjectionIn T p →
-    (xs : List InternedCandidate) (n : ℕ) (x : InternedCandidate) → n < length xs → x ≡ get_or xs n x → All (CandidateIn T) xs → (f g h : founds.Found) → FoundIn U f →
-    MergesTo V f g h → AgreeBefore (GivesOf S L T p) (NoneOf S L T p) U f xs n → SaysWhich (λ u. GivesOf S L U p u x) (NoneOf S L U p x) V g →
+    (xs : List InternedCandidate) (n : ℕ) (x : InternedCandidate) → n < length xs → x ≡ get_or xs n x → All (CandidateIn T) xs → (f : founds.Found) (g : GivenTerm) (h : founds.Found) → FoundIn U f →
+    MergesTo V f g.found h → AgreeBefore (GivesOf S L T p) (NoneOf S L T p) U f xs n →
+    SaysGiven S L (projection_at U p) (erased_at U p.rigid_alias) (candidate_at U x) V g →
     AgreeBefore (GivesOf S L T p) (NoneOf S L T p) V h xs (n + 1)
 group-more S L c T U V k l p i xs n x lt e all f g h j m b w =
     agree-more (GivesOf S L T p) (NoneOf S L T p)
-    (λ y t u q r. one_candidate_term S L c (projection_at T p) (erased_at T p.rigid_alias) t u (candidate_at T y) q r)
-    (λ y t q r. no_candidate_term_refuted S L c (projection_at T p) (erased_at T p.rigid_alias) t (candidate_at T y) q r)
-    V f g h xs n x lt e m (agree-grown (GivesOf S L T p) (NoneOf S L T p) U V l f j xs n b)
-    (candidate-back S L T U V k p i x (subst (CandidateIn T) (sym e) (all n x lt)) g w)
+    (λ y t u q r. one_candidate_term S L c (projection_at T p) (erased_at T p.rigid_alias) t u (candidate_at T y) q.0 r.0)
+    (λ y t q r. ⊎_elim (λ z. no_candidate_term_refuted S L c (projection_at T p) (erased_at T p.rigid_alias) t (candidate_at T y) q.0 z) q.1 r)
+    V f g.found h xs n x lt e m (agree-grown (GivesOf S L T p) (NoneOf S L T p) U V l f j xs n b)
+    (candidate-back S L T U V k p i x (subst (CandidateIn T) (sym e) (all n x lt)) g w).0
+
+-- whether some element before a place has a property
+abbrev pub ToldBefore : {A : Type 0} → (A → Type 0) → Bool → List A → ℕ → Type 0
+ToldBefore D b xs n = Tells (SomeBefore D xs n) b
+
+told-more : {A : Type 0} (D : A → Type 0) (a b : Bool) (xs : List A) (n : ℕ) (x : A) → n < length xs → x ≡ get_or xs n x →
+    ToldBefore D a xs n → Tells (D x) b → ToldBefore D (a || b) xs (n + 1)
+told-more D true b xs n x l e h k = some_before-more D xs n h
+told-more D false true xs n x l e h k = some_before-here D xs n x l e k
+told-more D false false xs n x l e h k = λ s. ⊎_elim h k (some_before-apart D xs n x l e s)
+
+told-end : {A : Type 0} (D : A → Type 0) (b : Bool) (xs : List A) (n : ℕ) → length xs ≤ n → ToldBefore D b xs n → Tells (Exists D xs) b
+told-end D true xs n l h = some_before-whole D xs n h
+told-end D false xs n l h = λ x. h (some_before-end D xs n l x)
+
+-- whether one of the candidates before a place decides, and one more
+pub decided-start : (S : Setting) (L : Level) (T : List Tree) (p : projections.Projection) (xs : List InternedCandidate) → ToldBefore (DecidesOf S L T p) false xs 0
+decided-start S L T p xs h = h
+
+pub decided-more : (S : Setting) (L : Level) (T U V : List Tree) → Keeps T U → (p : projections.Projection) → ProjectionIn T p →
+    (xs : List InternedCandidate) (n : ℕ) (x : InternedCandidate) → n < length xs → x ≡ get_or xs n x → All (CandidateIn T) xs → (a b : Bool) (g : GivenTerm) → b ≡ a || g.decides →
+    ToldBefore (DecidesOf S L T p) a xs n → SaysGiven S L (projection_at U p) (erased_at U p.rigid_alias) (candidate_at U x) V g → ToldBefore (DecidesOf S L T p) b xs (n + 1)
+decided-more S L T U V k p i xs n x lt e all a b g is h w =
+    subst (λ d. ToldBefore (DecidesOf S L T p) d xs (n + 1)) (sym is)
+    (told-more (DecidesOf S L T p) a g.decides xs n x lt e h (candidate-back S L T U V k p i x (subst (CandidateIn T) (sym e) (all n x lt)) g w).1)
+
+-- what some element has beside what each has
+exists-beside : {A : Type 0} (P Q V : A → Type 0) → ((x : A) → P x → Q x → V x) → (xs : List A) → Exists P xs → Each Q xs → Exists V xs
+unfolding Exists Each
+exists-beside P Q V f [] h k = absurd h
+exists-beside P Q V f (x ∷ xs) (inl p) k = inl (f x p k.0)
+exists-beside P Q V f (x ∷ xs) (inr h) k = inr (exists-beside P Q V f xs h k.1)
+
+-- what can't be denied of any element can't be denied of all
+each-undenied : {A : Type 0} (P Q : A → Type 0) → ((x : A) → P x → (Q x → ⊥) → ⊥) → (xs : List A) → Each P xs → (Each Q xs → ⊥) → ⊥
+unfolding Each
+each-undenied P Q f [] h k = k tt
+each-undenied P Q f (x ∷ xs) h k = f x h.0 (λ q. each-undenied P Q f xs h.1 (λ r. k (q, r)))
+
+-- what a group gives: its candidates agree, and one of those that give the term decides
+module _ (S : Setting) (L : Level) (c : IsConsistent L) (p : Projection) (itself : Tree) (xs : List Candidate) where
+  abbrev G : Tree → Candidate → Type 0
+  G u x = GivesUnpassed S L p itself u x
+
+  agreed-group : (u : Tree) → AgreeOn G (TermRuledOut S L p) xs u → Exists (GivesDecided S L p itself) xs → GroupGives S L p itself xs u
+  unfolding GroupGives
+  agreed-group u h d = (
+    exists-beside (GivesDecided S L p itself) (λ x. G u x ⊎ TermRuledOut S L p x) (TermDecides S L p itself u)
+        (λ x y z. ⊎_elim (λ g. (g.0, y.1.1)) (λ r. absurd (no_term_ruled_out S L c p itself y.0 x y.1 r)) z) xs d h.1,
+    each-map (λ x z. ⊎_elim (λ g. inl g.0) (λ r. inr r) z) xs h.1,
+  )
+
+  group-agreed : (u : Tree) → GroupGives S L p itself xs u → (AgreeOn G (TermRuledOut S L p) xs u → ⊥) → ⊥
+  unfolding GroupGives
+  group-agreed u h k =
+      let some : Exists (G u) xs = exists-map (λ x d. (d.0, not_passed_over S L c (trait_args p) x d.1)) xs h.0 in
+      each-undenied (λ x. CandidateGives S L p itself u x ⊎ TermRuledOut S L p x) (λ x. G u x ⊎ TermRuledOut S L p x)
+      (λ x y z. ⊎_elim (λ g. z (inl (g, λ q. z (inr (inr q))))) (λ r. z (inr r)) y) xs h.1 (λ e. k (some, e))
+
+  group-deciding : (u : Tree) → GroupGives S L p itself xs u → Exists (GivesDecided S L p itself) xs
+  unfolding GroupGives
+  group-deciding u h = exists-map (λ x d. (u, d)) xs h.0
+
+  pub group-decided : (T : List Tree) (f : founds.Found) (b : Bool) → SaysWhich (AgreeOn G (TermRuledOut S L p) xs) (Each (TermRuledOut S L p) xs) T f → Tells (Exists (GivesDecided S L p itself) xs) b →
+      SaysWhich (GroupGives S L p itself xs) (GroupRefuted S L p xs) T (if_decided f b)
+  unfolding GroupRefuted
+  group-decided T (found.Is id) true h d = agreed-group (erased_at T id) h d
+  group-decided T (found.Is id) false h d =
+      (λ u g. d (group-deciding u g), λ r. Exists-Each (G (erased_at T id)) (TermRuledOut S L p) (λ x g z. ⊎_elim (λ q. no_candidate_term_refuted S L c p itself (erased_at T id) x g.0 q) g.1 z) xs h.0 r)
+  group-decided T found.Refuted b h d = h
+  group-decided T found.Undecided b h d = (λ u g. group-agreed u g (h.0 u), h.1)
+
+  pub group-undecided : ((u : Tree) → AgreeOn G (TermRuledOut S L p) xs u → ⊥) → (Each (TermRuledOut S L p) xs → ⊥) →
+      ((u : Tree) → GroupGives S L p itself xs u → ⊥) × (GroupRefuted S L p xs → ⊥)
+  unfolding GroupRefuted
+  group-undecided h k = (λ u g. group-agreed u g (h u), k)
+
+tells-mapped : {A B : Type 0} (f : A → B) (P : B → Type 0) (xs : List A) (b : Bool) → Tells (Exists (λ x. P (f x)) xs) b → Tells (Exists P (map f xs)) b
+tells-mapped f P xs true h = exists-mapped f P xs h
+tells-mapped f P xs false h = λ e. h (mapped-exists f P xs e)
 
 -- all candidates of a group
-pub group-end : (S : Setting) (L : Level) (T U : List Tree) (p : projections.Projection) (xs : List InternedCandidate) (n : ℕ) (f : founds.Found) → length xs ≤ n →
-    AgreeBefore (GivesOf S L T p) (NoneOf S L T p) U f xs n →
-    SaysWhich (GroupGives S L (projection_at T p) (erased_at T p.rigid_alias) (map (candidate_at T) xs)) (GroupRefuted S L (projection_at T p) (map (candidate_at T) xs)) U f
-unfolding GroupGives GroupRefuted
-group-end S L T U p xs n f l b =
-    which-mapped (candidate_at T) (λ u y. CandidateGives S L (projection_at T p) (erased_at T p.rigid_alias) u y) (TermRefuted S L (projection_at T p)) U xs f
-    (agree-end (GivesOf S L T p) (NoneOf S L T p) U f xs n l b)
+pub group-end : (S : Setting) (L : Level) → IsConsistent L → (T U : List Tree) (p : projections.Projection) (xs : List InternedCandidate) (n : ℕ) (f g : founds.Found) (b : Bool) → length xs ≤ n →
+    AgreeBefore (GivesOf S L T p) (NoneOf S L T p) U f xs n → ToldBefore (DecidesOf S L T p) b xs n → g ≡ if_decided f b →
+    SaysWhich (GroupGives S L (projection_at T p) (erased_at T p.rigid_alias) (map (candidate_at T) xs)) (GroupRefuted S L (projection_at T p) (map (candidate_at T) xs)) U g
+group-end S L c T U p xs n f g b l h d e =
+    let q : Projection = projection_at T p in
+    let itself : Tree = erased_at T p.rigid_alias in
+    subst (SaysWhich (GroupGives S L q itself (map (candidate_at T) xs)) (GroupRefuted S L q (map (candidate_at T) xs)) U) (sym e)
+    (group-decided S L c q itself (map (candidate_at T) xs) U f b
+    (which-mapped (candidate_at T) (λ u y. GivesUnpassed S L q itself u y) (TermRuledOut S L q) U xs f (agree-end (GivesOf S L T p) (NoneOf S L T p) U f xs n l h))
+    (tells-mapped (candidate_at T) (GivesDecided S L q itself) xs b (told-end (DecidesOf S L T p) b xs n l d)))
 
 -- a group that is found undecided
-pub group-stop : (S : Setting) (L : Level) (T U V : List Tree) (p : projections.Projection) (xs : List InternedCandidate) (n : ℕ) (f : founds.Found) → f ≡ found.Undecided →
+pub group-stop : (S : Setting) (L : Level) → IsConsistent L → (T U V : List Tree) (p : projections.Projection) (xs : List InternedCandidate) (n : ℕ) (f : founds.Found) → f ≡ found.Undecided →
     AgreeBefore (GivesOf S L T p) (NoneOf S L T p) U f xs n →
     SaysWhich (GroupGives S L (projection_at T p) (erased_at T p.rigid_alias) (map (candidate_at T) xs)) (GroupRefuted S L (projection_at T p) (map (candidate_at T) xs)) V found.Undecided
-unfolding GroupGives GroupRefuted
-group-stop S L T U V p xs n f e b =
-    which-mapped (candidate_at T) (λ u y. CandidateGives S L (projection_at T p) (erased_at T p.rigid_alias) u y) (TermRefuted S L (projection_at T p)) V xs found.Undecided
-    (subst (λ g. AgreeBefore (GivesOf S L T p) (NoneOf S L T p) U g xs n) e b)
+group-stop S L c T U V p xs n f e b =
+    let q : Projection = projection_at T p in
+    let itself : Tree = erased_at T p.rigid_alias in
+    let ys : List Candidate = map (candidate_at T) xs in
+    let agreed : SaysWhich (AgreeOn (λ u y. GivesUnpassed S L q itself u y) (TermRuledOut S L q) ys) (Each (TermRuledOut S L q) ys) V found.Undecided =
+    which-mapped (candidate_at T) (λ u y. GivesUnpassed S L q itself u y) (TermRuledOut S L q) V xs found.Undecided
+    (subst (λ g. AgreeBefore (GivesOf S L T p) (NoneOf S L T p) U g xs n) e b) in
+    group-undecided S L c q itself ys agreed.0 agreed.1
 
 -- a group's term, from an earlier table
 pub group-back : {E : Type 0} (S : Setting) (L : Level) (T U V : List Tree) → Keeps T U → (p : projections.Projection) → ProjectionIn T p → (xs ys : List Candidate) → xs ≡ ys → (r : Result founds.Found E) →
@@ -109,13 +239,13 @@ fitting-says : (S : Setting) (n : ℕ) (p : Projection) (args : List Tree) → m
 unfolding GroupGives GroupRefuted
 fitting-says S n p args same rigid_alias xs V f =
     let G : Tree → Candidate → Type 0 = CandidateGives S (level S n) p rigid_alias in
-    let R : Candidate → Type 0 = TermRefuted S (level S n) p in
+    let R : Candidate → Type 0 = TermRuledOut S (level S n) p in
     let fits : Candidate → Bool = may_fit args in
-    let passed : (x : Candidate) → fits x ≡ false → R x = term_refuted S n p args same in
+    let passed : (x : Candidate) → fits x ≡ false → R x = λ x e. inl (term_refuted S n p args same x e) in
     which-map (GroupGives S (level S n) p rigid_alias (fitting args xs)) (GroupGives S (level S n) p rigid_alias xs) (GroupRefuted S (level S n) p (fitting args xs)) (GroupRefuted S (level S n) p xs) V
-    (λ u h. (exists-kept (G u) fits xs h.0, kept-each (λ x. G u x ⊎ R x) fits (λ x e. inr (passed x e)) xs h.1))
+    (λ u h. (exists-kept (TermDecides S (level S n) p rigid_alias u) fits xs h.0, kept-each (λ x. G u x ⊎ R x) fits (λ x e. inr (passed x e)) xs h.1))
     (λ u h. (
-      kept-exists (G u) fits (λ x e g. no_candidate_term_refuted S (level S n) (each_level_is_consistent S n) p rigid_alias u x g (passed x e)) xs h.0,
+      kept-exists (TermDecides S (level S n) p rigid_alias u) fits (λ x e g. no_term_ruled_out S (level S n) (each_level_is_consistent S n) p rigid_alias u x g (passed x e)) xs h.0,
       each-kept (λ x. G u x ⊎ R x) fits xs h.1,
     ))
     (kept-each R fits passed xs) (each-kept R fits xs) f

@@ -1,5 +1,5 @@
 -- What trait goals come to: an impl, a candidate, a class, and the goal.
-use Rattle.std.proofs.Common.{◌≡◌, ◌≢◌, ◌⊎◌, inl, inr, ℕ, zero, suc, ◌+◌, ◌-◌, ◌<◌, ◌≤◌, ◌∙◌, List, [], ◌∷◌, ◌++◌, length, get_or, Some, None, refl, sym, ap, subst, ⊎_elim, arith}
+use Rattle.std.proofs.Common.{◌≡◌, ◌≢◌, inl, inr, ℕ, zero, suc, ◌-◌, ◌<◌, ◌∙◌, List, [], ◌∷◌, ◌++◌, length, get_or, Some, None, refl, sym, ap, subst, ⊎_elim, arith}
 use Rattle.std.specs.Prelude.{IfOk, Result}
 use Rattle.std.specs.List.{All}
 use Rattle.std.proofs.lemmas.Result.{IfOk-weaker}
@@ -19,22 +19,22 @@ use Rattle.goal_kinds.specs.Laws.{IsConsistent}
 use Rattle.goal_kinds.specs.Level.{Level, HasHeadForm, HeadFormRefuted}
 use Rattle.goal_kinds.specs.Levels.{level}
 use Rattle.goal_kinds.specs.Settings.{Setting}
-use Rattle.goal_kinds.specs.TraitGoals.{header_of, CandidateHolds, CandidateRefuted, TraitHolds, TraitRefuted}
+use Rattle.goal_kinds.specs.TraitGoals.{header_of, CandidateDecides, CandidateRuledOut, TraitHolds, TraitRefuted}
 use Rattle.goal_kinds.specs.Words.{Each, Exists}
 use Rattle.goal_kinds.specs.declared.candidates.interned.InternedCandidate.{InternedCandidate}
-use Rattle.goal_kinds.proofs.CandidateLemmas.{no_candidate_refuted}
+use Rattle.goal_kinds.proofs.CandidateLemmas.{no_candidate_ruled_out}
 use Rattle.goal_kinds.proofs.ConsistentLemmas.{each_level_is_consistent}
 use Rattle.goal_kinds.proofs.ContraryWords.{Exists-Each, Each-left, Each-right}
 use Rattle.goal_kinds.proofs.EqualLemmas.{one_head_form, no_head_form_refuted}
-use Rattle.goal_kinds.proofs.InternedLemmas.{same-grown, are_in-grown, all_same-grown, candidate_in-grown}
-use Rattle.goal_eval.specs.Joined.{through}
+use Rattle.goal_kinds.proofs.InternedLemmas.{are_in-grown, all_same-grown, candidate_in-grown}
+use Rattle.goal_kinds.specs.Joined.{through}
 use Rattle.goal_eval.specs.Outcomes.{Says, SaysThrough, SaysMatch, header_terms}
 use Rattle.goal_eval.specs.TraitOutcomes.{SaysClasses}
-use Rattle.goal_eval.specs.declared.eval.outcomes.Outcome.{Outcome}
-use Rattle.goal_eval.specs.declared.eval.outcomes.Outcome.TheVariants as outcome
+use Rattle.goal_kinds.specs.declared.outcomes.Outcome.{Outcome}
+use Rattle.goal_kinds.specs.declared.outcomes.Outcome.TheVariants as outcome
 use Rattle.goal_eval.specs.declared.eval.outcomes.Stop.{Stop}
-use Rattle.goal_eval.specs.declared.eval.outcomes.TraitOutcome.{TraitOutcome}
-use Rattle.goal_eval.specs.declared.eval.outcomes.TraitOutcome.TheVariants as trait_outcome
+use Rattle.goal_kinds.specs.declared.outcomes.TraitOutcome.{TraitOutcome}
+use Rattle.goal_kinds.specs.declared.outcomes.TraitOutcome.TheVariants as trait_outcome
 use Rattle.goal_eval.specs.declared.eval.outcomes.HeaderMatch.{HeaderMatch}
 use Rattle.goal_eval.proofs.OutcomeLists.{All-at}
 
@@ -46,11 +46,11 @@ each-append Q (x ∷ xs) ys h g = (h.0, each-append Q xs ys h.1 g)
 
 -- what an outcome says of a candidate
 abbrev pub SaysCandidate : Setting → Level → TraitId → List Tree → Candidate → Outcome → Type 0
-SaysCandidate S L i args x o = Says (CandidateHolds S L i args x) (CandidateRefuted S L i args x) o
+SaysCandidate S L i args x o = Says (CandidateDecides S L i args x) (CandidateRuledOut S L i args x) o
 
 -- what it says of a list of candidates
 abbrev pub SaysSome : Setting → Level → TraitId → List Tree → List Candidate → Outcome → Type 0
-SaysSome S L i args xs o = Says (Exists (CandidateHolds S L i args) xs) (Each (CandidateRefuted S L i args) xs) o
+SaysSome S L i args xs o = Says (Exists (CandidateDecides S L i args) xs) (Each (CandidateRuledOut S L i args) xs) o
 
 -- a candidate at a place is in a table that has grown
 pub candidate-in : (T U : List Tree) (xs : List InternedCandidate) (k : ℕ) (x : InternedCandidate) → Keeps T U → All (CandidateIn T) xs → k < length xs → x ≡ get_or xs k x → CandidateIn U x
@@ -148,28 +148,28 @@ all-refuted R S i s n b h = each-append R (environment S ++ alias_bounds S s) (r
 -- the same of a level
 pub environment-decides : (S : Setting) (n : ℕ) (i : TraitId) (s : Tree) (args : List Tree) (o : Outcome) (d : TraitOutcome) →
     SaysClass S (level S n) i s args class.ParamEnv o → through o class.ParamEnv ≡ Some d → SaysClasses S (level S n) i s args d
-environment-decides S n i s args o d h e = environment-by (CandidateHolds S (level S n) i args) (CandidateRefuted S (level S n) i args) S i s o d h e
+environment-decides S n i s args o d h e = environment-by (CandidateDecides S (level S n) i args) (CandidateRuledOut S (level S n) i args) S i s o d h e
 
 pub bounds-decide : (S : Setting) (n : ℕ) (i : TraitId) (s : Tree) (args : List Tree) (e o : Outcome) (d : TraitOutcome) → e ≡ outcome.Refuted →
     SaysClass S (level S n) i s args class.ParamEnv e → SaysClass S (level S n) i s args class.AliasBound o → through o class.AliasBound ≡ Some d →
     SaysClasses S (level S n) i s args d
 bounds-decide S n i s args e o d r he ho q =
-    bounds-by (CandidateHolds S (level S n) i args) (CandidateRefuted S (level S n) i args) (no_candidate_refuted S (level S n) (each_level_is_consistent S n) i args) S i s o d
+    bounds-by (CandidateDecides S (level S n) i args) (CandidateRuledOut S (level S n) i args) (no_candidate_ruled_out S (level S n) (each_level_is_consistent S n) i args) S i s o d
     (subst (SaysClass S (level S n) i s args class.ParamEnv) r he) ho q
 
 pub rest-decides : (S : Setting) (n : ℕ) (i : TraitId) (s : Tree) (args : List Tree) (e b o : Outcome) (d : TraitOutcome) → e ≡ outcome.Refuted → b ≡ outcome.Refuted →
     SaysClass S (level S n) i s args class.ParamEnv e → SaysClass S (level S n) i s args class.AliasBound b → SaysClass S (level S n) i s args class.Misc o →
     through o class.Misc ≡ Some d → SaysClasses S (level S n) i s args d
 rest-decides S n i s args e b o d r t he hb ho q =
-    rest-by (CandidateHolds S (level S n) i args) (CandidateRefuted S (level S n) i args) (no_candidate_refuted S (level S n) (each_level_is_consistent S n) i args) S i s o d
+    rest-by (CandidateDecides S (level S n) i args) (CandidateRuledOut S (level S n) i args) (no_candidate_ruled_out S (level S n) (each_level_is_consistent S n) i args) S i s o d
     (subst (SaysClass S (level S n) i s args class.ParamEnv) r he) (subst (SaysClass S (level S n) i s args class.AliasBound) t hb) ho q
 
 pub none-decides : (S : Setting) (n : ℕ) (i : TraitId) (s : Tree) (args : List Tree) (e b o : Outcome) → e ≡ outcome.Refuted → b ≡ outcome.Refuted → through o class.Misc ≡ None →
     SaysClass S (level S n) i s args class.ParamEnv e → SaysClass S (level S n) i s args class.AliasBound b → SaysClass S (level S n) i s args class.Misc o →
-    Each (CandidateRefuted S (level S n) i args) (all_candidates S i s)
+    Each (CandidateRuledOut S (level S n) i args) (all_candidates S i s)
 none-decides S n i s args e b outcome.Holds r t q he hb ho = absurd (cc)
 none-decides S n i s args e b outcome.Refuted r t q he hb ho =
-    all-refuted (CandidateRefuted S (level S n) i args) S i s (subst (SaysClass S (level S n) i s args class.ParamEnv) r he) (subst (SaysClass S (level S n) i s args class.AliasBound) t hb) ho
+    all-refuted (CandidateRuledOut S (level S n) i args) S i s (subst (SaysClass S (level S n) i s args class.ParamEnv) r he) (subst (SaysClass S (level S n) i s args class.AliasBound) t hb) ho
 none-decides S n i s args e b outcome.Undecided r t q he hb ho = absurd (cc)
 
 -- what an outcome says of a trait goal at a depth
@@ -227,13 +227,13 @@ formed S L laws i self s args trait_outcome.Undecided f h = (
   λ c k.
       let e : k.0 ≡ s = one_head_form L laws.one_term self k.0 s k.1 f in
       h.0 c (
-        subst (λ t. Exists (CandidateHolds S L i (t ∷ args)) (class_of S i t c)) e k.2,
-        subst (λ t. Each (CandidateRefuted S L i (t ∷ args)) (classes_before S i t c)) e k.3,
+        subst (λ t. Exists (CandidateDecides S L i (t ∷ args)) (class_of S i t c)) e k.2,
+        subst (λ t. Each (CandidateRuledOut S L i (t ∷ args)) (classes_before S i t c)) e k.3,
       ),
   λ k. ⊎_elim (λ q. no_head_form_refuted L laws.no_term_refuted self s f q)
       (λ q.
       let e : q.0 ≡ s = one_head_form L laws.one_term self q.0 s q.1 f in
-      h.1 (subst (λ t. Each (CandidateRefuted S L i (t ∷ args)) (all_candidates S i t)) e q.2)) k,
+      h.1 (subst (λ t. Each (CandidateRuledOut S L i (t ∷ args)) (all_candidates S i t)) e q.2)) k,
 )
 
 pub trait-formed : (S : Setting) (d : ℕ) (i : TraitId) (self s : Tree) (args ts : List Tree) (res : Result TraitOutcome Stop) → d ≢ 0 → ts ≡ self ∷ args →

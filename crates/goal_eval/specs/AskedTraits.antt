@@ -11,12 +11,12 @@ use Rattle.goal_kinds.specs.Entries.{Entry}
 use Rattle.goal_kinds.specs.Interned.{IsIn, AreIn, erased_at, erased_all}
 use Rattle.goal_kinds.specs.Level.{Level}
 use Rattle.goal_kinds.specs.Settings.{Setting}
-use Rattle.goal_kinds.specs.TraitGoals.{CandidateHolds, CandidateRefuted}
+use Rattle.goal_kinds.specs.TraitGoals.{CandidateHolds, CandidateRefuted, PassedOver, Decides}
 use Rattle.goal_kinds.specs.TraitLists.{trait_list}
 use Rattle.goal_kinds.specs.Words.{Each, Exists}
 use Rattle.goal_eval.specs.Outcomes.{Says}
 use Rattle.goal_eval.specs.declared.assembly.candidates.AskedTrait.{AskedTrait}
-use Rattle.goal_eval.specs.declared.eval.outcomes.Outcome.{Outcome}
+use Rattle.goal_kinds.specs.declared.outcomes.Outcome.{Outcome}
 
 -- the list of a candidate for a trait, as a const trait where a constness is asked
 abbrev pub asked_list : Setting → Option BoundConstness → TraitId → List Tree → Candidate → Option (List Entry)
@@ -33,15 +33,23 @@ abbrev pub AskedRefuted : Setting → Level → Option BoundConstness → TraitI
 AskedRefuted S L None = CandidateRefuted S L
 AskedRefuted S L (Some c) = ConstCandidateRefuted S L c
 
--- a candidate of the environment shows it; or all of these are refuted, and one shows it of those that go by a class
+-- a candidate shows it, and decides
+abbrev pub AskedDecides : Setting → Level → Option BoundConstness → TraitId → List Tree → Candidate → Type 0
+AskedDecides S L o i args x = AskedHolds S L o i args x × Decides S L args x
+
+-- a candidate is ruled out: it cannot show it, or is passed over
+abbrev pub AskedRuledOut : Setting → Level → Option BoundConstness → TraitId → List Tree → Candidate → Type 0
+AskedRuledOut S L o i args x = AskedRefuted S L o i args x ⊎ PassedOver S L args x
+
+-- a candidate of the environment decides; or all of these are ruled out, and one decides of those that go by a class
 abbrev pub GroupsHold : Setting → Level → Option BoundConstness → TraitId → List Tree → Tree → TraitGoalProvenVia → Type 0
 GroupsHold S L o i args s v =
-    Exists (AskedHolds S L o i args) (environment S)
-    ⊎ (Each (AskedRefuted S L o i args) (environment S) × Exists (AskedHolds S L o i args) (second_group S i s v))
+    Exists (AskedDecides S L o i args) (environment S)
+    ⊎ (Each (AskedRuledOut S L o i args) (environment S) × Exists (AskedDecides S L o i args) (second_group S i s v))
 
--- all candidates of both groups are refuted
+-- all candidates of both groups are ruled out
 abbrev pub GroupsRefuted : Setting → Level → Option BoundConstness → TraitId → List Tree → Tree → TraitGoalProvenVia → Type 0
-GroupsRefuted S L o i args s v = Each (AskedRefuted S L o i args) (environment S) × Each (AskedRefuted S L o i args) (second_group S i s v)
+GroupsRefuted S L o i args s v = Each (AskedRuledOut S L o i args) (environment S) × Each (AskedRuledOut S L o i args) (second_group S i s v)
 
 -- the terms of what is asked are in the table
 abbrev pub AskedIn : List Tree → AskedTrait → Type 0
@@ -51,16 +59,21 @@ AskedIn T asked = IsIn T asked.self_ty × AreIn T asked.args.now
 abbrev pub candidate_list : Setting → List Tree → AskedTrait → Candidate → Option (List Entry)
 candidate_list S T asked x = asked_list S asked.constness asked.trait_id (erased_all T asked.args.now) x
 
--- what an outcome says of a candidate for what is asked
-abbrev pub SaysCandidate : Setting → Level → List Tree → AskedTrait → Candidate → Outcome → Type 0
-SaysCandidate S L T asked x =
+-- what an outcome says of the list of a candidate for what is asked
+abbrev pub SaysListed : Setting → Level → List Tree → AskedTrait → Candidate → Outcome → Type 0
+SaysListed S L T asked x =
     Says (AskedHolds S L asked.constness asked.trait_id (erased_all T asked.args.now) x) (AskedRefuted S L asked.constness asked.trait_id (erased_all T asked.args.now) x)
 
--- of some candidates: one of them shows it, or each is refuted
+-- of the candidate, beside the impls that are more special
+abbrev pub SaysCandidate : Setting → Level → List Tree → AskedTrait → Candidate → Outcome → Type 0
+SaysCandidate S L T asked x =
+    Says (AskedDecides S L asked.constness asked.trait_id (erased_all T asked.args.now) x) (AskedRuledOut S L asked.constness asked.trait_id (erased_all T asked.args.now) x)
+
+-- of some candidates: one of them decides, or each is ruled out
 abbrev pub SaysCandidates : Setting → Level → List Tree → AskedTrait → List Candidate → Outcome → Type 0
 SaysCandidates S L T asked xs =
-    Says (Exists (AskedHolds S L asked.constness asked.trait_id (erased_all T asked.args.now)) xs)
-    (Each (AskedRefuted S L asked.constness asked.trait_id (erased_all T asked.args.now)) xs)
+    Says (Exists (AskedDecides S L asked.constness asked.trait_id (erased_all T asked.args.now)) xs)
+    (Each (AskedRuledOut S L asked.constness asked.trait_id (erased_all T asked.args.now)) xs)
 
 -- and of both groups, by the class through which the trait holds
 abbrev pub SaysGroups : Setting → Level → List Tree → AskedTrait → TraitGoalProvenVia → Outcome → Type 0

@@ -5,10 +5,10 @@ pub mod CacheEntries
 pub mod EvaluationCache
 pub mod Effects
 pub mod Pending
-pub mod Joined
 pub mod TraitOutcomes
 pub mod ProjectionParts
 pub mod Combined
 pub mod HeaderWords
 pub mod Lists
+pub mod SpecialImpls
 pub mod AskedTraits

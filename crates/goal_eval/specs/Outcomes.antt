@@ -12,6 +12,8 @@ use Rattle.goal_terms.specs.declared.answers.ParamKind.{ParamKind}
 use Rattle.goal_terms.specs.declared.answers.TraitGoalProvenVia.{TraitGoalProvenVia}
 use Rattle.goal_terms.specs.declared.modes.TypingMode.{TypingMode}
 use Rattle.goal_terms.specs.declared.terms.GenericArg.{GenericArg}
+use Rattle.goal_tables.specs.Faults.{IsChecked}
+use Rattle.goal_tables.specs.declared.rows.Tables.{Tables}
 use Rattle.goal_kinds.specs.Answers.{setting_of}
 use Rattle.goal_kinds.specs.Headers.{AllKnown, Fits, Clashes}
 use Rattle.goal_kinds.specs.ImplTerms as terms
@@ -22,10 +24,10 @@ use Rattle.goal_kinds.specs.Settings.{Setting, is_headline}
 use Rattle.goal_eval.specs.declared.eval.outcomes.OnAccess.{OnAccess}
 use Rattle.goal_eval.specs.declared.eval.outcomes.OnAccess.TheVariants as on_access
 use Rattle.goal_eval.specs.declared.eval.outcomes.Setting as over
-use Rattle.goal_eval.specs.declared.eval.outcomes.Outcome as outcomes
-use Rattle.goal_eval.specs.declared.eval.outcomes.Outcome.TheVariants as outcome
-use Rattle.goal_eval.specs.declared.eval.outcomes.TraitOutcome as trait_outcomes
-use Rattle.goal_eval.specs.declared.eval.outcomes.TraitOutcome.TheVariants as trait_outcome
+use Rattle.goal_kinds.specs.declared.outcomes.Outcome as outcomes
+use Rattle.goal_kinds.specs.declared.outcomes.Outcome.TheVariants as outcome
+use Rattle.goal_kinds.specs.declared.outcomes.TraitOutcome as trait_outcomes
+use Rattle.goal_kinds.specs.declared.outcomes.TraitOutcome.TheVariants as trait_outcome
 use Rattle.goal_eval.specs.declared.eval.outcomes.Found as founds
 use Rattle.goal_eval.specs.declared.eval.outcomes.Found.TheVariants as found
 use Rattle.goal_eval.specs.declared.eval.outcomes.HeaderMatch as matches
@@ -40,9 +42,13 @@ StandsFor run m = (is_headline m ≡ true) × ((run ≡ m) ⊎ (is_headline run 
 abbrev pub RunsAs : OnAccess → TypingMode → TypingMode → Type 0
 RunsAs on run m = (is_headline m ≡ true) × ((run ≡ m) ⊎ ((is_headline run ≡ false) × (on ≡ on_access.Stop)))
 
--- so does a run over a setting
+-- so does a run over tables, if they are accepted
+abbrev pub RunsOver : OnAccess → TypingMode → Tables → TypingMode → Type 0
+RunsOver on run t m = (is_headline m ≡ true) × ((run ≡ m) ⊎ ((is_headline run ≡ false) × (on ≡ on_access.Stop))) × IsChecked t
+
+-- and over a setting
 abbrev pub RunsFor : over.Setting → TypingMode → Type 0
-RunsFor c m = RunsAs c.on_access c.typing_mode.now m
+RunsFor c m = RunsOver c.on_access c.typing_mode.now c.rows.now m
 
 -- what a run is over, in a mode for which it stands
 abbrev pub setting_in : over.Setting → TypingMode → Setting

@@ -16,8 +16,8 @@ use Rattle.goal_kinds.specs.Words.{Each, Exists}
 use Rattle.goal_eval.specs.Outcomes.{Says}
 use Rattle.goal_eval.specs.declared.eval.outcomes.Found.{Found}
 use Rattle.goal_eval.specs.declared.eval.outcomes.Found.TheVariants as found
-use Rattle.goal_eval.specs.declared.eval.outcomes.Outcome.{Outcome}
-use Rattle.goal_eval.specs.declared.eval.outcomes.Outcome.TheVariants.{Holds, Refuted, Undecided}
+use Rattle.goal_kinds.specs.declared.outcomes.Outcome.{Outcome}
+use Rattle.goal_kinds.specs.declared.outcomes.Outcome.TheVariants.{Holds, Refuted, Undecided}
 use Rattle.goal_eval.specs.declared.relate.pairs.Pending.{Pending}
 use Rattle.goal_eval.specs.declared.relate.pairs.Forms as forms
 use Rattle.goal_eval.specs.declared.relate.pairs.Forms.TheVariants as form

@@ -1,19 +1,17 @@
 -- The parts of the question which term a projection has, and how what is found of them is merged.
-use Rattle.std.specs.Prelude.{◌≡◌, ◌≢◌, ◌⊎◌, ℕ, List, [], ◌∷◌, Some}
-use Rattle.goal_terms.specs.Tree.{Tree, node, alias, variable, forest}
+use Rattle.std.specs.Prelude.{◌≡◌, ◌≢◌, ◌⊎◌, ℕ, List, [], ◌∷◌}
+use Rattle.goal_terms.specs.Tree.{Tree, alias, forest}
 use Rattle.goal_terms.specs.declared.answers.TraitGoalProvenVia.{TraitGoalProvenVia}
 use Rattle.goal_terms.specs.declared.answers.TraitGoalProvenVia.TheVariants as class
-use Rattle.goal_terms.specs.declared.ids.ItemId.{ItemId}
 use Rattle.goal_terms.specs.declared.terms.AliasTermKind.{AliasTermKind}
 use Rattle.goal_tables.specs.declared.rows.ItemRow.{ItemRow}
 use Rattle.goal_kinds.specs.Candidates.{Candidate, second_group}
-use Rattle.goal_kinds.specs.ImplTerms.{Projection, own_clauses}
+use Rattle.goal_kinds.specs.ImplTerms.{Projection}
 use Rattle.goal_kinds.specs.Interned.{erased_at}
 use Rattle.goal_kinds.specs.Level.{Level, HasHeadForm, HeadFormRefuted}
-use Rattle.goal_kinds.specs.Premises.{PremisesHold, PremisesRefuted}
-use Rattle.goal_kinds.specs.Projections.{projected_item, GroupGives, GroupRefuted, GroupsGive, GroupsRefuted, OwnFormed, OwnUnformed}
+use Rattle.goal_kinds.specs.Projections.{GroupGives, GroupRefuted, GroupsGive, GroupsRefuted, OwnFormed, OwnUnformed}
 use Rattle.goal_kinds.specs.Settings.{Setting}
-use Rattle.goal_kinds.specs.Words.{Each, Exists, Pairs, SomePair}
+use Rattle.goal_kinds.specs.Words.{Each, Exists}
 use Rattle.goal_eval.specs.declared.eval.outcomes.Found as founds
 use Rattle.goal_eval.specs.declared.eval.outcomes.Found.TheVariants as found
 

@@ -5,13 +5,13 @@ use Rattle.goal_terms.specs.declared.ids.TraitId.{TraitId}
 use Rattle.goal_kinds.specs.Candidates.{class_of, classes_before, all_candidates}
 use Rattle.goal_kinds.specs.Level.{Level}
 use Rattle.goal_kinds.specs.Settings.{Setting}
-use Rattle.goal_kinds.specs.TraitGoals.{CandidateHolds, CandidateRefuted}
+use Rattle.goal_kinds.specs.TraitGoals.{CandidateDecides, CandidateRuledOut}
 use Rattle.goal_kinds.specs.Words.{Each, Exists}
 use Rattle.goal_eval.specs.Outcomes.{SaysThrough}
-use Rattle.goal_eval.specs.declared.eval.outcomes.TraitOutcome.{TraitOutcome}
+use Rattle.goal_kinds.specs.declared.outcomes.TraitOutcome.{TraitOutcome}
 
--- through which class candidates for a self type show that a trait holds for arguments: all of the classes before are refuted
+-- through which class candidates for a self type show that a trait holds for arguments: all of the classes before are ruled out
 abbrev pub SaysClasses : Setting → Level → TraitId → Tree → List Tree → TraitOutcome → Type 0
 SaysClasses S L i s args o =
-    SaysThrough (λ c. Exists (CandidateHolds S L i args) (class_of S i s c) × Each (CandidateRefuted S L i args) (classes_before S i s c))
-    (Each (CandidateRefuted S L i args) (all_candidates S i s)) o
+    SaysThrough (λ c. Exists (CandidateDecides S L i args) (class_of S i s c) × Each (CandidateRuledOut S L i args) (classes_before S i s c))
+    (Each (CandidateRuledOut S L i args) (all_candidates S i s)) o

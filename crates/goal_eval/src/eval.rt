@@ -6,7 +6,6 @@ pub mod head_forms;
 pub mod id_lists;
 pub mod instances;
 pub mod interning;
-pub mod joined;
 pub mod listed_regions;
 pub mod lists;
 pub mod mode_tests;

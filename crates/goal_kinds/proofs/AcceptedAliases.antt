@@ -1,7 +1,7 @@
 -- Projections that the checks accept: their arguments are rejected only where two heads differ.
-use Rattle.std.proofs.Common.{◌≡◌, ◌||◌, ℕ, Bool, true, false, List, [], ◌∷◌, ◌++◌, length, map, Option, Some, None, is_none, refl, sym, ◌∙◌, ap, subst}
+use Rattle.std.proofs.Common.{◌≡◌, ◌||◌, false, List, [], ◌∷◌, ◌++◌, length, Option, Some, None, is_none, refl, sym, ◌∙◌, ap, subst}
 use Rattle.std.specs.Option.{option_map, option_and_then, unwrap_or}
-use Rattle.goal_terms.specs.Tree.{Tree, Trees, node, alias, variable, none, more, list_of, forest}
+use Rattle.goal_terms.specs.Tree.{alias, list_of, forest}
 use Rattle.goal_terms.specs.TreeOf.{trees_of, tree_of_arg}
 use Rattle.goal_terms.specs.declared.answers.ParamKind.{ParamKind}
 use Rattle.goal_terms.specs.declared.ids.ItemId.{ItemId}
@@ -15,7 +15,6 @@ use Rattle.goal_tables.specs.ParamKinds.{differs_in_count, asks_other_kinds}
 use Rattle.goal_tables.specs.Rows.{item_of, trait_of}
 use Rattle.goal_tables.specs.Sites.{projection_params, params_of, params_of_alias, alias_is_unknown, is_unknown, is_misplaced, lies_here, lies_in, lies_in_row}
 use Rattle.goal_tables.specs.declared.rows.Tables.{Tables}
-use Rattle.goal_tables.specs.declared.sites.TermFault as faults
 use Rattle.goal_tables.specs.declared.sites.TermFault.TheVariants.{UnknownItem, WrongArgumentCount, WrongArgumentKind}
 use Rattle.goal_kinds.specs.FastReject.{lists_may_unify, heads_agree}
 use Rattle.goal_kinds.specs.KindedTerms.{kinds_of_terms, kinds_over, IsKinded, NoKindFault}

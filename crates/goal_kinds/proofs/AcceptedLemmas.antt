@@ -15,7 +15,7 @@ use Rattle.goal_tables.specs.Faults.{IsChecked, applies, unknown_item, wrong_arg
 use Rattle.goal_tables.specs.ParamKinds.{differs_in_count, asks_other_kinds}
 use Rattle.goal_tables.specs.RowFaults.{if_unknown, item_scope, with_alias, lies_in_const_bounds, lies_in_item, lies_in_impl, lies_in_trait, lies_in_lang, lies_in_definition, lies_in_source, lies_in_trait_rows, lies_in_impl_rows, lies_in_alias_rows, lies_in_inherent_rows, lies_in_type_rows, lies_in_rows}
 use Rattle.goal_tables.specs.Clauses.{lies_in_clauses, lies_in_const_refs, const_fault}
-use Rattle.goal_tables.specs.Rows.{trait_of}
+use Rattle.goal_tables.specs.Rows.{trait_of, impl_of}
 use Rattle.goal_tables.specs.Sites.{lies_in, trait_params}
 use Rattle.goal_tables.specs.declared.faults.TableFault.TheVariants as fault
 use Rattle.goal_tables.specs.declared.rows.ImplRow.{ImplRow}
@@ -114,7 +114,9 @@ unfolding lies_in_impl
 header_fails t r f e among =
     (first_four_fail (lies_in_trait_args t r.params.items f r.trait_id r.trait_args.items) (lies_in_clauses t r.params.items f r.predicates.items)
     (lies_in_const_refs t r.params.items f r.const_conditions.items) (r.is_const && const_fault t f r.trait_id)
-    (among_fails (λ q. lies_in_impl t f q) t.impls.items r among (impls_fail t f e))).0
+    (both_fail (lies_in_trait_args t r.params.items f r.trait_id r.trait_args.items || lies_in_clauses t r.params.items f r.predicates.items || lies_in_const_refs t r.params.items f r.const_conditions.items || (r.is_const && const_fault t f r.trait_id))
+    (if_unknown f (list_any (λ i. is_none (impl_of t i)) r.more_special.items))
+    (among_fails (λ q. lies_in_impl t f q) t.impls.items r among (impls_fail t f e))).0).0
 
 -- in accepted tables the header of an impl is accepted
 pub header_accepted : (t : Tables) (r : ImplRow) → IsChecked t → IsAmong r t.impls.items → IsAcceptedRef t r.params.items r.trait_id r.trait_args.items

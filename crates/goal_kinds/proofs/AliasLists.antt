@@ -17,7 +17,7 @@ use Rattle.goal_tables.specs.declared.rows.InherentRow.{InherentRow}
 use Rattle.goal_tables.specs.declared.rows.OpaqueRow.{OpaqueRow}
 use Rattle.goal_kinds.specs.Aliases.{AliasGives, AliasRefuted, ValueGives, ValueRefuted, FreeGives, FreeRefuted, InherentGives, InherentRefuted, InherentAliasGives, InherentAliasRefuted, OpaqueGives, OpaqueRefuted}
 use Rattle.goal_kinds.specs.AliasLists.{row_value, entries_of_row, free_list, inherent_list, inherent_alias_list, defined_list, hidden_list, opaque_list, opaque_alias_list, alias_list}
-use Rattle.goal_kinds.specs.Entries.{ListGives, ListRefuted, Entry, arguments, followed_by, row_clauses, expected, value_under, undecided}
+use Rattle.goal_kinds.specs.Entries.{ListGives, ListRefuted, Entry, arguments, followed_by, row_clauses, expected, value_under}
 use Rattle.goal_kinds.specs.Level.{Level}
 use Rattle.goal_kinds.specs.Premises.{PremisesHold, PremisesRefuted, clauses_under}
 use Rattle.goal_kinds.specs.ProjectionLists.{standing}

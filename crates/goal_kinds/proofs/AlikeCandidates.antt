@@ -1,10 +1,12 @@
--- Settings that are alike have the same candidates in each class and group.
-use Rattle.std.proofs.Common.{◌==◌, [], ◌∷◌, ◌++◌, Vec, Global, sym}
+-- Settings that are alike have the same candidates in each class and group, and each impl has the same more special ones.
+use Rattle.std.proofs.Common.{◌≡◌, ◌==◌, ℕ, zero, suc, List, [], ◌∷◌, ◌++◌, Vec, Global, refl, sym, ap, ap₂, ◌∙◌}
 use Rattle.goal_terms.specs.Tree.{Tree}
 use Rattle.goal_terms.specs.declared.answers.TraitGoalProvenVia.{TraitGoalProvenVia}
 use Rattle.goal_terms.specs.declared.answers.TraitGoalProvenVia.TheVariants as class
+use Rattle.goal_terms.specs.declared.ids.ImplId.{ImplId}
 use Rattle.goal_terms.specs.declared.ids.TraitId.{TraitId}
 use Rattle.goal_terms.specs.declared.modes.TypingMode.{TypingMode}
+use Rattle.goal_tables.specs.Specialized.{if_row, rows_named, listed_by_all, reached}
 use Rattle.goal_tables.specs.declared.rows.ImplRow.{ImplRow}
 use Rattle.goal_kinds.specs.Candidates.{by_impl, built_in, error, object_bounds, environment, alias_bounds, rest, class_of, classes_before, all_candidates, second_group}
 use Rattle.goal_kinds.specs.Laws.{IsAlike, with_impls_and_mode}
@@ -62,3 +64,23 @@ unfolding second_group
 alike-second_group {S} {v} {m} a i s class.ParamEnv = alike-alias_bounds S v m s
 alike-second_group {S} {v} {m} a i s class.AliasBound = alike-alias_bounds S v m s
 alike-second_group a i s class.Misc = alike-bounds_and_rest a i s
+
+-- the impls that an impl lists as more special, and those to which the lists lead
+alike-rows_named : {S : Setting} {v : Vec ImplRow Global} {m : TypingMode} → IsAlike S v m → (is : List ImplId) →
+    rows_named (with_impls_and_mode S v m).tables is ≡ rows_named S.tables is
+unfolding rows_named
+alike-rows_named a [] = refl
+alike-rows_named a (i ∷ is) = ap₂ (λ o rs. if_row o ++ rs) (a.same_impl i) (alike-rows_named a is)
+
+alike-listed_by_all : {S : Setting} {v : Vec ImplRow Global} {m : TypingMode} → IsAlike S v m → (rs : List ImplRow) →
+    listed_by_all (with_impls_and_mode S v m).tables rs ≡ listed_by_all S.tables rs
+unfolding listed_by_all
+alike-listed_by_all a [] = refl
+alike-listed_by_all a (r ∷ rs) = ap₂ (λ xs ys. xs ++ ys) (alike-rows_named a r.more_special.items) (alike-listed_by_all a rs)
+
+pub alike-reached : {S : Setting} {v : Vec ImplRow Global} {m : TypingMode} → IsAlike S v m → (n : ℕ) (r : ImplRow) →
+    reached (with_impls_and_mode S v m).tables n r ≡ reached S.tables n r
+unfolding reached
+alike-reached a zero r = alike-rows_named a r.more_special.items
+alike-reached {S} {v} {m} a (suc n) r =
+    alike-listed_by_all a (reached (with_impls_and_mode S v m).tables n r) ∙ ap (listed_by_all S.tables) (alike-reached a n r)

@@ -1,9 +1,10 @@
--- Candidates for trait goals over a consistent level: one that holds isn't refuted.
+-- Candidates for trait goals over a consistent level: one that holds isn't refuted, and one that decides isn't passed over.
 use Rattle.std.proofs.Common.{◌≡◌, List, Option, Some, None, sym, ◌∙◌, subst, ⊎_elim, true≢false}
 use Rattle.goal_terms.specs.PredicateTrees.{PredicateTree, holds, equals, holds_const}
 use Rattle.goal_terms.specs.Tree.{Tree}
 use Rattle.goal_terms.specs.TreeOf.{trees_of}
 use Rattle.goal_terms.specs.declared.ids.TraitId.{TraitId}
+use Rattle.goal_tables.specs.Specialized.{reached}
 use Rattle.goal_tables.specs.declared.rows.ImplRow.{ImplRow}
 use Rattle.goal_kinds.specs.Builtins.{trait_rule}
 use Rattle.goal_kinds.specs.Candidates.{Candidate, assumption, implied_bound, by_impl, built_in, error}
@@ -12,8 +13,9 @@ use Rattle.goal_kinds.specs.Laws.{IsConsistent}
 use Rattle.goal_kinds.specs.Level.{Level}
 use Rattle.goal_kinds.specs.Premises.{Premise, PremisesRefuted, clauses_under}
 use Rattle.goal_kinds.specs.Settings.{Setting}
-use Rattle.goal_kinds.specs.TraitGoals.{AssumptionHolds, AssumptionRefuted, header_of, ImplHoldsUnder, ImplHolds, ImplRefuted, TraitRuleHolds, TraitRuleRefuted, CandidateHolds, CandidateRefuted}
+use Rattle.goal_kinds.specs.TraitGoals.{AssumptionHolds, AssumptionRefuted, header_of, ImplHoldsUnder, ImplHolds, ImplRefuted, TraitRuleHolds, TraitRuleRefuted, CandidateHolds, CandidateRefuted, PassedOver, Decides, CandidateDecides, CandidateRuledOut}
 use Rattle.goal_kinds.specs.Words.{Pairs, SomePair}
+use Rattle.goal_kinds.proofs.ContraryWords.{Exists-Each}
 use Rattle.goal_kinds.proofs.EqualLemmas.{no_pair_apart}
 use Rattle.goal_kinds.proofs.PremiseLemmas.{no_premises_refuted}
 use Rattle.goal_kinds.proofs.SubstitutionLemmas.{one_substitution, no_fit_and_clash}
@@ -66,3 +68,18 @@ no_candidate_refuted S L c i args (implied_bound b cs) h k = h
 no_candidate_refuted S L c i args (by_impl r) h k = no_impl_refuted L c args r h.0 h.1 k
 no_candidate_refuted S L c i args built_in h k = no_rule_refuted L c (trait_rule S.tables i args) h k
 no_candidate_refuted S L c i args error h k = true≢false (sym h ∙ k)
+
+-- a candidate that decides isn't passed over: the more special impls are refuted
+pub not_passed_over : (S : Setting) (L : Level) → IsConsistent L → (args : List Tree) (x : Candidate) → Decides S L args x → PassedOver S L args x → ⊥
+unfolding Decides PassedOver ImplHolds
+not_passed_over S L c args (by_impl r) h k =
+    Exists-Each (ImplHolds L args) (ImplRefuted L args) (λ q y z. no_impl_refuted L c args q y.0 y.1 z) (reached S.tables k.0 r) k.1 (h k.0)
+not_passed_over S L c args (assumption p) h k = k
+not_passed_over S L c args (implied_bound b cs) h k = k
+not_passed_over S L c args built_in h k = k
+not_passed_over S L c args error h k = k
+
+-- a candidate that shows a trait and decides isn't ruled out
+pub no_candidate_ruled_out : (S : Setting) (L : Level) → IsConsistent L → (i : TraitId) (args : List Tree) (x : Candidate) →
+    CandidateDecides S L i args x → CandidateRuledOut S L i args x → ⊥
+no_candidate_ruled_out S L c i args x h k = ⊎_elim (λ q. no_candidate_refuted S L c i args x h.0 q) (λ q. not_passed_over S L c args x h.1 q) k

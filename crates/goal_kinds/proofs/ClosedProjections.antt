@@ -13,7 +13,7 @@ use Rattle.goal_kinds.specs.Builtins.{Listed, nothing_listed, listed, listed_rig
 use Rattle.goal_kinds.specs.Candidates.{Candidate, assumption, implied_bound, by_impl, built_in, error, environment, second_group}
 use Rattle.goal_kinds.specs.ImplTerms.{Projection}
 use Rattle.goal_kinds.specs.Level.{Level}
-use Rattle.goal_kinds.specs.Projections.{EquationGives, AssumptionGives, ListedGives, CandidateGives, GroupGives, GroupsGive, asked, ItemGives, ProjectionGives}
+use Rattle.goal_kinds.specs.Projections.{EquationGives, AssumptionGives, ListedGives, CandidateGives, TermDecides, GroupGives, GroupsGive, asked, ItemGives, ProjectionGives}
 use Rattle.goal_kinds.specs.Settings.{Setting}
 use Rattle.goal_kinds.specs.Words.{Each, Exists, OfRow}
 use Rattle.goal_kinds.proofs.ClosedBuiltins.{IsClosedListed, closed-term_rule}
@@ -58,10 +58,10 @@ closed-candidate_gives w S s p given itself e u error c g = absurd g
 
 -- the term that some candidate of a list gives
 closed-some_gives : {L : Level} → KeepsClosed L → (S : Setting) → IsClosedSetting S → (p : Projection) → AreClosedTrees p.args →
-    (itself : Tree) → IsClosedTree itself → (u : Tree) (cs : List Candidate) → Each IsClosedCandidate cs → Exists (CandidateGives S L p itself u) cs → IsClosedTree u
+    (itself : Tree) → IsClosedTree itself → (u : Tree) (cs : List Candidate) → Each IsClosedCandidate cs → Exists (TermDecides S L p itself u) cs → IsClosedTree u
 unfolding Each Exists
 closed-some_gives w S s p given itself e u [] all g = absurd g
-closed-some_gives w S s p given itself e u (c ∷ cs) all (inl g) = closed-candidate_gives w S s p given itself e u c all.0 g
+closed-some_gives w S s p given itself e u (c ∷ cs) all (inl g) = closed-candidate_gives w S s p given itself e u c all.0 g.0
 closed-some_gives w S s p given itself e u (c ∷ cs) all (inr g) = closed-some_gives w S s p given itself e u cs all.1 g
 
 closed-group_gives : {L : Level} → KeepsClosed L → (S : Setting) → IsClosedSetting S → (p : Projection) → AreClosedTrees p.args →

@@ -21,7 +21,7 @@ use Rattle.goal_tables.specs.Clauses.{own_fault, const_fault, lies_in_args, lies
 use Rattle.goal_tables.specs.Faults.{IsChecked}
 use Rattle.goal_tables.specs.RowFaults.{if_unknown, if_kind, definition_scope, inherent_scope, lies_in_option, lies_in_value, container_is_unknown, lies_in_definition_value, value_has_other_kind, value_differs, lies_in_field_info}
 use Rattle.goal_tables.specs.RowFaults.{lies_in_impl, lies_in_definition, lies_in_free, lies_in_inherent, lies_in_function, lies_in_closure}
-use Rattle.goal_tables.specs.Rows.{item_of, definition_of, free_of, inherent_impl_of, inherent_of, opaque_of, adt_of, function_of, closure_of}
+use Rattle.goal_tables.specs.Rows.{item_of, impl_of, definition_of, free_of, inherent_impl_of, inherent_of, opaque_of, adt_of, function_of, closure_of}
 use Rattle.goal_tables.specs.Sites.{is_inferred, lies_here, lies_in, lies_in_row}
 use Rattle.goal_tables.specs.declared.rows.AdtRow.{AdtRow}
 use Rattle.goal_tables.specs.declared.rows.ClosureRow.{ClosureRow}
@@ -167,4 +167,6 @@ closed-header t r e =
     closed-accepted_args t r.params.items r.trait_args.items
     (both_fail (own_fault t InferInTable r.trait_id r.trait_args.items) (lies_in_args t r.params.items InferInTable r.trait_args.items)
     (four_fail (lies_in_trait_args t r.params.items InferInTable r.trait_id r.trait_args.items) (lies_in_clauses t r.params.items InferInTable r.predicates.items)
-    (lies_in_const_refs t r.params.items InferInTable r.const_conditions.items) (r.is_const && const_fault t InferInTable r.trait_id) e).0).1
+    (lies_in_const_refs t r.params.items InferInTable r.const_conditions.items) (r.is_const && const_fault t InferInTable r.trait_id)
+    (both_fail (lies_in_trait_args t r.params.items InferInTable r.trait_id r.trait_args.items || lies_in_clauses t r.params.items InferInTable r.predicates.items || lies_in_const_refs t r.params.items InferInTable r.const_conditions.items || (r.is_const && const_fault t InferInTable r.trait_id))
+    (if_unknown InferInTable (list_any (λ i. is_none (impl_of t i)) r.more_special.items)) e).0).0).1

@@ -7,14 +7,14 @@ use Rattle.goal_terms.specs.declared.predicates.BoundConstness.{BoundConstness}
 use Rattle.goal_terms.specs.declared.predicates.BoundConstness.TheVariants as constness
 use Rattle.goal_tables.specs.declared.rows.ImplRow.{ImplRow}
 use Rattle.goal_kinds.specs.Candidates.{Candidate, assumption, implied_bound, by_impl, built_in, error, environment, second_group}
-use Rattle.goal_kinds.specs.ConstGoals.{satisfies, ConstAssumptionHolds, ConstAssumptionRefuted, ImpliedHolds, ImpliedRefuted, impl_conditions, ConstImplHolds, ConstImplRefuted, ConstRuleHolds, ConstRuleRefuted, ConstCandidateHolds, ConstCandidateRefuted, ConstHolds, ConstRefuted}
+use Rattle.goal_kinds.specs.ConstGoals.{satisfies, ConstAssumptionHolds, ConstAssumptionRefuted, ImpliedHolds, ImpliedRefuted, impl_conditions, ConstImplHolds, ConstImplRefuted, ConstRuleHolds, ConstRuleRefuted, ConstCandidateHolds, ConstCandidateRefuted, ConstCandidateDecides, ConstCandidateRuledOut, ConstHolds, ConstRefuted}
 use Rattle.goal_kinds.specs.ConstRules.{const_rule}
 use Rattle.goal_kinds.specs.Laws.{IsConsistent}
 use Rattle.goal_kinds.specs.Level.{Level}
 use Rattle.goal_kinds.specs.Premises.{TraitTree, ConstRule, PremisesRefuted, traits_under}
 use Rattle.goal_kinds.specs.Settings.{Setting}
 use Rattle.goal_kinds.specs.Words.{Each}
-use Rattle.goal_kinds.proofs.CandidateLemmas.{no_pair_unequal, one_impl_substitution, no_impl_refuted}
+use Rattle.goal_kinds.proofs.CandidateLemmas.{no_pair_unequal, one_impl_substitution, no_impl_refuted, not_passed_over}
 use Rattle.goal_kinds.proofs.ContraryWords.{Exists-Each}
 use Rattle.goal_kinds.proofs.EqualLemmas.{one_head_form}
 use Rattle.goal_kinds.proofs.PremiseLemmas.{no_premises_refuted, no_conditions_refuted}
@@ -80,6 +80,12 @@ no_const_candidate_refuted S L l c d e i args (by_impl r) h k = no_const_impl_re
 no_const_candidate_refuted S L l c d e i args built_in h k = no_const_rule_refuted L l c d e (const_rule S.tables i args) h k
 no_const_candidate_refuted S L l c d e i args error h k = true≢false (sym h ∙ k)
 
+-- one that decides isn't ruled out
+pub no_const_candidate_ruled_out : (S : Setting) (L : Level) → IsConsistent L → (c d : BoundConstness) → satisfies c d ≡ true →
+    (i : TraitId) (args : List Tree) (x : Candidate) → ConstCandidateDecides S L c i args x → ConstCandidateRuledOut S L d i args x → ⊥
+no_const_candidate_ruled_out S L l c d e i args x h k =
+    ⊎_elim (λ q. no_const_candidate_refuted S L l c d e i args x h.0 q) (λ q. not_passed_over S L l args x h.1 q) k
+
 -- a trait that holds as a const trait isn't refuted as one
 pub no_const_goal_refuted : (S : Setting) (L : Level) → IsConsistent L → (c d : BoundConstness) (i : TraitId) (ts : List Tree) → satisfies c d ≡ true →
     ConstHolds S L c i ts → ConstRefuted S L d i ts → ⊥
@@ -92,9 +98,9 @@ no_const_goal_refuted S L l c d i (self ∷ args) e h k =
     let p : x.0 ≡ h.0 = l.one_class x.0 h.0 i (self ∷ args) x.2 h.2 in
     let q : x.1 ≡ h.1 = one_head_form L l.one_term self x.1 h.1 x.3 h.3 in
     ⊎_elim
-    (λ y. Exists-Each _ _ (no_const_candidate_refuted S L l c d e i (h.1 ∷ args)) (environment S) y
-    (subst (λ s. Each (ConstCandidateRefuted S L d i (s ∷ args)) (environment S)) q x.4))
-    (λ y. Exists-Each _ _ (no_const_candidate_refuted S L l c d e i (h.1 ∷ args)) (second_group S i h.1 h.0) y.1
-    (subst₂ (λ v s. Each (ConstCandidateRefuted S L d i (s ∷ args)) (second_group S i s v)) p q x.5))
+    (λ y. Exists-Each _ _ (no_const_candidate_ruled_out S L l c d e i (h.1 ∷ args)) (environment S) y
+    (subst (λ s. Each (ConstCandidateRuledOut S L d i (s ∷ args)) (environment S)) q x.4))
+    (λ y. Exists-Each _ _ (no_const_candidate_ruled_out S L l c d e i (h.1 ∷ args)) (second_group S i h.1 h.0) y.1
+    (subst₂ (λ v s. Each (ConstCandidateRuledOut S L d i (s ∷ args)) (second_group S i s v)) p q x.5))
     h.4)
     k

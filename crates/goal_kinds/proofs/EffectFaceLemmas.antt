@@ -1,5 +1,6 @@
 -- The rules of host effect goals say what the lists of their candidates do.
 use Rattle.std.proofs.Common.{◌≡◌, ◌<◌, ◌↔◌, ℕ, Bool, true, false, List, [], ◌∷◌, ◌++◌, filter, cond, Option, Some, None, Result, Ok, Err, IfOk, IfErr, Vec, Global, refl, sym, ◌∙◌, ap, subst, append-nil}
+use Rattle.std.proofs.lemmas.Bool.{false≢true}
 use Rattle.std.specs.List.{All, AllZip}
 use Rattle.std.specs.Prelude.{◌||◌, get_or, length, not, if◌then◌else◌}
 use Rattle.std.proofs.lemmas.List.Elements.{filter-append}
@@ -22,7 +23,7 @@ use Rattle.goal_tables.specs.declared.rows.ImplRow.{ImplRow}
 use Rattle.goal_tables.specs.declared.rows.Tables.{Tables}
 use Rattle.goal_kinds.specs.Answers.{setting_of}
 use Rattle.goal_kinds.specs.CandidateRules.{GivesAs, RefutedAs, IsRefusal, IsNamedAnswer, refuses_row, said_by, only_given}
-use Rattle.goal_kinds.specs.Candidates.{Candidate, assumption, implied_bound, by_impl, built_in, error, bounds_of}
+use Rattle.goal_kinds.specs.Candidates.{Candidate, assumption, implied_bound, by_impl, built_in, error, bounds_of, IsNoImpl}
 use Rattle.goal_kinds.specs.EffectKind.{AreImplied, asked_effect_list, EffectCandidateHolds, EffectCandidateRefuted, implied_bounds_for, is_implied_for, is_of_effect, refuses_effect_row, refuses_effect_impl}
 use Rattle.goal_kinds.specs.EffectLists.{effect_assumption_list, effect_impl_list, effect_list}
 use Rattle.goal_kinds.specs.Entries.{Entry, equal_terms, row_conditions, premise_entries, ListHolds, ListRefuted, ListAsksNoTerm}
@@ -238,6 +239,14 @@ implied-reads m i (by_impl r) e = absurd (cc)
 implied-reads m i built_in e = tt
 implied-reads m i error e = tt
 
+-- an implied const bound is no impl
+implied-plain : (i : TraitId) (c : Candidate) → is_implied_for i c ≡ true → IsNoImpl c
+implied-plain i (assumption p) e = tt
+implied-plain i (implied_bound q cs) e = tt
+implied-plain i (by_impl r) e = absurd (false≢true e)
+implied-plain i built_in e = tt
+implied-plain i error e = tt
+
 -- the rules of an alias's implied const bounds say what these do
 module _ (S : ListSetting) (t : Tables) (m : TypingMode) (env : List Clause) (p : HostEffectPredicate) (a : AliasTerm) (rows : S.rows.now ≡ t) (mode : S.mode.now ≡ m) where
   -- rules whose entries are those of these bounds' lists
@@ -263,6 +272,9 @@ module _ (S : ListSetting) (t : Tables) (m : TypingMode) (env : List Clause) (p 
   pub implied-refuted : (r : Result (Vec Rule Global) Fault) → AreListed r →
       Each-of (λ x c. RefutedAs (setting_of t m env) (λ n. EffectCandidateRefuted p (setting_of t m env) n c) x) t r
   implied-refuted r h = each-says _ (λ x c e l. sure_effect-refuted S t m env p c rows mode (Ok x) (implied-reads m p.trait_ref.def_id c e) l) r h
+
+  pub implied-no_impl : (r : Result (Vec Rule Global) Fault) → AreListed r → Each-of (λ x c. IsNoImpl c) t r
+  implied-no_impl r h = each-says _ (λ x c e l. implied-plain p.trait_ref.def_id c e) r h
 
   pub implied-told : (r : Result (Vec Rule Global) Fault) → AreListed r →
       Each-of (λ x c. IsToldBy t certainty.Yes (Some (asked_effect_list p (setting_of t m env) c)) x) t r

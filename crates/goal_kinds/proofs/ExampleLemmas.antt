@@ -27,7 +27,7 @@ use Rattle.goal_terms.specs.NodeTests.{some_node, some_node_outside_aliases}
 use Rattle.goal_terms.specs.Occurrences.{has_error}
 use Rattle.goal_kinds.specs.Aliases.{InherentGives, InherentRefuted, InherentAliasGives, InherentAliasRefuted, ValueGives, ValueRefuted, FreeGives, FreeRefuted, OpaqueGives, OpaqueRefuted, AliasGives, AliasRefuted}
 use Rattle.goal_kinds.specs.Builtins.{sized_of_head, copied_parts_of_head, signature_of_head, call_rule, lang_rule, trait_rule, metadata_of_head, discriminant_of_head, lang_term, term_rule}
-use Rattle.goal_kinds.specs.Candidates.{bounds_of_alias, bounds_of, all_but_last, last_of, object_bounds_among, object_bounds, class_of, classes_before, all_candidates, second_group}
+use Rattle.goal_kinds.specs.Candidates.{Candidate, bounds_of_alias, bounds_of, all_but_last, last_of, object_bounds_among, object_bounds, class_of, classes_before, all_candidates, second_group}
 use Rattle.goal_kinds.specs.ConstGoals.{ConstAssumptionHolds, ConstAssumptionRefuted, ConstImplHolds, ConstImplRefuted, ConstRuleHolds, ConstRuleRefuted, ConstCandidateHolds, ConstCandidateRefuted, ConstHolds, ConstRefuted}
 use Rattle.goal_kinds.specs.ConstRules.{const_rule, lang_const_rule}
 use Rattle.goal_kinds.specs.Equality.{SameForm, OtherForm, EqualByForm, UnequalByForm, Equal, Unequal}
@@ -37,8 +37,9 @@ use Rattle.goal_kinds.specs.Level.{Level, nothing, HasHeadForm, HeadFormRefuted}
 use Rattle.goal_kinds.specs.Levels.{level}
 use Rattle.goal_kinds.specs.Premises.{ClauseHolds, ClauseRefuted, PremiseHolds, PremiseRefuted, PremisesHold, PremisesRefuted}
 use Rattle.goal_kinds.specs.Projections.{EquationGives, EquationRefuted, AssumptionGives, AssumptionTermRefuted, ListedGives, ListedRefuted, CandidateGives, TermRefuted, GroupGives, GroupRefuted, OwnFormed, OwnUnformed, GroupsGive, GroupsRefuted, ItemGives, ItemRefuted, ProjectionGives, ProjectionRefuted}
-use Rattle.goal_kinds.specs.TraitGoals.{header_of, AssumptionHolds, AssumptionRefuted, ImplHoldsUnder, ImplHolds, ImplRefuted, TraitRuleHolds, TraitRuleRefuted, CandidateHolds, CandidateRefuted, TraitHolds, TraitRefuted}
+use Rattle.goal_kinds.specs.TraitGoals.{header_of, AssumptionHolds, AssumptionRefuted, ImplHoldsUnder, ImplHolds, ImplRefuted, TraitRuleHolds, TraitRuleRefuted, CandidateHolds, CandidateRefuted, PassedOver, Decides, TraitHolds, TraitRefuted}
 use Rattle.goal_kinds.specs.Words.{Each, Exists, Pairs, SomePair, OfRow, Either}
+use Rattle.goal_kinds.proofs.SpecializedLemmas.{listed_in, decides-none, passed_over-none}
 
 -- opens all definitions
 unfoldable pub opened : Unit {0}
@@ -57,6 +58,14 @@ unfolding folded folded_node depth_below argument_of kind_of kind_of_head erased
     AssumptionHolds AssumptionRefuted ImplHoldsUnder ImplHolds ImplRefuted TraitRuleHolds TraitRuleRefuted CandidateHolds CandidateRefuted TraitHolds TraitRefuted
     Each Exists Pairs SomePair OfRow Either
 opened = tt
+
+-- a candidate that lists no more special impls decides, and is ruled out only where it is refuted
+pub alone : (S : Setting) (L : Level) (args : List Tree) (x : Candidate) → listed_in x ≡ [] → Decides S L args x
+alone S L args x e = decides-none S L args x e
+
+pub only_refuted : (S : Setting) (L : Level) (args : List Tree) (x : Candidate) → listed_in x ≡ [] → {A : Type 0} → A ⊎ PassedOver S L args x → A
+only_refuted S L args x e (inl h) = h
+only_refuted S L args x e (inr h) = absurd (passed_over-none S L args x e h)
 
 -- at height 1 no projection has a term, nor is it refuted to have one
 no_item_at_one : (S : Setting) (k : AliasTermKind) (args : List Tree) (u : Tree) (q : ItemRow) (r : TraitRow) → ItemGives S (level S 0) k args u q r → ⊥

@@ -15,7 +15,7 @@ use Rattle.goal_kinds.specs.Level.{Level, HasHeadForm}
 use Rattle.goal_kinds.specs.Levels.{level}
 use Rattle.goal_kinds.specs.Projections.{GroupGives, GroupRefuted, GroupsGive, GroupsRefuted, ItemGives, ItemRefuted, asked}
 use Rattle.goal_kinds.specs.Settings.{Setting}
-use Rattle.goal_kinds.specs.TraitGoals.{CandidateHolds, CandidateRefuted, TraitHolds, TraitRefuted}
+use Rattle.goal_kinds.specs.TraitGoals.{CandidateDecides, CandidateRuledOut, TraitHolds, TraitRefuted}
 use Rattle.goal_kinds.specs.Words.{Each, Exists}
 use Rattle.goal_kinds.proofs.ExampleLemmas.{opened}
 
@@ -28,26 +28,26 @@ pub at_node : (L : Level) (h : Head) (ts : Trees) (P : Tree → Type 0) (s : Tre
 unfolding HasHeadForm
 at_node L h ts P s e p = subst P e p
 
--- a trait goal holds through a candidate of the rest
+-- a trait goal holds through a candidate of the rest, which decides
 pub through_rest :
     (t : Tables) (m : TypingMode) (L : Level) (c : TraitGoalProvenVia) (i : TraitId) (h : Head) (ts : Trees) (args : List Tree)
     → TraitHolds (bare t m) L c i (node h ts ∷ args)
-    → (c ≡ class.Misc) × Exists (CandidateHolds (bare t m) L i (node h ts ∷ args)) (rest (bare t m) i (node h ts))
+    → (c ≡ class.Misc) × Exists (CandidateDecides (bare t m) L i (node h ts ∷ args)) (rest (bare t m) i (node h ts))
 unfolding opened
 through_rest t m L class.ParamEnv i h ts args p = absurd p.2
 through_rest t m L class.AliasBound i h ts args p =
-    absurd (at_node L h ts (λ s. Exists (CandidateHolds (bare t m) L i (s ∷ args)) (class_of (bare t m) i s class.AliasBound)) p.0 p.1 p.2)
+    absurd (at_node L h ts (λ s. Exists (CandidateDecides (bare t m) L i (s ∷ args)) (class_of (bare t m) i s class.AliasBound)) p.0 p.1 p.2)
 through_rest t m L class.Misc i h ts args p =
-    (refl, at_node L h ts (λ s. Exists (CandidateHolds (bare t m) L i (s ∷ args)) (rest (bare t m) i s)) p.0 p.1 p.2)
+    (refl, at_node L h ts (λ s. Exists (CandidateDecides (bare t m) L i (s ∷ args)) (rest (bare t m) i s)) p.0 p.1 p.2)
 
--- a trait goal is refuted by that all of the rest are
+-- a trait goal is refuted by that all of the rest are ruled out
 pub rest_refuted :
     (t : Tables) (m : TypingMode) (L : Level) (i : TraitId) (h : Head) (ts : Trees) (args : List Tree)
-    → TraitRefuted (bare t m) L i (node h ts ∷ args) → Each (CandidateRefuted (bare t m) L i (node h ts ∷ args)) (rest (bare t m) i (node h ts))
+    → TraitRefuted (bare t m) L i (node h ts ∷ args) → Each (CandidateRuledOut (bare t m) L i (node h ts ∷ args)) (rest (bare t m) i (node h ts))
 unfolding opened
 rest_refuted t m L i h ts args (inl p) = absurd p
 rest_refuted t m L i h ts args (inr p) =
-    at_node L h ts (λ s. Each (CandidateRefuted (bare t m) L i (s ∷ args)) (all_candidates (bare t m) i s)) p.0 p.1 p.2
+    at_node L h ts (λ s. Each (CandidateRuledOut (bare t m) L i (s ∷ args)) (all_candidates (bare t m) i s)) p.0 p.1 p.2
 
 module _ (t : Tables) (m : TypingMode) (n : ℕ) (k : AliasTermKind) (h : Head) (ts : Trees) (args : List Tree) (q : ItemRow) (r : TraitRow) where
   -- the groups of candidates, once the class is known

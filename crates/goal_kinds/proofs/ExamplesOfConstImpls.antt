@@ -20,7 +20,7 @@ use Rattle.goal_kinds.specs.Premises.{PremisesRefuted, clauses_under}
 use Rattle.goal_kinds.specs.TraitGoals.{ImplRefuted, header_of}
 use Rattle.goal_kinds.specs.ExampleSettings.{q_ty, const_tr_for_q, const_tr_for_vec, const_tables, with_const}
 use Rattle.goal_kinds.proofs.ExampleHeaders.{param_arg, struct_arg}
-use Rattle.goal_kinds.proofs.ExampleLemmas.{apart, differs, header-z, header_clashes, number_of, opened}
+use Rattle.goal_kinds.proofs.ExampleLemmas.{alone, apart, differs, header-z, header_clashes, number_of, only_refuted, opened}
 use Rattle.goal_kinds.proofs.ExampleNodes.{rest_refuted, through_rest}
 use Rattle.goal_kinds.proofs.ExamplesOfHeaders.{of_known}
 use Rattle.goal_kinds.proofs.ExamplesOfImpls.{equal_leaf, fits_z}
@@ -58,15 +58,15 @@ fits_vec (suc n) i =
 -- `Q: Tr` holds at height 1, and `Q: const Tr` at height 2; so does `Z: Tr`, and `Z: const Tr` is refuted
 q_is_tr : (n : ℕ) → (level with_const (suc n)).through class.Misc (trait 12) (q_ty ∷ [])
 unfolding opened
-q_is_tr n = (q_ty, refl, inr (inl ([], (refl, fits_q n, tt))), tt)
+q_is_tr n = (q_ty, refl, inr (inl (([], (refl, fits_q n, tt)), alone _ _ _ _ refl)), tt)
 
 q_is_const : (c : BoundConstness) → (level with_const 2).const_holds c (trait 12) (q_ty ∷ [])
 unfolding opened
-q_is_const c = (class.Misc, q_ty, q_is_tr 0, refl, inr (tt, inr (inl ([], refl, (refl, fits_q 1, tt), tt))))
+q_is_const c = (class.Misc, q_ty, q_is_tr 0, refl, inr (tt, inr (inl (([], refl, (refl, fits_q 1, tt), tt), alone _ _ _ _ refl))))
 
 z_is_tr : (n : ℕ) → (level with_const (suc n)).through class.Misc (trait 12) (z_ty ∷ [])
 unfolding opened
-z_is_tr n = (z_ty, refl, inl ([], (refl, fits_z with_const n, tt)), tt)
+z_is_tr n = (z_ty, refl, inl (([], (refl, fits_z with_const n, tt)), alone _ _ _ _ refl), tt)
 
 z_is_not_const : (c : BoundConstness) → (level with_const 2).const_refuted c (trait 12) (z_ty ∷ [])
 unfolding opened
@@ -77,7 +77,13 @@ z_is_not_const c =
       z_is_tr 0,
       refl,
       tt,
-      (inl refl, (inr (inl (not_q 1 (head.Adt (adt 5) 0) none (differs tt))), (inr (inl (not_vec 1 (head.Adt (adt 5) 0) none (differs tt))), (tt, (refl, tt))))),
+      (
+        inl (inl refl),
+        (
+          inl (inr (inl (not_q 1 (head.Adt (adt 5) 0) none (differs tt)))),
+          (inl (inr (inl (not_vec 1 (head.Adt (adt 5) 0) none (differs tt)))), (inl tt, (inl refl, tt))),
+        ),
+      ),
     )
 
 -- the where clause of the impl for `Vec<T>`, under an argument
@@ -97,7 +103,7 @@ unfolding opened
 vec_is_tr n i h = (
   vec_of (struct i []),
   refl,
-  inr (inr (inl (struct i [] ∷ [], (refl, fits_vec (suc n) i, ((class.Misc, argument_is (suc n) i class.Misc h), tt))))),
+  inr (inr (inl ((struct i [] ∷ [], (refl, fits_vec (suc n) i, ((class.Misc, argument_is (suc n) i class.Misc h), tt))), alone _ _ _ _ refl))),
   tt,
 )
 
@@ -108,13 +114,13 @@ vec_is_not_yet_tr i c h =
     elim (through_rest const_tables analysis (level with_const 0) c (trait 12) (head.Adt (adt 1) 1) (forest (struct i [] ∷ [])) [] h).1 [
       | inl p ↦
           apart (head.Adt (adt 5) 0) (head.Adt (adt 1) 1) (differs tt)
-          (subst (λ hs. Fits (level with_const 0) [] hs (vec_of (struct i []) ∷ []) p.0) header-z p.1.1).1.0.0
+          (subst (λ hs. Fits (level with_const 0) [] hs (vec_of (struct i []) ∷ []) p.0.0) header-z p.0.1.1).1.0.0
       | inr (inl p) ↦
           apart (head.Adt (adt 6) 0) (head.Adt (adt 1) 1) (differs tt)
-          (subst (λ hs. Fits (level with_const 0) [] hs (vec_of (struct i []) ∷ []) p.0) header-q p.1.1).1.0.0
-      | inr (inr (inl p)) ↦ p.1.2.0.1
-      | inr (inr (inr (inl p))) ↦ p
-      | inr (inr (inr (inr (inl p)))) ↦ true≢false (sym p)
+          (subst (λ hs. Fits (level with_const 0) [] hs (vec_of (struct i []) ∷ []) p.0.0) header-q p.0.1.1).1.0.0
+      | inr (inr (inl p)) ↦ p.0.1.2.0.1
+      | inr (inr (inr (inl p))) ↦ p.0
+      | inr (inr (inr (inr (inl p)))) ↦ true≢false (sym p.0)
       | inr (inr (inr (inr (inr p)))) ↦ p
     ]
 
@@ -131,10 +137,13 @@ example-const_impl c = (
     inr
         (inr
         (inl (
-          q_ty ∷ [],
-          refl,
-          (refl, fits_vec 2 6, ((class.Misc, argument_is 2 6 class.Misc (q_is_tr 1)), tt)),
-          (subst (λ t. (level with_const 2).const_holds c (trait 12) (under (q_ty ∷ []) t ∷ [])) (sym (param_arg 0)) (q_is_const c), tt),
+          (
+            q_ty ∷ [],
+            refl,
+            (refl, fits_vec 2 6, ((class.Misc, argument_is 2 6 class.Misc (q_is_tr 1)), tt)),
+            (subst (λ t. (level with_const 2).const_holds c (trait 12) (under (q_ty ∷ []) t ∷ [])) (sym (param_arg 0)) (q_is_const c), tt),
+          ),
+          alone _ _ _ _ refl,
         ))),
   ),
 )
@@ -159,12 +168,12 @@ example-refuted_condition c =
       refl,
       tt,
       (
-        inl refl,
+        inl (inl refl),
         (
-          inr (inl (not_q 2 (head.Adt (adt 1) 1) _ (differs tt))),
+          inl (inr (inl (not_q 2 (head.Adt (adt 1) 1) _ (differs tt)))),
           (
-            inr (inr (z_ty ∷ [], (fits_vec 2 5).0, inl (z_condition c))),
-            (tt, (refl, tt)),
+            inl (inr (inr (z_ty ∷ [], (fits_vec 2 5).0, inl (z_condition c)))),
+            (inl tt, (inl refl, tt)),
           ),
         ),
       ),
@@ -193,7 +202,7 @@ no_premise_yet s (inr p) = p
 pub example-refuted_condition_lower : (c : BoundConstness) → (level with_const 2).const_refuted c (trait 12) (vec_of z_ty ∷ []) → ⊥
 unfolding opened
 example-refuted_condition_lower c (inl p) =
-    elim (rest_refuted const_tables analysis (level with_const 0) (trait 12) (head.Adt (adt 1) 1) (forest (z_ty ∷ [])) [] p).1.1.0 [
+    elim (only_refuted _ _ _ _ refl (rest_refuted const_tables analysis (level with_const 0) (trait 12) (head.Adt (adt 1) 1) (forest (z_ty ∷ [])) [] p).1.1.0) [
       | inl e ↦ true≢false e
       | inr (inl q) ↦ vec_does_not_clash (subst (λ hs. Clashes (level with_const 0) (kind.Ty ∷ []) hs (vec_of z_ty ∷ [])) header-vec q)
       | inr (inr q) ↦ no_premise_yet q.0 q.2

@@ -15,7 +15,7 @@ use Rattle.goal_kinds.specs.ImplTerms.{ImplGives}
 use Rattle.goal_kinds.specs.Level.{HasHeadForm}
 use Rattle.goal_kinds.specs.Levels.{level}
 use Rattle.goal_kinds.specs.ExampleSettings.{with_default}
-use Rattle.goal_kinds.proofs.ExampleLemmas.{no_projection_at_one, not_str, not_w, not_y, opened}
+use Rattle.goal_kinds.proofs.ExampleLemmas.{alone, no_projection_at_one, not_str, not_w, not_y, opened}
 use Rattle.goal_kinds.proofs.ExamplesOfImpls.{fits_z}
 
 -- a term that the impl for `Z` gives there is that of `<Z as Tr>::A`
@@ -26,7 +26,7 @@ impl_decides :
     → (level (with_default m) 2).gives (projection 5) (z_ty ∷ []) u
 unfolding opened
 impl_decides m u gives =
-    let holds_for_z : (level (with_default m) 1).through class.Misc (trait 12) (z_ty ∷ []) = (z_ty, refl, inr (inl ([], (refl, fits_z (with_default m) 0, tt))), tt) in
+    let holds_for_z : (level (with_default m) 1).through class.Misc (trait 12) (z_ty ∷ []) = (z_ty, refl, inr (inl (([], (refl, fits_z (with_default m) 0, tt)), alone _ _ _ _ refl)), tt) in
     let apart_from_y = not_y (with_default m) 1 (head.Adt (adt 5) 0) none tt in
     let apart_from_w = not_w (with_default m) 1 (head.Adt (adt 5) 0) none tt in
     let apart_from_str = not_str (with_default m) 1 (head.Adt (adt 5) 0) none tt in (
@@ -34,7 +34,15 @@ impl_decides m u gives =
       z_ty,
       holds_for_z,
       refl,
-      inr (inl (tt, (inr (inl gives), (inr (inl apart_from_y), (inl gives, (inr (inl apart_from_w), (inr (inl apart_from_str), (inr tt, (inr tt, tt))))))), inl refl)),
+      inr
+          (inl (
+            tt,
+            (
+              inr (inl (gives, alone _ _ _ _ refl)),
+              (inr (inl (inl apart_from_y)), (inl gives, (inr (inl (inl apart_from_w)), (inr (inl (inl apart_from_str)), (inr (inl tt), (inr (inl tt), tt)))))),
+            ),
+            inl refl,
+          )),
     )
 
 -- `<Z as Tr>::A` stays as it is while bodies are checked, and is `u8` after, each at height 2 and not at 1

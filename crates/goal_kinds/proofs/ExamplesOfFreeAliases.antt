@@ -39,14 +39,14 @@ u32_is_not_tr =
       u32_ty,
       refl,
       (
-        not_y plainly 0 (head.Uint unsigned.U32) none tt,
+        inl (not_y plainly 0 (head.Uint unsigned.U32) none tt),
         (
-          not_z plainly 0 (head.Uint unsigned.U32) none tt,
+          inl (not_z plainly 0 (head.Uint unsigned.U32) none tt),
           (
-            not_w plainly 0 (head.Uint unsigned.U32) none tt,
+            inl (not_w plainly 0 (head.Uint unsigned.U32) none tt),
             (
-              not_str plainly 0 (head.Uint unsigned.U32) none tt,
-              (tt, (refl, tt)),
+              inl (not_str plainly 0 (head.Uint unsigned.U32) none tt),
+              (inl tt, (inl refl, tt)),
             ),
           ),
         ),

@@ -20,7 +20,7 @@ use Rattle.goal_kinds.specs.Levels.{level}
 use Rattle.goal_kinds.specs.TraitGoals.{any_error, header_of}
 use Rattle.goal_kinds.specs.ExampleSettings.{f_alias, pair_args}
 use Rattle.goal_kinds.proofs.ExampleHeaders.{header-pair, value-box}
-use Rattle.goal_kinds.proofs.ExampleLemmas.{differs, opened, other_node, other_tree}
+use Rattle.goal_kinds.proofs.ExampleLemmas.{alone, differs, only_refuted, opened, other_node, other_tree}
 use Rattle.goal_kinds.proofs.ExampleNodes.{rest_refuted, through_rest}
 
 -- `F` is `u8`, at each height but 0
@@ -52,8 +52,8 @@ pair_gives = (
 pub example-alias_in_header : (level plainly 4).gives (projection 7) (pair_args u8_ty) (box_of f_alias)
 unfolding opened
 example-alias_in_header =
-    let fits : (level plainly 3).through class.Misc (trait 14) (pair_args u8_ty) = (vec_of f_alias, refl, inl (f_alias ∷ [], (refl, pair_fits 0, tt)), tt) in
-    (class.Misc, vec_of f_alias, fits, refl, inr (inl (tt, (inl pair_gives, (inl pair_gives, (inr tt, (inr tt, tt)))), inl refl)))
+    let fits : (level plainly 3).through class.Misc (trait 14) (pair_args u8_ty) = (vec_of f_alias, refl, inl ((f_alias ∷ [], (refl, pair_fits 0, tt)), alone _ _ _ _ refl), tt) in
+    (class.Misc, vec_of f_alias, fits, refl, inr (inl (tt, (inl (pair_gives, alone _ _ _ _ refl), (inl pair_gives, (inr (inl tt), (inr (inl tt), tt)))), inl refl)))
 
 -- at height 1 the header fits no type that isn't an alias
 no_fit_yet : (v : Head) (s : List Tree) → Fits (level plainly 1) (kind.Ty ∷ []) (vec_of (param 0) ∷ param 0 ∷ []) (pair_args (leaf v)) s → ⊥
@@ -70,9 +70,9 @@ no_pair_yet : (v : Head) → any_error (pair_args (leaf v)) ≡ false → (c : T
 unfolding opened
 no_pair_yet v e c p =
     elim (through_rest example_tables analysis (level plainly 1) c (trait 14) (head.Adt (adt 1) 1) (forest (f_alias ∷ [])) (leaf v ∷ []) p).1 [
-      | inl q ↦ no_fit_yet v q.0 (subst (λ hs. Fits (level plainly 1) (kind.Ty ∷ []) hs (pair_args (leaf v)) q.0) header-pair q.1.1)
-      | inr (inl q) ↦ q
-      | inr (inr (inl q)) ↦ true≢false (sym q ∙ e)
+      | inl q ↦ no_fit_yet v q.0.0 (subst (λ hs. Fits (level plainly 1) (kind.Ty ∷ []) hs (pair_args (leaf v)) q.0.0) header-pair q.0.1.1)
+      | inr (inl q) ↦ q.0
+      | inr (inr (inl q)) ↦ true≢false (sym q.0 ∙ e)
       | inr (inr (inr q)) ↦ q
     ]
 
@@ -113,7 +113,7 @@ pair_clashes =
 -- so `<Vec<F> as Pair<u16>>::A` is refuted, at height 4 and not at 3
 pub example-alias_clashes : (level plainly 4).gives_refuted (projection 7) (pair_args u16_ty)
 unfolding opened
-example-alias_clashes = inl (inr (vec_of f_alias, refl, (inr (inl pair_clashes), (tt, (refl, tt)))))
+example-alias_clashes = inl (inr (vec_of f_alias, refl, (inl (inr (inl pair_clashes)), (inl tt, (inl refl, tt)))))
 
 -- an instance of a parameter is that of the term that is known for it
 pub of_known : (s : List Tree) (u : Tree) → slice_get s 0 ≡ Some u → under s (param 0) ≡ under (u ∷ []) (param 0)
@@ -142,7 +142,7 @@ no_clash_yet (inr (inr p)) = p
 pub example-alias_clashes_lower : (level plainly 3).gives_refuted (projection 7) (pair_args u16_ty) → ⊥
 unfolding opened
 example-alias_clashes_lower (inl p) =
-    elim (rest_refuted example_tables analysis (level plainly 1) (trait 14) (head.Adt (adt 1) 1) (forest (f_alias ∷ [])) (u16_ty ∷ []) p).0 [
+    elim (only_refuted _ _ _ _ refl (rest_refuted example_tables analysis (level plainly 1) (trait 14) (head.Adt (adt 1) 1) (forest (f_alias ∷ [])) (u16_ty ∷ []) p).0) [
       | inl e ↦ true≢false e
       | inr (inl q) ↦ no_clash_yet (subst (λ hs. Clashes (level plainly 1) (kind.Ty ∷ []) hs (pair_args u16_ty)) header-pair q)
       | inr (inr q) ↦ q.2

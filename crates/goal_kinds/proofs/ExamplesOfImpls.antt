@@ -17,7 +17,7 @@ use Rattle.goal_kinds.specs.Level.{HasHeadForm}
 use Rattle.goal_kinds.specs.Levels.{level}
 use Rattle.goal_kinds.specs.Settings.{Setting}
 use Rattle.goal_kinds.specs.TraitGoals.{header_of}
-use Rattle.goal_kinds.proofs.ExampleLemmas.{opened, not_y, not_z, not_w, not_str, header-z, header-w, header-str, no_const_refuted_at_one, no_const_at_one, no_projection_at_one, no_projection_refuted_at_one}
+use Rattle.goal_kinds.proofs.ExampleLemmas.{opened, alone, not_y, not_z, not_w, not_str, header-z, header-w, header-str, no_const_refuted_at_one, no_const_at_one, no_projection_at_one, no_projection_refuted_at_one}
 
 -- a type without parts is equal to itself
 pub equal_leaf : (S : Setting) (n : ℕ) (h : Head) → (level S n).equal (leaf h) (leaf h)
@@ -41,7 +41,7 @@ fits_str S n = subst (λ hs. Fits (level S n) [] hs (str_ty ∷ []) []) (sym hea
 -- `impl Tr for Z`: `Z: Tr` holds, at height 1 and not at 0
 pub example-impl : (level plainly 1).through class.Misc (trait 12) (z_ty ∷ [])
 unfolding opened
-example-impl = (z_ty, refl, inr (inl ([], (refl, fits_z plainly 0, tt))), tt)
+example-impl = (z_ty, refl, inr (inl (([], (refl, fits_z plainly 0, tt)), alone _ _ _ _ refl)), tt)
 
 pub example-impl_lower : (level plainly 0).through class.Misc (trait 12) (z_ty ∷ []) → ⊥
 unfolding level
@@ -51,7 +51,7 @@ example-impl_lower h = h
 pub example-plain_impl_as_const : (level plainly 2).const_refuted constness.Const (trait 12) (z_ty ∷ [])
 unfolding opened
 example-plain_impl_as_const =
-    inr (class.Misc, z_ty, example-impl, refl, tt, (inl refl, (inl refl, (inl refl, (inl refl, (tt, (refl, tt)))))))
+    inr (class.Misc, z_ty, example-impl, refl, tt, (inl (inl refl), (inl (inl refl), (inl (inl refl), (inl (inl refl), (inl tt, (inl refl, tt)))))))
 
 pub example-plain_impl_as_const_lower : (level plainly 1).const_refuted constness.Const (trait 12) (z_ty ∷ []) → ⊥
 example-plain_impl_as_const_lower = no_const_refuted_at_one plainly constness.Const (trait 12) (z_ty ∷ [])
@@ -75,7 +75,10 @@ example-type_of_impl =
       inr
           (inl (
             tt,
-            (inr (inl z_gives), (inr (inl apart_from_y), (inl z_gives, (inr (inl apart_from_w), (inr (inl apart_from_str), (inr tt, (inr tt, tt))))))),
+            (
+              inr (inl (z_gives, alone _ _ _ _ refl)),
+              (inr (inl (inl apart_from_y)), (inl z_gives, (inr (inl (inl apart_from_w)), (inr (inl (inl apart_from_str)), (inr (inl tt), (inr (inl tt), tt)))))),
+            ),
             inl refl,
           )),
     )
@@ -91,14 +94,14 @@ p_is_not_tr =
       p_ty,
       refl,
       (
-        not_y plainly 0 (head.Adt (adt 8) 0) none tt,
+        inl (not_y plainly 0 (head.Adt (adt 8) 0) none tt),
         (
-          not_z plainly 0 (head.Adt (adt 8) 0) none tt,
+          inl (not_z plainly 0 (head.Adt (adt 8) 0) none tt),
           (
-            not_w plainly 0 (head.Adt (adt 8) 0) none tt,
+            inl (not_w plainly 0 (head.Adt (adt 8) 0) none tt),
             (
-              not_str plainly 0 (head.Adt (adt 8) 0) none tt,
-              (tt, (refl, tt)),
+              inl (not_str plainly 0 (head.Adt (adt 8) 0) none tt),
+              (inl tt, (inl refl, tt)),
             ),
           ),
         ),
@@ -120,14 +123,14 @@ y_is_not_tr =
       y_ty,
       refl,
       (
-        inl refl,
+        inl (inl refl),
         (
-          not_z plainly 0 (head.Adt (adt 4) 0) none tt,
+          inl (not_z plainly 0 (head.Adt (adt 4) 0) none tt),
           (
-            not_w plainly 0 (head.Adt (adt 4) 0) none tt,
+            inl (not_w plainly 0 (head.Adt (adt 4) 0) none tt),
             (
-              not_str plainly 0 (head.Adt (adt 4) 0) none tt,
-              (tt, (refl, tt)),
+              inl (not_str plainly 0 (head.Adt (adt 4) 0) none tt),
+              (inl tt, (inl refl, tt)),
             ),
           ),
         ),
@@ -158,7 +161,7 @@ w_gives = ([], (refl, fits_w plainly 1, tt), tt, refl)
 pub example-missing_value : (level plainly 2).gives (projection 5) (w_ty ∷ []) (error_ty 6)
 unfolding opened
 example-missing_value =
-    let holds_for_w : (level plainly 1).through class.Misc (trait 12) (w_ty ∷ []) = (w_ty, refl, inr (inr (inl ([], (refl, fits_w plainly 0, tt)))), tt) in
+    let holds_for_w : (level plainly 1).through class.Misc (trait 12) (w_ty ∷ []) = (w_ty, refl, inr (inr (inl (([], (refl, fits_w plainly 0, tt)), alone _ _ _ _ refl))), tt) in
     let apart_from_y = not_y plainly 1 (head.Adt (adt 7) 0) none tt in
     let apart_from_z = not_z plainly 1 (head.Adt (adt 7) 0) none tt in
     let apart_from_str = not_str plainly 1 (head.Adt (adt 7) 0) none tt in (
@@ -169,7 +172,10 @@ example-missing_value =
       inr
           (inl (
             tt,
-            (inr (inr (inl w_gives)), (inr (inl apart_from_y), (inr (inl apart_from_z), (inl w_gives, (inr (inl apart_from_str), (inr tt, (inr tt, tt))))))),
+            (
+              inr (inr (inl (w_gives, alone _ _ _ _ refl))),
+              (inr (inl (inl apart_from_y)), (inr (inl (inl apart_from_z)), (inl w_gives, (inr (inl (inl apart_from_str)), (inr (inl tt), (inr (inl tt), tt)))))),
+            ),
             inl refl,
           )),
     )
@@ -187,7 +193,7 @@ str_gives = ([], (refl, fits_str plainly 1, tt), tt, refl)
 pub example-missing_in_unsized : (level plainly 2).gives (projection 5) (str_ty ∷ []) (alias_of (projection 5) (str_ty ∷ []))
 unfolding opened
 example-missing_in_unsized =
-    let holds_for_str : (level plainly 1).through class.Misc (trait 12) (str_ty ∷ []) = (str_ty, refl, inr (inr (inr (inl ([], (refl, fits_str plainly 0, tt))))), tt) in
+    let holds_for_str : (level plainly 1).through class.Misc (trait 12) (str_ty ∷ []) = (str_ty, refl, inr (inr (inr (inl (([], (refl, fits_str plainly 0, tt)), alone _ _ _ _ refl)))), tt) in
     let apart_from_y = not_y plainly 1 head.Str none tt in
     let apart_from_z = not_z plainly 1 head.Str none tt in
     let apart_from_w = not_w plainly 1 head.Str none tt in (
@@ -198,7 +204,10 @@ example-missing_in_unsized =
       inr
           (inl (
             tt,
-            (inr (inr (inr (inl str_gives))), (inr (inl apart_from_y), (inr (inl apart_from_z), (inr (inl apart_from_w), (inl str_gives, (inr tt, (inr tt, tt))))))),
+            (
+              inr (inr (inr (inl (str_gives, alone _ _ _ _ refl)))),
+              (inr (inl (inl apart_from_y)), (inr (inl (inl apart_from_z)), (inr (inl (inl apart_from_w)), (inl str_gives, (inr (inl tt), (inr (inl tt), tt)))))),
+            ),
             inl refl,
           )),
     )
@@ -209,7 +218,7 @@ example-missing_in_unsized_lower = no_projection_at_one plainly (item 5) (str_ty
 -- an error has every trait: `{error 6}: Tr` at height 1 and not at 0, and `{error 6}: const Tr` at height 2 and not at 1
 pub example-error : (level plainly 1).through class.Misc (trait 12) (error_ty 6 ∷ [])
 unfolding opened
-example-error = (error_ty 6, refl, inr (inr (inr (inr (inr (inl refl))))), tt)
+example-error = (error_ty 6, refl, inr (inr (inr (inr (inr (inl (refl, alone _ _ _ _ refl)))))), tt)
 
 pub example-error_lower : (level plainly 0).through class.Misc (trait 12) (error_ty 6 ∷ []) → ⊥
 unfolding level
@@ -217,7 +226,7 @@ example-error_lower h = h
 
 pub example-error_as_const : (level plainly 2).const_holds constness.Const (trait 12) (error_ty 6 ∷ [])
 unfolding opened
-example-error_as_const = (class.Misc, error_ty 6, example-error, refl, inr (tt, inr (inr (inr (inr (inr (inl refl)))))))
+example-error_as_const = (class.Misc, error_ty 6, example-error, refl, inr (tt, inr (inr (inr (inr (inr (inl (refl, alone _ _ _ _ refl))))))))
 
 pub example-error_as_const_lower : (level plainly 1).const_holds constness.Const (trait 12) (error_ty 6 ∷ []) → ⊥
 example-error_as_const_lower = no_const_at_one plainly constness.Const (trait 12) (error_ty 6 ∷ [])
@@ -234,10 +243,10 @@ example-type_of_error =
       inl (
         tt,
         (
-          inl (not_y plainly 1 (head.TyError 6) none tt),
+          inl (inl (not_y plainly 1 (head.TyError 6) none tt)),
           (
-            inl (not_z plainly 1 (head.TyError 6) none tt),
-            (inl (not_w plainly 1 (head.TyError 6) none tt), (inl (not_str plainly 1 (head.TyError 6) none tt), (tt, (tt, tt)))),
+            inl (inl (not_z plainly 1 (head.TyError 6) none tt)),
+            (inl (inl (not_w plainly 1 (head.TyError 6) none tt)), (inl (inl (not_str plainly 1 (head.TyError 6) none tt)), (inl tt, (inl tt, tt)))),
           ),
         ),
         refl,

@@ -13,7 +13,7 @@ use Rattle.goal_kinds.specs.ImplTerms.{Projection}
 use Rattle.goal_kinds.specs.Levels.{level}
 use Rattle.goal_kinds.specs.Projections.{AssumptionTermRefuted, GroupsRefuted}
 use Rattle.goal_kinds.specs.ExampleSettings.{own_args_of, assuming_own}
-use Rattle.goal_kinds.proofs.ExampleLemmas.{opened, other_trait, not_y, not_z, not_w, not_str, no_projection_refuted_at_one}
+use Rattle.goal_kinds.proofs.ExampleLemmas.{alone, only_refuted, opened, other_trait, not_y, not_z, not_w, not_str, no_projection_refuted_at_one}
 use Rattle.goal_kinds.proofs.ExampleNodes.{at_node}
 use Rattle.goal_kinds.proofs.ExamplesOfEnvironments.{not_unequal}
 
@@ -25,18 +25,18 @@ p_is_not_tr =
       p_ty,
       refl,
       (
-        inl (other_trait 13 12 tt),
+        inl (inl (other_trait 13 12 tt)),
         (
-          tt,
+          inl tt,
           (
-            not_y assuming_own 0 (head.Adt (adt 8) 0) none tt,
+            inl (not_y assuming_own 0 (head.Adt (adt 8) 0) none tt),
             (
-              not_z assuming_own 0 (head.Adt (adt 8) 0) none tt,
+              inl (not_z assuming_own 0 (head.Adt (adt 8) 0) none tt),
               (
-                not_w assuming_own 0 (head.Adt (adt 8) 0) none tt,
+                inl (not_w assuming_own 0 (head.Adt (adt 8) 0) none tt),
                 (
-                  not_str assuming_own 0 (head.Adt (adt 8) 0) none tt,
-                  (tt, (refl, tt)),
+                  inl (not_str assuming_own 0 (head.Adt (adt 8) 0) none tt),
+                  (inl tt, (inl refl, tt)),
                 ),
               ),
             ),
@@ -54,7 +54,7 @@ pub example-refuted_own_argument : (level assuming_own 3).gives_refuted (project
 unfolding opened
 example-refuted_own_argument =
     let trait_holds : (level assuming_own 2).through class.ParamEnv (trait 13) (param 0 ∷ i32_ty ∷ []) =
-    (param 0, refl, inl (refl, ((refl, tt), ((refl, tt), tt))), tt) in
+    (param 0, refl, inl ((refl, ((refl, tt), ((refl, tt), tt))), alone _ _ _ _ refl), tt) in
     inr (
       class.ParamEnv,
       param 0,
@@ -65,8 +65,8 @@ example-refuted_own_argument =
             (
               u16_ty,
               (
-                inr (inl (refl, ((refl, tt), ((refl, tt), (inl refl, tt))), tt, refl)),
-                (inr tt, (inl (refl, ((refl, tt), ((refl, tt), (inl refl, tt))), tt, refl), tt)),
+                inr (inl ((refl, ((refl, tt), ((refl, tt), (inl refl, tt))), tt, refl), alone _ _ _ _ refl)),
+                (inr (inl tt), (inl (refl, ((refl, tt), ((refl, tt), (inl refl, tt))), tt, refl), tt)),
               ),
             ),
             inl no_type_refuted,
@@ -92,9 +92,9 @@ not_yet :
     (c : TraitGoalProvenVia) (itself : Tree)
     → GroupsRefuted assuming_own (level assuming_own 1) c (of_self (param 0)) itself (second_group assuming_own (trait 13) (param 0) c) → ⊥
 unfolding opened
-not_yet c itself (inl p) = clause_stands p.0.1.0
+not_yet c itself (inl p) = clause_stands (only_refuted _ _ _ _ refl p.0.1.0)
 not_yet c itself (inr (inl p)) = elim p.1 [ inl q ↦ no_projection_refuted_at_one assuming_own (item 5) (p_ty ∷ []) q | inr q ↦ q ]
-not_yet c itself (inr (inr p)) = clause_stands p.0.1.0
+not_yet c itself (inr (inr p)) = clause_stands (only_refuted _ _ _ _ refl p.0.1.0)
 
 pub example-refuted_own_argument_lower : (level assuming_own 2).gives_refuted (projection 6) (own_args_of (param 0)) → ⊥
 unfolding opened
@@ -102,7 +102,7 @@ example-refuted_own_argument_lower (inl (inl p)) = p
 example-refuted_own_argument_lower (inl (inr p)) =
     let clause : (trait 13 ≢ trait 13) ⊎ (level assuming_own 0).unequal (param 0) (param 0) ⊎ (level assuming_own 0).unequal i32_ty i32_ty ⊎ ⊥ =
     at_node (level assuming_own 0) (head.TyParam 0) none
-    (λ s. (trait 13 ≢ trait 13) ⊎ (level assuming_own 0).unequal (param 0) s ⊎ (level assuming_own 0).unequal i32_ty i32_ty ⊎ ⊥) p.0 p.1 p.2.0
+    (λ s. (trait 13 ≢ trait 13) ⊎ (level assuming_own 0).unequal (param 0) s ⊎ (level assuming_own 0).unequal i32_ty i32_ty ⊎ ⊥) p.0 p.1 (only_refuted _ _ _ _ refl p.2.0)
     in elim clause [
       | inl q ↦ q refl
       | inr (inl q) ↦ not_unequal assuming_own 0 (head.TyParam 0) q

@@ -15,7 +15,7 @@ use Rattle.goal_kinds.specs.Levels.{level}
 use Rattle.goal_kinds.specs.TraitGoals.{header_of}
 use Rattle.goal_kinds.specs.ExampleSettings.{asked_args, three}
 use Rattle.goal_kinds.proofs.ExampleHeaders.{fits-all, fits-i32, header-all, header-i32, value-triple}
-use Rattle.goal_kinds.proofs.ExampleLemmas.{apart, differs, opened, no_projection_at_one, no_projection_refuted_at_one}
+use Rattle.goal_kinds.proofs.ExampleLemmas.{alone, apart, differs, opened, no_projection_at_one, no_projection_refuted_at_one}
 
 -- `impl<T> Trait<i32> for Vec<T>` gives it with the arguments of the other impl, in which the definition stands
 i32_gives :
@@ -55,8 +55,8 @@ all_gives = (
 pub example-two_impls : (level plainly 2).gives (projection 6) asked_args three
 unfolding opened
 example-two_impls =
-    let fits : (level plainly 1).through class.Misc (trait 13) (vec_of u32_ty ∷ i32_ty ∷ []) = (vec_of u32_ty, refl, inl (u32_ty ∷ [], (refl, fits-i32 0, tt)), tt) in
-    (class.Misc, vec_of u32_ty, fits, refl, inr (inl (tt, (inl i32_gives, (inl i32_gives, (inl all_gives, (inr tt, (inr tt, tt))))), inl refl)))
+    let fits : (level plainly 1).through class.Misc (trait 13) (vec_of u32_ty ∷ i32_ty ∷ []) = (vec_of u32_ty, refl, inl ((u32_ty ∷ [], (refl, fits-i32 0, tt)), alone _ _ _ _ refl), tt) in
+    (class.Misc, vec_of u32_ty, fits, refl, inr (inl (tt, (inl (i32_gives, alone _ _ _ _ refl), (inl i32_gives, (inl all_gives, (inr (inl tt), (inr (inl tt), tt))))), inl refl)))
 
 pub example-two_impls_lower : (u : Tree) → (level plainly 1).gives (projection 6) asked_args u → ⊥
 example-two_impls_lower = no_projection_at_one plainly (item 6) asked_args
@@ -74,7 +74,10 @@ example-no_fit =
     (inr (
       bool_ty,
       refl,
-      (inr (inl (bool_clashes trait_of_i32_for_vec i32_ty header-i32)), (inr (inl (bool_clashes trait_of_all_for_vec (param 1) header-all)), (tt, (refl, tt)))),
+      (
+        inl (inr (inl (bool_clashes trait_of_i32_for_vec i32_ty header-i32))),
+        (inl (inr (inl (bool_clashes trait_of_all_for_vec (param 1) header-all))), (inl tt, (inl refl, tt))),
+      ),
     ))
 
 pub example-no_fit_lower : (level plainly 1).gives_refuted (projection 6) (bool_ty ∷ i32_ty ∷ u64_ty ∷ []) → ⊥

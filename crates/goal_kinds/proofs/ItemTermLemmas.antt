@@ -3,12 +3,11 @@ use Rattle.std.proofs.Common.{◌≡◌, ◌⊎◌, inl, inr, ℕ, List, [], ◌
 use Rattle.std.specs.List.{All}
 use Rattle.std.specs.Borrow.{Bor}
 use Rattle.std.specs.Option.{option_map, option_and_then, option_copied}
-use Rattle.std.specs.Prelude.{IfSome}
-use Rattle.std.proofs.lemmas.List.Elements.{All-weaker, All-nil, All-cons}
+use Rattle.std.proofs.lemmas.List.Elements.{All-weaker}
 use Rattle.goal_terms.specs.Erased.{erased, erased_head}
-use Rattle.goal_terms.specs.Sorts.{HeadFits, Are, IsSort, IsArgument, is_argument_sort, sort_of}
+use Rattle.goal_terms.specs.Sorts.{Are, IsSort, IsArgument, is_argument_sort}
 use Rattle.goal_terms.specs.TableMeaning.{tree_at}
-use Rattle.goal_terms.specs.Tree.{Tree, Trees, node, alias, variable, none, more, forest, list_of, node_of, parts_of}
+use Rattle.goal_terms.specs.Tree.{Tree, Trees, node, alias, variable, forest, list_of, node_of, parts_of}
 use Rattle.goal_terms.specs.TreeCode.{forest-list_of}
 use Rattle.goal_terms.specs.TreeOf.{leaf, tree_of_ty}
 use Rattle.goal_terms.specs.declared.heads.Head.{Head}
@@ -26,13 +25,12 @@ use Rattle.goal_tables.specs.declared.lang.LangItem.TheVariants as lang
 use Rattle.goal_tables.specs.declared.rows.AdtRow.{AdtRow}
 use Rattle.goal_tables.specs.declared.rows.FieldInfo.{FieldInfo}
 use Rattle.goal_tables.specs.declared.rows.Tables.{Tables}
-use Rattle.goal_kinds.specs.Builtins.{Listed, listed, listed_rigid, listed_term, listed_by_size_of, unit_ty, usize_ty, u8_ty, metadata_of, adt_metadata, dyn_metadata, metadata_of_head, metadata_rule, discriminant_of_head, discriminant_rule, field_of}
+use Rattle.goal_kinds.specs.Builtins.{listed, listed_rigid, listed_term, listed_by_size_of, unit_ty, usize_ty, u8_ty, metadata_of, adt_metadata, dyn_metadata, metadata_of_head, metadata_rule, discriminant_of_head, discriminant_rule, field_of}
 use Rattle.goal_kinds.specs.Candidates.{last_of}
 use Rattle.goal_kinds.specs.Headers.{under}
 use Rattle.goal_kinds.specs.Interned.{erased_at, listed_at}
 use Rattle.goal_kinds.specs.Tops.{adt_at}
 use Rattle.goal_kinds.specs.declared.candidates.interned.ListedTerm.{ListedTerm}
-use Rattle.goal_kinds.proofs.MadeLemmas.{parts-erased}
 
 -- the parts of a constructor, without lifetimes, make the term again
 made-again : (h : Head) (ts : Trees) → node (erased_head h) (forest (parts_of (erased (node h ts)))) ≡ erased (node h ts)

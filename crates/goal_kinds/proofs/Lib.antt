@@ -7,6 +7,7 @@ pub mod LevelLemmas
 pub mod ContraryWords
 pub mod PremiseLemmas
 pub mod CandidateLemmas
+pub mod SpecializedLemmas
 pub mod TraitGoalLemmas
 pub mod ImplTermLemmas
 pub mod TermCandidateLemmas
@@ -39,6 +40,7 @@ pub mod ExamplesOfOwnArguments
 pub mod ExamplesOfCalls
 pub mod ExampleHeaders
 pub mod ExamplesOfTwoImpls
+pub mod ExamplesOfSpecializedImpls
 pub mod ExamplesOfHeaders
 pub mod ExamplesOfEquations
 pub mod ExamplesOfInherentItems

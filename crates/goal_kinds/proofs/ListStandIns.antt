@@ -1,5 +1,5 @@
 -- A list of the erased mode is that of each headline mode as far as it reads no mode.
-use Rattle.std.proofs.Common.{◌≡◌, true, false, List, [], ◌∷◌, Option, Some, None, inl, inr, refl, sym, ap, subst}
+use Rattle.std.proofs.Common.{◌≡◌, true, false, List, [], ◌∷◌, Option, Some, None, inl, inr, refl, sym, subst}
 use Rattle.goal_terms.specs.Tree.{Tree}
 use Rattle.goal_terms.specs.declared.ids.OpaqueId.{OpaqueId}
 use Rattle.goal_terms.specs.declared.modes.TypingMode.{TypingMode}
@@ -14,9 +14,9 @@ use Rattle.goal_tables.specs.declared.rows.OpaqueRow.{OpaqueRow}
 use Rattle.goal_tables.specs.declared.rows.Source.{Source}
 use Rattle.goal_tables.specs.declared.rows.Source.TheVariants as item_source
 use Rattle.goal_tables.specs.declared.rows.SourceRow.{SourceRow}
-use Rattle.goal_kinds.specs.AliasLists.{entries_of_row, inherent_alias_list, opaque_list, opaque_alias_list, alias_list}
+use Rattle.goal_kinds.specs.AliasLists.{entries_of_row, opaque_list, opaque_alias_list, alias_list}
 use Rattle.goal_kinds.specs.Candidates.{Candidate, assumption, implied_bound, by_impl, built_in, error}
-use Rattle.goal_kinds.specs.Entries.{Entry, arguments, of_header, given_arguments, row_clauses, evaluation}
+use Rattle.goal_kinds.specs.Entries.{Entry, arguments, given_arguments, row_clauses, evaluation}
 use Rattle.goal_kinds.specs.ImplTerms.{Projection, trait_args}
 use Rattle.goal_kinds.specs.ListModes.{StandsIn, ListStandsIn, in_mode, erased_setting}
 use Rattle.goal_kinds.specs.ProjectionLists.{source_entries, said_by_row_entries, said_entries, projection_list}

@@ -1,5 +1,5 @@
 -- Which lists ask for no term, and what such a list says.
-use Rattle.std.proofs.Common.{◌≡◌, ◌⊎◌, Bool, true, false, List, [], ◌∷◌, ◌++◌, Option, Some, None, if◌then◌else◌, refl, sym, ap, subst}
+use Rattle.std.proofs.Common.{◌≡◌, Bool, true, false, List, [], ◌∷◌, ◌++◌, Option, Some, None, if◌then◌else◌}
 use Rattle.std.specs.Option.{option_map}
 use Rattle.goal_terms.specs.PredicateTrees.{PredicateTree, holds, equals, holds_const}
 use Rattle.goal_terms.specs.Tree.{Tree}
@@ -13,7 +13,6 @@ use Rattle.goal_tables.specs.declared.rows.ImplPolarity.{ImplPolarity}
 use Rattle.goal_tables.specs.declared.rows.ImplPolarity.TheVariants as polarity
 use Rattle.goal_kinds.specs.Builtins.{trait_rule}
 use Rattle.goal_kinds.specs.Candidates.{Candidate, assumption, implied_bound, by_impl, built_in, error}
-use Rattle.goal_kinds.specs.ConstGoals.{satisfies}
 use Rattle.goal_kinds.specs.ConstRules.{const_rule}
 use Rattle.goal_kinds.specs.EffectLists.{effect_assumption_list, const_rule_entries, source_of_const_rule, effect_list}
 use Rattle.goal_kinds.specs.Entries.{Entry, arguments, equal_terms, clause, row_clauses, row_conditions, expected, access, delayed_fault, evaluation, hidden_type, ambiguous, undecided, refused, EntriesHold, ListHolds, ListGives, ListHoldsWith, AsksNoTerm, ListAsksNoTerm, premise_entry, premise_entries}

@@ -1,13 +1,13 @@
 -- Terms that rules make: what their numbers stand for.
-use Rattle.std.proofs.Common.{◌≡◌, ◌<◌, ◌-◌, ℕ, suc, List, [], ◌∷◌, length, map, Option, refl, sym, ap, ◌∙◌, subst, arith}
+use Rattle.std.proofs.Common.{◌≡◌, ◌<◌, ◌-◌, suc, List, [], ◌∷◌, length, map, Option, refl, sym, ap, ◌∙◌, subst, arith}
 use Rattle.std.specs.Prelude.{slice_get}
 use Rattle.std.specs.Option.{option_map}
 use Rattle.std.specs.List.{All}
 use Rattle.goal_terms.specs.Erased.{erased, erased_head}
 use Rattle.goal_terms.specs.Folding.{instance}
-use Rattle.goal_terms.specs.Sorts.{IsArgument, is_argument_sort, sort_of}
+use Rattle.goal_terms.specs.Sorts.{IsArgument, is_argument_sort}
 use Rattle.goal_terms.specs.TableMeaning.{tree_at}
-use Rattle.goal_terms.specs.Tree.{Tree, node, none, node_of, parts_of}
+use Rattle.goal_terms.specs.Tree.{Tree, parts_of}
 use Rattle.goal_terms.specs.TreeOf.{leaf, tree_of_ty}
 use Rattle.goal_terms.specs.declared.compare.Regions.TheVariants.{Forgotten}
 use Rattle.goal_terms.specs.declared.heads.Head.{Head}

@@ -13,7 +13,7 @@ abbrev pub IsPartOf : {A : Type 0} → List A → List A → Type 0
 IsPartOf xs ys = (x : _) → IsIn x xs → IsIn x ys
 
 -- what some element has, an element of the list has
-exists-element : {A : Type 0} (P : A → Type 0) (xs : List A) → Exists P xs → (x : A) × P x × IsIn x xs
+pub exists-element : {A : Type 0} (P : A → Type 0) (xs : List A) → Exists P xs → (x : A) × P x × IsIn x xs
 unfolding Exists
 exists-element P [] h = absurd h
 exists-element P (x ∷ xs) (inl p) = (x, p, inl refl)

@@ -18,7 +18,7 @@ use Rattle.goal_kinds.specs.Builtins.{Listed, nothing_listed, listed, listed_rig
 use Rattle.goal_kinds.specs.Candidates.{Candidate, assumption, implied_bound, by_impl, built_in, error, environment, second_group}
 use Rattle.goal_kinds.specs.ImplTerms.{Projection}
 use Rattle.goal_kinds.specs.Level.{Level}
-use Rattle.goal_kinds.specs.Projections.{projected_item, EquationGives, AssumptionGives, ListedGives, CandidateGives, GroupGives, GroupsGive, asked, ItemGives, ProjectionGives}
+use Rattle.goal_kinds.specs.Projections.{projected_item, EquationGives, AssumptionGives, ListedGives, CandidateGives, TermDecides, GroupGives, GroupsGive, asked, ItemGives, ProjectionGives}
 use Rattle.goal_kinds.specs.Settings.{Setting}
 use Rattle.goal_kinds.specs.Words.{Each, Exists, OfRow}
 use Rattle.goal_kinds.proofs.AlikeSettings.{found}
@@ -81,10 +81,10 @@ placed-candidate_gives S s w p row given itself e u error c g = absurd g
 
 -- the term that some candidate of a list gives
 placed-some_gives : (S : Setting) → IsPlacedSetting S → {L : Level} → KeepsPlaced S.tables L → (p : Projection) → HasRow S.tables p → ArePlaced S.tables p.args →
-    (itself : Tree) → IsOf S.tables p itself → (u : Tree) (cs : List Candidate) → Each (IsPlacedCandidate S.tables) cs → Exists (CandidateGives S L p itself u) cs → IsOf S.tables p u
+    (itself : Tree) → IsOf S.tables p itself → (u : Tree) (cs : List Candidate) → Each (IsPlacedCandidate S.tables) cs → Exists (TermDecides S L p itself u) cs → IsOf S.tables p u
 unfolding Each Exists
 placed-some_gives S s w p row given itself e u [] all g = absurd g
-placed-some_gives S s w p row given itself e u (c ∷ cs) all (inl g) = placed-candidate_gives S s w p row given itself e u c all.0 g
+placed-some_gives S s w p row given itself e u (c ∷ cs) all (inl g) = placed-candidate_gives S s w p row given itself e u c all.0 g.0
 placed-some_gives S s w p row given itself e u (c ∷ cs) all (inr g) = placed-some_gives S s w p row given itself e u cs all.1 g
 
 placed-group_gives : (S : Setting) → IsPlacedSetting S → {L : Level} → KeepsPlaced S.tables L → (p : Projection) → HasRow S.tables p → ArePlaced S.tables p.args →

@@ -34,7 +34,7 @@ use Rattle.goal_tables.specs.Options.{option_holds}
 use Rattle.goal_tables.specs.ParamKinds.{differs_in_count, asks_other_kinds}
 use Rattle.goal_tables.specs.RowFaults.{if_unknown, if_kind, definition_scope, inherent_scope, lies_in_option, lies_in_value, container_is_unknown, lies_in_definition_value, kind_of_definition_value, value_has_other_kind, value_differs, lies_in_field_info}
 use Rattle.goal_tables.specs.RowFaults.{lies_in_impl, lies_in_definition, lies_in_free, lies_in_inherent_impl, lies_in_inherent, lies_in_function, lies_in_closure}
-use Rattle.goal_tables.specs.Rows.{item_of, definition_of, free_of, inherent_impl_of, inherent_of, opaque_of, adt_of, function_of, closure_of}
+use Rattle.goal_tables.specs.Rows.{item_of, impl_of, definition_of, free_of, inherent_impl_of, inherent_of, opaque_of, adt_of, function_of, closure_of}
 use Rattle.goal_tables.specs.Sites.{kind_of_value, is_of_other_kind, clause_params, projection_params, params_of, is_unknown, is_misplaced, lies_here, lies_in, lies_in_row}
 use Rattle.goal_tables.specs.declared.rows.AdtRow.{AdtRow}
 use Rattle.goal_tables.specs.declared.rows.ClosureRow.{ClosureRow}
@@ -342,4 +342,6 @@ placed-header t ok r each =
     placed-args t ok r.params.items r.trait_args.items
     (λ f. (both_fail (own_fault t f r.trait_id r.trait_args.items) (lies_in_args t r.params.items f r.trait_args.items)
     (four_fail (lies_in_trait_args t r.params.items f r.trait_id r.trait_args.items) (lies_in_clauses t r.params.items f r.predicates.items)
-    (lies_in_const_refs t r.params.items f r.const_conditions.items) (r.is_const && const_fault t f r.trait_id) (each f)).0).1)
+    (lies_in_const_refs t r.params.items f r.const_conditions.items) (r.is_const && const_fault t f r.trait_id)
+    (both_fail (lies_in_trait_args t r.params.items f r.trait_id r.trait_args.items || lies_in_clauses t r.params.items f r.predicates.items || lies_in_const_refs t r.params.items f r.const_conditions.items || (r.is_const && const_fault t f r.trait_id))
+    (if_unknown f (list_any (λ i. is_none (impl_of t i)) r.more_special.items)) (each f)).0).0).1)

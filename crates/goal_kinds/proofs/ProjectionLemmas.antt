@@ -11,26 +11,25 @@ use Rattle.goal_kinds.specs.Candidates.{Candidate, environment, second_group}
 use Rattle.goal_kinds.specs.ImplTerms.{Projection, own_args}
 use Rattle.goal_kinds.specs.Laws.{IsConsistent}
 use Rattle.goal_kinds.specs.Level.{Level}
-use Rattle.goal_kinds.specs.Projections.{CandidateGives, TermRefuted, GroupGives, GroupRefuted, OwnFormed, OwnUnformed, GroupsGive, GroupsRefuted, asked, ItemGives, ItemRefuted, ProjectionGives, ProjectionRefuted}
+use Rattle.goal_kinds.specs.Projections.{CandidateGives, TermDecides, TermRuledOut, GroupGives, GroupRefuted, OwnFormed, OwnUnformed, GroupsGive, GroupsRefuted, asked, ItemGives, ItemRefuted, ProjectionGives, ProjectionRefuted}
 use Rattle.goal_kinds.specs.Settings.{Setting}
 use Rattle.goal_kinds.proofs.ContraryWords.{Exists-Each, OfRow-twice}
 use Rattle.goal_kinds.proofs.EqualLemmas.{one_head_form, no_head_form_refuted}
-use Rattle.goal_kinds.proofs.TermCandidateLemmas.{one_candidate_term, no_candidate_term_refuted}
+use Rattle.goal_kinds.proofs.TermCandidateLemmas.{no_term_ruled_out, one_decided_term}
 
--- a group gives one term: that of each candidate which gives one
+-- a group gives one term: that of each candidate which gives one and isn't passed over
 pub one_group_term : (S : Setting) (L : Level) → IsConsistent L → (p : Projection) (itself : Tree) (xs : List Candidate) (t u : Tree) →
     GroupGives S L p itself xs t → GroupGives S L p itself xs u → t ≡ u
 unfolding GroupGives
 one_group_term S L c p itself xs t u h k =
-    Exists-Each (CandidateGives S L p itself t) (λ x. CandidateGives S L p itself u x ⊎ TermRefuted S L p x)
-    (λ x y z. ⊎_elim (λ w. one_candidate_term S L c p itself t u x y w) (λ w. absurd (no_candidate_term_refuted S L c p itself t x y w)) z)
-    xs h.0 k.1
+    Exists-Each (TermDecides S L p itself t) (λ x. CandidateGives S L p itself u x ⊎ TermRuledOut S L p x)
+    (one_decided_term S L c p itself t u) xs h.0 k.1
 
--- then not all of its candidates are refuted
+-- then not all of its candidates are ruled out
 pub no_group_refuted : (S : Setting) (L : Level) → IsConsistent L → (p : Projection) (itself : Tree) (xs : List Candidate) (u : Tree) →
     GroupGives S L p itself xs u → GroupRefuted S L p xs → ⊥
 unfolding GroupGives GroupRefuted
-no_group_refuted S L c p itself xs u h k = Exists-Each _ _ (no_candidate_term_refuted S L c p itself u) xs h.0 k
+no_group_refuted S L c p itself xs u h k = Exists-Each _ _ (no_term_ruled_out S L c p itself u) xs h.0 k
 
 -- own arguments that have head forms aren't refuted
 no_own_refuted : (L : Level) → IsConsistent L → (p : Projection) → OwnFormed L p → OwnUnformed L p → ⊥

@@ -1,12 +1,11 @@
 -- An impl whose header is rejected for an accepted projection gives no term.
-use Rattle.std.proofs.Common.{◌≡◌, ◌≤◌, ◌==◌, ℕ, zero, suc, Bool, true, false, List, [], ◌∷◌, ◌++◌, length, map, take, Option, Some, None, is_none, inl, inr, refl, sym, ◌∙◌, ap, subst}
+use Rattle.std.proofs.Common.{◌≡◌, ◌==◌, ℕ, zero, suc, false, List, [], ◌∷◌, ◌++◌, length, map, take, Some, inl, inr, refl, sym, ◌∙◌, ap, subst}
 use Rattle.std.proofs.lemmas.List.{take-map}
 use Rattle.std.specs.Option.{option_map, option_and_then, unwrap_or}
 use Rattle.goal_terms.specs.Erased.{erased}
 use Rattle.goal_terms.specs.Kinds.{kind_of}
-use Rattle.goal_terms.specs.Tree.{Tree, alias, forest, node_of}
+use Rattle.goal_terms.specs.Tree.{alias, forest, node_of}
 use Rattle.goal_terms.specs.TreeOf.{trees_of, tree_of_arg}
-use Rattle.goal_terms.specs.declared.answers.ParamKind.{ParamKind}
 use Rattle.goal_terms.specs.declared.ids.ImplId.{ImplId}
 use Rattle.goal_terms.specs.declared.ids.ItemId.{ItemId}
 use Rattle.goal_terms.specs.declared.terms.AliasTerm.{AliasTerm}
@@ -17,7 +16,7 @@ use Rattle.goal_tables.specs.declared.rows.ImplRow.{ImplRow}
 use Rattle.goal_tables.specs.declared.rows.ItemRow.{ItemRow}
 use Rattle.goal_tables.specs.declared.rows.TraitRow.{TraitRow}
 use Rattle.goal_tables.specs.declared.rows.Tables.{Tables}
-use Rattle.goal_kinds.specs.FastReject.{lists_may_unify, heads_agree}
+use Rattle.goal_kinds.specs.FastReject.{lists_may_unify}
 use Rattle.goal_kinds.specs.Headers.{Clashes, Known}
 use Rattle.goal_kinds.specs.ImplTerms.{Projection, trait_args, ImplTermRefuted}
 use Rattle.goal_kinds.specs.KindedTerms.{kinds_of_terms, kinds_over, IsKinded, NoKindFault}

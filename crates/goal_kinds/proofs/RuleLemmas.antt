@@ -1,5 +1,5 @@
 -- Lists of a rule's entries: more height keeps what they say, and none holds and is refuted.
-use Rattle.std.proofs.Common.{◌≡◌, ◌≤◌, ◌+◌, ℕ, Bool, true, false, List, [], ◌∷◌, ◌++◌, Option, Some, None, inl, inr, refl, sym, ◌∙◌, ap, subst, ⊎_elim, arith}
+use Rattle.std.proofs.Common.{◌≡◌, ◌≤◌, ◌+◌, ℕ, true, List, [], ◌∷◌, ◌++◌, Option, Some, None, sym, ◌∙◌, subst, ⊎_elim, arith}
 use Rattle.std.specs.Prelude.{slice_get}
 use Rattle.std.specs.Option.{option_map}
 use Rattle.goal_terms.specs.Erased.{erased}
@@ -8,7 +8,6 @@ use Rattle.goal_terms.specs.Tree.{Tree}
 use Rattle.goal_terms.specs.TreeOf.{trees_of, tree_of_ty, tree_of_term}
 use Rattle.goal_terms.specs.declared.ids.ImplId.{ImplId}
 use Rattle.goal_terms.specs.declared.predicates.BoundConstness.{BoundConstness}
-use Rattle.goal_terms.specs.declared.predicates.Clause.{Clause}
 use Rattle.goal_tables.specs.Rows.{impl_of, inherent_impl_of}
 use Rattle.goal_tables.specs.declared.rows.ImplRow.{ImplRow}
 use Rattle.goal_tables.specs.declared.rows.InherentImplRow.{InherentImplRow}
@@ -18,10 +17,10 @@ use Rattle.goal_kinds.specs.Aliases.{self_header}
 use Rattle.goal_kinds.specs.Headers.{under, AllKnown, Fits, Clashes}
 use Rattle.goal_kinds.specs.ImplTerms.{header_under}
 use Rattle.goal_kinds.specs.Laws.{IsWithin, IsConsistent}
-use Rattle.goal_kinds.specs.Level.{Level, HasHeadForm, HeadFormRefuted}
+use Rattle.goal_kinds.specs.Level.{Level}
 use Rattle.goal_kinds.specs.Levels.{level}
-use Rattle.goal_kinds.specs.Premises.{clauses_under, traits_under, conditions_as, PremisesHold, PremisesRefuted}
-use Rattle.goal_kinds.specs.Rules.{given, MatchedHeader, header_in, clauses_in, conditions_in, value_in, OfNumber, Names, NamesKnown, NamesNothing, RowClausesHold, RowClausesRefuted, RowConditionsHold, RowConditionsRefuted, TermIs, TermIsNone, EntriesHold, EntriesRefuted, has_term, RuleHolds, RuleGives, RuleRefuted}
+use Rattle.goal_kinds.specs.Premises.{clauses_under, traits_under, conditions_as}
+use Rattle.goal_kinds.specs.Rules.{given, MatchedHeader, header_in, clauses_in, conditions_in, value_in, Names, NamesKnown, NamesNothing, RowClausesHold, RowClausesRefuted, RowConditionsHold, RowConditionsRefuted, TermIs, TermIsNone, EntriesHold, EntriesRefuted, has_term, RuleHolds, RuleGives, RuleRefuted}
 use Rattle.goal_kinds.specs.Settings.{Setting}
 use Rattle.goal_kinds.specs.TraitGoals.{header_of}
 use Rattle.goal_kinds.specs.Words.{OfRow}

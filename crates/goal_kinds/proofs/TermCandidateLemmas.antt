@@ -1,16 +1,16 @@
 -- Candidates for a projection's term over a consistent level: each gives one term, and then it isn't refuted.
-use Rattle.std.proofs.Common.{◌≡◌, sym, ◌∙◌, ⊎_elim}
+use Rattle.std.proofs.Common.{◌≡◌, ◌⊎◌, sym, ◌∙◌, ⊎_elim}
 use Rattle.goal_terms.specs.PredicateTrees.{PredicateTree, holds, equals, holds_const}
 use Rattle.goal_terms.specs.Tree.{Tree, node, alias, variable, list_of}
 use Rattle.goal_kinds.specs.Builtins.{Listed, nothing_listed, listed, listed_rigid, listed_by_size, term_rule}
 use Rattle.goal_kinds.specs.Candidates.{Candidate, assumption, implied_bound, by_impl, built_in, error}
-use Rattle.goal_kinds.specs.ImplTerms.{Projection, own_clauses}
+use Rattle.goal_kinds.specs.ImplTerms.{Projection, own_clauses, trait_args}
 use Rattle.goal_kinds.specs.Laws.{IsConsistent}
 use Rattle.goal_kinds.specs.Level.{Level}
 use Rattle.goal_kinds.specs.Premises.{ClauseHolds}
-use Rattle.goal_kinds.specs.Projections.{EquationGives, EquationRefuted, AssumptionGives, AssumptionTermRefuted, self_of, ListedGives, ListedRefuted, CandidateGives, TermRefuted}
+use Rattle.goal_kinds.specs.Projections.{EquationGives, EquationRefuted, AssumptionGives, AssumptionTermRefuted, self_of, ListedGives, ListedRefuted, CandidateGives, TermRefuted, TermDecides, TermRuledOut}
 use Rattle.goal_kinds.specs.Settings.{Setting}
-use Rattle.goal_kinds.proofs.CandidateLemmas.{no_pair_unequal}
+use Rattle.goal_kinds.proofs.CandidateLemmas.{no_pair_unequal, not_passed_over}
 use Rattle.goal_kinds.proofs.EqualLemmas.{one_head_form, no_head_form_refuted}
 use Rattle.goal_kinds.proofs.ImplTermLemmas.{one_impl_term, no_impl_term_refuted}
 use Rattle.goal_kinds.proofs.PremiseLemmas.{no_premises_refuted}
@@ -92,3 +92,14 @@ no_candidate_term_refuted S L c p itself u (implied_bound b cs) h k = h
 no_candidate_term_refuted S L c p itself u (by_impl r) h k = no_impl_term_refuted S L c p itself r u h k
 no_candidate_term_refuted S L c p itself u built_in h k = no_listed_refuted L c p itself (term_rule S.tables p.item.id p.args) u h k
 no_candidate_term_refuted S L c p itself u error h k = h
+
+-- one that decides isn't ruled out; so what it gives, if it isn't, is its term
+pub no_term_ruled_out : (S : Setting) (L : Level) → IsConsistent L → (p : Projection) (itself u : Tree) (x : Candidate) →
+    TermDecides S L p itself u x → TermRuledOut S L p x → ⊥
+no_term_ruled_out S L c p itself u x h k =
+    ⊎_elim (λ q. no_candidate_term_refuted S L c p itself u x h.0 q) (λ q. not_passed_over S L c (trait_args p) x h.1 q) k
+
+pub one_decided_term : (S : Setting) (L : Level) → IsConsistent L → (p : Projection) (itself t u : Tree) (x : Candidate) →
+    TermDecides S L p itself t x → CandidateGives S L p itself u x ⊎ TermRuledOut S L p x → t ≡ u
+one_decided_term S L c p itself t u x h k =
+    ⊎_elim (λ q. one_candidate_term S L c p itself t u x h.0 q) (λ q. absurd (no_term_ruled_out S L c p itself t x h q)) k

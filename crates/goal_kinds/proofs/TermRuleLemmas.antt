@@ -1,5 +1,5 @@
 -- The rule of an item, by the lang item that names it.
-use Rattle.std.proofs.Common.{◌≡◌, List, [], ◌∷◌, Option, Some, None, refl, sym, ap, ◌∙◌, subst}
+use Rattle.std.proofs.Common.{◌≡◌, List, [], ◌∷◌, Option, Some, None, sym, ap, ◌∙◌, subst}
 use Rattle.std.proofs.lemmas.List.Elements.{All-head, All-tail}
 use Rattle.goal_terms.specs.Tree.{Tree}
 use Rattle.goal_terms.specs.declared.ids.ItemId.{ItemId}

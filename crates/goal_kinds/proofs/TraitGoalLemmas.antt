@@ -8,9 +8,9 @@ use Rattle.goal_kinds.specs.Candidates.{Candidate, environment, alias_bounds, re
 use Rattle.goal_kinds.specs.Laws.{IsConsistent}
 use Rattle.goal_kinds.specs.Level.{Level}
 use Rattle.goal_kinds.specs.Settings.{Setting}
-use Rattle.goal_kinds.specs.TraitGoals.{CandidateHolds, CandidateRefuted, TraitHolds, TraitRefuted}
+use Rattle.goal_kinds.specs.TraitGoals.{CandidateDecides, CandidateRuledOut, TraitHolds, TraitRefuted}
 use Rattle.goal_kinds.specs.Words.{Each, Exists}
-use Rattle.goal_kinds.proofs.CandidateLemmas.{no_candidate_refuted}
+use Rattle.goal_kinds.proofs.CandidateLemmas.{no_candidate_ruled_out}
 use Rattle.goal_kinds.proofs.ContraryWords.{Exists-Each, Each-left, Each-right}
 use Rattle.goal_kinds.proofs.EqualLemmas.{one_head_form, no_head_form_refuted}
 
@@ -48,9 +48,9 @@ no_trait_goal_refuted S L c v i (self ∷ args) h k =
     (λ q. no_head_form_refuted L c.no_term_refuted self h.0 h.1 q)
     (λ u.
     let e : u.0 ≡ h.0 = one_head_form L c.one_term self u.0 h.0 u.1 h.1 in
-    Exists-Each _ _ (no_candidate_refuted S L c i (h.0 ∷ args)) (class_of S i h.0 v) h.2
-    (Each-class (CandidateRefuted S L i (h.0 ∷ args)) S i h.0 v
-    (subst (λ s. Each (CandidateRefuted S L i (s ∷ args)) (all_candidates S i s)) e u.2)))
+    Exists-Each _ _ (no_candidate_ruled_out S L c i (h.0 ∷ args)) (class_of S i h.0 v) h.2
+    (Each-class (CandidateRuledOut S L i (h.0 ∷ args)) S i h.0 v
+    (subst (λ s. Each (CandidateRuledOut S L i (s ∷ args)) (all_candidates S i s)) e u.2)))
     k
 
 -- a trait goal holds through one class
@@ -60,6 +60,6 @@ unfolding TraitHolds
 one_class_of_trait S L c v w i [] h k = absurd h
 one_class_of_trait S L c v w i (self ∷ args) h k =
     let e : k.0 ≡ h.0 = one_head_form L c.one_term self k.0 h.0 k.1 h.1 in
-    same_class (CandidateHolds S L i (h.0 ∷ args)) (CandidateRefuted S L i (h.0 ∷ args)) (no_candidate_refuted S L c i (h.0 ∷ args)) S i h.0 v w h.2 h.3
-    (subst (λ s. Exists (CandidateHolds S L i (s ∷ args)) (class_of S i s w)) e k.2)
-    (subst (λ s. Each (CandidateRefuted S L i (s ∷ args)) (classes_before S i s w)) e k.3)
+    same_class (CandidateDecides S L i (h.0 ∷ args)) (CandidateRuledOut S L i (h.0 ∷ args)) (no_candidate_ruled_out S L c i (h.0 ∷ args)) S i h.0 v w h.2 h.3
+    (subst (λ s. Exists (CandidateDecides S L i (s ∷ args)) (class_of S i s w)) e k.2)
+    (subst (λ s. Each (CandidateRuledOut S L i (s ∷ args)) (classes_before S i s w)) e k.3)

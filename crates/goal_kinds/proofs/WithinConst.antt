@@ -8,7 +8,7 @@ use Rattle.goal_terms.specs.declared.predicates.BoundConstness.{BoundConstness}
 use Rattle.goal_tables.specs.declared.rows.ImplRow.{ImplRow}
 use Rattle.goal_kinds.specs.Candidates.{Candidate, assumption, implied_bound, by_impl, built_in, error, environment}
 use Rattle.goal_kinds.specs.ConstGoals.{ConstAssumptionHolds, ConstAssumptionRefuted, ImpliedHolds, ImpliedRefuted, impl_conditions, ConstImplHolds, ConstImplRefuted}
-use Rattle.goal_kinds.specs.ConstGoals.{ConstRuleHolds, ConstRuleRefuted, ConstCandidateHolds, ConstCandidateRefuted, ConstHolds, ConstRefuted}
+use Rattle.goal_kinds.specs.ConstGoals.{ConstRuleHolds, ConstRuleRefuted, ConstCandidateHolds, ConstCandidateRefuted, ConstCandidateDecides, ConstCandidateRuledOut, ConstHolds, ConstRefuted}
 use Rattle.goal_kinds.specs.ConstRules.{const_rule}
 use Rattle.goal_kinds.specs.Laws.{IsWithin, IsAlike, with_impls_and_mode}
 use Rattle.goal_kinds.specs.Level.{Level}
@@ -18,7 +18,7 @@ use Rattle.goal_kinds.specs.TraitGoals.{header_of}
 use Rattle.goal_kinds.proofs.AlikeCandidates.{alike-second_group}
 use Rattle.goal_kinds.proofs.Members.{exists-map_same, each-map_same}
 use Rattle.goal_kinds.proofs.OtherImpls.{other_impls-const_rule}
-use Rattle.goal_kinds.proofs.WithinGoals.{within-impl_holds_under, within-impl_refuted}
+use Rattle.goal_kinds.proofs.WithinGoals.{within-impl_holds_under, within-impl_refuted, within-passed_over, within-decides}
 use Rattle.goal_kinds.proofs.WithinHeaders.{within-all_known}
 use Rattle.goal_kinds.proofs.WithinPremises.{within-premises_hold, within-premises_refuted}
 use Rattle.goal_kinds.proofs.WithinTerms.{within-pairs, within-some_pair, within-has_head_form}
@@ -99,6 +99,18 @@ within-const_candidate_refuted {M = M} w S v m c i args built_in h =
     subst (ConstRuleRefuted M c) (sym (other_impls-const_rule S.tables v i args)) (within-const_rule_refuted w c (const_rule S.tables i args) h)
 within-const_candidate_refuted w S v m c i args error h = h
 
+-- a candidate shows it and decides, or is ruled out
+within-const_candidate_decides : {L M : Level} {S : Setting} {v : Vec ImplRow Global} {m : TypingMode} → IsWithin L M → IsAlike S v m →
+    (c : BoundConstness) (i : TraitId) (args : List Tree) (d : Candidate) →
+    ConstCandidateDecides S L c i args d → ConstCandidateDecides (with_impls_and_mode S v m) M c i args d
+within-const_candidate_decides {S = S} {v} {m} w a c i args d h = (within-const_candidate_holds w S v m c i args d h.0, within-decides w a args d h.1)
+
+within-const_candidate_ruled_out : {L M : Level} {S : Setting} {v : Vec ImplRow Global} {m : TypingMode} → IsWithin L M → IsAlike S v m →
+    (c : BoundConstness) (i : TraitId) (args : List Tree) (d : Candidate) →
+    ConstCandidateRuledOut S L c i args d → ConstCandidateRuledOut (with_impls_and_mode S v m) M c i args d
+within-const_candidate_ruled_out {S = S} {v} {m} w a c i args d h =
+    sum-map (within-const_candidate_refuted w S v m c i args d) (within-passed_over w a args d) h
+
 -- a trait holds as a const trait, or is refuted as one
 pub within-const_holds : {L M : Level} {S : Setting} {v : Vec ImplRow Global} {m : TypingMode} → IsWithin L M → IsAlike S v m →
     (c : BoundConstness) (i : TraitId) (ts : List Tree) → ConstHolds S L c i ts → ConstHolds (with_impls_and_mode S v m) M c i ts
@@ -109,10 +121,10 @@ within-const_holds {S = S} {v} {m} w a c i (self ∷ args) h = (
   h.1,
   w.through h.0 i (self ∷ args) h.2,
   within-has_head_form w self h.1 h.3,
-  sum-map (exists-map (within-const_candidate_holds w S v m c i (h.1 ∷ args)) (environment S))
+  sum-map (exists-map (within-const_candidate_decides w a c i (h.1 ∷ args)) (environment S))
       (λ k. (
-        each-map (within-const_candidate_refuted w S v m c i (h.1 ∷ args)) (environment S) k.0,
-        exists-map_same _ _ (alike-second_group a i h.1 h.0) (within-const_candidate_holds w S v m c i (h.1 ∷ args)) k.1,
+        each-map (within-const_candidate_ruled_out w a c i (h.1 ∷ args)) (environment S) k.0,
+        exists-map_same _ _ (alike-second_group a i h.1 h.0) (within-const_candidate_decides w a c i (h.1 ∷ args)) k.1,
       )) h.4,
 )
 
@@ -126,6 +138,6 @@ within-const_refuted {S = S} {v} {m} w a c i (self ∷ args) (inr h) = inr (
   h.1,
   w.through h.0 i (self ∷ args) h.2,
   within-has_head_form w self h.1 h.3,
-  each-map (within-const_candidate_refuted w S v m c i (h.1 ∷ args)) (environment S) h.4,
-  each-map_same _ _ (alike-second_group a i h.1 h.0) (within-const_candidate_refuted w S v m c i (h.1 ∷ args)) h.5,
+  each-map (within-const_candidate_ruled_out w a c i (h.1 ∷ args)) (environment S) h.4,
+  each-map_same _ _ (alike-second_group a i h.1 h.0) (within-const_candidate_ruled_out w a c i (h.1 ∷ args)) h.5,
 )

@@ -5,6 +5,7 @@ use Rattle.goal_terms.specs.Tree.{Tree}
 use Rattle.goal_terms.specs.declared.answers.TraitGoalProvenVia.{TraitGoalProvenVia}
 use Rattle.goal_terms.specs.declared.ids.TraitId.{TraitId}
 use Rattle.goal_terms.specs.declared.modes.TypingMode.{TypingMode}
+use Rattle.goal_tables.specs.Specialized.{reached}
 use Rattle.goal_tables.specs.declared.rows.ImplRow.{ImplRow}
 use Rattle.goal_kinds.specs.Builtins.{trait_rule}
 use Rattle.goal_kinds.specs.Candidates.{Candidate, assumption, implied_bound, by_impl, built_in, error}
@@ -12,13 +13,15 @@ use Rattle.goal_kinds.specs.Laws.{IsWithin, IsAlike, with_impls_and_mode}
 use Rattle.goal_kinds.specs.Level.{Level}
 use Rattle.goal_kinds.specs.Premises.{Premise, clauses_under}
 use Rattle.goal_kinds.specs.Settings.{Setting}
-use Rattle.goal_kinds.specs.TraitGoals.{AssumptionHolds, AssumptionRefuted, header_of, ImplHoldsUnder, ImplHolds, ImplRefuted, TraitRuleHolds, TraitRuleRefuted, CandidateHolds, CandidateRefuted, TraitHolds, TraitRefuted}
-use Rattle.goal_kinds.proofs.AlikeCandidates.{alike-class_of, alike-classes_before, alike-all_candidates}
+use Rattle.goal_kinds.specs.TraitGoals.{AssumptionHolds, AssumptionRefuted, header_of, ImplHoldsUnder, ImplHolds, ImplRefuted, TraitRuleHolds, TraitRuleRefuted, CandidateHolds, CandidateRefuted, PassedOver, Decides, CandidateDecides, CandidateRuledOut, TraitHolds, TraitRefuted}
+use Rattle.goal_kinds.specs.Words.{Each, Exists}
+use Rattle.goal_kinds.proofs.AlikeCandidates.{alike-class_of, alike-classes_before, alike-all_candidates, alike-reached}
 use Rattle.goal_kinds.proofs.Members.{exists-map_same, each-map_same}
 use Rattle.goal_kinds.proofs.OtherImpls.{other_impls-trait_rule}
 use Rattle.goal_kinds.proofs.WithinHeaders.{within-fits, within-clashes, within-all_known}
 use Rattle.goal_kinds.proofs.WithinPremises.{within-premises_hold, within-premises_refuted}
 use Rattle.goal_kinds.proofs.WithinTerms.{within-pairs, within-some_pair, within-has_head_form, within-head_form_refuted}
+use Rattle.goal_kinds.proofs.WithinWords.{each-map, exists-map, sum-map}
 
 -- a clause says that the trait holds, or something else
 within-assumption_holds : {L M : Level} → IsWithin L M → (i : TraitId) (args : List Tree) (p : PredicateTree) → AssumptionHolds L i args p → AssumptionHolds M i args p
@@ -84,6 +87,36 @@ within-candidate_refuted {M = M} w S v m i args built_in h =
     subst (TraitRuleRefuted M) (sym (other_impls-trait_rule S.tables v i args)) (within-rule_refuted w (trait_rule S.tables i args) h)
 within-candidate_refuted w S v m i args error h = h
 
+-- a candidate is passed over, or decides
+pub within-passed_over : {L M : Level} {S : Setting} {v : Vec ImplRow Global} {m : TypingMode} → IsWithin L M → IsAlike S v m →
+    (args : List Tree) (c : Candidate) → PassedOver S L args c → PassedOver (with_impls_and_mode S v m) M args c
+unfolding PassedOver
+within-passed_over {M = M} {S = S} w a args (by_impl r) h =
+    (h.0, subst (Exists (ImplHolds M args)) (sym (alike-reached a h.0 r)) (exists-map (within-impl_holds w args) (reached S.tables h.0 r) h.1))
+within-passed_over w a args (assumption p) h = h
+within-passed_over w a args (implied_bound b cs) h = h
+within-passed_over w a args built_in h = h
+within-passed_over w a args error h = h
+
+pub within-decides : {L M : Level} {S : Setting} {v : Vec ImplRow Global} {m : TypingMode} → IsWithin L M → IsAlike S v m →
+    (args : List Tree) (c : Candidate) → Decides S L args c → Decides (with_impls_and_mode S v m) M args c
+unfolding Decides
+within-decides {M = M} {S = S} w a args (by_impl r) h =
+    λ n. subst (Each (ImplRefuted M args)) (sym (alike-reached a n r)) (each-map (within-impl_refuted w args) (reached S.tables n r) (h n))
+within-decides w a args (assumption p) h = h
+within-decides w a args (implied_bound b cs) h = h
+within-decides w a args built_in h = h
+within-decides w a args error h = h
+
+-- a candidate holds and decides, or is ruled out
+within-candidate_decides : {L M : Level} {S : Setting} {v : Vec ImplRow Global} {m : TypingMode} → IsWithin L M → IsAlike S v m →
+    (i : TraitId) (args : List Tree) (c : Candidate) → CandidateDecides S L i args c → CandidateDecides (with_impls_and_mode S v m) M i args c
+within-candidate_decides {S = S} {v} {m} w a i args c h = (within-candidate_holds w S v m i args c h.0, within-decides w a args c h.1)
+
+within-candidate_ruled_out : {L M : Level} {S : Setting} {v : Vec ImplRow Global} {m : TypingMode} → IsWithin L M → IsAlike S v m →
+    (i : TraitId) (args : List Tree) (c : Candidate) → CandidateRuledOut S L i args c → CandidateRuledOut (with_impls_and_mode S v m) M i args c
+within-candidate_ruled_out {S = S} {v} {m} w a i args c h = sum-map (within-candidate_refuted w S v m i args c) (within-passed_over w a args c) h
+
 -- a trait goal holds, or is refuted
 pub within-trait_holds : {L M : Level} {S : Setting} {v : Vec ImplRow Global} {m : TypingMode} → IsWithin L M → IsAlike S v m →
     (c : TraitGoalProvenVia) (i : TraitId) (ts : List Tree) → TraitHolds S L c i ts → TraitHolds (with_impls_and_mode S v m) M c i ts
@@ -92,8 +125,8 @@ within-trait_holds w a c i [] h = h
 within-trait_holds {S = S} {v} {m} w a c i (self ∷ args) h = (
   h.0,
   within-has_head_form w self h.0 h.1,
-  exists-map_same _ _ (alike-class_of a i h.0 c) (within-candidate_holds w S v m i (h.0 ∷ args)) h.2,
-  each-map_same _ _ (alike-classes_before a i h.0 c) (within-candidate_refuted w S v m i (h.0 ∷ args)) h.3,
+  exists-map_same _ _ (alike-class_of a i h.0 c) (within-candidate_decides w a i (h.0 ∷ args)) h.2,
+  each-map_same _ _ (alike-classes_before a i h.0 c) (within-candidate_ruled_out w a i (h.0 ∷ args)) h.3,
 )
 
 pub within-trait_refuted : {L M : Level} {S : Setting} {v : Vec ImplRow Global} {m : TypingMode} → IsWithin L M → IsAlike S v m →
@@ -104,5 +137,5 @@ within-trait_refuted w a i (self ∷ args) (inl h) = inl (within-head_form_refut
 within-trait_refuted {S = S} {v} {m} w a i (self ∷ args) (inr h) = inr (
   h.0,
   within-has_head_form w self h.0 h.1,
-  each-map_same _ _ (alike-all_candidates a i h.0) (within-candidate_refuted w S v m i (h.0 ∷ args)) h.2,
+  each-map_same _ _ (alike-all_candidates a i h.0) (within-candidate_ruled_out w a i (h.0 ∷ args)) h.2,
 )

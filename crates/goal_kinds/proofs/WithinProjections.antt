@@ -12,15 +12,16 @@ use Rattle.goal_tables.specs.declared.rows.ItemRow.{ItemRow}
 use Rattle.goal_tables.specs.declared.rows.TraitRow.{TraitRow}
 use Rattle.goal_kinds.specs.Builtins.{Listed, nothing_listed, listed, listed_rigid, listed_by_size, term_rule}
 use Rattle.goal_kinds.specs.Candidates.{Candidate, assumption, implied_bound, by_impl, built_in, error, environment}
-use Rattle.goal_kinds.specs.ImplTerms.{Projection, own_clauses, own_args}
+use Rattle.goal_kinds.specs.ImplTerms.{Projection, own_clauses, trait_args, own_args}
 use Rattle.goal_kinds.specs.Laws.{IsWithin, IsAlike, with_impls_and_mode}
 use Rattle.goal_kinds.specs.Level.{Level, HasHeadForm}
 use Rattle.goal_kinds.specs.Projections.{EquationGives, EquationRefuted, AssumptionGives, AssumptionTermRefuted, self_of, ListedGives, ListedRefuted, CandidateGives, TermRefuted}
-use Rattle.goal_kinds.specs.Projections.{GroupGives, GroupRefuted, OwnFormed, OwnUnformed, GroupsGive, GroupsRefuted, asked, ItemGives, ItemRefuted, ProjectionGives, ProjectionRefuted}
+use Rattle.goal_kinds.specs.Projections.{TermDecides, TermRuledOut, GroupGives, GroupRefuted, OwnFormed, OwnUnformed, GroupsGive, GroupsRefuted, asked, ItemGives, ItemRefuted, ProjectionGives, ProjectionRefuted}
 use Rattle.goal_kinds.specs.Settings.{Setting}
 use Rattle.goal_kinds.proofs.AlikeCandidates.{alike-second_group}
 use Rattle.goal_kinds.proofs.Members.{HasSameElements, same_elements-self, exists-map_same, each-map_same}
 use Rattle.goal_kinds.proofs.OtherImpls.{other_impls-term_rule}
+use Rattle.goal_kinds.proofs.WithinGoals.{within-passed_over, within-decides}
 use Rattle.goal_kinds.proofs.WithinImplTerms.{within-impl_gives, within-impl_term_refuted}
 use Rattle.goal_kinds.proofs.WithinPremises.{within-premises_hold, within-premises_refuted, within-clause_holds}
 use Rattle.goal_kinds.proofs.WithinTerms.{within-pairs, within-some_pair, within-has_head_form, within-head_form_refuted}
@@ -94,20 +95,29 @@ within-term_refuted {M = M} {S = S} {v} w a p built_in g =
     subst (ListedRefuted M) (sym (other_impls-term_rule S.tables v p.item.id p.args)) (within-listed_refuted w (term_rule S.tables p.item.id p.args) g)
 within-term_refuted w a p error g = g
 
+-- a candidate gives a projection's term and decides, or is ruled out
+within-term_decides : {L M : Level} {S : Setting} {v : Vec ImplRow Global} {m : TypingMode} → IsWithin L M → IsAlike S v m →
+    (p : Projection) (itself u : Tree) (c : Candidate) → TermDecides S L p itself u c → TermDecides (with_impls_and_mode S v m) M p itself u c
+within-term_decides w a p itself u c g = (within-candidate_gives w a p itself u c g.0, within-decides w a (trait_args p) c g.1)
+
+within-term_ruled_out : {L M : Level} {S : Setting} {v : Vec ImplRow Global} {m : TypingMode} → IsWithin L M → IsAlike S v m →
+    (p : Projection) (c : Candidate) → TermRuledOut S L p c → TermRuledOut (with_impls_and_mode S v m) M p c
+within-term_ruled_out w a p c g = sum-map (within-term_refuted w a p c) (within-passed_over w a (trait_args p) c) g
+
 -- a group gives a term, or none
 within-group_gives : {L M : Level} {S : Setting} {v : Vec ImplRow Global} {m : TypingMode} → IsWithin L M → IsAlike S v m →
     (p : Projection) (itself : Tree) (cs ds : List Candidate) → HasSameElements cs ds → (u : Tree) →
     GroupGives S L p itself cs u → GroupGives (with_impls_and_mode S v m) M p itself ds u
 unfolding GroupGives
 within-group_gives w a p itself cs ds e u g = (
-  exists-map_same cs ds e (within-candidate_gives w a p itself u) g.0,
-  each-map_same cs ds e (λ c. sum-map (within-candidate_gives w a p itself u c) (within-term_refuted w a p c)) g.1,
+  exists-map_same cs ds e (within-term_decides w a p itself u) g.0,
+  each-map_same cs ds e (λ c. sum-map (within-candidate_gives w a p itself u c) (within-term_ruled_out w a p c)) g.1,
 )
 
 within-group_refuted : {L M : Level} {S : Setting} {v : Vec ImplRow Global} {m : TypingMode} → IsWithin L M → IsAlike S v m →
     (p : Projection) (cs ds : List Candidate) → HasSameElements cs ds → GroupRefuted S L p cs → GroupRefuted (with_impls_and_mode S v m) M p ds
 unfolding GroupRefuted
-within-group_refuted w a p cs ds e g = each-map_same cs ds e (within-term_refuted w a p) g
+within-group_refuted w a p cs ds e g = each-map_same cs ds e (within-term_ruled_out w a p) g
 
 -- the own arguments of an item
 within-own_formed : {L M : Level} → IsWithin L M → (p : Projection) → OwnFormed L p → OwnFormed M p

@@ -1,7 +1,7 @@
 -- What a rule's list says of a candidate, at all heights.
-use Rattle.std.specs.Prelude.{drop, ◌≡◌, ◌↔◌, ◌⊎◌, ◌==◌, ℕ, Bool, true, false, ◌&&◌, ◌||◌, not, List, [], ◌∷◌, ◌++◌, map, Option, Some, None, Result, Ok, Err, IfOk, IfErr}
+use Rattle.std.specs.Prelude.{drop, ◌≡◌, ◌↔◌, ◌==◌, ℕ, Bool, true, false, ◌&&◌, ◌||◌, not, List, [], ◌∷◌, map, Option, Some, None, Result, Err, IfOk, IfErr}
 use Rattle.goal_terms.specs.Erased.{erased}
-use Rattle.goal_terms.specs.PredicateTrees.{PredicateTree, tree_of_kind}
+use Rattle.goal_terms.specs.PredicateTrees.{tree_of_kind}
 use Rattle.goal_terms.specs.Tree.{Tree}
 use Rattle.goal_terms.specs.TreeOf.{trees_of}
 use Rattle.goal_terms.specs.declared.answers.Certainty.{Certainty}

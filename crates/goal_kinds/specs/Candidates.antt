@@ -31,6 +31,11 @@ pub data Candidate : Type 0 where
   -- an error in the goal
   error : Candidate
 
+-- a candidate is no impl
+abbrev pub IsNoImpl : Candidate → Type 0
+IsNoImpl (by_impl r) = ⊥
+IsNoImpl _ = Unit {0}
+
 -- a row's clauses under arguments
 abbrev pub bounds_under : List Tree → List Clause → List Candidate
 bounds_under s clauses = map (λ c. assumption (predicate_under s (tree_of_kind c.kind))) clauses

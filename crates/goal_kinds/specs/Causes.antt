@@ -1,5 +1,5 @@
 -- Why something is recorded: what in the tables reads the typing mode, or is at fault.
-use Rattle.std.specs.Prelude.{◌≡◌, ◌==◌, ◌&&◌, Bool, true, false, not, List, Option, Vec, IfSome}
+use Rattle.std.specs.Prelude.{◌≡◌, ◌==◌, ◌&&◌, Bool, true, false, not, Option, Vec, IfSome}
 use Rattle.std.specs.Global.{Global}
 use Rattle.std.specs.List.{All, list_any}
 use Rattle.goal_terms.specs.declared.answers.DelayedFault.{DelayedFault}

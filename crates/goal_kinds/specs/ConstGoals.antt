@@ -13,7 +13,7 @@ use Rattle.goal_kinds.specs.Headers.{AllKnown}
 use Rattle.goal_kinds.specs.Level.{Level, HasHeadForm}
 use Rattle.goal_kinds.specs.Premises.{Premise, TraitTree, ConstRule, PremisesHold, PremisesRefuted, conditions_as, traits_under}
 use Rattle.goal_kinds.specs.Settings.{Setting}
-use Rattle.goal_kinds.specs.TraitGoals.{ImplHoldsUnder, ImplRefuted, header_of, any_error}
+use Rattle.goal_kinds.specs.TraitGoals.{ImplHoldsUnder, ImplRefuted, header_of, any_error, PassedOver, Decides}
 use Rattle.goal_kinds.specs.Words.{Each, Exists, Pairs, SomePair}
 
 -- whether a clause of one constness satisfies a goal of another: `const` both, `[const]` only `[const]`
@@ -83,7 +83,15 @@ ConstCandidateRefuted S L c i args (by_impl r) = ConstImplRefuted L c args r
 ConstCandidateRefuted S L c i args built_in = ConstRuleRefuted L c (const_rule S.tables i args)
 ConstCandidateRefuted S L c i args error = any_error args ≡ false
 
--- a trait holds as a const trait: the plain goal holds through a class, and a candidate of the first group that isn't refuted holds
+-- a candidate shows that the trait is const, and decides
+abbrev pub ConstCandidateDecides : Setting → Level → BoundConstness → TraitId → List Tree → Candidate → Type 0
+ConstCandidateDecides S L c i args d = ConstCandidateHolds S L c i args d × Decides S L args d
+
+-- a candidate is ruled out: it is refuted or passed over
+abbrev pub ConstCandidateRuledOut : Setting → Level → BoundConstness → TraitId → List Tree → Candidate → Type 0
+ConstCandidateRuledOut S L c i args d = ConstCandidateRefuted S L c i args d ⊎ PassedOver S L args d
+
+-- a trait holds as a const trait: the plain goal holds through a class, and a candidate of the first group that isn't ruled out decides
 unfoldable pub ConstHolds : Setting → Level → BoundConstness → TraitId → List Tree → Type 0
 ConstHolds S L c i [] = ⊥
 ConstHolds S L c i (self ∷ args) =
@@ -91,11 +99,11 @@ ConstHolds S L c i (self ∷ args) =
     × (s : Tree)
     × L.through v i (self ∷ args)
     × HasHeadForm L self s
-    × (Exists (ConstCandidateHolds S L c i (s ∷ args)) (environment S)
-    ⊎ (Each (ConstCandidateRefuted S L c i (s ∷ args)) (environment S)
-    × Exists (ConstCandidateHolds S L c i (s ∷ args)) (second_group S i s v)))
+    × (Exists (ConstCandidateDecides S L c i (s ∷ args)) (environment S)
+    ⊎ (Each (ConstCandidateRuledOut S L c i (s ∷ args)) (environment S)
+    × Exists (ConstCandidateDecides S L c i (s ∷ args)) (second_group S i s v)))
 
--- it is refuted as one: the plain goal is refuted, or it holds through a class and all candidates of the groups are refuted
+-- it is refuted as one: the plain goal is refuted, or it holds through a class and all candidates of the groups are ruled out
 unfoldable pub ConstRefuted : Setting → Level → BoundConstness → TraitId → List Tree → Type 0
 ConstRefuted S L c i [] = ⊥
 ConstRefuted S L c i (self ∷ args) =
@@ -104,5 +112,5 @@ ConstRefuted S L c i (self ∷ args) =
     × (s : Tree)
     × L.through v i (self ∷ args)
     × HasHeadForm L self s
-    × Each (ConstCandidateRefuted S L c i (s ∷ args)) (environment S)
-    × Each (ConstCandidateRefuted S L c i (s ∷ args)) (second_group S i s v))
+    × Each (ConstCandidateRuledOut S L c i (s ∷ args)) (environment S)
+    × Each (ConstCandidateRuledOut S L c i (s ∷ args)) (second_group S i s v))

@@ -79,6 +79,7 @@ plain_impl n t self = record {
   guaranteed_unsized = false;
   predicates = vec [] tt;
   const_conditions = vec [] tt;
+  more_special = vec [] tt;
 }
 
 -- `impl<T> Trait<i32> for Vec<T>`

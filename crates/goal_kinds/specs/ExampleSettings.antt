@@ -1,21 +1,24 @@
 -- Settings and terms of the worked examples.
 use Rattle.goal_kinds.specs.Builtins.{u8_ty}
-use Rattle.goal_kinds.specs.ExampleRows.{plain_impl, tr_for_z, uses}
+use Rattle.goal_kinds.specs.ExampleRows.{plain_impl, tr_for_z, type_in_impl, uses}
 use Rattle.goal_kinds.specs.ExampleTables.{analysis, assuming, example_tables}
-use Rattle.goal_kinds.specs.ExampleTerms.{alias_of, bool_ty, fn_ty, free, has_trait, i32_ty, p_ty, param, plain_struct, projection, struct, struct_of, trait, tuple, u16_ty, u32_ty, u64_ty, vec, vec_of, z_ty}
+use Rattle.goal_kinds.specs.ExampleTerms.{alias_of, bool_ty, fn_ty, free, has_trait, i32_ty, impl, p_ty, param, plain_struct, projection, struct, struct_of, trait, tuple, u16_ty, u32_ty, u64_ty, vec, vec_of, z_ty}
 use Rattle.goal_kinds.specs.Settings.{Setting}
 use Rattle.goal_tables.specs.declared.rows.ImplRow.{ImplRow}
 use Rattle.goal_tables.specs.declared.rows.SourceRow.{SourceRow}
 use Rattle.goal_tables.specs.declared.rows.Tables.{Tables}
 use Rattle.goal_terms.specs.PredicateTrees.{equals, holds, holds_const}
 use Rattle.goal_terms.specs.Tree.{Tree}
+use Rattle.goal_terms.specs.declared.ids.ImplId.{ImplId}
 use Rattle.goal_terms.specs.declared.modes.TypingMode.{TypingMode}
 use Rattle.goal_terms.specs.declared.terms.AliasTermKind.{AliasTermKind}
 use Rattle.goal_terms.specs.declared.terms.AliasTermKind.TheVariants.{InherentTy}
-use Rattle.std.specs.Prelude.{List, [], true, ◌∷◌}
+use Rattle.std.specs.Global.{Global}
+use Rattle.std.specs.Prelude.{List, [], true, ◌∷◌, Vec}
 use Rattle.goal_tables.specs.declared.rows.Source.TheVariants as source
 use Rattle.goal_terms.specs.declared.answers.ParamKind.TheVariants as kind
 use Rattle.goal_terms.specs.declared.predicates.BoundConstness.TheVariants as constness
+use Rattle.goal_terms.specs.declared.scalars.UintTy.TheVariants as unsigned
 use Rattle.goal_terms.specs.declared.terms.GenericArg as arg
 use Rattle.goal_terms.specs.declared.terms.Ty as ty
 
@@ -55,6 +58,36 @@ const_tables = record example_tables { impls = vec (tr_for_z ∷ const_tr_for_q 
 
 abbrev pub with_const : Setting
 with_const = record { tables = const_tables; mode = analysis; env = [] }
+
+-- `impl<T> Tr for Vec<T> { type A = T }`, which lists some impls as more special, and `impl Tr for Vec<u8> { type A = u16 }`
+abbrev pub tr_for_vec : Vec ImplId Global → ImplRow
+tr_for_vec more_special =
+    record (plain_impl 20 12 (struct_of 1 (ty.Param 0))) {
+      params = vec (kind.Ty ∷ []) tt;
+      more_special = more_special;
+    }
+
+abbrev pub tr_for_vec_of_u8 : ImplRow
+tr_for_vec_of_u8 = plain_impl 21 12 (struct_of 1 (ty.Uint unsigned.U8))
+
+-- the example tables with these two impls, of which the first lists some impls
+abbrev pub two_for_vec : Vec ImplId Global → Tables
+two_for_vec more_special =
+    record example_tables {
+      impls = vec (tr_for_vec more_special ∷ tr_for_vec_of_u8 ∷ []) tt;
+      definitions = vec (type_in_impl 20 20 5 (ty.Param 0) ∷ type_in_impl 21 21 5 (ty.Uint unsigned.U16) ∷ []) tt;
+      sources = vec (uses 20 5 20 ∷ uses 21 5 21 ∷ []) tt;
+    }
+
+abbrev pub with_two_for_vec : Vec ImplId Global → Setting
+with_two_for_vec more_special = record { tables = two_for_vec more_special; mode = analysis; env = [] }
+
+-- it lists the second as more special, or none
+abbrev pub specialized : Setting
+specialized = with_two_for_vec (vec (impl 21 ∷ []) tt)
+
+abbrev pub unspecialized : Setting
+unspecialized = with_two_for_vec (vec [] tt)
 
 -- the example tables, where `impl Tr for Z` uses its definition as a default
 abbrev pub default_source : SourceRow

@@ -44,3 +44,4 @@ pub mod InternedEntries
 pub mod RuleLists
 pub mod NamedRows
 pub mod EffectKind
+pub mod Joined

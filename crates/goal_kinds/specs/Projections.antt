@@ -12,10 +12,11 @@ use Rattle.goal_tables.specs.declared.rows.ItemRow.{ItemRow}
 use Rattle.goal_tables.specs.declared.rows.TraitRow.{TraitRow}
 use Rattle.goal_kinds.specs.Builtins.{Listed, nothing_listed, listed, listed_rigid, listed_by_size, term_rule, unit_ty}
 use Rattle.goal_kinds.specs.Candidates.{Candidate, assumption, implied_bound, by_impl, built_in, error, environment, second_group}
-use Rattle.goal_kinds.specs.ImplTerms.{Projection, ImplGives, ImplTermRefuted, own_clauses, own_args}
+use Rattle.goal_kinds.specs.ImplTerms.{Projection, ImplGives, ImplTermRefuted, own_clauses, trait_args, own_args}
 use Rattle.goal_kinds.specs.Level.{Level, HasHeadForm, HeadFormRefuted}
 use Rattle.goal_kinds.specs.Premises.{PremisesHold, PremisesRefuted, ClauseHolds}
 use Rattle.goal_kinds.specs.Settings.{Setting}
+use Rattle.goal_kinds.specs.TraitGoals.{PassedOver, Decides}
 use Rattle.goal_kinds.specs.Words.{Each, Exists, Pairs, SomePair, OfRow}
 
 -- the item that an alias projects
@@ -91,14 +92,22 @@ TermRefuted S L p (by_impl r) = ImplTermRefuted S L p r
 TermRefuted S L p built_in = ListedRefuted L (term_rule S.tables p.item.id p.args)
 TermRefuted S L p error = Unit {0}
 
--- a group gives a term: one of its candidates does, and each gives that term or none
+-- a candidate gives a projection's term, and decides
+abbrev pub TermDecides : Setting → Level → Projection → Tree → Tree → Candidate → Type 0
+TermDecides S L p itself u c = CandidateGives S L p itself u c × Decides S L (trait_args p) c
+
+-- a candidate is ruled out: it gives no term, or is passed over
+abbrev pub TermRuledOut : Setting → Level → Projection → Candidate → Type 0
+TermRuledOut S L p c = TermRefuted S L p c ⊎ PassedOver S L (trait_args p) c
+
+-- a group gives a term: one of its candidates does and decides, and each gives that term or is ruled out
 unfoldable pub GroupGives : Setting → Level → Projection → Tree → List Candidate → Tree → Type 0
 GroupGives S L p itself cs u =
-    Exists (CandidateGives S L p itself u) cs × Each (λ c. CandidateGives S L p itself u c ⊎ TermRefuted S L p c) cs
+    Exists (TermDecides S L p itself u) cs × Each (λ c. CandidateGives S L p itself u c ⊎ TermRuledOut S L p c) cs
 
--- all candidates of a group give none
+-- all candidates of a group are ruled out
 unfoldable pub GroupRefuted : Setting → Level → Projection → List Candidate → Type 0
-GroupRefuted S L p cs = Each (TermRefuted S L p) cs
+GroupRefuted S L p cs = Each (TermRuledOut S L p) cs
 
 -- the item's own arguments have head forms, or one of them has none
 unfoldable pub OwnFormed : Level → Projection → Type 0
@@ -107,14 +116,14 @@ OwnFormed L p = Each (λ a. (f : Tree) × HasHeadForm L a f) (own_args p)
 unfoldable pub OwnUnformed : Level → Projection → Type 0
 OwnUnformed L p = Exists (HeadFormRefuted L) (own_args p)
 
--- the term of a projection, its trait goal holding through a class, by the groups of candidates: the first that isn't refuted gives it; where the environment or the bounds alone give it, the own arguments must have head forms; where these decide and all are refuted, the alias stays as it was given
+-- the term of a projection, its trait goal holding through a class, by the groups of candidates: the first that isn't refuted gives it; where the environment or the bounds alone give it, the own arguments must have head forms; where these decide and all are ruled out, the alias stays as it was given
 unfoldable pub GroupsGive : Setting → Level → TraitGoalProvenVia → Projection → Tree → Tree → List Candidate → Tree → Type 0
 GroupsGive S L c p itself given second u =
     (GroupGives S L p itself (environment S) u × OwnFormed L p)
     ⊎ (GroupRefuted S L p (environment S) × GroupGives S L p itself second u × ((c ≡ class.Misc) ⊎ OwnFormed L p))
     ⊎ (GroupRefuted S L p (environment S) × GroupRefuted S L p second × (c ≢ class.Misc) × (u ≡ given))
 
--- no term: the rest decides and all candidates are refuted; or the environment or the bounds alone give a term, and an own argument has no head form
+-- no term: the rest decides and all candidates are ruled out; or the environment or the bounds alone give a term, and an own argument has no head form
 unfoldable pub GroupsRefuted : Setting → Level → TraitGoalProvenVia → Projection → Tree → List Candidate → Type 0
 GroupsRefuted S L c p itself second =
     (GroupRefuted S L p (environment S) × GroupRefuted S L p second × (c ≡ class.Misc))

@@ -1,5 +1,5 @@
 -- Trait goals: when a candidate holds or is refuted, and when the goal does, one height above a level.
-use Rattle.std.specs.Prelude.{◌≡◌, ◌≢◌, ◌⊎◌, Bool, true, false, List, [], ◌∷◌, map, Option, Some, None}
+use Rattle.std.specs.Prelude.{◌≡◌, ◌≢◌, ◌⊎◌, ℕ, Bool, true, false, List, [], ◌∷◌, map, Option, Some, None}
 use Rattle.std.specs.List.{list_any}
 use Rattle.goal_terms.specs.Occurrences.{has_error}
 use Rattle.goal_terms.specs.PredicateTrees.{PredicateTree, holds, equals, holds_const}
@@ -9,6 +9,7 @@ use Rattle.goal_terms.specs.Erased.{erased}
 use Rattle.goal_terms.specs.declared.answers.TraitGoalProvenVia.{TraitGoalProvenVia}
 use Rattle.goal_terms.specs.declared.ids.TraitId.{TraitId}
 use Rattle.goal_tables.specs.SourceFaults.{is_positive}
+use Rattle.goal_tables.specs.Specialized.{reached}
 use Rattle.goal_tables.specs.declared.rows.ImplRow.{ImplRow}
 use Rattle.goal_kinds.specs.Builtins.{trait_rule}
 use Rattle.goal_kinds.specs.Candidates.{Candidate, assumption, implied_bound, by_impl, built_in, error, class_of, classes_before, all_candidates}
@@ -81,18 +82,36 @@ CandidateRefuted S L i args (by_impl r) = ImplRefuted L args r
 CandidateRefuted S L i args built_in = TraitRuleRefuted L (trait_rule S.tables i args)
 CandidateRefuted S L i args error = any_error args ≡ false
 
--- a trait goal holds through a class: the self type has a head form, a candidate of the class holds for it, and all of the classes before are refuted
+-- a candidate is passed over: it is an impl, and a more special impl holds
+unfoldable pub PassedOver : Setting → Level → List Tree → Candidate → Type 0
+PassedOver S L args (by_impl r) = (n : ℕ) × Exists (ImplHolds L args) (reached S.tables n r)
+PassedOver S L args _ = ⊥
+
+-- a candidate decides where it holds: it is no impl, or all more special impls are refuted
+unfoldable pub Decides : Setting → Level → List Tree → Candidate → Type 0
+Decides S L args (by_impl r) = (n : ℕ) → Each (ImplRefuted L args) (reached S.tables n r)
+Decides S L args _ = Unit {0}
+
+-- a candidate shows that the trait holds, and decides
+abbrev pub CandidateDecides : Setting → Level → TraitId → List Tree → Candidate → Type 0
+CandidateDecides S L i args c = CandidateHolds S L i args c × Decides S L args c
+
+-- a candidate is ruled out: it is refuted or passed over
+abbrev pub CandidateRuledOut : Setting → Level → TraitId → List Tree → Candidate → Type 0
+CandidateRuledOut S L i args c = CandidateRefuted S L i args c ⊎ PassedOver S L args c
+
+-- a trait goal holds through a class: the self type has a head form, a candidate of the class decides for it, and all of the classes before are ruled out
 unfoldable pub TraitHolds : Setting → Level → TraitGoalProvenVia → TraitId → List Tree → Type 0
 TraitHolds S L c i [] = ⊥
 TraitHolds S L c i (self ∷ args) =
     (s : Tree)
     × HasHeadForm L self s
-    × Exists (CandidateHolds S L i (s ∷ args)) (class_of S i s c)
-    × Each (CandidateRefuted S L i (s ∷ args)) (classes_before S i s c)
+    × Exists (CandidateDecides S L i (s ∷ args)) (class_of S i s c)
+    × Each (CandidateRuledOut S L i (s ∷ args)) (classes_before S i s c)
 
--- a trait goal is refuted: its self type's head form is, or all candidates for that head form are
+-- a trait goal is refuted: its self type's head form is, or all candidates for that head form are ruled out
 unfoldable pub TraitRefuted : Setting → Level → TraitId → List Tree → Type 0
 TraitRefuted S L i [] = ⊥
 TraitRefuted S L i (self ∷ args) =
     HeadFormRefuted L self
-    ⊎ ((s : Tree) × HasHeadForm L self s × Each (CandidateRefuted S L i (s ∷ args)) (all_candidates S i s))
+    ⊎ ((s : Tree) × HasHeadForm L self s × Each (CandidateRuledOut S L i (s ∷ args)) (all_candidates S i s))

@@ -15,7 +15,7 @@ ghost use Rattle.goal_tables.specs.declared.rows.Tables.{Tables as tables};
 ghost use Rattle.goal_kinds.specs.Answers.{setting_of};
 ghost use Rattle.goal_kinds.specs.CandidateRules.{RuleSays, GivesAs, RefutedAs, IsRefusal, HoldsError, AllHold, OneRefuted, HasNoKindFault, IsAcceptedClause, said_by, seen_trait, entries_for, only_given, IsNamedAnswer};
 ghost use Rattle.goal_kinds.specs.CandidateRules.{NamedRule as named_rule, trait_alias, sizedness, copy_clone, fn_ptr_trait, fn_trait, tuple, pointee, discriminant_kind, destruct, field};
-ghost use Rattle.goal_kinds.specs.Candidates.{Candidate as candidate, by_impl, built_in, error};
+ghost use Rattle.goal_kinds.specs.Candidates.{Candidate as candidate, by_impl, built_in, error, IsNoImpl};
 ghost use Rattle.goal_kinds.specs.Entries.{Entry as list_entry};
 ghost use Rattle.goal_kinds.specs.Levels.{level};
 ghost use Rattle.goal_kinds.specs.Premises.{TraitTree as trait_tree};
@@ -193,6 +193,7 @@ pub trait GoalKind: PredicateTerms {
         ensures gives { IfOk result (λ rs. AllZip (λ r c. GivesAs has_term (setting_of tables.now mode.now goal.now.param_env.items) Certainty.Yes (λ n t. candidate_gives goal.now.predicate (setting_of tables.now mode.now goal.now.param_env.items) n c t) r) rs.items (additional goal.now.predicate (setting_of tables.now mode.now goal.now.param_env.items) alias.now)) }
         ensures list { IfOk result (λ rs. AllZip (λ r c. IsToldBy tables.now Certainty.Yes (candidate_list goal.now.predicate (setting_of tables.now mode.now goal.now.param_env.items) c) r) rs.items (additional goal.now.predicate (setting_of tables.now mode.now goal.now.param_env.items) alias.now)) }
         ensures refuted { IfOk result (λ rs. AllZip (λ r c. RefutedAs (setting_of tables.now mode.now goal.now.param_env.items) (λ n. candidate_refuted goal.now.predicate (setting_of tables.now mode.now goal.now.param_env.items) n c) r) rs.items (additional goal.now.predicate (setting_of tables.now mode.now goal.now.param_env.items) alias.now)) }
+        ensures no_impl { IfOk result (λ rs. AllZip (λ r c. IsNoImpl c) rs.items (additional goal.now.predicate (setting_of tables.now mode.now goal.now.param_env.items) alias.now)) }
         ensures memory { IsOkUnless result Fault.OutOfMemory };
 
     /// The rule of a clause, which is refused where the fast rejection doesn't let it pass.

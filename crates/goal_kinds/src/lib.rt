@@ -9,5 +9,6 @@ pub mod faults;
 pub mod goal_kind;
 pub mod laws;
 pub mod lists;
+pub mod outcomes;
 pub mod rules;
 pub mod term_errors;

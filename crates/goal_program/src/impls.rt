@@ -107,6 +107,7 @@ pub fn simple_impl(
         guaranteed_unsized: false,
         predicates: Vec::new(alloc),
         const_conditions: Vec::new(alloc),
+        more_special: Vec::new(alloc),
     }
 }
 
@@ -183,6 +184,34 @@ fn const_impl_for_vec(alloc: Global) -> Result<ImplRow, AllocError> {
     row.predicates = vec![in alloc; trait_clause(trait_ref(alloc, Ty::Param(0), TR)?)]?;
     row.const_conditions = vec![in alloc; trait_ref(alloc, Ty::Param(0), TR)?]?;
     Ok(row)
+}
+
+/// `impl Tr for Vec<Z>`.
+pub fn impl_for_vec_of_z(alloc: Global) -> Result<ImplRow, AllocError> {
+    let list = struct_of(alloc, VEC, plain_type(alloc, Z))?;
+    let args = one_type(alloc, list)?;
+    Ok(simple_impl(alloc, ImplId(21), TR, Vec::new(alloc), args))
+}
+
+/// `type A = u16;` of that impl.
+pub fn u16_for_vec_of_z(alloc: Global) -> DefRow {
+    DefRow {
+        id: DefId(21),
+        container: Container::Impl(ImplId(21)),
+        item: A,
+        own_params: Vec::new(alloc),
+        value: DefValue::Term(Term::Ty(Ty::Uint(UintTy::U16))),
+    }
+}
+
+/// Lists that impl as more special in the one for `Vec<T>`.
+pub fn list_more_special(rows: &mut Vec<ImplRow>) -> Result<(), AllocError> {
+    for row in rows.as_mut_slice() {
+        if row.id == ImplId(9) {
+            row.more_special.push(ImplId(21))?;
+        }
+    }
+    Ok(())
 }
 
 /// Adds the definitions.

@@ -1,7 +1,8 @@
 //! The tables of the program that the rows ask about.
 use crate::aliases::{inherent_impl_row, inherent_row, opaque_row, push_free_rows};
 use crate::impls::{
-    projection_impl, push_definition_rows, push_impl_rows, push_source_rows, source_row,
+    impl_for_vec_of_z, list_more_special, projection_impl, push_definition_rows, push_impl_rows,
+    push_source_rows, source_row, u16_for_vec_of_z,
 };
 use crate::names::A;
 use crate::traits::{push_item_rows, push_lang_rows, push_trait_rows};
@@ -21,6 +22,13 @@ pub fn whole_tables(alloc: Global) -> Result<Tables, AllocError> {
 pub fn tables_with_projection_impl(alloc: Global) -> Result<Tables, AllocError> {
     let mut tables = whole_tables(alloc)?;
     push_projection_impl(alloc, &mut tables)?;
+    Ok(tables)
+}
+
+/// The whole tables with one impl more, for `Vec<Z>`. The impl of the same trait for `Vec<T>` lists it as more special.
+pub fn tables_with_specialized_impl(alloc: Global) -> Result<Tables, AllocError> {
+    let mut tables = whole_tables(alloc)?;
+    push_more_special_impl(alloc, &mut tables)?;
     Ok(tables)
 }
 
@@ -76,5 +84,14 @@ fn push_aliases(alloc: Global, tables: &mut Tables) -> Result<(), AllocError> {
 fn push_projection_impl(alloc: Global, tables: &mut Tables) -> Result<(), AllocError> {
     tables.impls.push(projection_impl(alloc)?)?;
     tables.sources.push(source_row(ImplId(10), A, DefId(6)))?;
+    Ok(())
+}
+
+/// Adds an impl for `Vec<Z>`, and lists it in the one for `Vec<T>`.
+fn push_more_special_impl(alloc: Global, tables: &mut Tables) -> Result<(), AllocError> {
+    list_more_special(&mut tables.impls)?;
+    tables.impls.push(impl_for_vec_of_z(alloc)?)?;
+    tables.definitions.push(u16_for_vec_of_z(alloc))?;
+    tables.sources.push(source_row(ImplId(21), A, DefId(21)))?;
     Ok(())
 }

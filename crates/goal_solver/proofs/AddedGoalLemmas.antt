@@ -28,8 +28,8 @@ use Rattle.goal_solver.specs.Relating.{ChangesInference, ChangesRecords, LeavesO
 use Rattle.goal_solver.specs.State.{State}
 use Rattle.goal_kinds.specs.declared.faults.Fault.{Fault}
 use Rattle.goal_kinds.specs.declared.faults.Fault.TheVariants as fault
-use Rattle.goal_eval.specs.declared.eval.outcomes.Outcome.{Outcome}
-use Rattle.goal_eval.specs.declared.eval.outcomes.Outcome.TheVariants as outcome
+use Rattle.goal_kinds.specs.declared.outcomes.Outcome.{Outcome}
+use Rattle.goal_kinds.specs.declared.outcomes.Outcome.TheVariants as outcome
 use Rattle.goal_eval.specs.declared.eval.outcomes.Stop.{Stop}
 use Rattle.goal_solver.proofs.GoingBackLemmas.{goes_back-same}
 use Rattle.goal_solver.proofs.PlaceLemmas.{same-is, count-one, count-none, count-pushed, contains-counted, uncounted, is-below, one-below, one_below-once}

@@ -1,24 +1,21 @@
 -- Lists of rules that are collected from candidates.
-use Rattle.std.proofs.Common.{◌≡◌, ◌⊎◌, ◌==◌, inl, inr, ℕ, zero, suc, ◌+◌, ◌<◌, ◌≤◌, Bool, true, false, cond, Option, Some, None, is_some, List, [], ◌∷◌, ◌++◌, length, map, take, get_or, refl, sym, ap, subst, ◌∙◌, append_assoc, append-nil, eq-eqb, arith}
-use Rattle.std.specs.Prelude.{find, slice_get, if◌then◌else◌}
-use Rattle.std.specs.Option.{option_map}
+use Rattle.std.proofs.Common.{◌≡◌, ◌==◌, inl, inr, ℕ, ◌+◌, ◌<◌, ◌≤◌, true, Some, List, [], ◌∷◌, ◌++◌, length, map, take, get_or, refl, sym, ap, subst, ◌∙◌, append_assoc, append-nil, arith}
+use Rattle.std.specs.Prelude.{slice_get}
 use Rattle.std.proofs.lemmas.Bool.Decides.{eqb_tells}
 use Rattle.std.proofs.lemmas.List.{take_all}
 use Rattle.std.proofs.lemmas.List.Elements.{All-get_or, filter_passes}
 use Rattle.std.proofs.lemmas.Option.{get_or_from_slice_get}
 use Rattle.goal_terms.specs.declared.ids.TraitId.{TraitId}
 use Rattle.goal_tables.specs.Faults.{IsChecked}
-use Rattle.goal_tables.specs.Places.{first_place, has_double}
 use Rattle.goal_tables.specs.Rows.{impl_of}
 use Rattle.goal_tables.specs.declared.rows.ImplRow.{ImplRow}
 use Rattle.goal_tables.specs.declared.rows.Tables.{Tables}
 use Rattle.goal_kinds.specs.Candidates.{Candidate, by_impl, impls_for}
 use Rattle.goal_kinds.specs.declared.rules.Rule.{Rule}
-use Rattle.goal_kinds.proofs.AnswerLaws.{impls-not_doubled}
 use Rattle.goal_kinds.proofs.CandidateClasses.{next-impl}
 use Rattle.goal_kinds.proofs.GrowingLists.{one-more}
 use Rattle.goal_kinds.proofs.PlaceLists.{places-length, place-within, at-place}
-use Rattle.goal_kinds.proofs.TableKindLemmas.{both_fail}
+use Rattle.goal_eval.proofs.CandidateRowLemmas.{impl-found}
 use Rattle.goal_solver.specs.Collecting.{Adds, AreCollected, Collects}
 
 -- a rule for one more candidate
@@ -105,38 +102,6 @@ pub collects-impl : (P : Rule → Candidate → Type 0) (L : Candidate → Type 
 collects-impl P L t i places n r before rs after h l here a so es collected =
     subst (AreCollected P L after) (next-impl t i places es (es ++ map by_impl (take n (impls_for t i))) r n h l here refl)
     (collected-adds P L rs after (es ++ map by_impl (take n (impls_for t i))) (by_impl r) a (so es collected))
-
--- a key that stands in a list has a place there
-placed : (b : Bool) (o : Option ℕ) → (b ≡ true) ⊎ (is_some o ≡ true) → is_some (if b then Some 0 else option_map suc o) ≡ true
-placed true o h = refl
-placed false o (inl e) = absurd (cc)
-placed false (Some n) (inr e) = refl
-placed false None (inr e) = e
-
--- an element's number stands in the list of all numbers
-number-there : {X : Type 0} (f : X → ℕ) (xs : List X) (n : ℕ) (x : X) (k : ℕ) → n < length xs → x ≡ get_or xs n x → f x ≡ k → is_some (first_place ◌==◌ (map f xs) k) ≡ true
-number-there f [] n x k l at e = absurd (omega arith)
-number-there f (y ∷ xs) zero x k l at e = placed (f y == k) (first_place ◌==◌ (map f xs) k) (inl (eq-eqb (f y) k (ap f (sym at) ∙ e)))
-number-there f (y ∷ xs) (suc n) x k l at e = placed (f y == k) (first_place ◌==◌ (map f xs) k) (inr (number-there f xs n x k (omega arith) at e))
-
--- where no numbers are doubled, each element is found by its own
-pub found-by_number : {X : Type 0} (f : X → ℕ) (xs : List X) (n : ℕ) (x : X) → has_double ◌==◌ (map f xs) ≡ false → n < length xs → x ≡ get_or xs n x →
-    find (λ y. f y == f x) xs ≡ Some x
-found-by_number f [] n x d l at = absurd (omega arith)
-found-by_number f (y ∷ xs) zero x d l at =
-    ap (λ b. cond b (Some y) (find (λ z. f z == f x) xs)) (eq-eqb (f y) (f x) (ap f (sym at))) ∙ ap (λ z. Some z) (sym at)
-found-by_number f (y ∷ xs) (suc n) x d l at = elim (eqb_tells (f y) (f x)) [
-  | inl p ↦
-      let none : is_some (first_place ◌==◌ (map f xs) (f y)) ≡ false = (both_fail _ _ d).0 in
-      let some : is_some (first_place ◌==◌ (map f xs) (f y)) ≡ true = number-there f xs n x (f y) (omega arith) at (sym p.1) in
-      absurd (cc)
-  | inr p ↦
-      ap (λ b. cond b (Some y) (find (λ z. f z == f x) xs)) p.0 ∙ found-by_number f xs n x (both_fail (is_some (first_place ◌==◌ (map f xs) (f y))) _ d).1 (omega arith) at
-]
-
--- the row of an impl's id, over accepted tables
-impl-found : (t : Tables) → IsChecked t → (n : ℕ) (r : ImplRow) → n < length t.impls.items → r ≡ get_or t.impls.items n r → impl_of t r.id ≡ Some r
-impl-found t checked n r l at = found-by_number (λ q. q.id.0) t.impls.items n r (impls-not_doubled t checked) l at
 
 -- all impls of a trait
 pub collects-impls : (P : Rule → Candidate → Type 0) (L : Candidate → Type 0) (t : Tables) (i : TraitId) (places : List ℕ) (n : ℕ) (before after : List Rule) →

@@ -1,17 +1,15 @@
 -- What two runs of one goal come to.
-use Rattle.std.proofs.Common.{◌≡◌, ◌≢◌, ◌↔◌, ◌<◌, ◌==◌, ◌&&◌, ℕ, true, false, Bool, List, [], ◌∷◌, length, Option, Some, None, Result, Ok, Err, refl, sym, ap, ◌∙◌, subst, inl, inr, ◌⊎◌}
+use Rattle.std.proofs.Common.{◌≡◌, ◌≢◌, ◌<◌, ◌==◌, ◌&&◌, ℕ, true, false, Bool, List, [], ◌∷◌, length, Some, None, Result, Ok, Err, refl, sym, ap, ◌∙◌, subst, inl}
 use Rattle.std.specs.Prelude.{IsTrue, IfOk}
 use Rattle.std.specs.List.{AllZip, list_any}
 use Rattle.goal_terms.specs.Erased.{erased}
 use Rattle.goal_terms.specs.SameLaws.{same_tree-is}
 use Rattle.goal_terms.specs.SameTree.{same_tree}
-use Rattle.goal_terms.specs.Sorts.{IsTerm, is_term_sort}
+use Rattle.goal_terms.specs.Sorts.{is_term_sort}
 use Rattle.goal_terms.specs.TableMeaning.{tree_at, HasTerm}
 use Rattle.goal_terms.specs.Tree.{Tree}
 use Rattle.goal_terms.specs.TreeOf.{is_type_kind, tree_of_term}
 use Rattle.goal_terms.specs.contracts.modes.TypingModeClone.TheImpl.{is_clone-value as is_mode_clone}
-use Rattle.goal_terms.specs.declared.answers.Certainty.{Certainty}
-use Rattle.goal_terms.specs.declared.answers.Certainty.TheVariants as certainty
 use Rattle.goal_terms.specs.declared.ids.OpaqueId.{OpaqueId}
 use Rattle.goal_terms.specs.declared.modes.TypingMode.{TypingMode}
 use Rattle.goal_terms.specs.declared.modes.TypingMode.TheVariants as mode
@@ -27,7 +25,7 @@ use Rattle.goal_tables.specs.Clauses.{lies_in_equation}
 use Rattle.goal_tables.specs.Predicates.{lies_in_predicate, normalization_of, some_in_equation, some_in_predicate}
 use Rattle.goal_tables.specs.declared.rows.OpaqueRow.{OpaqueRow}
 use Rattle.goal_tables.specs.declared.rows.Tables.{Tables}
-use Rattle.goal_kinds.specs.Answers.{Question, whether, which_term, Answer, yes, yes_with, no, maybe, IsAnswer, decides, setting_of}
+use Rattle.goal_kinds.specs.Answers.{whether, Answer, yes, yes_with, no, maybe, IsAnswer, decides, setting_of}
 use Rattle.goal_kinds.specs.Interned.{erased_at}
 use Rattle.goal_kinds.specs.Laws.{IsAlike, IsWithin}
 use Rattle.goal_kinds.specs.Level.{Level}
@@ -37,8 +35,7 @@ use Rattle.goal_kinds.proofs.AlikeSettings.{alike-reordered}
 use Rattle.goal_kinds.proofs.AnswerLaws.{answer-same, answers-agree, impls-not_doubled}
 use Rattle.goal_kinds.proofs.WithinLevels.{within-alike_level, within-alike_level_back}
 use Rattle.goal_kinds.specs.declared.faults.Fault.{Fault}
-use Rattle.goal_kinds.specs.declared.faults.Fault.TheVariants as fault
-use Rattle.goal_solver.specs.AddedGoals.{IsClosedGoal, GoalHolds, GoalRefuted, IsGoalAnswer}
+use Rattle.goal_solver.specs.AddedGoals.{IsClosedGoal, GoalHolds, GoalRefuted}
 use Rattle.goal_eval.specs.ErasedArgs.{erased_args}
 use Rattle.goal_solver.specs.Answers.{IsOwed, level_over}
 use Rattle.goal_solver.specs.Comparisons.{AreComparable, IsAnswerTo, IsAnswerIn, IsAnswerHere, IsCompared, MayRun, IsClosedQuestion, IsAcceptedIn, IsAcceptedOver, DifferInOrder, answer_of}

@@ -9,18 +9,19 @@ use Rattle.goal_terms.specs.declared.modes.TypingMode.{TypingMode}
 use Rattle.goal_terms.specs.declared.predicates.Clause.{Clause}
 use Rattle.goal_terms.specs.declared.terms.AliasTermKind.{AliasTermKind}
 use Rattle.goal_tables.specs.declared.rows.Tables.{Tables}
+use Rattle.goal_tables.specs.Faults.{IsChecked}
 use Rattle.goal_kinds.specs.Answers.{setting_of}
 use Rattle.goal_kinds.specs.Settings.{Setting, is_headline}
 use Rattle.goal_solver.specs.Accesses.{RecordsCaused, EndsFor}
 use Rattle.goal_solver.specs.Answers.{IsOwed, level_over}
 use Rattle.goal_eval.specs.Effects.{EndsIn}
 use Rattle.goal_solver.specs.Evaluations.{SaysOf, SaysTermAt, StopsForMemory}
-use Rattle.goal_solver.specs.GoingBack.{GoesBack, restored}
-use Rattle.goal_eval.specs.Outcomes.{RunsAs, StandsFor, SaysWhich}
+use Rattle.goal_solver.specs.GoingBack.{restored}
+use Rattle.goal_eval.specs.Outcomes.{RunsAs, RunsOver, StandsFor, SaysWhich}
 use Rattle.goal_solver.specs.State.{State}
 use Rattle.goal_eval.specs.declared.eval.outcomes.Found.{Found}
 use Rattle.goal_eval.specs.declared.eval.outcomes.OnAccess.{OnAccess}
-use Rattle.goal_eval.specs.declared.eval.outcomes.Outcome.{Outcome}
+use Rattle.goal_kinds.specs.declared.outcomes.Outcome.{Outcome}
 use Rattle.goal_eval.specs.declared.eval.outcomes.Stop.{Stop}
 use Rattle.goal_eval.specs.declared.eval.outcomes.Stop.TheVariants as stop
 use Rattle.goal_solver.proofs.AccessLemmas.{none-recorded, recorded-then, ends-before}
@@ -56,14 +57,14 @@ pub interned-stops : {T : Type 0} (a b : State) (r : Result T Stop) → b ≡ re
 interned-stops a b r e h headline = h (ap (λ (s : State). is_headline s.typing_mode) e ∙ headline)
 
 -- what a run says over its setting, it says over the context
-pub run-says : (P : Setting → ℕ → List Tree → List Tree → Type 0) (t : Tables) (k : TypingMode) (here : OnAccess) (e : List Clause) (o s z : State) (env : List Clause) (on : OnAccess) (U : List Tree) → o ≡ s →
-    ((m : TypingMode) → RunsAs here k m → P (setting_of t m e) o.remaining_depth o.terms U) → t ≡ s.tables → k ≡ s.typing_mode → here ≡ on → e ≡ env → z.terms ≡ U →
+pub run-says : (P : Setting → ℕ → List Tree → List Tree → Type 0) (t : Tables) (k : TypingMode) (here : OnAccess) (e : List Clause) (o s z : State) (env : List Clause) (on : OnAccess) (U : List Tree) → IsChecked t → o ≡ s →
+    ((m : TypingMode) → RunsOver here k t m → P (setting_of t m e) o.remaining_depth o.terms U) → t ≡ s.tables → k ≡ s.typing_mode → here ≡ on → e ≡ env → z.terms ≡ U →
     (m : TypingMode) → RunsAs on s.typing_mode m → P (setting_of s.tables m env) s.remaining_depth s.terms z.terms
-run-says P t k here e o s z env on U same h a b c d q m st =
+run-says P t k here e o s z env on U checked same h a b c d q m st =
     let stands : RunsAs here k m = subst (λ x. RunsAs x k m) (sym c) (subst (λ x. RunsAs on x m) (sym b) st) in
     subst (λ V. P (setting_of s.tables m env) s.remaining_depth s.terms V) (sym q)
     (subst (λ S. P S s.remaining_depth s.terms U) (ap (λ x. setting_of x m e) a ∙ ap (setting_of s.tables m) d)
-    (subst (λ (x : State). P (setting_of t m e) x.remaining_depth x.terms U) same (h m stands)))
+    (subst (λ (x : State). P (setting_of t m e) x.remaining_depth x.terms U) same (h m (stands.0, stands.1, checked))))
 
 -- in a headline mode a run ends for want of memory alone
 pub memory-ends : {T : Type 0} (t : Tables) (m : TypingMode) (r : Result T Stop) → IfErr r (EndsIn t m) → is_headline m ≡ true → IfErr r (λ s. s ≡ stop.OutOfMemory)

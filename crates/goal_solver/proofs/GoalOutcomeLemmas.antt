@@ -1,34 +1,18 @@
 -- Goals that were added, by the numbers of their terms.
-use Rattle.std.proofs.Common.{◌≡◌, ◌<◌, true, List, [], ◌∷◌, length, map, Result, refl, sym, ap, ◌∙◌, subst}
-use Rattle.std.specs.Prelude.{IfOk}
+use Rattle.std.proofs.Common.{◌≡◌, ◌<◌, List, [], ◌∷◌, length, map, sym, ap, ◌∙◌, subst}
 use Rattle.std.proofs.lemmas.List.Elements.{All-nil, All-cons, All-head, All-tail}
 use Rattle.goal_terms.specs.Sorts.{IsArgument, sort_of, is_argument_sort}
 use Rattle.goal_terms.specs.TableMeaning.{tree_at, AreBelow, Keeps}
 use Rattle.goal_terms.specs.Tree.{Tree, node_of}
 use Rattle.goal_terms.specs.TreeOf.{tree_of_term}
-use Rattle.goal_terms.specs.declared.modes.TypingMode.{TypingMode}
-use Rattle.goal_terms.specs.declared.predicates.Clause.{Clause}
 use Rattle.goal_terms.specs.declared.term_nodes.TermId.{TermId}
 use Rattle.goal_terms.specs.declared.terms.Term.{Term}
 use Rattle.goal_terms.proofs.SortLemmas.{term_sort}
-use Rattle.goal_tables.specs.declared.rows.Tables.{Tables}
 use Rattle.goal_infer.specs.Following.{sort_at}
-use Rattle.goal_kinds.specs.Answers.{setting_of}
-use Rattle.goal_kinds.specs.Interned.{IsIn, AreIn, predicate_at}
-use Rattle.goal_kinds.specs.Levels.{level}
-use Rattle.goal_kinds.specs.Premises.{ClauseHolds, ClauseRefuted, PremiseHolds, PremiseRefuted, predicate}
-use Rattle.goal_kinds.specs.Settings.{is_headline}
-use Rattle.goal_kinds.specs.declared.candidates.interned.InternedPredicate.{InternedPredicate}
-use Rattle.goal_solver.specs.Answers.{level_over}
+use Rattle.goal_kinds.specs.Interned.{IsIn, AreIn}
 use Rattle.goal_solver.specs.GoingBack.{GoesBack}
-use Rattle.goal_eval.specs.Outcomes.{RunsAs, StandsFor, Says}
-use Rattle.goal_solver.specs.Relating.{ChangesInference}
 use Rattle.goal_solver.specs.State.{State}
-use Rattle.goal_eval.specs.declared.eval.outcomes.OnAccess.TheVariants as on_access
-use Rattle.goal_eval.specs.declared.eval.outcomes.Outcome.{Outcome}
-use Rattle.goal_eval.specs.declared.eval.outcomes.Stop.{Stop}
-use Rattle.goal_solver.proofs.AddedGoalLemmas.{inference-through}
-use Rattle.goal_solver.proofs.AnswerLemmas.{goes_back-grown, stops-runs}
+use Rattle.goal_solver.proofs.AnswerLemmas.{goes_back-grown}
 use Rattle.goal_solver.proofs.GoingBackLemmas.{goes_back-through}
 use Rattle.goal_eval.proofs.InterningLemmas.{is_argument-term}
 

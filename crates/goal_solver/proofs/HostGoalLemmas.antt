@@ -1,7 +1,7 @@
 -- What the candidates of a host effect goal answer, where its plain goal holds through a class.
-use Rattle.std.proofs.Common.{◌≡◌, ℕ, suc, true, List, [], Option, Some, None, length, Result, Ok, Err, refl, sym, ◌∙◌, ap, subst, arith}
+use Rattle.std.proofs.Common.{◌≡◌, suc, true, List, [], Option, Some, None, length, Result, Ok, Err, sym, ◌∙◌, ap, subst, arith}
 use Rattle.std.specs.Option.{option_map}
-use Rattle.std.specs.Prelude.{IfOk, IfErr, IfSome}
+use Rattle.std.specs.Prelude.{IfOk, IfErr}
 use Rattle.goal_terms.specs.declared.answers.Certainty.TheVariants as certainty
 use Rattle.goal_terms.specs.declared.answers.Response.{Response}
 use Rattle.goal_terms.specs.declared.answers.TraitGoalProvenVia.{TraitGoalProvenVia}
@@ -23,8 +23,8 @@ use Rattle.goal_solver.specs.HostGoals.{HostThrough, HoldsThroughClass, SaysHost
 use Rattle.goal_eval.specs.Outcomes.{Says}
 use Rattle.goal_solver.specs.Promises.{LeavesUndecided, NamesNoClass}
 use Rattle.goal_solver.specs.State.{State, kinds_of}
-use Rattle.goal_eval.specs.declared.eval.outcomes.Outcome.{Outcome}
-use Rattle.goal_eval.specs.declared.eval.outcomes.Outcome.TheVariants as outcome
+use Rattle.goal_kinds.specs.declared.outcomes.Outcome.{Outcome}
+use Rattle.goal_kinds.specs.declared.outcomes.Outcome.TheVariants as outcome
 use Rattle.goal_eval.specs.declared.eval.outcomes.Stop.{Stop}
 use Rattle.goal_eval.specs.declared.eval.outcomes.Stop.TheVariants as stop
 use Rattle.goal_solver.proofs.AnswerLemmas.{owed-before, answered-soundly, concluded-open, stops-later, IsConcluded}

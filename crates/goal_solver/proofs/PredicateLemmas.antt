@@ -5,7 +5,7 @@ use Rattle.goal_terms.specs.Tree.{Tree}
 use Rattle.goal_kinds.specs.Level.{Level}
 use Rattle.goal_kinds.specs.Premises.{predicate, ClauseHolds, ClauseRefuted, PremiseHolds, PremiseRefuted}
 use Rattle.goal_eval.specs.Outcomes.{Says}
-use Rattle.goal_eval.specs.declared.eval.outcomes.Outcome.{Outcome}
+use Rattle.goal_kinds.specs.declared.outcomes.Outcome.{Outcome}
 use Rattle.goal_eval.specs.declared.eval.outcomes.Stop.{Stop}
 
 -- the premise of an equation says what the equation does

@@ -35,7 +35,7 @@ use Rattle.goal_kinds.specs.declared.faults.Fault.{Fault}
 use Rattle.goal_kinds.specs.declared.faults.Fault.TheVariants as fault
 use Rattle.goal_kinds.specs.declared.goal_kind.MergeRule.{MergeRule}
 use Rattle.goal_kinds.specs.declared.goal_kind.MergeRule.TheVariants as merge
-use Rattle.goal_kinds.specs.Settings.{Setting, is_headline}
+use Rattle.goal_kinds.specs.Settings.{Setting}
 use Rattle.goal_kinds.proofs.AnswerLaws.{answer-within, answers-agree, const-agrees, const-plain}
 use Rattle.goal_kinds.proofs.WithinLevels.{within-level}
 use Rattle.goal_eval.specs.ErasedArgs.{erased_args}
@@ -43,9 +43,7 @@ use Rattle.goal_solver.specs.Answers.{IsOwed, level_over, IsMaybe, IsOpen, IsUnd
 use Rattle.goal_solver.specs.Assembled.{level_above}
 use Rattle.goal_solver.specs.Binding.{IsApplicable}
 use Rattle.goal_solver.specs.FreeVariables.{general_variable, lacks_free_variable}
-use Rattle.goal_solver.specs.GoingBack.{restored}
 use Rattle.goal_solver.specs.Goals.{IsAcceptedNormalization}
-use Rattle.goal_eval.specs.Outcomes.{StandsFor}
 use Rattle.goal_solver.specs.Promises.{whether_answered, said_of_whether, term_answered, said_of_term, listed_term, if_decided, decided_in, IsYes, LeavesUndecided, ChangesLifetimes, AnswersPredicate, NamesClass, NamesNoClass, AnswersTrait, AnswersProjection, AnswersHostEffect, ListsTerm, GivesTermAlone, AnswersAlias, NoTwoDisagree, equation_asked, const_asked, term_asked, one_deeper, AnswersTraitAbove, Through, given_through, asked_through, through_level, IsProven, AnswersThrough, AnswersGiven, AppliesProven, AppliesGiven}
 use Rattle.goal_solver.specs.State.{State, kinds_of}
 use Rattle.goal_solver.specs.declared.eval.goals.GoalFault.TheVariants.{ExpectedTermNotFree}

@@ -1,5 +1,5 @@
 -- A context with region variables more, and responses that change nothing but lifetimes.
-use Rattle.std.proofs.Common.{◌≡◌, ℕ, zero, suc, Bool, true, List, [], ◌∷◌, ◌++◌, length, map, replicate, None, Result, Ok, Err, refl, sym, ap, ◌∙◌, subst}
+use Rattle.std.proofs.Common.{◌≡◌, ℕ, zero, suc, true, List, [], ◌∷◌, ◌++◌, length, map, replicate, None, Result, Ok, Err, refl, sym, ap, ◌∙◌, subst}
 use Rattle.std.specs.Prelude.{IsTrue}
 use Rattle.goal_terms.specs.NodeTests.{is_made}
 use Rattle.goal_terms.specs.declared.answers.Response.{Response}
@@ -9,8 +9,8 @@ use Rattle.goal_terms.specs.declared.heads.Variable.{Variable}
 use Rattle.goal_infer.specs.Inference.{Inference}
 use Rattle.goal_infer.specs.RegionEquations.{region_variable}
 use Rattle.goal_infer.specs.Replacement.{number_of, kind_of_variable}
-use Rattle.goal_infer.specs.Resolution.{binding_in, binding_of}
-use Rattle.goal_infer.specs.Unification.{kinds_of as kinds_at, is_made_in}
+use Rattle.goal_infer.specs.Resolution.{binding_of}
+use Rattle.goal_infer.specs.Unification.{is_made_in}
 use Rattle.goal_infer.specs.declared.undo.InferVariable.{InferVariable}
 use Rattle.goal_kinds.specs.declared.faults.Fault.{Fault}
 use Rattle.goal_solver.specs.Answers.{IsQuiet, IsQuietAside, AnswersQuietly, AnswersAside}

@@ -34,6 +34,7 @@ use Rattle.goal_infer.specs.declared.unify.Unified.TheVariants as unified
 use Rattle.goal_infer.proofs.SolvedLemmas.{agrees-kept, resolved-kept}
 use Rattle.goal_kinds.proofs.InternedLemmas.{are_in-grown}
 use Rattle.goal_kinds.proofs.UnderLemmas.{are_in-below}
+use Rattle.goal_tables.specs.Faults.{IsChecked}
 use Rattle.goal_kinds.specs.Answers.{setting_of}
 use Rattle.goal_kinds.specs.Equality.{Unequal, RowUnequal}
 use Rattle.goal_kinds.specs.Interned.{IsIn, AreIn, erased_at, erased_all}
@@ -50,10 +51,10 @@ use Rattle.goal_solver.specs.Settled.{AreSettled, AreSettledIn, outcome_in, IsPl
 use Rattle.goal_solver.specs.State.{State, IsValid, kinds_of}
 use Rattle.goal_eval.specs.declared.eval.outcomes.OnAccess.{OnAccess}
 use Rattle.goal_eval.specs.declared.eval.outcomes.Setting as over
-use Rattle.goal_eval.specs.declared.eval.outcomes.Outcome.{Outcome}
-use Rattle.goal_eval.specs.declared.eval.outcomes.Outcome.TheVariants as outcome
+use Rattle.goal_kinds.specs.declared.outcomes.Outcome.{Outcome}
+use Rattle.goal_kinds.specs.declared.outcomes.Outcome.TheVariants as outcome
 use Rattle.goal_eval.specs.declared.eval.outcomes.Stop.{Stop}
-use Rattle.goal_solver.proofs.GoingBackLemmas.{goes_back-same, goes_back-through}
+use Rattle.goal_solver.proofs.GoingBackLemmas.{goes_back-same}
 use Rattle.goal_solver.proofs.SettledLemmas.{replaced-closed}
 
 -- what an option holds
@@ -175,14 +176,16 @@ pub followed-second : (s : State) (U V : List Tree) (ids rs : List TermId) → K
 followed-second s U V ids rs k solved b e = sym (erased-terms V rs) ∙ e ∙ resolved-grown s.terms U s.inference k solved ids b ∙ bound-resolved s ids
 
 -- what is settled over a context
-pub settled-in : (c : over.Setting) (s : State) (env : List Clause) (on : OnAccess) (b : Bool) (n : ℕ) (ts us xs ys : List Tree) (o : Result Outcome Stop) → IfOk o (AreSettled c b n xs ys) →
+pub settled-in : (c : over.Setting) (s : State) (env : List Clause) (on : OnAccess) (b : Bool) (n : ℕ) (ts us xs ys : List Tree) (o : Result Outcome Stop) → IsChecked c.rows.now → IfOk o (AreSettled c b n xs ys) →
     c.rows.now ≡ s.tables → c.typing_mode.now ≡ s.typing_mode → c.on_access ≡ on → c.environment.now ≡ env → b ≡ not (some_in_env is_any_infer env) → xs ≡ ts → ys ≡ us →
     IfOk o (AreSettledIn s (RunsAs on s.typing_mode) env n ts us)
-settled-in c s env on b n ts us xs ys (Err x) a e f w g h p q = tt
-settled-in c s env on b n ts us xs ys (Ok o) a e f w g h p q =
+settled-in c s env on b n ts us xs ys (Err x) checked a e f w g h p q = tt
+settled-in c s env on b n ts us xs ys (Ok o) checked a e f w g h p q =
     let alike : (m : TypingMode) → setting_of c.rows.now m c.environment.now ≡ setting_of s.tables m env =
     λ m. ap (λ t. setting_of t m c.environment.now) e ∙ ap (setting_of s.tables m) g in
-    let stands : (m : TypingMode) → RunsAs on s.typing_mode m → RunsFor c m = λ m st. subst (λ k. RunsAs k c.typing_mode.now m) (sym w) (subst (λ r. RunsAs on r m) (sym f) st) in
+    let stands : (m : TypingMode) → RunsAs on s.typing_mode m → RunsFor c m = λ m st.
+    let run : RunsAs c.on_access c.typing_mode.now m = subst (λ k. RunsAs k c.typing_mode.now m) (sym w) (subst (λ r. RunsAs on r m) (sym f) st) in
+    (run.0, run.1, checked) in
     let z : AreSettled c b n ts us o = subst (λ z. AreSettled c b n z us o) p (subst (λ z. AreSettled c b n xs z o) q a) in
     record {
       holds = λ held m st ρ. subst (λ S. Pairs (level S n).equal (all_replaced ρ ts) (all_replaced ρ us)) (alike m) (z.holds held m (stands m st) ρ);

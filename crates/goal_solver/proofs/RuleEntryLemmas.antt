@@ -8,7 +8,7 @@ use Rattle.goal_terms.specs.TableMeaning.{Keeps}
 use Rattle.goal_terms.specs.Tree.{Tree}
 use Rattle.goal_terms.proofs.InternLemmas.{keeps-refl}
 use Rattle.goal_tables.specs.declared.rows.Tables.{Tables}
-use Rattle.goal_kinds.specs.Entries.{Arguments, ExpectedTerm, Entry, arguments, row_clauses, row_conditions, expected, access, delayed_fault, undecided, EntriesHold, EntriesRefuted, AsksNoTerm}
+use Rattle.goal_kinds.specs.Entries.{Arguments, Entry, arguments, row_clauses, row_conditions, expected, access, delayed_fault, undecided, EntriesHold, EntriesRefuted, AsksNoTerm}
 use Rattle.goal_kinds.specs.InternedEntries.{entry_at}
 use Rattle.goal_kinds.specs.Level.{Level}
 use Rattle.goal_kinds.specs.RuleLists.{arguments_of, expected_of, entry_of, names_arguments, before, entries_of}
@@ -28,11 +28,10 @@ use Rattle.goal_solver.specs.RunRules.{asked_by, asked_of, IsAskedOnce, asked_as
 use Rattle.goal_eval.specs.declared.eval.lists.progress.ListRun.{ListRun}
 use Rattle.goal_eval.specs.declared.eval.lists.progress.Reached.{Reached}
 use Rattle.goal_eval.specs.declared.eval.lists.progress.Reached.TheVariants as reached
-use Rattle.goal_eval.specs.declared.eval.outcomes.Outcome.TheVariants as outcome
+use Rattle.goal_kinds.specs.declared.outcomes.Outcome.TheVariants as outcome
 use Rattle.goal_eval.specs.declared.eval.outcomes.Stop.{Stop}
 use Rattle.goal_solver.specs.declared.eval.run_rule.asked.Asked.{Asked}
 use Rattle.goal_solver.specs.declared.eval.run_rule.asked.Asked.TheVariants as asked
-use Rattle.goal_solver.specs.declared.eval.run_rule.recorded.ToRecord.{ToRecord}
 use Rattle.goal_solver.specs.declared.eval.run_rule.recorded.ToRecord.TheVariants as recorded
 use Rattle.goal_eval.proofs.ListRunLemmas.{progress_same-grown, asking-leads, access-asks, fault-asks, undecided-asks}
 

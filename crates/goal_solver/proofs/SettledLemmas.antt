@@ -20,18 +20,18 @@ use Rattle.goal_kinds.specs.Equality.{Equal, Unequal, EqualByForm, UnequalByForm
 use Rattle.goal_kinds.specs.Interned.{erased_at, erased_all}
 use Rattle.goal_kinds.specs.Level.{nothing, HasHeadForm, HeadFormRefuted}
 use Rattle.goal_kinds.specs.Levels.{level}
-use Rattle.goal_kinds.specs.Settings.{Setting, is_headline}
+use Rattle.goal_kinds.specs.Settings.{Setting}
 use Rattle.goal_kinds.specs.Words.{Pairs, SomePair}
 use Rattle.goal_kinds.proofs.EqualLemmas.{no_pair_apart}
-use Rattle.goal_eval.specs.Joined.{both}
+use Rattle.goal_kinds.specs.Joined.{both}
 use Rattle.goal_eval.specs.Outcomes.{RunsFor, Says, level_in, setting_in}
 use Rattle.goal_eval.specs.Pending.{HaveOneHead, IsOfKind}
 use Rattle.goal_terms.specs.Sorts.{sort_of, is_argument_sort}
 use Rattle.goal_solver.specs.Relating.{all_replaced, SaysEqual}
 use Rattle.goal_solver.specs.Settled.{IsSettled, AreSettled, HoldsWithMemory}
 use Rattle.goal_eval.specs.declared.eval.outcomes.Setting as over
-use Rattle.goal_eval.specs.declared.eval.outcomes.Outcome.{Outcome}
-use Rattle.goal_eval.specs.declared.eval.outcomes.Outcome.TheVariants as outcome
+use Rattle.goal_kinds.specs.declared.outcomes.Outcome.{Outcome}
+use Rattle.goal_kinds.specs.declared.outcomes.Outcome.TheVariants as outcome
 use Rattle.goal_eval.specs.declared.eval.outcomes.Stop.{Stop}
 use Rattle.goal_eval.specs.declared.eval.outcomes.Stop.TheVariants as stop
 use Rattle.goal_eval.proofs.MergingLemmas.{both-says, says-map}

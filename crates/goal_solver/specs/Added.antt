@@ -1,5 +1,5 @@
 -- Goals, hidden types and records that are added to a context.
-use Rattle.std.specs.Prelude.{◌≡◌, ◌⊎◌, Bool, nat_lt, List, [], ◌∷◌, ◌++◌, length, Option, Some, None}
+use Rattle.std.specs.Prelude.{◌≡◌, Bool, nat_lt, List, [], ◌∷◌, ◌++◌, length, Option, Some, None}
 use Rattle.std.specs.List.{Contains}
 use Rattle.goal_terms.specs.TreeOf.{tree_of_ty}
 use Rattle.goal_terms.specs.declared.answers.DelayedFault.{DelayedFault}

@@ -1,12 +1,12 @@
 -- When an answer to a goal is justified, and what it leaves undecided.
-use Rattle.std.specs.Prelude.{◌≡◌, ◌⊎◌, ◌<◌, ℕ, Bool, true, false, not, ◌||◌, ◌&&◌, List, [], ◌∷◌, length, map, replicate, Option, Some, None, Result, Ok, Err, IfOk, IsOk}
+use Rattle.std.specs.Prelude.{◌≡◌, ◌⊎◌, ◌<◌, ℕ, Bool, true, false, not, ◌||◌, ◌&&◌, List, [], ◌∷◌, length, replicate, Option, Some, None, Result, Ok, Err, IfOk, IsOk}
 use Rattle.goal_terms.specs.Closed.{is_closed}
 use Rattle.goal_terms.specs.Erased.{erased}
 use Rattle.goal_terms.specs.NodeTests.{is_any_infer, general_variable_at}
 use Rattle.goal_terms.specs.PredicateTrees.{PredicateTree}
 use Rattle.goal_terms.specs.Sorts.{IsTerm}
 use Rattle.goal_terms.specs.Tree.{Tree, node_of}
-use Rattle.goal_terms.specs.TreeOf.{tree_of_term, tree_of_alias, tree_of_arg}
+use Rattle.goal_terms.specs.TreeOf.{tree_of_term, tree_of_alias}
 use Rattle.goal_terms.specs.declared.answers.Certainty.{Certainty}
 use Rattle.goal_terms.specs.declared.answers.Certainty.TheVariants as certainty
 use Rattle.goal_terms.specs.declared.answers.Response.{Response}
@@ -28,8 +28,8 @@ use Rattle.goal_kinds.specs.Premises.{ClauseHolds, ClauseRefuted}
 use Rattle.goal_kinds.specs.Settings.{is_headline}
 use Rattle.goal_solver.specs.State.{State}
 use Rattle.goal_kinds.specs.declared.faults.Fault.{Fault}
-use Rattle.goal_eval.specs.declared.eval.outcomes.Outcome.{Outcome}
-use Rattle.goal_eval.specs.declared.eval.outcomes.Outcome.TheVariants as outcome
+use Rattle.goal_kinds.specs.declared.outcomes.Outcome.{Outcome}
+use Rattle.goal_kinds.specs.declared.outcomes.Outcome.TheVariants as outcome
 use Rattle.goal_eval.specs.declared.eval.outcomes.Stop.{Stop}
 use Rattle.goal_kinds.specs.declared.faults.Fault.TheVariants as fault
 

@@ -3,10 +3,12 @@ use Rattle.std.specs.Prelude.{◌≡◌, ◌⊎◌, ◌||◌, ℕ, Bool, true, f
 use Rattle.goal_terms.specs.Erased.{erased}
 use Rattle.goal_terms.specs.Tree.{Tree}
 use Rattle.goal_terms.specs.TreeOf.{tree_of_ty, trees_of}
+use Rattle.goal_terms.specs.declared.answers.Certainty.{Certainty}
 use Rattle.goal_terms.specs.declared.answers.Certainty.TheVariants as certainty
 use Rattle.goal_terms.specs.declared.answers.TraitGoalProvenVia.{TraitGoalProvenVia}
 use Rattle.goal_terms.specs.declared.answers.TraitGoalProvenVia.TheVariants as class
 use Rattle.goal_terms.specs.declared.modes.TypingMode.{TypingMode}
+use Rattle.goal_terms.specs.declared.ids.ImplId.{ImplId}
 use Rattle.goal_terms.specs.declared.predicates.Clause.{Clause}
 use Rattle.goal_terms.specs.declared.predicates.ClauseKind.{ClauseKind}
 use Rattle.goal_terms.specs.declared.predicates.Goal.{Goal}
@@ -64,20 +66,32 @@ words_over m b Gives Refuted passes is_for asked S = record {
   asked = asked;
 }
 
--- a rule says exactly what a candidate does: it gives a term at a height where the candidate does, and is refuted where that is
+-- a rule says what a candidate does, if it is sure: it gives a term at a height where the candidate does, and is refuted where that is
+abbrev pub SaysAs : GoalWords → Certainty → Rule → Candidate → Type 0
+SaysAs W k r c = GivesAs W.has_term W.setting k (λ n t. W.gives n c t) r × RefutedAs W.setting (λ n. W.refuted n c) r
+
+-- it says exactly what the candidate does
 abbrev pub SaysTheSame : GoalWords → Rule → Candidate → Type 0
-SaysTheSame W r c = GivesAs W.has_term W.setting certainty.Yes (λ n t. W.gives n c t) r × RefutedAs W.setting (λ n. W.refuted n c) r
+SaysTheSame W r c = SaysAs W certainty.Yes r c
+
+-- the rule of an impl isn't sure where others are more special: these aren't asked
+abbrev pub unless_listed : List ImplId → Certainty
+unless_listed [] = certainty.Yes
+unless_listed (i ∷ is) = certainty.Maybe
+
+abbrev pub impl_certainty : ImplRow → Certainty
+impl_certainty r = unless_listed r.more_special.items
 
 -- it says no more than the candidate does
 abbrev pub SaysNoMore : GoalWords → Rule → Candidate → Type 0
 SaysNoMore W r c =
     ((n : ℕ) (t : Tree) → RuleSays W.has_term W.setting n r t → W.gives n c t) × ((n : ℕ) → RuleRefuted W.setting (level W.setting n) r → W.refuted n c)
 
--- a rule speaks for a candidate: that of the built-in one may say less than it
+-- a rule speaks for a candidate: that of the built-in one may say less than it, and that of an impl with more special ones
 abbrev pub Speaks : GoalWords → Rule → Candidate → Type 0
 Speaks W r (assumption p) = SaysTheSame W r (assumption p)
 Speaks W r (implied_bound q cs) = SaysTheSame W r (implied_bound q cs)
-Speaks W r (by_impl i) = SaysTheSame W r (by_impl i)
+Speaks W r (by_impl i) = SaysAs W (impl_certainty i) r (by_impl i)
 Speaks W r built_in = SaysNoMore W r built_in
 Speaks W r error = SaysTheSame W r error
 

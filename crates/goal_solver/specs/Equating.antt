@@ -14,8 +14,8 @@ use Rattle.goal_solver.specs.Answers.{IsOwed, level_over}
 use Rattle.goal_solver.specs.Relating.{AgreesWith, Identifies, all_replaced, all_bound, AreDefinite, AreClosedSides, IsEqualAnswer, AreUndecided, LeavesOpen, SaysYes, Refuses, all_equated, AreIdentical}
 use Rattle.goal_solver.specs.State.{State, kinds_of}
 use Rattle.goal_kinds.specs.declared.faults.Fault.{Fault}
-use Rattle.goal_eval.specs.declared.eval.outcomes.Outcome.{Outcome}
-use Rattle.goal_eval.specs.declared.eval.outcomes.Outcome.TheVariants as outcome
+use Rattle.goal_kinds.specs.declared.outcomes.Outcome.{Outcome}
+use Rattle.goal_kinds.specs.declared.outcomes.Outcome.TheVariants as outcome
 
 -- what is answered of lists that aren't refuted
 abbrev pub certainty_of : Outcome → Certainty

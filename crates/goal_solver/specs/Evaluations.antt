@@ -15,7 +15,7 @@ use Rattle.goal_solver.specs.Promises.{const_asked, equation_asked}
 use Rattle.goal_solver.specs.State.{State}
 use Rattle.goal_eval.specs.declared.eval.outcomes.Found.{Found}
 use Rattle.goal_eval.specs.declared.eval.outcomes.OnAccess.{OnAccess}
-use Rattle.goal_eval.specs.declared.eval.outcomes.Outcome.{Outcome}
+use Rattle.goal_kinds.specs.declared.outcomes.Outcome.{Outcome}
 use Rattle.goal_eval.specs.declared.eval.outcomes.Stop.{Stop}
 use Rattle.goal_eval.specs.declared.eval.outcomes.Stop.TheVariants as stop
 use Rattle.goal_solver.specs.declared.eval.predicate_views.PredicateView.{PredicateView}

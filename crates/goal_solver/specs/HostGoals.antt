@@ -1,5 +1,5 @@
 -- Host effect goals whose plain goals are taken to hold through a class, and what their candidates answer.
-use Rattle.std.specs.Prelude.{◌≡◌, ◌<◌, ℕ, suc, Option, Some, None, Result, IfOk, IfSome}
+use Rattle.std.specs.Prelude.{◌<◌, ℕ, Option, Some, None, Result, IfOk, IfSome}
 use Rattle.goal_terms.specs.PredicateTrees.{PredicateTree, holds_const}
 use Rattle.goal_terms.specs.declared.answers.Response.{Response}
 use Rattle.goal_terms.specs.declared.answers.TraitGoalProvenVia.{TraitGoalProvenVia}
@@ -20,7 +20,7 @@ use Rattle.goal_eval.specs.Outcomes.{Says}
 use Rattle.goal_solver.specs.Promises.{whether_answered, decided_in, ChangesLifetimes, NamesNoClass, LeavesUndecided}
 use Rattle.goal_solver.specs.State.{State}
 use Rattle.goal_solver.specs.declared.effect_goals.proven_via.HostEffectThrough.{HostEffectThrough}
-use Rattle.goal_eval.specs.declared.eval.outcomes.Outcome.{Outcome}
+use Rattle.goal_kinds.specs.declared.outcomes.Outcome.{Outcome}
 
 -- a const goal whose plain goal is taken to hold through a class
 pub record HostThrough : Type 0 where

@@ -1,5 +1,5 @@
 -- What running a list of entries with inference variables does: one step for each entry, in order, and a closing evaluation.
-use Rattle.std.specs.Prelude.{◌≡◌, ◌⊎◌, true, false, List, [], ◌∷◌, ◌++◌, length, map, Option, Some, None, option_map, slice_get, Result, Ok, Err, Vec}
+use Rattle.std.specs.Prelude.{◌≡◌, ◌⊎◌, true, false, List, [], ◌∷◌, ◌++◌, length, map, Option, Some, None, option_map, slice_get, Ok, Vec}
 use Rattle.std.specs.Global.{Global}
 use Rattle.std.specs.List.{AllZip}
 use Rattle.goal_terms.specs.Folding.{instance, instantiating}
@@ -32,8 +32,6 @@ use Rattle.goal_tables.specs.declared.rows.ImplRow.{ImplRow}
 use Rattle.goal_tables.specs.declared.rows.Tables.{Tables}
 use Rattle.goal_kinds.specs.Rules.{MatchedHeader, clauses_in, conditions_in, value_in}
 use Rattle.goal_kinds.specs.Settings.{is_headline}
-use Rattle.goal_kinds.specs.declared.faults.Fault.{Fault}
-use Rattle.goal_kinds.specs.declared.faults.Fault.TheVariants as fault
 use Rattle.goal_kinds.specs.declared.rules.FirstUse.{FirstUse}
 use Rattle.goal_kinds.specs.declared.rules.FirstUse.TheVariants as first
 use Rattle.goal_kinds.specs.declared.rules.RowClauses.{RowClauses}

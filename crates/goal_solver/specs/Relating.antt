@@ -27,8 +27,8 @@ use Rattle.goal_eval.specs.Outcomes.{Says}
 use Rattle.goal_solver.specs.State.{State, kinds_of}
 use Rattle.goal_kinds.specs.declared.faults.Fault.{Fault}
 use Rattle.goal_kinds.specs.declared.faults.Fault.TheVariants as fault
-use Rattle.goal_eval.specs.declared.eval.outcomes.Outcome.{Outcome}
-use Rattle.goal_eval.specs.declared.eval.outcomes.Outcome.TheVariants as outcome
+use Rattle.goal_kinds.specs.declared.outcomes.Outcome.{Outcome}
+use Rattle.goal_kinds.specs.declared.outcomes.Outcome.TheVariants as outcome
 
 -- a replacement of the variables of a context by trees agrees with what they are bound to
 abbrev pub AgreesWith : State → (Variable → Tree) → Type 0

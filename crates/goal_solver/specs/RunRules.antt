@@ -39,7 +39,7 @@ use Rattle.goal_solver.specs.State.{State}
 use Rattle.goal_eval.specs.declared.eval.lists.ListOutcome.{ListOutcome}
 use Rattle.goal_eval.specs.declared.eval.lists.progress.ListRun.{ListRun}
 use Rattle.goal_eval.specs.declared.eval.lists.progress.Reached.{Reached}
-use Rattle.goal_eval.specs.declared.eval.outcomes.Outcome.TheVariants as outcome
+use Rattle.goal_kinds.specs.declared.outcomes.Outcome.TheVariants as outcome
 use Rattle.goal_solver.specs.declared.eval.run_rule.asked.Asked.{Asked}
 use Rattle.goal_solver.specs.declared.eval.run_rule.asked.Asked.TheVariants as asked
 use Rattle.goal_solver.specs.declared.eval.run_rule.recorded.ToRecord.{ToRecord}

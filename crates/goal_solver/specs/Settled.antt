@@ -15,8 +15,8 @@ use Rattle.goal_eval.specs.Outcomes.{RunsFor, Says, level_in}
 use Rattle.goal_solver.specs.Relating.{Identifies, all_replaced, all_bound, AreClosedSides, SaysEqual}
 use Rattle.goal_solver.specs.State.{State, kinds_of}
 use Rattle.goal_eval.specs.declared.eval.outcomes.Setting as over
-use Rattle.goal_eval.specs.declared.eval.outcomes.Outcome.{Outcome}
-use Rattle.goal_eval.specs.declared.eval.outcomes.Outcome.TheVariants as outcome
+use Rattle.goal_kinds.specs.declared.outcomes.Outcome.{Outcome}
+use Rattle.goal_kinds.specs.declared.outcomes.Outcome.TheVariants as outcome
 use Rattle.goal_eval.specs.declared.eval.outcomes.Stop.{Stop}
 use Rattle.goal_eval.specs.declared.eval.outcomes.Stop.TheVariants as stop
 

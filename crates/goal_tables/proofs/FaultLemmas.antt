@@ -55,7 +55,7 @@ none p [] h g s = absurd s
 none p (x ∷ fs) h g s = none_on p x fs (p x) refl (none p fs) h g s
 
 rising : Rises 0 all_faults
-rising = (omega arith, (omega arith, (omega arith, (omega arith, (omega arith, (omega arith, (omega arith, (omega arith, (omega arith, (omega arith, (omega arith, (omega arith, (omega arith, (omega arith, (omega arith, (omega arith, (omega arith, (omega arith, tt))))))))))))))))))
+rising = (omega arith, (omega arith, (omega arith, (omega arith, (omega arith, (omega arith, (omega arith, (omega arith, (omega arith, (omega arith, (omega arith, (omega arith, (omega arith, (omega arith, (omega arith, (omega arith, (omega arith, (omega arith, (omega arith, (omega arith, tt))))))))))))))))))))
 
 place : (g : TableFault) → Stands g all_faults ⊎ (g ≡ fault.OutOfMemory)
 place fault.UnknownItem = inl (inl refl)
@@ -76,6 +76,8 @@ place fault.SourceMismatch = inl (inr (inr (inr (inr (inr (inr (inr (inr (inr (i
 place fault.OwnParametersMismatch = inl (inr (inr (inr (inr (inr (inr (inr (inr (inr (inr (inr (inr (inr (inr (inr (inl refl))))))))))))))))
 place fault.BuiltinItemMismatch = inl (inr (inr (inr (inr (inr (inr (inr (inr (inr (inr (inr (inr (inr (inr (inr (inr (inl refl)))))))))))))))))
 place fault.DoubledId = inl (inr (inr (inr (inr (inr (inr (inr (inr (inr (inr (inr (inr (inr (inr (inr (inr (inr (inl refl))))))))))))))))))
+place fault.SpecializationMismatch = inl (inr (inr (inr (inr (inr (inr (inr (inr (inr (inr (inr (inr (inr (inr (inr (inr (inr (inr (inl refl)))))))))))))))))))
+place fault.SpecializationCycle = inl (inr (inr (inr (inr (inr (inr (inr (inr (inr (inr (inr (inr (inr (inr (inr (inr (inr (inr (inr (inl refl))))))))))))))))))))
 place fault.OutOfMemory = inr refl
 
 pub checked : (t : Tables) → find (λ f. applies t f) all_faults ≡ None → IsChecked t

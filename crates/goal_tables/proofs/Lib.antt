@@ -8,3 +8,4 @@ pub mod ParamLemmas
 pub mod PlaceLemmas
 pub mod PlacesLemmas
 pub mod SiteLemmas
+pub mod SpecialLemmas

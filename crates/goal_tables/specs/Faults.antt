@@ -1,10 +1,11 @@
 -- The faults of tables, each with a fact of its own.
 use Rattle.std.specs.Prelude.{◌≡◌, ◌<◌, ℕ, Bool, true, false, ◌||◌, List, [], ◌∷◌}
-use Rattle.goal_tables.specs.ImplFaults.{unfixed_parameter, reservation_with_items, impl_of_builtin_trait, inherent_const_without_value}
+use Rattle.goal_tables.specs.ImplFaults.{unfixed_parameter, reservation_with_items, impl_of_builtin_trait, inherent_const_without_value, specialization_mismatch}
 use Rattle.goal_tables.specs.LangFaults.{lang_item_missing, builtin_item_mismatch}
 use Rattle.goal_tables.specs.RowFaults.{lies_in_rows}
 use Rattle.goal_tables.specs.Rows.{doubled_id, doubled_lang}
 use Rattle.goal_tables.specs.SourceFaults.{source_mismatch, own_parameters_mismatch}
+use Rattle.goal_tables.specs.Specialized.{specialization_cycle}
 use Rattle.goal_tables.specs.TraitFaults.{auto_trait, lang_allows_const, alias_with_items}
 use Rattle.goal_tables.specs.declared.faults.TableFault.{TableFault}
 use Rattle.goal_tables.specs.declared.faults.TableFault.TheVariants as fault
@@ -56,6 +57,8 @@ number_of fault.OwnParametersMismatch = 16
 number_of fault.BuiltinItemMismatch = 17
 number_of fault.DoubledId = 18
 number_of fault.OutOfMemory = 19
+number_of fault.SpecializationMismatch = 20
+number_of fault.SpecializationCycle = 21
 
 -- the faults of tables, by their numbers
 abbrev pub all_faults : List TableFault
@@ -78,6 +81,8 @@ all_faults =
     ∷ fault.OwnParametersMismatch
     ∷ fault.BuiltinItemMismatch
     ∷ fault.DoubledId
+    ∷ fault.SpecializationMismatch
+    ∷ fault.SpecializationCycle
     ∷ []
 
 -- whether a fault of tables applies; want of memory is no matter of the tables
@@ -101,6 +106,8 @@ applies t fault.OwnParametersMismatch = own_parameters_mismatch t
 applies t fault.BuiltinItemMismatch = builtin_item_mismatch t
 applies t fault.DoubledId = doubled_id t
 applies t fault.OutOfMemory = false
+applies t fault.SpecializationMismatch = specialization_mismatch t
+applies t fault.SpecializationCycle = specialization_cycle t
 
 -- no fault applies
 unfoldable pub IsChecked : Tables → Type 0

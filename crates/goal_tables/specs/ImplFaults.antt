@@ -1,11 +1,13 @@
 -- Faults of impls.
 use Rattle.std.specs.Prelude.{Bool, true, false, ◌==◌, ◌&&◌, ◌||◌, not, length, is_none, is_some}
 use Rattle.std.specs.List.{list_any}
+use Rattle.goal_terms.specs.declared.ids.ImplId.{ImplId}
 use Rattle.goal_terms.specs.declared.ids.TraitId.{TraitId}
 use Rattle.goal_tables.specs.FixedParams.{impl_has_unfixed, inherent_has_unfixed}
 use Rattle.goal_tables.specs.LangFaults.{params_of_lang}
 use Rattle.goal_tables.specs.Options.{option_holds}
-use Rattle.goal_tables.specs.Rows.{trait_of, items_of, lang_naming}
+use Rattle.goal_tables.specs.Rows.{trait_of, impl_of, items_of, lang_naming}
+use Rattle.goal_tables.specs.SourceFaults.{is_positive}
 use Rattle.goal_tables.specs.declared.lang.LangItem.{LangItem}
 use Rattle.goal_tables.specs.declared.lang.LangItem.TheVariants as item
 use Rattle.goal_tables.specs.declared.lang.LangTarget.TheVariants as target
@@ -57,3 +59,19 @@ inherent_const_without_value t = list_any (λ r. r.is_const && is_none r.value) 
 -- a type or const parameter of an impl doesn't stand in its header outside aliases
 unfoldable pub unfixed_parameter : Tables → Bool
 unfixed_parameter t = list_any impl_has_unfixed t.impls.items || list_any inherent_has_unfixed t.inherent_impls.items
+
+-- an impl lists another that isn't positive, or of another trait
+abbrev pub cannot_specialize : Tables → ImplRow → ImplId → Bool
+cannot_specialize t r i = option_holds (λ q. not (is_positive q.polarity) || not (q.trait_id.0 == r.trait_id.0)) (impl_of t i)
+
+-- an impl isn't positive, and has a list of more special ones
+abbrev pub must_not_list : ImplRow → Bool
+must_not_list r = not (is_positive r.polarity) && not (length r.more_special.items == 0)
+
+-- an impl must not have its list, or one of the list cannot specialize it
+abbrev pub lists_wrongly : Tables → ImplRow → Bool
+lists_wrongly t r = must_not_list r || list_any (λ i. cannot_specialize t r i) r.more_special.items
+
+-- some impl has such a list
+unfoldable pub specialization_mismatch : Tables → Bool
+specialization_mismatch t = list_any (λ r. lists_wrongly t r) t.impls.items

@@ -1,11 +1,12 @@
 -- Tables with the places of their rows.
-use Rattle.std.specs.Prelude.{◌≡◌, ◌==◌, ◌||◌, ℕ, Bool, List, [], ◌∷◌, map, filter, slice_get, Option, Some, None, Vec}
+use Rattle.std.specs.Prelude.{◌≡◌, ◌==◌, ◌||◌, ◌<◌, ◌≤◌, ℕ, Bool, List, [], ◌∷◌, length, get_or, map, filter, slice_get, Option, Some, None, Vec}
 use Rattle.std.specs.HashMap.{get, HashMap}
-use Rattle.std.specs.List.{list_any}
+use Rattle.std.specs.List.{list_any, All, Contains}
 use Rattle.goal_tables.specs.FixedParams.{impl_has_unfixed, inherent_has_unfixed}
 use Rattle.goal_tables.specs.ImplsByHead.{AreKeyLists}
 use Rattle.goal_tables.specs.Places.{IsIndexOf, same_pair, has_double}
 use Rattle.goal_tables.specs.Rows.{same_lang_item, same_lang_target}
+use Rattle.goal_tables.specs.Specialized.{reached, specialization_cycle}
 use Rattle.goal_tables.specs.declared.index.RowIndex.{RowIndex}
 use Rattle.goal_tables.specs.declared.tables_index.TraitIndex.{TraitIndex}
 use Rattle.goal_tables.specs.declared.tables_index.ImplIndex.{ImplIndex}
@@ -60,19 +61,42 @@ impls_numbered rows n = filter (λ r. r.trait_id.0 == n) rows
 unfoldable pub AreImplLists : {A S : Type 0} → List ImplRow → HashMap ℕ (Vec ℕ A) S → Type 0
 AreImplLists {A} {S} rows lists = (n : ℕ) → map (slice_get rows) (list_at (get ◌==◌ lists n)) ≡ map Some (impls_numbered rows n)
 
+-- an impl stands at a place, and the lists lead to it from another, in no more steps than a number and one
+abbrev pub IsReachedAt : Tables → ImplRow → ℕ → ℕ → Type 0
+IsReachedAt t r m p = (n : ℕ) × (q : ImplRow) × (n ≤ m) × (slice_get t.impls.items p ≡ Some q) × Contains (reached t n r) q
+
+-- an impl stands at one of some places
+abbrev pub StandsAmong : List ImplRow → List ℕ → ImplRow → Type 0
+StandsAmong rows places q = (p : ℕ) × Contains places p × (slice_get rows p ≡ Some q)
+
+-- the places of the impls that are more special than one: no more than there are impls
+pub record AreMoreSpecial (t : Tables) (r : ImplRow) (places : List ℕ) : Type 0 where
+  pub few : length places ≤ length t.impls.items
+  pub sound : (j : ℕ) → j < length places → IsReachedAt t r j (get_or places j 0)
+  pub whole : (n : ℕ) → All (StandsAmong t.impls.items places) (reached t n r)
+
+-- for each impl the places of those that are more special
+unfoldable pub AreSpecialLists : {A : Type 0} → Tables → List ImplRow → List (Vec ℕ A) → Type 0
+AreSpecialLists t [] [] = Unit {0}
+AreSpecialLists t [] (l ∷ ls) = ⊥
+AreSpecialLists t (r ∷ rs) [] = ⊥
+AreSpecialLists t (r ∷ rs) (l ∷ ls) = AreMoreSpecial t r l.items × AreSpecialLists t rs ls
+
 -- the places of traits and items are right, and those of the items in their traits' lists
 pub record IsTraitIndex (t : Tables) (i : TraitIndex) : Type 0 where
   pub traits : IsRowIndex (map (λ r. r.id.0) t.traits.items) i.traits
   pub items : IsRowIndex (map (λ r. r.id.0) t.items.items) i.items
   pub listings : AreListings t.traits.items i.listings.items
 
--- the places of impls and definitions are right, those of each trait's impls, also by the head of their self type, and whether a parameter stands in no header
+-- the places of impls and definitions are right, those of each trait's impls, also by the head of their self type, whether a parameter stands in no header, which impls are more special, and whether one is so than itself
 pub record IsImplIndex (t : Tables) (i : ImplIndex) : Type 0 where
   pub impls : IsRowIndex (map (λ r. r.id.0) t.impls.items) i.impls
   pub definitions : IsRowIndex (map (λ r. r.id.0) t.definitions.items) i.definitions
   pub by_trait : AreImplLists t.impls.items i.by_trait
   pub by_head : AreKeyLists t.impls.items i.by_head
   pub unfixed : i.unfixed ≡ list_any impl_has_unfixed t.impls.items
+  pub more_special : AreSpecialLists t t.impls.items i.more_special.items
+  pub cyclic : i.cyclic ≡ specialization_cycle t
 
 -- the places of sources are right, and whether an impl has two for one item
 pub record IsSourceIndex (rows : List SourceRow) (i : SourceIndex) : Type 0 where

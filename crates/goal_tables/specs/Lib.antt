@@ -14,4 +14,6 @@ pub mod RowFaults
 pub mod Rows
 pub mod Sites
 pub mod SourceFaults
+pub mod SpecialSearch
+pub mod Specialized
 pub mod TraitFaults

@@ -119,13 +119,14 @@ lies_in_item t f r =
     || lies_in_const_bounds t (with_alias (item_scope t r)) f r.const_bounds
     || if_unknown f (is_none (trait_of t r.trait_id))
 
--- an impl: its header, where clauses and conditions; a const impl of a trait that doesn't allow const
+-- an impl: its header, where clauses and conditions; a const impl of a trait that doesn't allow const; the impls that it lists
 unfoldable pub lies_in_impl : Tables → faults.TermFault → ImplRow → Bool
 lies_in_impl t f r =
     lies_in_trait_args t r.params.items f r.trait_id r.trait_args.items
     || lies_in_clauses t r.params.items f r.predicates.items
     || lies_in_const_refs t r.params.items f r.const_conditions.items
     || (r.is_const && const_fault t f r.trait_id)
+    || if_unknown f (list_any (λ i. is_none (impl_of t i)) r.more_special.items)
 
 -- what holds a definition has no row
 abbrev pub container_is_unknown : Tables → Container → Bool

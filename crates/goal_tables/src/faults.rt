@@ -50,10 +50,14 @@ pub enum TableFault {
     DoubledId = 18,
     /// A growth was refused.
     OutOfMemory = 19,
+    /// An impl lists one that isn't positive, or of another trait; or one that isn't positive lists some.
+    SpecializationMismatch = 20,
+    /// An impl is more special than itself.
+    SpecializationCycle = 21,
 }
 
 /// The faults of tables, by their numbers.
-const FAULTS: [TableFault; 18] = [
+const FAULTS: [TableFault; 20] = [
     TableFault::UnknownItem,
     TableFault::WrongArgumentCount,
     TableFault::WrongArgumentKind,
@@ -72,6 +76,8 @@ const FAULTS: [TableFault; 18] = [
     TableFault::OwnParametersMismatch,
     TableFault::BuiltinItemMismatch,
     TableFault::DoubledId,
+    TableFault::SpecializationMismatch,
+    TableFault::SpecializationCycle,
 ];
 
 impl IndexedTables {
@@ -149,6 +155,8 @@ impl IndexedTables {
             TableFault::BuiltinItemMismatch => self.has_builtin_item_mismatch(),
             TableFault::DoubledId => self.has_doubled_id(),
             TableFault::OutOfMemory => false,
+            TableFault::SpecializationMismatch => self.has_specialization_mismatch(),
+            TableFault::SpecializationCycle => self.has_specialization_cycle(),
         }
     }
 

@@ -1,11 +1,12 @@
 //! Faults of impls.
 ghost use Rattle.std.specs.Prelude.{◌≡◌};
-ghost use Rattle.goal_tables.specs.ImplFaults.{is_reservation, reserves_items, reservation_with_items, allows_impls, bars_impls, is_builtin_trait, is_trait_alias, impl_of_builtin_trait, inherent_const_without_value};
+ghost use Rattle.std.specs.List.{list_any};
+ghost use Rattle.goal_tables.specs.ImplFaults.{is_reservation, reserves_items, reservation_with_items, allows_impls, bars_impls, is_builtin_trait, is_trait_alias, impl_of_builtin_trait, inherent_const_without_value, must_not_list, cannot_specialize, lists_wrongly, specialization_mismatch};
 
 use crate::lang::{LangItem, LangTarget};
 use crate::lookup::IndexedTables;
 use crate::rows::{ImplPolarity, ImplRow};
-use goal_terms::ids::TraitId;
+use goal_terms::ids::{ImplId, TraitId};
 
 impl ImplPolarity {
     /// Whether the impl only bars a refutation.
@@ -93,4 +94,52 @@ impl IndexedTables {
             .iter()
             .any(|row| row.is_const && row.value.is_none())
     }
+}
+
+impl IndexedTables {
+    /// Whether an impl isn't positive, or of another trait than one that lists it.
+    fn cannot_specialize(&self, row: &ImplRow, id: ImplId) -> bool
+        ensures { result ≡ cannot_specialize self.now row.now id }
+    {
+        match self.impl_row(id) {
+            None => false,
+            Some(listed) => {
+                !listed.polarity.is_positive() || listed.trait_id.0 != row.trait_id.0
+            }
+        }
+    }
+
+    /// Whether an impl lists one that cannot specialize it.
+    fn lists_unfit(&self, row: &ImplRow) -> bool
+        ensures { result ≡ list_any (λ i. cannot_specialize self.now row.now i) row.now.more_special.items }
+    {
+        row.more_special
+            .iter()
+            .any(|id| self.cannot_specialize(row, *id))
+    }
+
+    /// Whether an impl must not have its list of more special ones, or lists one that cannot specialize it.
+    fn lists_wrongly(&self, row: &ImplRow) -> bool
+        ensures { result ≡ lists_wrongly self.now row.now }
+    {
+        must_not_list(row) || self.lists_unfit(row)
+    }
+
+    /// Whether an impl has a list that is wrong.
+    #[tactic(auto, unfolding(crate::specs::ImplFaults::specialization_mismatch))]
+    pub fn has_specialization_mismatch(&self) -> bool
+        ensures { result ≡ specialization_mismatch self.now }
+    {
+        self.tables()
+            .impls
+            .iter()
+            .any(|row| self.lists_wrongly(row))
+    }
+}
+
+/// Whether an impl isn't positive, and has a list of more special ones.
+fn must_not_list(row: &ImplRow) -> bool
+    ensures { result ≡ must_not_list row.now }
+{
+    !row.polarity.is_positive() && !row.more_special.is_empty()
 }

@@ -23,5 +23,6 @@ pub mod rows;
 pub mod scopes;
 pub mod sites;
 pub mod sources;
+pub mod specialized;
 pub mod tables_index;
 pub mod trait_faults;

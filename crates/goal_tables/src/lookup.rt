@@ -1,17 +1,20 @@
 //! Tables whose rows are found by their ids.
-ghost use Rattle.std.specs.Prelude.{◌≡◌, ◌==◌, ◌<◌, ◌&&◌, IfOk, find, length, map, slice_get};
-ghost use Rattle.std.specs.List.{list_any};
+ghost use Rattle.std.specs.Prelude.{◌≡◌, ◌==◌, ◌<◌, ◌&&◌, IfOk, Some, find, length, map, slice_get};
+ghost use Rattle.std.specs.List.{All, list_any};
 ghost use Rattle.std.specs.Option.{option_copied};
 ghost use Rattle.std.specs.HashMap.{get};
 ghost use Rattle.goal_tables.specs.ImplFaults.{unfixed_parameter};
 ghost use Rattle.goal_tables.specs.ImplsByHead.{impls_with_head};
 ghost use Rattle.goal_tables.specs.Options.{option_holds};
+ghost use Rattle.goal_tables.specs.Specialized.{specialization_cycle};
+ghost use Rattle.goal_tables.specs.declared.rows.ImplRow.{ImplRow as impl_row};
+ghost use Rattle.goal_tables.specs.declared.rows.Tables.{Tables as tables_of};
 ghost use Rattle.goal_tables.specs.Places.{same_pair};
-ghost use Rattle.goal_tables.specs.Indexed.{IsRowIndex, IsSourceIndex, IsLangIndex, AreListings, list_at, lists_number as lists_item_number, lists_twice};
+ghost use Rattle.goal_tables.specs.Indexed.{IsRowIndex, IsSourceIndex, IsLangIndex, AreListings, AreMoreSpecial, AreSpecialLists, list_at, lists_number as lists_item_number, lists_twice};
 ghost use Rattle.goal_tables.specs.Rows.{trait_of, item_of, impl_of, definition_of, free_of, inherent_impl_of, inherent_of, opaque_of, adt_of, function_of, closure_of, source_of, impls_of, items_of, impl_of_inherent, same_lang_item, same_lang_target, lang_of, lang_naming, lang_trait_of, lang_item_of, lang_adt_of, doubled_id, doubled_source, doubled_lang};
 
 use crate::impls_by_head::places_with_head;
-use crate::index::{place_of, row_at};
+use crate::index::{RowIndex, place_of, row_at};
 use crate::lang::{LangItem, LangRow, LangTarget};
 use crate::listings::{lists_number, some_lists_twice};
 use crate::rows::{
@@ -231,6 +234,16 @@ impl IndexedTables {
         &self.tables.impls.as_slice()[place]
     }
 
+    /// The places of the impls that are more special than an impl: those that it lists, those that these list, and
+    /// so on.
+    pub fn more_special(&self, id: ImplId) -> &[usize]
+        ensures listed { (r : impl_row) → impl_of self.now id ≡ Some r → AreMoreSpecial self.now r result.now }
+        ensures within { All (λ p. p < length self.now.impls.items) result.now }
+    {
+        let of_impls = &self.index.holds.of_impls;
+        special_list_of(&of_impls.impls, of_impls.more_special.as_slice(), id)
+    }
+
     /// The items of a trait, as its row lists them.
     pub fn items_of_trait(&self, id: TraitId) -> &[ItemId]
         ensures { result.now ≡ items_of self.now id }
@@ -329,6 +342,14 @@ impl IndexedTables {
         self.index.lang.doubled
     }
 
+    /// Whether an impl is more special than itself.
+    #[tactic(auto, unfolding(crate::specs::Specialized::specialization_cycle))]
+    pub fn has_specialization_cycle(&self) -> bool
+        ensures { result ≡ specialization_cycle self.now }
+    {
+        self.index.holds.of_impls.cyclic
+    }
+
     /// Whether a type or const parameter of an impl doesn't stand in its header outside aliases.
     #[tactic(auto, unfolding(crate::specs::ImplFaults::unfixed_parameter))]
     pub fn has_unfixed_parameter(&self) -> bool
@@ -357,6 +378,17 @@ impl IndexedTables {
             self.tables.traits.as_slice(),
             self.index.holds.of_traits.listings.as_slice(),
         )
+    }
+}
+
+/// The list that stands for the impl of an id, if it has a row.
+fn special_list_of<'a>(index: &RowIndex, lists: &'a [Vec<usize>], id: ImplId) -> &'a [usize]
+    ensures listed { (t : tables_of) (r : impl_row) → IsRowIndex (map (λ q. q.id.0) t.impls.items) index.now → AreSpecialLists t t.impls.items lists.now → impl_of t id ≡ Some r → AreMoreSpecial t r result.now }
+    ensures within { (t : tables_of) → AreSpecialLists t t.impls.items lists.now → All (λ p. p < length t.impls.items) result.now }
+{
+    match place_of(&index.places, id.0) {
+        Some(place) if place < lists.len() => lists[place].as_slice(),
+        _ => &[],
     }
 }
 

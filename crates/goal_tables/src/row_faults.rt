@@ -3,7 +3,7 @@ ghost use Rattle.std.specs.Prelude.{◌≡◌, None, is_none};
 ghost use Rattle.std.specs.List.{list_any};
 ghost use Rattle.goal_terms.specs.TreeOf.{tree_of_ty};
 ghost use Rattle.goal_tables.specs.Params.{params_seen};
-ghost use Rattle.goal_tables.specs.Rows.{item_of};
+ghost use Rattle.goal_tables.specs.Rows.{item_of, impl_of};
 ghost use Rattle.goal_tables.specs.Sites.{lies_in};
 ghost use Rattle.goal_tables.specs.RowFaults.{if_unknown, if_kind, lies_in_option, lies_in_value, lies_in_const_bounds, lacks_self_type, lies_in_trait, lies_in_item, lies_in_impl, container_is_unknown, lies_in_definition_value, value_has_other_kind, lies_in_definition, source_is_unknown, lies_in_source, value_differs, lies_in_free, lies_in_inherent_impl, lies_in_inherent, lies_in_opaque, lies_in_field_info, lies_in_adt, lies_in_function, lies_in_closure, target_is_unknown, lies_in_lang, lies_in_trait_rows, lies_in_impl_rows, lies_in_alias_rows, lies_in_inherent_rows, lies_in_type_rows, lies_in_rows};
 
@@ -17,7 +17,7 @@ use crate::rows::{
 };
 use crate::sites::TermFault;
 use goal_terms::answers::ParamKind;
-use goal_terms::ids::ItemId;
+use goal_terms::ids::{ImplId, ItemId};
 use goal_terms::kinds::{kind_of, same_kind};
 use goal_terms::terms::{Term, Ty};
 use goal_terms::view::TermRef;
@@ -133,7 +133,14 @@ impl IndexedTables {
             || fault.if_unknown(self.trait_row(row.trait_id).is_none())
     }
 
-    /// Whether a fault lies in an impl: in its header, where clauses and conditions.
+    /// Whether an impl of a list has no row.
+    fn some_impl_is_unknown(&self, impls: &[ImplId]) -> bool
+        ensures { result ≡ list_any (λ i. is_none (impl_of self.now i)) impls.now }
+    {
+        impls.iter().any(|id| self.impl_row(*id).is_none())
+    }
+
+    /// Whether a fault lies in an impl: in its header, where clauses and conditions, or the impls that it lists.
     #[tactic(auto, unfolding(crate::specs::RowFaults::lies_in_impl))]
     fn lies_in_impl(&self, fault: TermFault, row: &ImplRow) -> bool
         ensures { result ≡ lies_in_impl self.now fault row.now }
@@ -143,6 +150,7 @@ impl IndexedTables {
             || self.lies_in_clauses(params, fault, row.predicates.as_slice())
             || self.lies_in_const_refs(params, fault, row.const_conditions.as_slice())
             || row.is_const && self.const_fault(fault, row.trait_id)
+            || fault.if_unknown(self.some_impl_is_unknown(row.more_special.as_slice()))
     }
 
     /// Whether what holds a definition has no row.

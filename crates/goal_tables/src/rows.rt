@@ -96,6 +96,7 @@ pub struct ImplRow {
     pub guaranteed_unsized: bool,
     pub predicates: Vec<Clause>,
     pub const_conditions: Vec<TraitRef>,
+    pub more_special: Vec<ImplId>,
 }
 
 impl Drop for ImplRow {
@@ -110,6 +111,7 @@ impl Drop for ImplRow {
             guaranteed_unsized: _,
             predicates: _,
             const_conditions: _,
+            more_special: _,
         } = self;
     }
 }

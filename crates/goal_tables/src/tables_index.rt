@@ -11,6 +11,7 @@ use crate::index::{RowIndex, index_of};
 use crate::lang::{LangItem, LangRow, LangTarget};
 use crate::listings::listings;
 use crate::rows::{SourceRow, Tables};
+use crate::specialized::{some_leads_back, special_lists};
 use indexmap::IndexMap;
 use std::alloc::{AllocError, Global};
 
@@ -47,13 +48,16 @@ impl Drop for SourceIndex {
 }
 
 /// Where the rows of impls and definitions stand, where those of each trait's impls do, also by the head of
-/// their self type, and whether a parameter of an impl doesn't stand in its header.
+/// their self type, whether a parameter of an impl doesn't stand in its header, where the impls stand that are
+/// more special than each, and whether one is so than itself.
 pub struct ImplIndex {
     pub impls: RowIndex,
     pub definitions: RowIndex,
     pub by_trait: IndexMap<u32, Vec<usize>>,
     pub by_head: IndexMap<ImplKey, Vec<usize>>,
     pub unfixed: bool,
+    pub more_special: Vec<Vec<usize>>,
+    pub cyclic: bool,
 }
 
 impl Drop for ImplIndex {
@@ -64,6 +68,8 @@ impl Drop for ImplIndex {
             by_trait: _,
             by_head: _,
             unfixed: _,
+            more_special: _,
+            cyclic: _,
         } = self;
     }
 }
@@ -218,12 +224,16 @@ impl ImplIndex {
         let by_trait = impl_lists(alloc, tables.impls.as_slice())?;
         let by_head = key_lists(alloc, tables.impls.as_slice())?;
         let unfixed = some_impl_has_unfixed(alloc, tables.impls.as_slice())?;
+        let more_special = special_lists(alloc, tables, &impls)?;
+        let cyclic = some_leads_back(tables, more_special.as_slice());
         Ok(ImplIndex {
             impls,
             definitions,
             by_trait,
             by_head,
             unfixed,
+            more_special,
+            cyclic,
         })
     }
 }

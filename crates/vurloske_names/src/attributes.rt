@@ -60,6 +60,14 @@ pub fn name_in_attr(ast: &Ast, attr: &Attr) -> Result<Ident, ItemFault> {
     }
 }
 
+/// The name that an attribute's argument is, if it is one.
+pub fn name_in_arg(ast: &Ast, arg: &AttrArg) -> Option<Ident> {
+    match arg {
+        AttrArg::Term(id) => ast.plain_name(*id),
+        _ => None,
+    }
+}
+
 /// The one number in an attribute's parentheses, as in `#[broken(7)]`.
 pub fn number_in_attr(ast: &Ast, attr: &Attr) -> Result<u32, ItemFault> {
     let term = ast.term(term_in_attr(ast, attr)?);

@@ -5,14 +5,13 @@ use Rattle.goal_kinds.specs.Fitting.{trees_at}
 use Rattle.goal_kinds.specs.Causes.{IsCausedEntry}
 use Rattle.goal_kinds.specs.Interned.{AreIn, erased_at, erased_all, predicate_at, premise_at, candidate_at, IsIn, trait_at, CandidateIn}
 use Rattle.goal_eval.proofs.PremiseOutcomes.{PremisesSay, SaysClause, const-predicate, equation-predicate, equation-premise, predicate-premise, premise-at, premises-end, premises-refuted, premises-start, premises-step, trait-predicate, conditions-step, conditions-refuted, conditions-end, condition-at, condition_at, equation-ground, equation-result}
-use Rattle.goal_eval.specs.Joined.{both}
+use Rattle.goal_kinds.specs.Joined.{both}
 use Rattle.goal_eval.proofs.EffectLemmas.{sound-met}
 use Rattle.goal_eval.proofs.CacheLemmas.{caching, cache-grown, sound-grown, sound-aside, known-trait, keep-trait, known-const, keep-const, known-alias, known-within, keep-alias, sound-of, sound-parts}
-use Rattle.goal_eval.specs.Effects.{AreSound}
 use Rattle.goal_terms.specs.Erased.{erased}
 use Rattle.goal_eval.specs.Outcomes.{setting_in, level_in, SaysWhich, SaysThrough, FoundIn, Says, projection_at, header_terms}
 use Rattle.goal_terms.proofs.InternLemmas.{keeps-chain, keeps-refl}
-use Rattle.std.proofs.Common.{◌-◌, arith, ap, map, subst, sym, ◌+◌, ◌∙◌, true, false, refl, ◌∷◌, ◌++◌, length, rules, get_or, ◌<◌, ◌≡◌, ⊎_elim, Some}
+use Rattle.std.proofs.Common.{◌-◌, arith, ap, map, subst, sym, ◌+◌, ◌∙◌, refl, ◌∷◌, ◌++◌, length, rules, get_or, ◌<◌, ◌≡◌, ⊎_elim, Some}
 use Rattle.std.proofs.lemmas.List.Elements.{All-push, All-nil, All-get_or, All-same, All-take}
 use Rattle.goal_terms.specs.Sorts.{IsArgument}
 use Rattle.goal_terms.specs.TreeOf.{trees_of}
@@ -32,8 +31,15 @@ use Rattle.goal_eval.proofs.HeaderArgLemmas.{known_in-grown}
 use Rattle.goal_eval.proofs.HeaderOutcomeLemmas.{behind_clash-zero, behind_clash-refuted, behind_clash-undecided, behind_clash-other, behind_clash-form, any-found, any-more, any-none, any-end, asked-of, instance-unknown, instance-says}
 use Rattle.goal_kinds.specs.Words.{SomePair, Pairs}
 use Rattle.goal_eval.proofs.HeaderMatchLemmas.{fit-says, filled-fills, match-fits, match-clashes, match-known, match-unknown, known-outcome-grown, match-given, known-outcome-given, match-says}
-use Rattle.goal_eval.proofs.ProjectionTermLemmas.{consistent, formed-says, forms-end, forms-more, forms-refuted, forms-unknown, group-back, group-end, group-fitting, group-more, group-stop, same_element}
-use Rattle.goal_kinds.specs.Candidates.{environment, second_group, class_of}
+use Rattle.goal_eval.proofs.ProjectionTermLemmas.{consistent, decided-start, decided-more, given-none, given-beside, formed-says, forms-end, forms-more, forms-refuted, forms-unknown, group-back, group-end, group-fitting, group-more, group-stop, same_element}
+use Rattle.goal_kinds.specs.Answers.{setting_of}
+use Rattle.goal_kinds.specs.Candidates.{by_impl, environment, second_group, class_of}
+use Rattle.goal_kinds.specs.TraitLists.{trait_list}
+use Rattle.goal_eval.specs.SpecialImpls.{IsOfRows, SaysMoreSpecial}
+use Rattle.goal_eval.proofs.CandidateRowLemmas.{class-rows, second-rows}
+use Rattle.goal_eval.proofs.OutcomeLists.{All-at}
+use Rattle.goal_eval.proofs.SpecialImplLemmas.{impls-start, impls-more, impls-shown, impls-end, others-decide}
+use Rattle.goal_terms.specs.declared.modes.TypingMode.TheVariants as mode
 use Rattle.goal_eval.proofs.ProjectionGroupLemmas.{fitting-class, groups-by_environment, groups-by_later, groups-undecided, item-none, item-refuted, item-says, item-undecided, later-by_second, no_args, projection-says, projection-without_item, projection-without_trait, refuted-unformed, replaced-says, self_args-grown, some_args, through-says, through-unformed}
 use Rattle.goal_eval.proofs.MergingLemmas.{found_in-grown, merged-in}
 use Rattle.goal_eval.proofs.+closed.Goals.{normalizes_to::projections::head_forms_outcome-in-Is, normalizes_to::projections::head_forms_outcome-in-Undecided}
@@ -49,18 +55,18 @@ use Rattle.goal_kinds.specs.InternedEntries.{list_at, arguments_at, term_at, ent
 use Rattle.goal_eval.specs.Lists.{IsListFor, LeadsOn, progress_at, SaysRow, numbered_at, premises_of, NamedIn, named_at}
 use Rattle.goal_eval.proofs.ListAnswerLemmas.{none-says, list-says, caused-at, runs-next, runs-refuted, runs-undecided, runs-end, entry-in}
 use Rattle.goal_eval.proofs.ListRunLemmas.{end-in, asking-leads, giving-leads, giving-in, naming-leads, naming-in, terms-ask, clause-asks, row-asks, conditions-ask, access-asks, fault-asks, evaluation-asks, ambiguous-asks, undecided-asks, refused-asks, hidden-asks}
-use Rattle.std.specs.Prelude.{IfSome, slice_get, Ok}
+use Rattle.std.specs.Prelude.{IfOk, IfSome, slice_get, Ok, ◌||◌}
 use Rattle.std.proofs.lemmas.Result.{IfOk-weaker}
 use Rattle.goal_eval.proofs.ListEntryLemmas.{given-named, header-named, other-unnamed, other-named, followed-unnamed, followed-named, row-unnamed, row-found, standing-found, head_form-found, value-unnamed, value-found, value-argument, chosen-found, followed-in, pairs-says}
-use Rattle.goal_eval.specs.AskedTraits.{candidate_list, SaysCandidate}
-use Rattle.goal_eval.proofs.AskedTraitLemmas.{asked-says, asked_in-grown, asked-start, asked-more, asked-shown, asked-end, asked-listed, plain-class, groups-first, groups-second}
+use Rattle.goal_eval.specs.AskedTraits.{candidate_list, SaysListed}
+use Rattle.goal_eval.proofs.AskedTraitLemmas.{asked-says, asked-out, asked-beside, impl-says, asked_in-grown, asked-start, asked-more, asked-shown, asked-end, asked-listed, plain-class, groups-first, groups-second}
 use Rattle.goal_eval.proofs.HostEffectLemmas.{SaysHost, plain-decides, host-unformed, host-formed}
 use Rattle.goal_kinds.specs.AliasLists.{alias_list}
 use Rattle.goal_eval.proofs.ListedTermLemmas.{alias-says, no_item, candidate-says}
 use Rattle.goal_kinds.specs.ProjectionLists.{projection_list}
 use Rattle.std.specs.List.{All}
 use Rattle.goal_terms.specs.declared.answers.TraitGoalProvenVia.TheVariants as class
-use Rattle.goal_eval.specs.declared.eval.outcomes.Outcome.TheVariants as outcome
+use Rattle.goal_kinds.specs.declared.outcomes.Outcome.TheVariants as outcome
 use Rattle.goal_eval.specs.declared.eval.lists.entries.RowPremises.TheVariants as row
 use Rattle.goal_eval.specs.declared.eval.lists.progress.Reached.TheVariants as reached
 use Rattle.goal_eval.proofs.+closed.Goals as goal
@@ -489,6 +495,26 @@ normalizes_to::projections::environment_term-returns-clause-says t c = λ m s.
     ∙ fitting-class (setting_in c.args.setting.now m) c.args.projection.now.item.now.trait_id (erased_at c.args.terms.now c.args.self_ty) (trees_at c.args.terms.now c.args.projection.now.args.now))
     c.group_term.result (c.group_term.ensures.says m s)
 
+pub normalizes_to::projections::environment_term-group_term-requires : goal.normalizes_to::projections::environment_term-group_term-requires
+normalizes_to::projections::environment_term-group_term-requires t c = (
+  omega arith,
+  (
+    search (rules, caching),
+    (
+      (
+        are_in-grown c.args.terms.now c.candidates_of_class.new.terms c.in_ok-candidates.ensures.kept c.args.projection.now.args.now c.requires.projection.0,
+        in-grown c.args.terms.now c.candidates_of_class.new.terms c.in_ok-candidates.ensures.kept c.args.projection.now.rigid_alias c.requires.projection.1,
+      ),
+      (
+        subst (All (CandidateIn c.candidates_of_class.new.terms)) (sym c.as_slice.ensures.value) c.in_ok-candidates.ensures.within,
+        class-rows (setting_of c.args.setting.now.rows.now mode.ErasedNotCoherence c.args.setting.now.environment.now) c.candidates_of_class.new.terms
+            (trees_at c.args.terms.now c.args.projection.now.args.now) c.args.projection.now.item.now.trait_id (erased_at c.args.terms.now c.args.self_ty) class.ParamEnv c.as_slice.result.now
+            (ap (map (candidate_at c.candidates_of_class.new.terms)) c.as_slice.ensures.value ∙ c.in_ok-candidates.ensures.candidates mode.ErasedNotCoherence),
+      ),
+    ),
+  ),
+)
+
 pub normalizes_to::projections::own_args_normalized-returns-in-Undecided-clause-says :
     goal.normalizes_to::projections::own_args_normalized-returns-in-Undecided-clause-says
 normalizes_to::projections::own_args_normalized-returns-in-Undecided-clause-says t c = λ m s.
@@ -510,15 +536,24 @@ normalizes_to::projections::own_args_normalized-returns-in-Holds-clause-says t c
 pub normalizes_to::projections::group_term-returns-in-Undecided-clause-says :
     goal.normalizes_to::projections::group_term-returns-in-Undecided-clause-says
 normalizes_to::projections::group_term-returns-in-Undecided-clause-says t c = λ m s.
-    group-stop (setting_in c.args.setting.now m) (level_in c.args.setting.now m c.args.depth) c.args.terms.now c.candidate_term.new.terms c.candidate_term.new.terms c.args.projection.now c.args.candidates.now
+    group-stop (setting_in c.args.setting.now m) (level_in c.args.setting.now m c.args.depth) (consistent c.args.setting.now m c.args.depth) c.args.terms.now c.consider_term.new.terms c.consider_term.new.terms c.args.projection.now c.args.candidates.now
     (c.loop-candidate.candidate-index + 1) c.merge_terms-found.result c.in-Undecided.is
-    (group-more (setting_in c.args.setting.now m) (level_in c.args.setting.now m c.args.depth) (consistent c.args.setting.now m c.args.depth) c.args.terms.now c.loop-candidate.terms c.candidate_term.new.terms
+    (group-more (setting_in c.args.setting.now m) (level_in c.args.setting.now m c.args.depth) (consistent c.args.setting.now m c.args.depth) c.args.terms.now c.loop-candidate.terms c.consider_term.new.terms
     c.loop-candidate.invariant.kept c.in_ok-next.ensures.kept c.args.projection.now c.requires.projection c.args.candidates.now c.loop-candidate.candidate-index c.candidate-item.result c.loop-candidate-test.true
     c.candidate-item.is c.requires.candidates c.loop-candidate.found c.in_ok-next.next c.merge_terms-found.result c.loop-candidate.invariant.within c.merge_terms-found.ensures
     (c.loop-candidate.invariant.says m s) (c.in_ok-next.ensures.says m s))
 
-pub normalizes_to::projections::group_term-candidate_term-requires : goal.normalizes_to::projections::group_term-candidate_term-requires
-normalizes_to::projections::group_term-candidate_term-requires t c = (
+pub normalizes_to::projections::group_term-loop-candidate-init : goal.normalizes_to::projections::group_term-loop-candidate-init
+normalizes_to::projections::group_term-loop-candidate-init t c = record {
+  kept = keeps-refl c.args.terms.now;
+  effects = search (rules, caching);
+  within = tt;
+  says = λ m s. tt;
+  told = λ m s. decided-start (setting_in c.args.setting.now m) (level_in c.args.setting.now m c.args.depth) c.args.terms.now c.args.projection.now c.args.candidates.now;
+}
+
+pub normalizes_to::projections::group_term-consider_term-requires : goal.normalizes_to::projections::group_term-consider_term-requires
+normalizes_to::projections::group_term-consider_term-requires t c = (
   omega arith,
   (
     search (rules, caching),
@@ -527,7 +562,10 @@ normalizes_to::projections::group_term-candidate_term-requires t c = (
         are_in-grown c.args.terms.now c.loop-candidate.terms c.loop-candidate.invariant.kept c.args.projection.now.args.now c.requires.projection.0,
         in-grown c.args.terms.now c.loop-candidate.terms c.loop-candidate.invariant.kept c.args.projection.now.rigid_alias c.requires.projection.1,
       ),
-      candidate-in c.args.terms.now c.loop-candidate.terms c.args.candidates.now c.loop-candidate.candidate-index c.candidate-item.result c.loop-candidate.invariant.kept c.requires.candidates (omega arith) c.candidate-item.is,
+      (
+        candidate-in c.args.terms.now c.loop-candidate.terms c.args.candidates.now c.loop-candidate.candidate-index c.candidate-item.result c.loop-candidate.invariant.kept c.requires.candidates (omega arith) c.candidate-item.is,
+        All-at (IsOfRows c.args.setting.now.rows.now) c.args.candidates.now c.loop-candidate.candidate-index c.candidate-item.result c.requires.rows (omega arith) c.candidate-item.is,
+      ),
     ),
   ),
 )
@@ -535,22 +573,26 @@ normalizes_to::projections::group_term-candidate_term-requires t c = (
 pub normalizes_to::projections::group_term-loop-candidate-preserved :
     goal.normalizes_to::projections::group_term-loop-candidate-preserved
 normalizes_to::projections::group_term-loop-candidate-preserved t c = record {
-  kept = keeps-chain c.args.terms.now c.loop-candidate.terms c.candidate_term.new.terms c.loop-candidate.invariant.kept c.in_ok-next.ensures.kept;
+  kept = keeps-chain c.args.terms.now c.loop-candidate.terms c.consider_term.new.terms c.loop-candidate.invariant.kept c.in_ok-next.ensures.kept;
   effects = search (rules, caching);
-  within = merged-in c.candidate_term.new.terms c.loop-candidate.found c.in_ok-next.next c.merge_terms-found.result c.merge_terms-found.ensures
-      (found_in-grown c.loop-candidate.terms c.candidate_term.new.terms c.in_ok-next.ensures.kept c.loop-candidate.found c.loop-candidate.invariant.within) c.in_ok-next.ensures.within;
+  within = merged-in c.consider_term.new.terms c.loop-candidate.found c.in_ok-next.next.found c.merge_terms-found.result c.merge_terms-found.ensures
+      (found_in-grown c.loop-candidate.terms c.consider_term.new.terms c.in_ok-next.ensures.kept c.loop-candidate.found c.loop-candidate.invariant.within) c.in_ok-next.ensures.within;
   says = λ m s.
-      group-more (setting_in c.args.setting.now m) (level_in c.args.setting.now m c.args.depth) (consistent c.args.setting.now m c.args.depth) c.args.terms.now c.loop-candidate.terms c.candidate_term.new.terms
+      group-more (setting_in c.args.setting.now m) (level_in c.args.setting.now m c.args.depth) (consistent c.args.setting.now m c.args.depth) c.args.terms.now c.loop-candidate.terms c.consider_term.new.terms
       c.loop-candidate.invariant.kept c.in_ok-next.ensures.kept c.args.projection.now c.requires.projection c.args.candidates.now c.loop-candidate.candidate-index c.candidate-item.result c.loop-candidate-test.true
       c.candidate-item.is c.requires.candidates c.loop-candidate.found c.in_ok-next.next c.merge_terms-found.result c.loop-candidate.invariant.within c.merge_terms-found.ensures
       (c.loop-candidate.invariant.says m s) (c.in_ok-next.ensures.says m s);
+  told = λ m s.
+      decided-more (setting_in c.args.setting.now m) (level_in c.args.setting.now m c.args.depth) c.args.terms.now c.loop-candidate.terms c.consider_term.new.terms c.loop-candidate.invariant.kept
+      c.args.projection.now c.requires.projection c.args.candidates.now c.loop-candidate.candidate-index c.candidate-item.result c.loop-candidate-test.true c.candidate-item.is c.requires.candidates
+      c.loop-candidate.decided (c.loop-candidate.decided || c.in_ok-next.next.decides) c.in_ok-next.next refl (c.loop-candidate.invariant.told m s) (c.in_ok-next.ensures.says m s);
 }
 
 pub normalizes_to::projections::group_term-returns-clause-says :
     goal.normalizes_to::projections::group_term-returns-clause-says
 normalizes_to::projections::group_term-returns-clause-says t c = λ m s.
-    group-end (setting_in c.args.setting.now m) (level_in c.args.setting.now m c.args.depth) c.args.terms.now c.loop-candidate.terms c.args.projection.now c.args.candidates.now c.loop-candidate.candidate-index
-    c.loop-candidate.found c.loop-candidate-test.false (c.loop-candidate.invariant.says m s)
+    group-end (setting_in c.args.setting.now m) (level_in c.args.setting.now m c.args.depth) (consistent c.args.setting.now m c.args.depth) c.args.terms.now c.loop-candidate.terms c.args.projection.now c.args.candidates.now c.loop-candidate.candidate-index
+    c.loop-candidate.found c.if_decided.result c.loop-candidate.decided c.loop-candidate-test.false (c.loop-candidate.invariant.says m s) (c.loop-candidate.invariant.told m s) c.if_decided.ensures
 
 pub normalizes_to::projections::groups_term-returns-in-Undecided-clause-says :
     goal.normalizes_to::projections::groups_term-returns-in-Undecided-clause-says
@@ -707,6 +749,27 @@ normalizes_to::projections::second_term-returns-clause-says t c = λ m s.
     (second_group (setting_in c.args.setting.now m) c.args.projection.now.item.now.trait_id (erased_at c.args.terms.now c.args.self_ty) c.args.class)
     (ap (map (candidate_at c.second_group.new.terms)) c.as_slice.ensures.value ∙ c.in_ok-candidates.ensures.candidates m c.args.setting.now.environment.now)
     c.group_term.result (c.group_term.ensures.says m s)
+
+pub normalizes_to::projections::second_term-group_term-requires : goal.normalizes_to::projections::second_term-group_term-requires
+normalizes_to::projections::second_term-group_term-requires t c = (
+  omega arith,
+  (
+    search (rules, caching),
+    (
+      (
+        are_in-grown c.args.terms.now c.second_group.new.terms c.in_ok-candidates.ensures.kept c.args.projection.now.args.now c.requires.projection.0,
+        in-grown c.args.terms.now c.second_group.new.terms c.in_ok-candidates.ensures.kept c.args.projection.now.rigid_alias c.requires.projection.1,
+      ),
+      (
+        subst (All (CandidateIn c.second_group.new.terms)) (sym c.as_slice.ensures.value) c.in_ok-candidates.ensures.within,
+        second-rows (setting_of c.args.setting.now.rows.now mode.ErasedNotCoherence c.args.setting.now.environment.now) c.second_group.new.terms
+            (trees_at c.args.terms.now c.first_args.result.now) c.args.projection.now.item.now.trait_id (erased_at c.args.terms.now c.args.self_ty) c.args.class c.as_slice.result.now
+            (ap (map (candidate_at c.second_group.new.terms)) c.as_slice.ensures.value
+            ∙ c.in_ok-candidates.ensures.candidates mode.ErasedNotCoherence c.args.setting.now.environment.now),
+      ),
+    ),
+  ),
+)
 
 pub normalizes_to::projections::second_term-second_group-requires : goal.normalizes_to::projections::second_term-second_group-requires
 normalizes_to::projections::second_term-second_group-requires t c = record {
@@ -1129,14 +1192,73 @@ eval::lists::entries::term_found-returns-in_ok-outcome-in-ChosenBy-clause-says t
     (same-grown c.args.terms.now c.predicate_outcome.new.terms c.predicate_outcome.ensures.kept c.in-ChosenBy.second within.2)
     c.chosen.ensures (c.in_ok-outcome-in-ChosenBy.ensures.says m s)
 
-pub assembly::candidates::consider_candidate-returns-clause-says : goal.assembly::candidates::consider_candidate-returns-clause-says
-assembly::candidates::consider_candidate-returns-clause-says t c m s =
-    subst (SaysCandidate (setting_in c.args.setting.now m) (level_in c.args.setting.now m c.args.depth) c.args.terms.now c.args.asked.now (candidate_at c.args.terms.now c.args.candidate.now))
+pub assembly::candidates::listed_outcome-returns-clause-says : goal.assembly::candidates::listed_outcome-returns-clause-says
+assembly::candidates::listed_outcome-returns-clause-says t c m s =
+    subst (SaysListed (setting_in c.args.setting.now m) (level_in c.args.setting.now m c.args.depth) c.args.terms.now c.args.asked.now (candidate_at c.args.terms.now c.args.candidate.now))
     (sym c.held.ensures)
     (asked-says (setting_in c.args.setting.now m) s.0 (level_in c.args.setting.now m c.args.depth) c.args.terms.now c.run_list.new.terms c.args.asked.now
     (candidate_at c.args.terms.now c.args.candidate.now) c.in_ok-found.found
     (c.in_ok-found.ensures.says m s (candidate_list (setting_in c.args.setting.now m) c.args.terms.now c.args.asked.now (candidate_at c.args.terms.now c.args.candidate.now))
     (c.in_ok-list.ensures.list m s)))
+
+pub assembly::candidates::consider_candidate-returns-in-Refuted-clause-says : goal.assembly::candidates::consider_candidate-returns-in-Refuted-clause-says
+assembly::candidates::consider_candidate-returns-in-Refuted-clause-says t c m s =
+    asked-out (setting_in c.args.setting.now m) (level_in c.args.setting.now m c.args.depth) c.args.terms.now c.args.asked.now (candidate_at c.args.terms.now c.args.candidate.now)
+    c.in_ok-shown.shown c.in-Refuted.is (c.in_ok-shown.ensures.says m s)
+
+pub assembly::candidates::consider_candidate-returns-clause-says : goal.assembly::candidates::consider_candidate-returns-clause-says
+assembly::candidates::consider_candidate-returns-clause-says t c m s =
+    asked-beside c.args.setting.now m c.args.depth c.args.terms.now c.listed_outcome.new.terms c.args.asked.now c.args.candidate.now c.in_ok-shown.shown c.in_ok-special.special c.beside.result
+    c.in_ok-shown.ensures.kept c.requires.asked.1 c.requires.candidate c.beside.ensures (c.in_ok-shown.ensures.says m s) (c.in_ok-special.ensures.says m s)
+
+pub assembly::specialized::impl_outcome-returns-clause-says : goal.assembly::specialized::impl_outcome-returns-clause-says
+assembly::specialized::impl_outcome-returns-clause-says t c m s =
+    impl-says (setting_in c.args.setting.now m) s.0 (level_in c.args.setting.now m c.args.depth) c.run_list.new.terms (erased_all c.args.terms.now c.args.args.now) c.args.row.now
+    c.in_ok-found.found c.held.result c.held.ensures
+    (c.in_ok-found.ensures.says m s (trait_list (setting_in c.args.setting.now m) c.args.row.now.trait_id (erased_all c.args.terms.now c.args.args.now) (by_impl c.args.row.now)) (c.in_ok-list.ensures.list m s))
+
+pub assembly::specialized::more_special_outcome-returns-in-Impl-clause-says : goal.assembly::specialized::more_special_outcome-returns-in-Impl-clause-says
+assembly::specialized::more_special_outcome-returns-in-Impl-clause-says t c m s =
+    subst (λ x. IfOk c.impls_outcome.result (SaysMoreSpecial (setting_in c.args.setting.now m) (level_in c.args.setting.now m c.args.depth) (erased_all c.args.terms.now c.args.args.now) (candidate_at c.args.terms.now x)))
+    (sym c.in-Impl.is) (c.impls_outcome.ensures.says m s)
+
+pub assembly::specialized::more_special_outcome-returns-in_default-clause-says : goal.assembly::specialized::more_special_outcome-returns-in_default-clause-says
+assembly::specialized::more_special_outcome-returns-in_default-clause-says t c m s =
+    others-decide (setting_in c.args.setting.now m) (level_in c.args.setting.now m c.args.depth) (erased_all c.args.terms.now c.args.args.now) c.args.terms.now c.args.candidate.now c.in_default.not-Impl
+
+pub assembly::specialized::impls_outcome-impl_outcome-requires : goal.assembly::specialized::impls_outcome-impl_outcome-requires
+assembly::specialized::impls_outcome-impl_outcome-requires t c = (
+  omega arith,
+  (search (rules, caching), are_in-grown c.args.terms.now c.loop-i.terms c.loop-i.invariant.kept c.args.args.now c.requires.args),
+)
+
+pub assembly::specialized::impls_outcome-loop-i-init : goal.assembly::specialized::impls_outcome-loop-i-init
+assembly::specialized::impls_outcome-loop-i-init t c = record {
+  kept = keeps-refl c.args.terms.now;
+  effects = search (rules, caching);
+  so_far = impls-start c.args.setting.now c.args.depth c.args.terms.now c.args.args.now c.more_special-places.result.now;
+}
+
+pub assembly::specialized::impls_outcome-loop-i-preserved : goal.assembly::specialized::impls_outcome-loop-i-preserved
+assembly::specialized::impls_outcome-loop-i-preserved t c = record {
+  kept = keeps-chain c.args.terms.now c.loop-i.terms c.impl_outcome.new.terms c.loop-i.invariant.kept c.in_ok-next.ensures.kept;
+  effects = search (rules, caching);
+  so_far = impls-more c.args.setting.now c.args.depth c.args.terms.now c.loop-i.terms c.args.args.now c.more_special-places.result.now c.loop-i.i (get_or c.more_special-places.result.now c.loop-i.i 0) c.impl_at-other.result.now
+      c.loop-i.found c.in_ok-next.next c.or-found.result c.loop-i.invariant.kept c.requires.args (omega arith) refl c.impl_at-other.ensures c.or-found.ensures
+      c.loop-i.invariant.so_far c.in_ok-next.ensures.says;
+}
+
+pub assembly::specialized::impls_outcome-returns-in-Holds-clause-says : goal.assembly::specialized::impls_outcome-returns-in-Holds-clause-says
+assembly::specialized::impls_outcome-returns-in-Holds-clause-says t c m s =
+    impls-shown c.args.setting.now c.args.depth c.args.terms.now c.args.args.now c.args.row.now c.more_special-places.result.now (c.loop-i.i + 1) c.or-found.result c.in-Holds.is
+    (impls-more c.args.setting.now c.args.depth c.args.terms.now c.loop-i.terms c.args.args.now c.more_special-places.result.now c.loop-i.i (get_or c.more_special-places.result.now c.loop-i.i 0) c.impl_at-other.result.now
+    c.loop-i.found c.in_ok-next.next c.or-found.result c.loop-i.invariant.kept c.requires.args (omega arith) refl c.impl_at-other.ensures c.or-found.ensures
+    c.loop-i.invariant.so_far c.in_ok-next.ensures.says) m s (c.more_special-places.ensures.listed c.args.row.now (c.requires.row s.2))
+
+pub assembly::specialized::impls_outcome-returns-clause-says : goal.assembly::specialized::impls_outcome-returns-clause-says
+assembly::specialized::impls_outcome-returns-clause-says t c m s =
+    impls-end c.args.setting.now c.args.depth c.args.terms.now c.args.args.now c.args.row.now c.more_special-places.result.now c.loop-i.i c.loop-i.found (omega arith)
+    c.loop-i.invariant.so_far m s (c.more_special-places.ensures.listed c.args.row.now (c.requires.row s.2))
 
 pub assembly::candidates::candidates_outcome-loop-candidate-init : goal.assembly::candidates::candidates_outcome-loop-candidate-init
 assembly::candidates::candidates_outcome-loop-candidate-init t c = record {
@@ -1152,8 +1274,11 @@ assembly::candidates::candidates_outcome-consider_candidate-requires t c = (
     search (rules, caching),
     ((
       asked_in-grown c.args.terms.now c.loop-candidate.terms c.args.asked.now c.loop-candidate.invariant.kept c.requires.asked,
-      candidate-in c.args.terms.now c.loop-candidate.terms c.args.candidates.now c.loop-candidate.candidate-index c.candidate-item.result c.loop-candidate.invariant.kept
-          c.requires.candidates (omega arith) c.candidate-item.is,
+      (
+        candidate-in c.args.terms.now c.loop-candidate.terms c.args.candidates.now c.loop-candidate.candidate-index c.candidate-item.result c.loop-candidate.invariant.kept
+            c.requires.candidates (omega arith) c.candidate-item.is,
+        All-at (IsOfRows c.args.setting.now.rows.now) c.args.candidates.now c.loop-candidate.candidate-index c.candidate-item.result c.requires.rows (omega arith) c.candidate-item.is,
+      ),
     )),
   ),
 )
@@ -1308,6 +1433,25 @@ effect_goals::evaluation::fresh_host_effect_outcome-returns-clause-says t c m s 
     c.head_form.new.terms c.in-Is.self_ty c.as_slice.result c.in_ok-found.found c.groups_outcome.result c.in_ok-found.ensures.kept c.in-Is.is
     (c.as_slice.ensures.value ∙ c.in_ok-replaced.ensures) (c.in_ok-found.ensures.says m s) (c.groups_outcome.ensures.says m s)
 
+pub effect_goals::evaluation::groups_outcome-candidates_outcome-requires : goal.effect_goals::evaluation::groups_outcome-candidates_outcome-requires
+effect_goals::evaluation::groups_outcome-candidates_outcome-requires t c = (
+  omega arith,
+  (
+    search (rules, caching),
+    (
+      asked_in-grown c.args.terms.now c.second_group.new.terms c.args.asked.now
+          (keeps-chain c.args.terms.now c.class_outcome.new.terms c.second_group.new.terms c.class_outcome.ensures.kept c.second_group.ensures.kept) c.requires.asked,
+      (
+        subst (All (CandidateIn c.second_group.new.terms)) (sym c.deref.ensures.value) c.in_ok-candidates.ensures.within,
+        second-rows (setting_of c.args.setting.now.rows.now mode.ErasedNotCoherence c.args.setting.now.environment.now) c.second_group.new.terms
+            (trees_at c.class_outcome.new.terms c.args.asked.now.args.now) c.args.asked.now.trait_id (erased_at c.class_outcome.new.terms c.args.asked.now.self_ty) c.args.class c.deref.result.now
+            (ap (map (candidate_at c.second_group.new.terms)) c.deref.ensures.value
+            ∙ c.in_ok-candidates.ensures.candidates mode.ErasedNotCoherence c.args.setting.now.environment.now),
+      ),
+    ),
+  ),
+)
+
 pub effect_goals::evaluation::groups_outcome-returns-in_default-clause-says : goal.effect_goals::evaluation::groups_outcome-returns-in_default-clause-says
 effect_goals::evaluation::groups_outcome-returns-in_default-clause-says t c m s =
     groups-first (setting_in c.args.setting.now m) (level_in c.args.setting.now m c.args.depth) c.args.terms.now c.args.asked.now c.args.class c.in_ok-first.first c.in_default.not-Refuted
@@ -1344,6 +1488,17 @@ normalizes_to::projection_candidates::candidate_term-returns-clause-says t c = �
     candidate-says (setting_in c.args.setting.now m) s.0 c.args.depth p itself candidate c.run_list.new.terms c.in_ok-outcome.outcome c.term.result c.term.ensures
     (c.in_ok-outcome.ensures.says m s (projection_list (setting_in c.args.setting.now m) p itself candidate) (c.in_ok-list.ensures.list m s))
 
+pub normalizes_to::projection_candidates::consider_term-returns-in-Refuted-clause-says : goal.normalizes_to::projection_candidates::consider_term-returns-in-Refuted-clause-says
+normalizes_to::projection_candidates::consider_term-returns-in-Refuted-clause-says t c m s =
+    given-none (setting_in c.args.setting.now m) c.args.depth c.args.terms.now c.candidate_term.new.terms c.args.projection.now c.args.candidate.now c.in_ok-found.found c.in-Refuted.is
+    (c.in_ok-found.ensures.says m s)
+
+pub normalizes_to::projection_candidates::consider_term-returns-clause-says : goal.normalizes_to::projection_candidates::consider_term-returns-clause-says
+normalizes_to::projection_candidates::consider_term-returns-clause-says t c m s =
+    given-beside (setting_in c.args.setting.now m) c.args.depth c.args.terms.now c.candidate_term.new.terms c.more_special_outcome.new.terms c.in_ok-found.ensures.kept c.in_ok-special.ensures.kept
+    c.args.projection.now c.requires.projection c.args.candidate.now c.requires.candidate c.first_args-args.result.now c.first_args-args.ensures c.in_ok-found.found c.in_ok-found.ensures.within
+    c.in_ok-special.special c.given_beside.result c.given_beside.ensures (c.in_ok-found.ensures.says m s) (c.in_ok-special.ensures.says m s)
+
 pub eval::lists::run_entries-run_entry-requires : goal.eval::lists::run_entries-run_entry-requires
 eval::lists::run_entries-run_entry-requires t c = (
   omega arith,
@@ -1359,7 +1514,17 @@ eval::lists::entries::term_found-head_form_under-requires t c = (
 pub assembly::candidates::class_outcome-candidates_outcome-requires : goal.assembly::candidates::class_outcome-candidates_outcome-requires
 assembly::candidates::class_outcome-candidates_outcome-requires t c = (
   omega arith,
-  (search (rules, caching), ((asked_in-grown c.args.terms.now c.candidates_of_class.new.terms c.args.asked.now c.in_ok-candidates.ensures.kept c.requires.asked), subst (All (CandidateIn c.candidates_of_class.new.terms)) (sym c.deref.ensures.value) c.in_ok-candidates.ensures.within)),
+  (
+    search (rules, caching),
+    (
+      (asked_in-grown c.args.terms.now c.candidates_of_class.new.terms c.args.asked.now c.in_ok-candidates.ensures.kept c.requires.asked),
+      (
+        subst (All (CandidateIn c.candidates_of_class.new.terms)) (sym c.deref.ensures.value) c.in_ok-candidates.ensures.within,
+        class-rows (setting_of c.args.setting.now.rows.now mode.ErasedNotCoherence c.args.setting.now.environment.now) c.candidates_of_class.new.terms (trees_at c.args.terms.now c.args.asked.now.args.now) c.args.asked.now.trait_id
+            (erased_at c.args.terms.now c.args.asked.now.self_ty) c.args.class c.deref.result.now (ap (map (candidate_at c.candidates_of_class.new.terms)) c.deref.ensures.value ∙ c.in_ok-candidates.ensures.candidates mode.ErasedNotCoherence),
+      ),
+    ),
+  ),
 )
 
 pub trait_goals::evaluation::fresh_trait_outcome-decide_trait-requires : goal.trait_goals::evaluation::fresh_trait_outcome-decide_trait-requires

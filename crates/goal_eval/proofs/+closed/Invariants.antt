@@ -8,13 +8,14 @@ use Rattle.goal_eval.specs.HeaderWords.{KnownIn, known_trees, KnownOutcome, Clas
 use Rattle.goal_terms.specs.declared.modes.TypingMode.{TypingMode}
 use Rattle.goal_kinds.specs.Words.{Exists}
 use Rattle.goal_eval.proofs.MergingLemmas.{AgreeBefore, HeldBefore}
-use Rattle.goal_eval.proofs.ProjectionTermLemmas.{GivesOf, NoneOf}
+use Rattle.goal_eval.proofs.ProjectionTermLemmas.{GivesOf, NoneOf, DecidesOf, ToldBefore}
 use Rattle.goal_kinds.specs.Level.{HeadFormRefuted}
 use Rattle.goal_eval.specs.ProjectionParts.{IsFormed}
 use Rattle.goal_eval.proofs.FormLemmas.{Narrows}
 use Rattle.goal_eval.specs.Lists.{RunIn}
 use Rattle.goal_eval.proofs.ListAnswerLemmas.{RunsSoFar}
 use Rattle.goal_eval.proofs.AskedTraitLemmas.{AskedSoFar}
+use Rattle.goal_eval.proofs.SpecialImplLemmas.{ImplsSoFar}
 use Rattle.goal_eval.proofs.+closed.Given as goal
 
 abbrev pub decreases-relate::equality::compare_pair : goal.decreases-relate::equality::compare_pair
@@ -111,31 +112,31 @@ abbrev pub decreases-normalizes_to::projections::own_args_normalized : goal.decr
 decreases-normalizes_to::projections::own_args_normalized l = 40 * l.depth + 3
 
 abbrev pub decreases-normalizes_to::projections::group_term : goal.decreases-normalizes_to::projections::group_term
-decreases-normalizes_to::projections::group_term l = 40 * l.depth + 18
+decreases-normalizes_to::projections::group_term l = 40 * l.depth + 20
 
 abbrev pub decreases-normalizes_to::projections::second_term : goal.decreases-normalizes_to::projections::second_term
-decreases-normalizes_to::projections::second_term l = 40 * l.depth + 19
+decreases-normalizes_to::projections::second_term l = 40 * l.depth + 21
 
 abbrev pub decreases-normalizes_to::projections::environment_term : goal.decreases-normalizes_to::projections::environment_term
-decreases-normalizes_to::projections::environment_term l = 40 * l.depth + 19
+decreases-normalizes_to::projections::environment_term l = 40 * l.depth + 21
 
 abbrev pub decreases-normalizes_to::projections::later_term : goal.decreases-normalizes_to::projections::later_term
-decreases-normalizes_to::projections::later_term l = 40 * l.depth + 20
+decreases-normalizes_to::projections::later_term l = 40 * l.depth + 22
 
 abbrev pub decreases-normalizes_to::projections::groups_term : goal.decreases-normalizes_to::projections::groups_term
-decreases-normalizes_to::projections::groups_term l = 40 * l.depth + 21
+decreases-normalizes_to::projections::groups_term l = 40 * l.depth + 23
 
 abbrev pub decreases-normalizes_to::projections::replaced_term : goal.decreases-normalizes_to::projections::replaced_term
-decreases-normalizes_to::projections::replaced_term l = 40 * l.depth + 22
+decreases-normalizes_to::projections::replaced_term l = 40 * l.depth + 24
 
 abbrev pub decreases-normalizes_to::projections::term_proven_via : goal.decreases-normalizes_to::projections::term_proven_via
-decreases-normalizes_to::projections::term_proven_via l = 40 * l.depth + 23
+decreases-normalizes_to::projections::term_proven_via l = 40 * l.depth + 25
 
 abbrev pub decreases-normalizes_to::projections::item_term : goal.decreases-normalizes_to::projections::item_term
-decreases-normalizes_to::projections::item_term l = 40 * l.depth + 24
+decreases-normalizes_to::projections::item_term l = 40 * l.depth + 26
 
 abbrev pub decreases-normalizes_to::projections::projection_term : goal.decreases-normalizes_to::projections::projection_term
-decreases-normalizes_to::projections::projection_term l = 40 * l.depth + 25
+decreases-normalizes_to::projections::projection_term l = 40 * l.depth + 27
 
 abbrev pub invariant-eval::premises::premises_outcome-loop-premise : goal.invariant-eval::premises::premises_outcome-loop-premise
 invariant-eval::premises::premises_outcome-loop-premise l = record {
@@ -170,6 +171,8 @@ invariant-normalizes_to::projections::group_term-loop-candidate l = record {
   says : (m : TypingMode) → RunsFor l.setting m →
       AgreeBefore (GivesOf (setting_in l.setting m) (level_in l.setting m l.depth) l.fn.terms l.projection) (NoneOf (setting_in l.setting m) (level_in l.setting m l.depth) l.fn.terms l.projection)
       l.terms l.found l.candidates l.candidate-index;
+  told : (m : TypingMode) → RunsFor l.setting m →
+      ToldBefore (DecidesOf (setting_in l.setting m) (level_in l.setting m l.depth) l.fn.terms l.projection) l.decided l.candidates l.candidate-index;
 }
 
 abbrev pub invariant-normalizes_to::projections::head_forms_outcome-loop-id :
@@ -216,20 +219,32 @@ decreases-eval::lists::run_entries l = 40 * l.depth + 13
 abbrev pub decreases-eval::lists::run_list : goal.decreases-eval::lists::run_list
 decreases-eval::lists::run_list l = 40 * l.depth + 14
 
+abbrev pub decreases-assembly::specialized::impl_outcome : goal.decreases-assembly::specialized::impl_outcome
+decreases-assembly::specialized::impl_outcome l = 40 * l.depth + 15
+
+abbrev pub decreases-assembly::specialized::impls_outcome : goal.decreases-assembly::specialized::impls_outcome
+decreases-assembly::specialized::impls_outcome l = 40 * l.depth + 16
+
+abbrev pub decreases-assembly::specialized::more_special_outcome : goal.decreases-assembly::specialized::more_special_outcome
+decreases-assembly::specialized::more_special_outcome l = 40 * l.depth + 17
+
+abbrev pub decreases-assembly::candidates::listed_outcome : goal.decreases-assembly::candidates::listed_outcome
+decreases-assembly::candidates::listed_outcome l = 40 * l.depth + 15
+
 abbrev pub decreases-assembly::candidates::consider_candidate : goal.decreases-assembly::candidates::consider_candidate
-decreases-assembly::candidates::consider_candidate l = 40 * l.depth + 15
+decreases-assembly::candidates::consider_candidate l = 40 * l.depth + 18
 
 abbrev pub decreases-assembly::candidates::candidates_outcome : goal.decreases-assembly::candidates::candidates_outcome
-decreases-assembly::candidates::candidates_outcome l = 40 * l.depth + 16
+decreases-assembly::candidates::candidates_outcome l = 40 * l.depth + 19
 
 abbrev pub decreases-assembly::candidates::class_outcome : goal.decreases-assembly::candidates::class_outcome
-decreases-assembly::candidates::class_outcome l = 40 * l.depth + 17
+decreases-assembly::candidates::class_outcome l = 40 * l.depth + 20
 
 abbrev pub decreases-trait_goals::evaluation::decide_trait : goal.decreases-trait_goals::evaluation::decide_trait
-decreases-trait_goals::evaluation::decide_trait l = 40 * l.depth + 18
+decreases-trait_goals::evaluation::decide_trait l = 40 * l.depth + 21
 
 abbrev pub decreases-effect_goals::evaluation::groups_outcome : goal.decreases-effect_goals::evaluation::groups_outcome
-decreases-effect_goals::evaluation::groups_outcome l = 40 * l.depth + 18
+decreases-effect_goals::evaluation::groups_outcome l = 40 * l.depth + 21
 
 abbrev pub decreases-trait_goals::evaluation::evaluate_trait_goal : goal.decreases-trait_goals::evaluation::evaluate_trait_goal
 decreases-trait_goals::evaluation::evaluate_trait_goal l = 40 * l.depth + 0
@@ -243,12 +258,22 @@ decreases-normalizes_to::alias_terms::alias_term l = 40 * l.depth + 0
 abbrev pub decreases-normalizes_to::projection_candidates::candidate_term : goal.decreases-normalizes_to::projection_candidates::candidate_term
 decreases-normalizes_to::projection_candidates::candidate_term l = 40 * l.depth + 15
 
+abbrev pub decreases-normalizes_to::projection_candidates::consider_term : goal.decreases-normalizes_to::projection_candidates::consider_term
+decreases-normalizes_to::projection_candidates::consider_term l = 40 * l.depth + 19
+
 abbrev pub invariant-eval::lists::run_entries-loop-entry : goal.invariant-eval::lists::run_entries-loop-entry
 invariant-eval::lists::run_entries-loop-entry l = record {
   kept : Keeps l.fn.terms l.terms;
   effects : AreSound l.setting l.terms l.effects;
   within : RunIn l.terms l.run;
   so_far : RunsSoFar l.setting l.depth l.fn.terms l.entries l.terms l.run l.entry-index;
+}
+
+abbrev pub invariant-assembly::specialized::impls_outcome-loop-i : goal.invariant-assembly::specialized::impls_outcome-loop-i
+invariant-assembly::specialized::impls_outcome-loop-i l = record {
+  kept : Keeps l.initial.terms l.terms;
+  effects : AreSound l.setting l.terms l.effects;
+  so_far : ImplsSoFar l.setting l.depth l.initial.terms l.args l.places l.i l.found;
 }
 
 abbrev pub invariant-assembly::candidates::candidates_outcome-loop-candidate : goal.invariant-assembly::candidates::candidates_outcome-loop-candidate

@@ -7,19 +7,22 @@ ghost use Rattle.goal_kinds.specs.Candidates.{class_of};
 ghost use Rattle.goal_kinds.specs.Causes.{IsCausedList};
 ghost use Rattle.goal_kinds.specs.Interned.{CandidateIn, erased_at, candidate_at};
 ghost use Rattle.goal_kinds.specs.InternedEntries.{ListIn, list_at};
-ghost use Rattle.goal_eval.specs.AskedTraits.{AskedIn, candidate_list, SaysCandidate, SaysCandidates};
+ghost use Rattle.goal_eval.specs.AskedTraits.{AskedIn, candidate_list, SaysListed, SaysCandidate, SaysCandidates};
+ghost use Rattle.goal_eval.specs.SpecialImpls.{IsOfRows};
 ghost use Rattle.goal_eval.specs.Lists.{IsListFor};
 ghost use Rattle.goal_eval.specs.Outcomes.{ForEachMode, ForEachSetting};
 ghost use Rattle.goal_eval.specs.Effects.{AreSound, IsStop};
 
+use crate::assembly::specialized::more_special_outcome;
 use crate::eval::effects::Effects;
 use crate::eval::lists::run_list;
-use crate::eval::outcomes::{Outcome, Setting, Stop};
+use crate::eval::outcomes::{Setting, Stop};
 use goal_kinds::candidates::interned::InternedCandidate;
 use goal_kinds::candidates::lists::{Sought, candidates_of_class};
 use goal_kinds::lists::InternedEntry;
 use goal_kinds::lists::effects::effect_list;
 use goal_kinds::lists::traits::trait_list;
+use goal_kinds::outcomes::Outcome;
 use goal_terms::answers::TraitGoalProvenVia;
 use goal_terms::ids::TraitId;
 use goal_terms::modes::TypingMode;
@@ -67,10 +70,10 @@ fn candidate_list<'e>(
     }
 }
 
-/// Whether a candidate shows at a depth that a trait holds.
+/// What the list of a candidate comes to at a depth.
 #[tactic(auto, using(crate::proofs::CacheLemmas::caching))]
 #[cycle(closed)]
-pub(crate) fn consider_candidate(
+fn listed_outcome(
     setting: &Setting<'_>,
     terms: &mut TermTable,
     effects: &mut Effects,
@@ -84,14 +87,47 @@ pub(crate) fn consider_candidate(
     ensures effects { AreSound setting.now terms.new effects.new }
     ensures kept { Keeps terms.old terms.new }
     ensures stops { IfErr result (IsStop setting.now) }
-    ensures says { ForEachMode setting.now depth (λ S L. IfOk result (SaysCandidate S L terms.old asked.now (candidate_at terms.old candidate.now))) }
+    ensures says { ForEachMode setting.now depth (λ S L. IfOk result (SaysListed S L terms.old asked.now (candidate_at terms.old candidate.now))) }
 {
     let list = candidate_list(&*setting, terms, asked, &*candidate)?;
     let found = run_list(setting, terms, effects, &list, depth)?;
     Ok(found.held())
 }
 
-/// Whether one of some candidates shows at a depth that a trait holds. They are refuted where each of them is.
+/// Whether a candidate shows at a depth that a trait holds, and decides. It is refuted where it is ruled out. Only one
+/// that decides leaves equations of lifetimes.
+#[tactic(auto, using(crate::proofs::CacheLemmas::caching))]
+#[cycle(closed)]
+pub(crate) fn consider_candidate(
+    setting: &Setting<'_>,
+    terms: &mut TermTable,
+    effects: &mut Effects,
+    asked: &AskedTrait<'_>,
+    candidate: &InternedCandidate<'_>,
+    depth: u32,
+) -> Result<Outcome, Stop>
+    requires effects { AreSound setting.now terms.old effects.old }
+    requires asked { AskedIn terms.old asked.now }
+    requires candidate { CandidateIn terms.old candidate.now }
+    requires row { IsOfRows setting.now.rows.now candidate.now }
+    ensures effects { AreSound setting.now terms.new effects.new }
+    ensures kept { Keeps terms.old terms.new }
+    ensures stops { IfErr result (IsStop setting.now) }
+    ensures says { ForEachMode setting.now depth (λ S L. IfOk result (SaysCandidate S L terms.old asked.now (candidate_at terms.old candidate.now))) }
+{
+    let before = effects.regions.mark();
+    let shown = listed_outcome(setting, terms, effects, asked, candidate, depth)?;
+    if let Outcome::Refuted = shown {
+        return Ok(Outcome::Refuted);
+    }
+    let own = effects.regions.mark();
+    let special = more_special_outcome(setting, terms, effects, asked.args, candidate, depth)?;
+    effects.end_special(before, own, special);
+    Ok(shown.beside(special))
+}
+
+/// Whether one of some candidates shows at a depth that a trait holds, and decides. They are refuted where each of
+/// them is ruled out.
 #[cycle(closed)]
 pub(crate) fn candidates_outcome(
     setting: &Setting<'_>,
@@ -104,6 +140,7 @@ pub(crate) fn candidates_outcome(
     requires effects { AreSound setting.now terms.old effects.old }
     requires asked { AskedIn terms.old asked.now }
     requires candidates { All (CandidateIn terms.old) candidates.now }
+    requires rows { All (IsOfRows setting.now.rows.now) candidates.now }
     ensures effects { AreSound setting.now terms.new effects.new }
     ensures kept { Keeps terms.old terms.new }
     ensures stops { IfErr result (IsStop setting.now) }

@@ -3,10 +3,11 @@ ghost use Rattle.std.specs.Prelude.{◌≡◌, ◌==◌, [], IfSome, Some};
 ghost use Rattle.indexmap.specs.IndexMap.{get};
 ghost use Rattle.goal_eval.specs.CacheEntries.{IsKnownAt, entry_of, kept, Enters, trait_decided, outcome_decided, found_decided};
 ghost use Rattle.goal_eval.specs.EvaluationCache.{IsEmptyCache, consts_of, KeepsButConsts};
-ghost use Rattle.goal_eval.specs.declared.eval.outcomes.Outcome.{Outcome as outcomes};
+ghost use Rattle.goal_kinds.specs.declared.outcomes.Outcome.{Outcome as outcomes};
 ghost use Rattle.goal_eval.specs.declared.eval.evaluation_cache.CacheEntry.{CacheEntry as Entry};
 
-use crate::eval::outcomes::{Found, Outcome, TraitOutcome};
+use crate::eval::outcomes::Found;
+use goal_kinds::outcomes::{Outcome, TraitOutcome};
 use goal_terms::predicates::BoundConstness;
 use goal_terms::term_nodes::TermId;
 use indexmap::IndexMap;

@@ -1,7 +1,7 @@
 //! What an evaluation goes over, and what its parts come to.
 use goal_tables::lookup::IndexedTables;
 use goal_tables::rows::ItemRow;
-use goal_terms::answers::{OpaqueAccess, TraitGoalProvenVia};
+use goal_terms::answers::OpaqueAccess;
 use goal_terms::modes::TypingMode;
 use goal_terms::predicates::Clause;
 use goal_terms::term_nodes::{OutOfMemory, TermId};
@@ -48,22 +48,6 @@ impl From<OutOfMemory> for Stop {
     fn from(_: OutOfMemory) -> Self {
         Stop::OutOfMemory
     }
-}
-
-/// What a question comes to.
-#[derive(Clone, Copy)]
-pub enum Outcome {
-    Holds,
-    Refuted,
-    Undecided,
-}
-
-/// What a trait goal comes to.
-#[derive(Clone, Copy)]
-pub enum TraitOutcome {
-    Holds(TraitGoalProvenVia),
-    Refuted,
-    Undecided,
 }
 
 /// Which term is found.

@@ -9,11 +9,12 @@ ghost use Rattle.goal_eval.specs.Effects.{AreSound, IsStop};
 
 use crate::effect_goals::evaluation::evaluate_host_effect_goal;
 use crate::eval::effects::Effects;
-use crate::eval::outcomes::{Outcome, Setting, Stop};
+use crate::eval::outcomes::{Setting, Stop};
 use crate::relate::equality::compare_terms;
 use crate::trait_goals::evaluation::evaluate_trait_goal;
 use goal_kinds::candidates::interned::{InternedPredicate, InternedPremise, InternedTrait};
 use goal_kinds::candidates::premises::clauses_under;
+use goal_kinds::outcomes::Outcome;
 use goal_terms::predicates::{BoundConstness, Clause};
 use goal_terms::term_nodes::TermId;
 use goal_terms::term_table::TermTable;

@@ -7,14 +7,15 @@ ghost use Rattle.goal_eval.specs.Effects.{KeepsButRegions};
 ghost use Rattle.goal_eval.specs.EvaluationCache.{consts_of};
 ghost use Rattle.goal_eval.specs.declared.eval.evaluation_cache.CacheEntry.{CacheEntry as Entry};
 ghost use Rattle.goal_eval.specs.declared.eval.outcomes.Found.{Found as founds};
-ghost use Rattle.goal_eval.specs.declared.eval.outcomes.Outcome.{Outcome as outcomes};
-ghost use Rattle.goal_eval.specs.declared.eval.outcomes.TraitOutcome.{TraitOutcome as trait_outcomes};
+ghost use Rattle.goal_kinds.specs.declared.outcomes.Outcome.{Outcome as outcomes};
+ghost use Rattle.goal_kinds.specs.declared.outcomes.TraitOutcome.{TraitOutcome as trait_outcomes};
 
 use crate::eval::effects::Effects;
 use crate::eval::listed_regions::{KeptGoal, RegionMark};
-use crate::eval::outcomes::{Found, Outcome, TraitOutcome};
+use crate::eval::outcomes::Found;
 use crate::eval::region_constraints::RegionConstraints;
 use crate::relate::region_pairs::{equate_forms, equate_lists, equate_terms};
+use goal_kinds::outcomes::{Outcome, TraitOutcome};
 use goal_terms::predicates::BoundConstness;
 use goal_terms::term_nodes::{OutOfMemory, TermId};
 use goal_terms::term_table::TermTable;
@@ -81,13 +82,24 @@ impl Effects {
         }
     }
 
-    /// Takes back what was listed since a candidate began, if an earlier one has given the term.
-    pub(crate) fn end_candidate(&mut self, before: RegionMark, earlier: Found)
+    /// Takes back what impls have listed that are more special than a candidate: what was listed since its own list
+    /// came to an end. Unless each of them is refuted, the candidate doesn't decide, and what it has listed since it
+    /// began is taken back, too.
+    pub(crate) fn end_special(&mut self, before: RegionMark, own: RegionMark, more_special: Outcome)
         ensures aside { KeepsButRegions self.old self.new }
     {
-        match earlier {
-            Found::Is(_) => self.regions.cut(before),
-            Found::Refuted | Found::Undecided => {}
+        match more_special {
+            Outcome::Refuted => self.regions.cut(own),
+            Outcome::Holds | Outcome::Undecided => self.regions.cut(before),
+        }
+    }
+
+    /// Takes back what was listed since a candidate began, if an earlier one that gives the term decides.
+    pub(crate) fn end_candidate(&mut self, before: RegionMark, decided: bool)
+        ensures aside { KeepsButRegions self.old self.new }
+    {
+        if decided {
+            self.regions.cut(before);
         }
     }
 

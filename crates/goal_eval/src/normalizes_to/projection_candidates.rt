@@ -7,18 +7,29 @@ ghost use Rattle.goal_kinds.specs.InternedEntries.{ListIn, list_at};
 ghost use Rattle.goal_kinds.specs.ProjectionLists.{projection_list};
 ghost use Rattle.goal_kinds.specs.Projections.{CandidateGives, TermRefuted};
 ghost use Rattle.goal_eval.specs.Lists.{IsListFor};
-ghost use Rattle.goal_eval.specs.Outcomes.{SaysWhich, FoundIn, ProjectionIn, projection_at, ForEachMode, ForEachSetting};
+ghost use Rattle.goal_eval.specs.Outcomes.{RunsFor, setting_in, level_in, SaysWhich, FoundIn, ProjectionIn, projection_at, ForEachMode, ForEachSetting};
+ghost use Rattle.goal_eval.specs.SpecialImpls.{IsOfRows, SaysGiven, is_term, given_beside};
 ghost use Rattle.goal_eval.specs.Effects.{AreSound, IsStop};
 
+use crate::assembly::specialized::more_special_outcome;
 use crate::eval::effects::Effects;
 use crate::eval::lists::run_list;
 use crate::eval::outcomes::{Found, Projection, Setting, Stop};
+use crate::normalizes_to::projection_args::first_args;
 use goal_kinds::candidates::interned::InternedCandidate;
 use goal_kinds::lists::projections::projection_list;
 use goal_kinds::lists::{AskedProjection, InternedEntry};
+use goal_kinds::outcomes::Outcome;
 use goal_terms::modes::TypingMode;
 use goal_terms::term_nodes::OutOfMemory;
 use goal_terms::term_table::TermTable;
+
+/// What a candidate gives a projection: nothing where it is ruled out. Whether it decides is told beside.
+#[derive(Clone, Copy)]
+pub(crate) struct GivenTerm {
+    pub(crate) found: Found,
+    pub(crate) decides: bool,
+}
 
 /// The term that a candidate gives a projection.
 #[tactic(auto, using(crate::proofs::CacheLemmas::caching))]
@@ -43,6 +54,74 @@ pub(crate) fn candidate_term(
     let list = candidate_list(&*setting, terms, &*projection, &*candidate)?;
     let outcome = run_list(setting, terms, effects, &list, depth)?;
     Ok(outcome.term())
+}
+
+/// What a candidate gives a projection, beside the impls that are more special than it. Only one that decides leaves
+/// equations of lifetimes.
+#[tactic(auto, using(crate::proofs::CacheLemmas::caching))]
+#[cycle(closed)]
+pub(crate) fn consider_term(
+    setting: &Setting<'_>,
+    terms: &mut TermTable,
+    effects: &mut Effects,
+    projection: &Projection<'_>,
+    candidate: &InternedCandidate<'_>,
+    depth: u32,
+) -> Result<GivenTerm, Stop>
+    requires effects { AreSound setting.now terms.old effects.old }
+    requires projection { ProjectionIn terms.old projection.now }
+    requires candidate { CandidateIn terms.old candidate.now }
+    requires row { IsOfRows setting.now.rows.now candidate.now }
+    ensures effects { AreSound setting.now terms.new effects.new }
+    ensures kept { Keeps terms.old terms.new }
+    ensures within { IfOk result (λ g. FoundIn terms.new g.found) }
+    ensures stops { IfErr result (IsStop setting.now) }
+    ensures says { ForEachMode setting.now depth (λ S L. IfOk result (SaysGiven S L (projection_at terms.old projection.now) (erased_at terms.old projection.now.rigid_alias) (candidate_at terms.old candidate.now) terms.new)) }
+{
+    let before = effects.regions.mark();
+    let found = candidate_term(setting, terms, effects, projection, candidate, depth)?;
+    if let Found::Refuted = found {
+        return Ok(GivenTerm {
+            found: Found::Refuted,
+            decides: false,
+        });
+    }
+    let args = first_args(projection.args, projection.trait_params);
+    let own = effects.regions.mark();
+    let special = more_special_outcome(setting, terms, effects, args, candidate, depth)?;
+    effects.end_special(before, own, special);
+    Ok(given_beside(special, found))
+}
+
+/// What a candidate gives a projection, by what it gives and by what the impls come to that are more special.
+fn given_beside(more_special: Outcome, found: Found) -> GivenTerm
+    ensures { result ≡ given_beside more_special found }
+{
+    match more_special {
+        Outcome::Holds => GivenTerm {
+            found: Found::Refuted,
+            decides: false,
+        },
+        Outcome::Refuted => GivenTerm {
+            found,
+            decides: is_term(found),
+        },
+        Outcome::Undecided => GivenTerm {
+            found,
+            decides: false,
+        },
+    }
+}
+
+/// Whether a term is found.
+fn is_term(found: Found) -> bool
+    ensures { result ≡ is_term found }
+{
+    match found {
+        Found::Is(_) => true,
+        Found::Refuted => false,
+        Found::Undecided => false,
+    }
 }
 
 /// The list of a candidate for a projection's term, by which a run goes, or none where its rule is refused.

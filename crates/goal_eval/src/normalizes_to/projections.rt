@@ -1,5 +1,5 @@
 //! The terms of projections.
-ghost use Rattle.std.specs.Prelude.{IfErr, IfOk, map};
+ghost use Rattle.std.specs.Prelude.{◌≡◌, IfErr, IfOk, map};
 ghost use Rattle.std.specs.List.{All};
 ghost use Rattle.goal_terms.specs.TableMeaning.{Keeps};
 ghost use Rattle.goal_kinds.specs.Candidates.{environment, second_group};
@@ -7,17 +7,19 @@ ghost use Rattle.goal_kinds.specs.Interned.{IsIn, AreIn, CandidateIn, erased_at,
 ghost use Rattle.goal_kinds.specs.Projections.{GroupGives, GroupRefuted, GroupsGive, GroupsRefuted, OwnUnformed, ItemGives, ItemRefuted, ProjectionGives, ProjectionRefuted};
 ghost use Rattle.goal_eval.specs.Outcomes.{Says, SaysWhich, FoundIn, ProjectionIn, projection_at, ForEachMode};
 ghost use Rattle.goal_eval.specs.ProjectionParts.{HaveHeadForms, SomeUnformed, FormedGives, LaterGives, LaterRefuted, ReplacedGives, ReplacedRefuted, ThroughGives, ThroughRefuted};
+ghost use Rattle.goal_eval.specs.SpecialImpls.{IsOfRows, if_decided};
 ghost use Rattle.goal_eval.specs.Effects.{AreSound, IsStop};
 
 use crate::assembly::merging::merge_terms;
 use crate::eval::effects::Effects;
 use crate::eval::head_forms::head_form;
-use crate::eval::outcomes::{Found, Outcome, Projection, Setting, Stop, TraitOutcome};
+use crate::eval::outcomes::{Found, Projection, Setting, Stop};
 use crate::normalizes_to::projection_args::{first_args, intern_alias, later_args, with_self};
-use crate::normalizes_to::projection_candidates::candidate_term;
+use crate::normalizes_to::projection_candidates::consider_term;
 use crate::trait_goals::evaluation::evaluate_trait_goal;
 use goal_kinds::candidates::interned::InternedCandidate;
 use goal_kinds::candidates::lists::{Sought, candidates_of_class, second_group};
+use goal_kinds::outcomes::{Outcome, TraitOutcome};
 use goal_tables::rows::{ItemRow, TraitRow};
 use goal_terms::answers::TraitGoalProvenVia;
 use goal_terms::ids::{ItemId, TraitId};
@@ -373,8 +375,8 @@ fn head_forms_outcome(
     Ok(outcome)
 }
 
-/// The term that a group of candidates gives a projection: all that give one have to give the same. Only the first
-/// of these leaves equations of lifetimes.
+/// The term that a group of candidates gives a projection: one that gives it decides, and all others that aren't ruled
+/// out give the same. Only the first that decides leaves equations of lifetimes.
 #[tactic(auto, using(crate::proofs::CacheLemmas::caching))]
 #[cycle(closed)]
 fn group_term(
@@ -388,6 +390,7 @@ fn group_term(
     requires effects { AreSound setting.now terms.old effects.old }
     requires projection { ProjectionIn terms.old projection.now }
     requires candidates { All (CandidateIn terms.old) candidates.now }
+    requires rows { All (IsOfRows setting.now.rows.now) candidates.now }
     ensures effects { AreSound setting.now terms.new effects.new }
     ensures kept { Keeps terms.old terms.new }
     ensures within { IfOk result (FoundIn terms.new) }
@@ -395,14 +398,32 @@ fn group_term(
     ensures says { ForEachMode setting.now depth (λ S L. IfOk result (SaysWhich (GroupGives S L (projection_at terms.old projection.now) (erased_at terms.old projection.now.rigid_alias) (map (candidate_at terms.old) candidates.now)) (GroupRefuted S L (projection_at terms.old projection.now) (map (candidate_at terms.old) candidates.now)) terms.new)) }
 {
     let mut found = Found::Refuted;
+    let mut decided = false;
     for candidate in candidates {
         let before = effects.regions.mark();
-        let next = candidate_term(setting, terms, effects, projection, candidate, depth)?;
-        effects.end_candidate(before, found);
-        found = merge_terms(terms, found, next);
+        let next = consider_term(setting, terms, effects, projection, candidate, depth)?;
+        effects.end_candidate(before, decided);
+        found = merge_terms(terms, found, next.found);
+        decided = decided | next.decides;
         if let Found::Undecided = found {
             return Ok(Found::Undecided);
         }
     }
-    Ok(found)
+    Ok(if_decided(found, decided))
+}
+
+/// What a group gives, by what its candidates give together, and whether one of them that gives it decides.
+fn if_decided(found: Found, decided: bool) -> Found
+    ensures { result ≡ if_decided found decided }
+{
+    match found {
+        Found::Is(term) => {
+            if decided {
+                Found::Is(term)
+            } else {
+                Found::Undecided
+            }
+        }
+        other => other,
+    }
 }

@@ -11,8 +11,9 @@ ghost use Rattle.goal_eval.specs.Effects.{AreSound, IsStop};
 
 use crate::eval::effects::Effects;
 use crate::eval::head_forms::head_form;
-use crate::eval::outcomes::{Outcome, Setting, Stop};
+use crate::eval::outcomes::{Setting, Stop};
 use crate::relate::pairs::{Forms, Pending, TermPair, collect, collect_lists, pair_forms};
+use goal_kinds::outcomes::Outcome;
 use goal_terms::compare::Regions;
 use goal_terms::term_nodes::TermId;
 use goal_terms::term_table::TermTable;

@@ -10,10 +10,11 @@ ghost use Rattle.goal_eval.specs.Effects.{AreSound, IsStop};
 
 use crate::eval::effects::Effects;
 use crate::eval::head_forms::head_form;
-use crate::eval::outcomes::{Found, Outcome, Setting, Stop};
+use crate::eval::outcomes::{Found, Setting, Stop};
 use crate::relate::equality::compare_terms;
 use crate::relate::header_args::{instance_of, mentions_unknown};
 use crate::relate::header_questions::{Question, questions_of, questions_of_args};
+use goal_kinds::outcomes::Outcome;
 use goal_terms::compare::Regions;
 use goal_terms::term_nodes::TermId;
 use goal_terms::term_table::TermTable;

@@ -9,11 +9,12 @@ ghost use Rattle.goal_eval.specs.HeaderWords.{KnownIn, known_trees, AreFilled, i
 ghost use Rattle.goal_eval.specs.Effects.{AreSound, IsStop};
 
 use crate::eval::effects::Effects;
-use crate::eval::outcomes::{HeaderMatch, Outcome, Setting, Stop};
+use crate::eval::outcomes::{HeaderMatch, Setting, Stop};
 use crate::relate::equality::compare_lists;
 use crate::relate::header_args::{filled_args, instances, is_complete};
 use crate::relate::header_clashes::header_clashes;
 use crate::relate::header_parts::known_args;
+use goal_kinds::outcomes::Outcome;
 use goal_terms::answers::ParamKind;
 use goal_terms::term_nodes::TermId;
 use goal_terms::term_table::TermTable;

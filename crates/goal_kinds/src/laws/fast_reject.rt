@@ -49,7 +49,7 @@ pub fn other_heads_are_final()
 {}
 
 /// A candidate that may not fit given arguments is refuted at every height, for a trait of these, for it as
-/// a const trait, and for a projection whose trait has these: so it may be passed over.
+/// a const trait, and for a projection whose trait has these: so it need not be tried.
 pub fn what_may_not_fit_is_refuted()
     ensures traits { (S : Setting) (n : ℕ) (i : TraitId) (args : List Tree) (x : Candidate) → may_fit args x ≡ false → CandidateRefuted S (level S n) i (map erased args) x }
     ensures consts { (S : Setting) (n : ℕ) (c : BoundConstness) (i : TraitId) (args : List Tree) (x : Candidate) → may_fit args x ≡ false → ConstCandidateRefuted S (level S n) c i (map erased args) x }

@@ -2,7 +2,7 @@
 //! holds or is refuted at a height, and that it is not so one lower (`_lower`). The tables are those of
 //! `specs/ExampleTables.antt`.
 ghost use Rattle.goal_kinds.specs.Builtins.{u8_ty, unit_ty, usize_ty};
-ghost use Rattle.goal_kinds.specs.ExampleSettings.{asked_args, assuming_maybe_const, assuming_own, assuming_own_trait, assuming_sized, assuming_z, bounded, called_with, disagreeing, f_alias, inherent_item, metadata_of_bool, own_args_of, pair_args, q_ty, three, with_const, with_default};
+ghost use Rattle.goal_kinds.specs.ExampleSettings.{asked_args, assuming_maybe_const, assuming_own, assuming_own_trait, assuming_sized, assuming_z, bounded, called_with, disagreeing, f_alias, inherent_item, metadata_of_bool, own_args_of, pair_args, q_ty, specialized, three, unspecialized, with_const, with_default};
 ghost use Rattle.goal_kinds.specs.ExampleTables.{analysis, plainly, revealing};
 ghost use Rattle.goal_kinds.specs.ExampleTerms.{alias_of, bool_ty, box_of, error_ty, free, i32_ty, opaque, p_ty, param, projection, str_ty, trait, tuple, u16_ty, u32_ty, u64_ty, vec_of, w_ty, y_ty, z_ty};
 ghost use Rattle.goal_kinds.specs.Levels.{level};
@@ -150,4 +150,17 @@ pub fn two_impls_agree()
     ensures two_impls_lower { (u : Tree) → (level plainly 1).gives (projection 6) asked_args u → ⊥ }
     ensures no_fit { (level plainly 2).gives_refuted (projection 6) (bool_ty ∷ i32_ty ∷ u64_ty ∷ []) }
     ensures no_fit_lower { (level plainly 1).gives_refuted (projection 6) (bool_ty ∷ i32_ty ∷ u64_ty ∷ []) → ⊥ }
+{}
+
+/// Of two impls that fit, the general one is passed over where the more special one holds, and decides where
+/// that is refuted; while that is neither, nothing decides. Where no list says which is more special,
+/// and they give other types, there is no term at any height.
+pub fn more_special_impls()
+    ensures passed_over { (level specialized 2).gives (projection 5) (vec_of u8_ty ∷ []) u16_ty }
+    ensures passed_over_lower { (u : Tree) → (level specialized 1).gives (projection 5) (vec_of u8_ty ∷ []) u → ⊥ }
+    ensures decides { (level specialized 2).gives (projection 5) (vec_of u32_ty ∷ []) u32_ty }
+    ensures decides_lower { (u : Tree) → (level specialized 1).gives (projection 5) (vec_of u32_ty ∷ []) u → ⊥ }
+    ensures by_alias { (level specialized 4).gives (projection 5) (vec_of f_alias ∷ []) u16_ty }
+    ensures by_alias_lower { (u : Tree) → (level specialized 3).gives (projection 5) (vec_of f_alias ∷ []) u → ⊥ }
+    ensures unspecialized { (n : ℕ) (u : Tree) → (level unspecialized n).gives (projection 5) (vec_of u8_ty ∷ []) u → ⊥ }
 {}

@@ -14,7 +14,7 @@ ghost use Rattle.goal_kinds.specs.Candidates.{assumption, by_impl, built_in, err
 ghost use Rattle.goal_kinds.specs.Premises.{TraitTree as trait_tree, predicate_under};
 ghost use Rattle.goal_kinds.specs.RuleWords.{TermsAreFor};
 ghost use Rattle.goal_kinds.specs.Settings.{is_headline};
-ghost use Rattle.goal_solver.specs.Collecting.{words_over, is_later_named, is_any_named, args_and_itself, clauses_of_item, clauses_of_opaque, Speaks, Lacks, Adds, AreCollected, Collects, CollectsBounds};
+ghost use Rattle.goal_solver.specs.Collecting.{impl_certainty, words_over, is_later_named, is_any_named, args_and_itself, clauses_of_item, clauses_of_opaque, Speaks, Lacks, Adds, AreCollected, Collects, CollectsBounds};
 
 use crate::faults::Fault;
 use goal_kinds::goal_kind::GoalKind;
@@ -100,6 +100,17 @@ fn push_environment_rules<G: GoalKind>(
     Ok(())
 }
 
+/// How sure the rule of an impl is: not where others are more special, since these aren't asked.
+fn impl_certainty(row: &ImplRow) -> Certainty
+    ensures { result ≡ impl_certainty row.now }
+{
+    if row.more_special.is_empty() {
+        Certainty::Yes
+    } else {
+        Certainty::Maybe
+    }
+}
+
 /// Adds the rule of an impl of the goal's trait. No impl of that trait is refused for another reason than
 /// that it is refuted, or want of memory.
 fn push_impl_rule<G: GoalKind>(
@@ -114,7 +125,8 @@ fn push_impl_rule<G: GoalKind>(
     ensures expected { All (λ r. TermsAreFor (G.expected goal.now.predicate) r.entries.items) found.old.items → IfOk result (λ _. All (λ r. TermsAreFor (G.expected goal.now.predicate) r.entries.items) found.new.items) }
     ensures only_memory { IsOkUnless result Fault.OutOfMemory }
 {
-    match G::consider_impl_candidate(tables, mode, goal, row.id, Certainty::Yes) {
+    let then = impl_certainty(row);
+    match G::consider_impl_candidate(tables, mode, goal, row.id, then) {
         Ok(rule) => Ok(push_rule(found, rule)?),
         Err(Fault::NoSolution) => Ok(()),
         Err(_) => Err(Fault::OutOfMemory),

@@ -17,7 +17,8 @@ ghost use Rattle.goal_solver.specs.Relating.{ChangesRecords, IsFaultFor, SaysYes
 use crate::context::{EvalCtxt, Snapshot};
 use crate::eval::goal_outcomes::OpenGoal;
 use crate::faults::Fault;
-use goal_eval::eval::outcomes::{Outcome, Stop};
+use goal_eval::eval::outcomes::Stop;
+use goal_kinds::outcomes::Outcome;
 use goal_terms::answers::{Certainty, GoalSource, Response};
 use goal_terms::predicates::{Goal, Predicate};
 use goal_terms::terms::AliasTerm;

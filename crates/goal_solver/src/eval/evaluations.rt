@@ -16,12 +16,13 @@ ghost use Rattle.goal_eval.specs.Outcomes.{RunsAs, StandsFor, SaysThrough, Found
 use crate::context::EvalCtxt;
 use crate::eval::predicate_views::{PredicateView, intern_predicate};
 use goal_eval::eval::interning::intern_args;
-use goal_eval::eval::outcomes::{Found, OnAccess, Outcome, Setting, Stop, TraitOutcome};
+use goal_eval::eval::outcomes::{Found, OnAccess, Setting, Stop};
 use goal_eval::eval::premises::predicate_outcome;
 use goal_eval::eval::region_constraints::RegionConstraints;
 use goal_eval::normalizes_to::alias_terms::alias_term;
 use goal_eval::trait_goals::evaluation::evaluate_trait_goal;
 use goal_kinds::candidates::interned::InternedPredicate;
+use goal_kinds::outcomes::{Outcome, TraitOutcome};
 use goal_terms::ids::TraitId;
 use goal_terms::predicates::Clause;
 use goal_terms::term_nodes::TermId;

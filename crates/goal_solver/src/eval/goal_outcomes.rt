@@ -20,12 +20,13 @@ use crate::eval::open_terms::any_variable;
 use crate::eval::predicate_views::PredicateView;
 use crate::eval::where_goals::copied_clauses;
 use crate::faults::Fault;
-use goal_eval::eval::outcomes::{Found, Outcome, Stop};
+use goal_eval::eval::outcomes::{Found, Stop};
 use goal_eval::eval::region_constraints::RegionConstraints;
 use goal_infer::followed::{follow, follow_all};
 use goal_infer::resolve::resolve;
 use goal_infer::unify::{Unified, unify};
 use goal_kinds::candidates::interned::{InternedPredicate, InternedTrait};
+use goal_kinds::outcomes::Outcome;
 use goal_tables::predicate_terms::some_in_env;
 use goal_terms::node_tests::{NodeTest, general_variable};
 use goal_terms::predicates::{

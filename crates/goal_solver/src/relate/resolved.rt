@@ -9,9 +9,10 @@ ghost use Rattle.goal_eval.specs.Effects.{AreSound, IsStop};
 
 use goal_eval::eval::effects::Effects;
 use goal_eval::eval::id_lists::own_list;
-use goal_eval::eval::outcomes::{Outcome, Setting, Stop};
+use goal_eval::eval::outcomes::{Setting, Stop};
 use goal_eval::relate::equality::compare_terms;
 use goal_eval::relate::pairs::{Tops, compare_tops};
+use goal_kinds::outcomes::Outcome;
 use goal_terms::term_nodes::TermId;
 use goal_terms::term_table::TermTable;
 

@@ -1,9 +1,11 @@
 //! Runs of a goal over the program's tables and over others, compared.
 use crate::tests::scenes::checked_after;
 use crate::tests::sketches::{
-    ASSOC, Asked, I32, STRUCT_X, STRUCT_Z, TR_A, TermSketch, U64, V0, VEC_OF_U32, goal_of,
+    ASSOC, Asked, I32, STRUCT_X, STRUCT_Z, TR_A, TermSketch, TypeSketch, U64, V0, VEC_OF_U32,
+    goal_of,
 };
-use goal_program::tables::whole_tables;
+use goal_program::names::VEC;
+use goal_program::tables::{tables_with_specialized_impl, whole_tables};
 use goal_solver::comparison::{Comparison, compare_runs};
 use goal_tables::checked::{CheckedTables, check_tables};
 use goal_tables::rows::{DefRow, DefValue, ImplRow, SourceRow, Tables};
@@ -24,6 +26,8 @@ enum Other {
     AnotherValue,
     /// `Z` has no impl of `Tr`.
     WithoutImpl,
+    /// An impl lists another as more special, and the impls stand the other way round.
+    SpecializedReversed,
 }
 
 /// A goal, the limits of its two runs, and what they come to.
@@ -34,6 +38,12 @@ const IMPL_FOR_Z: ImplId = ImplId(5);
 
 /// What that impl says of `A`.
 const A_FOR_Z: DefId = DefId(3);
+
+/// `Vec<Z>`.
+const VEC_OF_Z: TypeSketch = TypeSketch::Adt(VEC, &[STRUCT_Z]);
+
+/// `<Vec<Z> as Tr>::A`, which the more special of two impls gives.
+const A_OF_VEC_OF_Z: Asked = Asked::Is(TR_A, &[VEC_OF_Z], TermSketch::Ty(V0));
 
 /// `<Vec<u32> as Trait<i32>>::Assoc<u64>`, which two impls give.
 const ASSOC_OF_VEC: Asked = Asked::Is(ASSOC, &[VEC_OF_U32, I32, U64], TermSketch::Ty(V0));
@@ -53,17 +63,30 @@ const IN_ANOTHER_ORDER: &[Compared] = &[
 
 const OF_ANOTHER_VALUE: &[Compared] = &[Compared(A_OF_Z, 2, 2, Comparison::Different)];
 
+const SPECIALIZED: &[Compared] = &[
+    Compared(A_OF_VEC_OF_Z, 3, 128, Comparison::Same),
+    Compared(A_OF_VEC_OF_Z, 1, 128, Comparison::OneUndecided),
+];
+
 const WITHOUT_AN_IMPL: &[Compared] = &[Compared(A_OF_Z, 2, 2, Comparison::Different)];
 
 /// The other tables.
 fn tables_of(alloc: Global, other: Other) -> Result<Tables, AllocError> {
-    let mut tables = whole_tables(alloc)?;
+    let mut tables = unchanged_tables(alloc, other)?;
     match other {
-        Other::Reversed => tables.impls.reverse(),
+        Other::Reversed | Other::SpecializedReversed => tables.impls.reverse(),
         Other::AnotherValue => give_value(&mut tables.definitions),
         Other::WithoutImpl => remove_impl(&mut tables),
     }
     Ok(tables)
+}
+
+/// The tables from which the other ones are made.
+fn unchanged_tables(alloc: Global, other: Other) -> Result<Tables, AllocError> {
+    match other {
+        Other::SpecializedReversed => tables_with_specialized_impl(alloc),
+        _ => whole_tables(alloc),
+    }
 }
 
 /// Makes `A` of `Z` the type `u16`.
@@ -155,4 +178,11 @@ fn another_value(rt: HostRuntime) -> Result<(), Fail> {
 #[test]
 fn an_impl_less(rt: HostRuntime) -> Result<(), Fail> {
     assert_compared(&rt, rt.alloc(), Other::WithoutImpl, WITHOUT_AN_IMPL)
+}
+
+#[test]
+fn the_order_of_specialized_impls(rt: HostRuntime) -> Result<(), Fail> {
+    let alloc = rt.alloc();
+    let tables = check_tables(tables_with_specialized_impl(alloc)?)?;
+    assert_beside(&rt, alloc, &tables, Other::SpecializedReversed, SPECIALIZED)
 }

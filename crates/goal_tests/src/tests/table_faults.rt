@@ -5,7 +5,7 @@ use goal_program::types::struct_row;
 use goal_tables::checked::check_tables;
 use goal_tables::faults::TableFault;
 use goal_tables::rows::Tables;
-use goal_terms::ids::TraitId;
+use goal_terms::ids::{ImplId, TraitId};
 use std::alloc::{AllocError, Global};
 use std::test::Fail;
 
@@ -14,6 +14,15 @@ fn of_an_unknown_trait(alloc: Global) -> Result<Tables, AllocError> {
     let mut tables = whole_tables(alloc)?;
     for row in tables.impls.as_mut_slice() {
         row.trait_id = TraitId(99);
+    }
+    Ok(tables)
+}
+
+/// The tables of the program, where each impl says that one that isn't there is more special.
+fn with_an_unknown_more_special_impl(alloc: Global) -> Result<Tables, AllocError> {
+    let mut tables = whole_tables(alloc)?;
+    for row in tables.impls.as_mut_slice() {
+        row.more_special.push(ImplId(99))?;
     }
     Ok(tables)
 }
@@ -43,6 +52,8 @@ fn faults_of_ids_and_sources(rt: HostRuntime) -> Result<(), Fail> {
     let alloc = rt.alloc();
     let unknown = fault_of(of_an_unknown_trait(alloc)?);
     assert_eq!(rt; unknown, Some(TableFault::UnknownItem));
+    let unlisted = fault_of(with_an_unknown_more_special_impl(alloc)?);
+    assert_eq!(rt; unlisted, Some(TableFault::UnknownItem));
     let missing = fault_of(without_a_source(alloc)?);
     assert_eq!(rt; missing, Some(TableFault::SourceMismatch));
     let doubled = fault_of(with_two_structs(alloc)?);

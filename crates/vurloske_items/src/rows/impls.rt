@@ -4,9 +4,9 @@ use crate::terms::Lowering;
 use goal_tables::rows::{ImplPolarity, ImplRow};
 use goal_terms::ids::{ImplId, TraitId};
 use goal_terms::predicates::TraitRef;
-use vurloske_ast::ast::{Ast, Impl, Segment};
+use vurloske_ast::ast::{Ast, Impl, Run, Segment};
 use vurloske_ast::phrase::Phrase;
-use vurloske_names::attributes::expect_attrs;
+use vurloske_names::attributes::{args_in_attr, expect_attrs, name_in_arg};
 use vurloske_names::definitions::places::{Places, attrs_at};
 use vurloske_names::faults::{ItemFault, wrong_name};
 
@@ -33,13 +33,29 @@ impl Text<'_> {
         };
         let trait_id = self.trait_named(trait_)?;
         self.expect_impl_attrs(node, trait_, id)?;
+        let attrs = attrs_at(self.ast, &self.definitions.places.impls, id.0);
+        let more_special = self.more_special(attrs)?;
         let mut lowering = Lowering::of_impl(self.alloc, self.ast, self.definitions, node);
         let mut row = lowering.impl_row(id, trait_id, node, trait_);
         row.polarity = polarity(self.ast, &self.definitions.places, id, node);
-        let attrs = attrs_at(self.ast, &self.definitions.places.impls, id.0);
         row.guaranteed_unsized = self.ast.has_attr(attrs, "guaranteed_unsized");
+        row.more_special = more_special;
         lowering.scope.fault.keep(rows.push(row));
         lowering.scope.fault.result()
+    }
+
+    /// The impls that `#[more_special(one, other)]` names, if it stands there.
+    fn more_special(self, attrs: Run) -> Result<Vec<ImplId>, ItemFault> {
+        let mut listed = Vec::new(self.alloc);
+        if let Some(attr) = self.ast.attr_named(attrs, "more_special") {
+            for arg in args_in_attr(self.ast, &attr) {
+                let Some(name) = name_in_arg(self.ast, arg) else {
+                    return Err(wrong_name(attr.ident, Phrase::NAME_OF_AN_IMPL));
+                };
+                listed.push(self.impl_named(name)?)?;
+            }
+        }
+        Ok(listed)
     }
 
     /// A mistake where an impl has an attribute that no impl has, or is both negative and a reservation.
@@ -48,7 +64,7 @@ impl Text<'_> {
         expect_attrs(
             self.ast,
             attrs,
-            &["name", "reservation", "guaranteed_unsized"],
+            &["name", "more_special", "reservation", "guaranteed_unsized"],
         )?;
         if node.is_negative && self.ast.has_attr(attrs, "reservation") {
             return Err(wrong_name(trait_.ident, Phrase::RESERVATION_WITHOUT_NOT));
@@ -74,6 +90,7 @@ impl Lowering<'_> {
             guaranteed_unsized: false,
             predicates,
             const_conditions,
+            more_special: Vec::new(self.alloc),
         }
     }
 }

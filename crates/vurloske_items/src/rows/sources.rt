@@ -90,7 +90,8 @@ impl Text<'_> {
         }
     }
 
-    fn impl_named(self, name: Ident) -> Result<ImplId, ItemFault> {
+    /// The impl of a name.
+    pub(super) fn impl_named(self, name: Ident) -> Result<ImplId, ItemFault> {
         match self.definitions.impl_named(name.name) {
             Some(id) => Ok(id),
             None => Err(wrong_name(name, Phrase::NAME_OF_AN_IMPL)),

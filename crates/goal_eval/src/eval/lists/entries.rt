@@ -19,7 +19,7 @@ use crate::eval::id_lists::{joined, own_list};
 use crate::eval::instances::{header_of_type, instances_of};
 use crate::eval::lists::progress::{ListRun, Reached};
 use crate::eval::mode_tests::is_headline;
-use crate::eval::outcomes::{Found, HeaderMatch, OnAccess, Outcome, Setting, Stop};
+use crate::eval::outcomes::{Found, HeaderMatch, OnAccess, Setting, Stop};
 use crate::eval::premises::{clauses_outcome, conditions_outcome, predicate_outcome};
 use crate::relate::equality::compare_lists;
 use crate::relate::headers::match_header;
@@ -27,6 +27,7 @@ use goal_kinds::candidates::premises::traits_under;
 use goal_kinds::lists::{
     HeaderTerms, InternedArguments, InternedEntry, InternedTerm, RowHeader, RowValueTerm,
 };
+use goal_kinds::outcomes::Outcome;
 use goal_terms::answers::{DelayedFault, OpaqueAccess};
 use goal_terms::predicates::{BoundConstness, Clause, TraitRef};
 use goal_terms::term_nodes::TermId;

@@ -5,7 +5,8 @@ ghost use Rattle.goal_kinds.specs.Interned.{IsIn};
 ghost use Rattle.goal_eval.specs.Outcomes.{FoundIn};
 
 use crate::eval::lists::ListOutcome;
-use crate::eval::outcomes::{Found, HeaderMatch, Outcome};
+use crate::eval::outcomes::{Found, HeaderMatch};
+use goal_kinds::outcomes::Outcome;
 use goal_terms::term_nodes::{OutOfMemory, TermId};
 use goal_terms::term_table::TermTable;
 use std::alloc::Global;

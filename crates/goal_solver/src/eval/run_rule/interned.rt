@@ -23,11 +23,12 @@ use goal_eval::eval::effects::Effects;
 use goal_eval::eval::interning::{intern_args, intern_equation};
 use goal_eval::eval::lists::entries::run_entry;
 use goal_eval::eval::lists::progress::{ListRun, Reached};
-use goal_eval::eval::outcomes::{Outcome, Setting, Stop};
+use goal_eval::eval::outcomes::{Setting, Stop};
 use goal_kinds::candidates::interned::{InternedPredicate, InternedTrait};
 use goal_kinds::lists::{
     HeaderTerms, InternedArguments, InternedEntry, InternedTerm, RowHeader, RowValueTerm,
 };
+use goal_kinds::outcomes::Outcome;
 use goal_kinds::rules::{RowClauses, RowValue, RuleArguments, RuleEntry, RuleHeader, RuleTerm};
 use goal_tables::lookup::IndexedTables;
 use goal_tables::rows::{DefValue, ImplRow};

@@ -1,8 +1,7 @@
-use Rattle.std.proofs.Common.{◌≡◌, ◌∙◌, ap, sym, refl, Some, None}
-use Rattle.std.specs.Option.{option_map, option_copied, option_and_then}
+use Rattle.std.proofs.Common.{◌∙◌, ap, sym, refl, Some, None}
+use Rattle.std.specs.Option.{option_map}
 use Rattle.goal_terms.specs.TableMeaning.{tree_at}
 use Rattle.goal_terms.specs.Tree.{parts_of}
-use Rattle.goal_tables.specs.Rows.{adt_of}
 use Rattle.goal_kinds.specs.Interned.{erased_at}
 use Rattle.goal_kinds.specs.Tops.{adt_at}
 use Rattle.goal_kinds.proofs.ItemTermLemmas.{field-none, field-row, copied-map}

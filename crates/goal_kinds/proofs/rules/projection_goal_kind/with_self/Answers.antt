@@ -1,5 +1,5 @@
-use Rattle.std.proofs.Common.{◌∙◌, ◌++◌, ◌∷◌, [], drop, refl, ap, ap₂}
-use Rattle.goal_terms.specs.TreeOf.{trees_of, tree_of_ty}
+use Rattle.std.proofs.Common.{◌∙◌, ◌++◌, ◌∷◌, drop, refl, ap, ap₂}
+use Rattle.goal_terms.specs.TreeOf.{trees_of}
 use Rattle.goal_terms.proofs.TreeLemmas.{tree_of_arg-Ty}
 use Rattle.goal_kinds.proofs.rules.projection_goal_kind.with_self.Goals as goal
 

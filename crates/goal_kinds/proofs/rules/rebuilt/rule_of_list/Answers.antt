@@ -1,4 +1,4 @@
-use Rattle.std.proofs.Common.{◌≡◌, ◌∙◌, ap, map, Some, sym, subst}
+use Rattle.std.proofs.Common.{◌∙◌, ap, map, Some, sym, subst}
 use Rattle.std.specs.Prelude.{option_copied}
 use Rattle.std.specs.List.{All}
 use Rattle.goal_kinds.specs.InternedEntries.{entries_at, list_at}

@@ -1,5 +1,5 @@
-use Rattle.std.proofs.Common.{[], ◌≡◌, ◌∙◌, ap, refl, sym, subst, Some}
-use Rattle.std.specs.Prelude.{IfOk, IfErr}
+use Rattle.std.proofs.Common.{[], refl, sym, subst}
+use Rattle.std.specs.Prelude.{IfOk}
 use Rattle.goal_kinds.specs.Candidates.{by_impl}
 use Rattle.goal_kinds.specs.InternedEntries.{setting_at}
 use Rattle.goal_kinds.specs.RuleLists.{IsListed, list_then}

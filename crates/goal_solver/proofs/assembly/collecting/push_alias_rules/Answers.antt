@@ -16,4 +16,4 @@ returns-clause-collected g c =
     (subst (λ s. Collects (Speaks (words_over g.G.GoalKind.merging g.G.GoalKind.has_term (g.G.GoalKind.candidate_gives c.args.goal.now.predicate) (g.G.GoalKind.candidate_refuted c.args.goal.now.predicate) (g.G.GoalKind.passes c.args.goal.now.predicate) (g.G.GoalKind.is_for c.args.goal.now.predicate c.args.tables.now) (g.G.GoalKind.trait_asked c.args.goal.now.predicate c.args.tables.now) (setting_of c.args.tables.now c.args.mode.now c.args.goal.now.param_env.items))) (Lacks (words_over g.G.GoalKind.merging g.G.GoalKind.has_term (g.G.GoalKind.candidate_gives c.args.goal.now.predicate) (g.G.GoalKind.candidate_refuted c.args.goal.now.predicate) (g.G.GoalKind.passes c.args.goal.now.predicate) (g.G.GoalKind.is_for c.args.goal.now.predicate c.args.tables.now) (g.G.GoalKind.trait_asked c.args.goal.now.predicate c.args.tables.now) (setting_of c.args.tables.now c.args.mode.now c.args.goal.now.param_env.items))) (bounds_under s c.args.clauses.now) c.args.found.now.items c.push_declared_rules.new.found.items)
     (ap (λ xs. map erased (trees_of xs)) c.deref.ensures.value ∙ c.in_ok-args.ensures) c.in_ok-push_declared_rules.ensures.collected)
     (collects-pairs (words_over g.G.GoalKind.merging g.G.GoalKind.has_term (g.G.GoalKind.candidate_gives c.args.goal.now.predicate) (g.G.GoalKind.candidate_refuted c.args.goal.now.predicate) (g.G.GoalKind.passes c.args.goal.now.predicate) (g.G.GoalKind.is_for c.args.goal.now.predicate c.args.tables.now) (g.G.GoalKind.trait_asked c.args.goal.now.predicate c.args.tables.now) (setting_of c.args.tables.now c.args.mode.now c.args.goal.now.param_env.items)) c.in_ok-added.added.items (g.G.GoalKind.additional c.args.goal.now.predicate (setting_of c.args.tables.now c.args.mode.now c.args.goal.now.param_env.items) c.args.alias.now)
-    c.push_declared_rules.new.found.items c.push_rules.new.found.items c.in_ok-push_rules.ensures c.in_ok-added.ensures.gives c.in_ok-added.ensures.refuted)
+    c.push_declared_rules.new.found.items c.push_rules.new.found.items c.in_ok-push_rules.ensures c.in_ok-added.ensures.gives c.in_ok-added.ensures.refuted c.in_ok-added.ensures.no_impl)

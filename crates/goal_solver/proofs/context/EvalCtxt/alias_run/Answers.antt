@@ -3,6 +3,7 @@ use Rattle.std.proofs.Common.{refl, sym, ap, subst, ◌∙◌}
 use Rattle.goal_solver.proofs.BindingLemmas.{goes_back-interned}
 use Rattle.goal_solver.proofs.GoingBackLemmas.{goes_back-through, solved-grown}
 use Rattle.goal_eval.proofs.CacheLemmas.{sound-new, sound-parts}
+use Rattle.goal_tables.specs.Faults.{IsChecked}
 use Rattle.goal_solver.specs.State.{State}
 use Rattle.goal_solver.proofs.AccessLemmas.{run-recorded, ends-here}
 use Rattle.goal_kinds.specs.Interned.{erased_all}
@@ -56,7 +57,7 @@ pub returns-clause-says : goal.returns-clause-says
 returns-clause-says c =
     run-says (λ S n T U. SaysTermAt (level S n) c.args.kind (erased_all T c.args.args.now) U c.alias_term-found.result)
     _ _ _ _ _ c.args.self.now c.record_listed.new.self c.args.environment.now c.args.on_access c.alias_term-found.new.terms
-    c.self.view_is c.alias_term-found.ensures.says (c.rows.ensures.rows ∙ ap (λ (s : State). s.tables) c.self.view_is) (ap (λ (s : State). s.typing_mode) c.self.view_is) refl refl
+    (subst IsChecked (sym c.rows.ensures.rows) c.rows.ensures.checked) c.self.view_is c.alias_term-found.ensures.says (c.rows.ensures.rows ∙ ap (λ (s : State). s.tables) c.self.view_is) (ap (λ (s : State). s.typing_mode) c.self.view_is) refl refl
     (ap (λ (s : State). s.terms) c.record_listed.ensures.unchanged)
 
 pub returns-clause-within : goal.returns-clause-within

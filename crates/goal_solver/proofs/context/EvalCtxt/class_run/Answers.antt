@@ -1,9 +1,10 @@
-use Rattle.std.proofs.Common.{refl, ap, ◌∙◌}
+use Rattle.std.proofs.Common.{refl, ap, ◌∙◌, subst, sym}
 use Rattle.std.specs.Prelude.{IfOk}
 use Rattle.goal_kinds.specs.Levels.{level}
 use Rattle.goal_eval.specs.ErasedArgs.{erased_args}
 use Rattle.goal_solver.specs.Assembled.{level_through}
 use Rattle.goal_eval.specs.Outcomes.{SaysWhich}
+use Rattle.goal_tables.specs.Faults.{IsChecked}
 use Rattle.goal_solver.specs.State.{State}
 use Rattle.goal_solver.proofs.EvaluationLemmas.{run-says}
 use Rattle.goal_solver.proofs.GoingBackLemmas.{solved-grown}
@@ -28,5 +29,5 @@ pub returns-clause-says : goal.returns-clause-says
 returns-clause-says c =
     run-says (λ S n T U. IfOk c.alias_proven_via-found.result (SaysWhich ((level_through S (level S n) c.args.class).gives c.args.alias.now.kind (erased_args c.args.alias.now.args.items)) ((level_through S (level S n) c.args.class).gives_refuted c.args.alias.now.kind (erased_args c.args.alias.now.args.items)) U))
     _ _ _ _ _ c.args.self.now c.record_listed.new.self c.args.environment.now c.args.on_access c.alias_proven_via-found.new.terms
-    c.self.view_is c.alias_proven_via-found.ensures.says (c.rows.ensures.rows ∙ ap (λ (s : State). s.tables) c.self.view_is) (ap (λ (s : State). s.typing_mode) c.self.view_is) refl refl
+    (subst IsChecked (sym c.rows.ensures.rows) c.rows.ensures.checked) c.self.view_is c.alias_proven_via-found.ensures.says (c.rows.ensures.rows ∙ ap (λ (s : State). s.tables) c.self.view_is) (ap (λ (s : State). s.typing_mode) c.self.view_is) refl refl
     (ap (λ (s : State). s.terms) c.record_listed.ensures.unchanged)

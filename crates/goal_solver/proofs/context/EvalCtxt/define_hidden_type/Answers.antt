@@ -1,4 +1,4 @@
-use Rattle.std.proofs.Common.{Option, Some, None, Result, Ok, Err, Vec, Global, inr, refl, sym, subst}
+use Rattle.std.proofs.Common.{Some, None, Result, Ok, Err, Vec, Global, inr, refl, sym, subst}
 use Rattle.std.specs.Prelude.{IfOk, option_map}
 use Rattle.goal_terms.specs.TreeOf.{tree_of_ty, trees_of}
 use Rattle.goal_terms.specs.declared.answers.Certainty.TheVariants as certainty

@@ -4,6 +4,7 @@ use Rattle.goal_kinds.specs.Interned.{erased_at}
 use Rattle.goal_kinds.specs.Level.{HasHeadForm, HeadFormRefuted}
 use Rattle.goal_kinds.specs.Levels.{level}
 use Rattle.goal_eval.specs.Outcomes.{SaysWhich, FoundIn}
+use Rattle.goal_tables.specs.Faults.{IsChecked}
 use Rattle.goal_solver.specs.State.{State}
 use Rattle.goal_solver.proofs.EvaluationLemmas.{run-says, memory-ends}
 use Rattle.goal_solver.proofs.FaultLemmas.{run-faults}
@@ -37,7 +38,7 @@ pub returns-clause-says : goal.returns-clause-says
 returns-clause-says c =
     run-says (λ S n T U. IfOk c.head_form-found.result (SaysWhich (HasHeadForm (level S n) (erased_at T c.args.id)) (HeadFormRefuted (level S n) (erased_at T c.args.id)) U))
     _ _ _ _ _ c.args.self.now c.record_effects.new.self c.args.environment.now c.args.on_access c.head_form-found.new.terms
-    c.self.view_is c.head_form-found.ensures.says (c.rows.ensures.rows ∙ ap (λ (s : State). s.tables) c.self.view_is) (ap (λ (s : State). s.typing_mode) c.self.view_is) refl refl
+    (subst IsChecked (sym c.rows.ensures.rows) c.rows.ensures.checked) c.self.view_is c.head_form-found.ensures.says (c.rows.ensures.rows ∙ ap (λ (s : State). s.tables) c.self.view_is) (ap (λ (s : State). s.typing_mode) c.self.view_is) refl refl
     (ap (λ (s : State). s.terms) c.record_effects.ensures.unchanged)
 
 pub returns-clause-goes_back : goal.returns-clause-goes_back

@@ -1,4 +1,4 @@
-use Rattle.std.proofs.Common.{refl, sym, ◌∙◌}
+use Rattle.std.proofs.Common.{refl}
 use Rattle.goal_solver.proofs.GoingBackLemmas.{goes_back-same}
 use Rattle.goal_solver.proofs.RerunLemmas.{recorded-never_on}
 use Rattle.goal_solver.proofs.AccessLemmas.{none-recorded, end-recorded}

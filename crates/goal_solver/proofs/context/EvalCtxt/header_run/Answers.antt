@@ -4,6 +4,7 @@ use Rattle.goal_kinds.specs.Levels.{level}
 use Rattle.goal_kinds.specs.TraitGoals.{header_of}
 use Rattle.goal_solver.specs.Answers.{level_over}
 use Rattle.goal_eval.specs.Outcomes.{MatchIn, SaysMatch, header_terms}
+use Rattle.goal_tables.specs.Faults.{IsChecked}
 use Rattle.goal_solver.specs.State.{State}
 use Rattle.goal_solver.proofs.BindingLemmas.{goes_back-interned}
 use Rattle.goal_solver.proofs.GoingBackLemmas.{goes_back-through, solved-grown}
@@ -52,7 +53,7 @@ returns-clause-says c = λ m runs.
     let over : SaysMatch (level_over c.args.self.now m c.args.environment.now) c.deref.result.now (header_terms c.deref-2.result.now) (erased_all c.args.self.now.terms c.args.given.now) c.record_effects.new.self.terms c.in_ok-found.found =
     run-says (λ S n T U. SaysMatch (level S n) c.deref.result.now (header_terms c.deref-2.result.now) (erased_all T c.args.given.now) U c.in_ok-found.found)
     _ _ _ _ _ c.args.self.now c.record_effects.new.self c.args.environment.now c.args.on_access c.match_header-found.new.terms
-    c.self.view_is c.in_ok-found.ensures.says (c.rows.ensures.rows ∙ ap (λ (s : State). s.tables) c.self.view_is) (ap (λ (s : State). s.typing_mode) c.self.view_is) refl refl
+    (subst IsChecked (sym c.rows.ensures.rows) c.rows.ensures.checked) c.self.view_is c.in_ok-found.ensures.says (c.rows.ensures.rows ∙ ap (λ (s : State). s.tables) c.self.view_is) (ap (λ (s : State). s.typing_mode) c.self.view_is) refl refl
     (ap (λ (s : State). s.terms) c.record_effects.ensures.unchanged) m runs in
     let found : SaysMatch (level_over c.args.self.now m c.args.environment.now) c.args.other.now.params.items (header_of c.args.other.now) (erased_all c.args.self.now.terms c.args.given.now) c.record_effects.new.self.terms c.in_ok-found.found =
     subst (λ xs. SaysMatch (level_over c.args.self.now m c.args.environment.now) c.args.other.now.params.items (header_terms xs) (erased_all c.args.self.now.terms c.args.given.now) c.record_effects.new.self.terms c.in_ok-found.found) c.deref-2.ensures.value

@@ -1,7 +1,6 @@
 use Rattle.std.proofs.Common.{Ok, sym, ◌∙◌, ap, subst}
-use Rattle.std.specs.Option.{option_map}
 use Rattle.goal_kinds.specs.CandidateRules.{seen_trait}
-use Rattle.goal_solver.specs.HostGoals.{AnswersHostGiven, AnswersHostThrough, host_with, through_at}
+use Rattle.goal_solver.specs.HostGoals.{AnswersHostThrough}
 use Rattle.goal_solver.specs.State.{State}
 use Rattle.goal_solver.proofs.GoingBackLemmas.{goes_back-same}
 use Rattle.goal_solver.proofs.HostGoalLemmas.{answers-host_through, asked-with, unasked, untraited}

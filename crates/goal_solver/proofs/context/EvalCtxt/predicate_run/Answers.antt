@@ -1,8 +1,9 @@
 use Rattle.goal_solver.proofs.FaultLemmas.{run-faults}
-use Rattle.std.proofs.Common.{refl, ap, ◌∙◌}
+use Rattle.std.proofs.Common.{refl, ap, ◌∙◌, subst, sym}
 use Rattle.goal_solver.proofs.BindingLemmas.{goes_back-interned}
 use Rattle.goal_solver.proofs.GoingBackLemmas.{goes_back-through, solved-grown}
 use Rattle.goal_eval.proofs.CacheLemmas.{sound-new, sound-parts}
+use Rattle.goal_tables.specs.Faults.{IsChecked}
 use Rattle.goal_solver.specs.State.{State}
 use Rattle.goal_solver.proofs.AccessLemmas.{run-recorded, ends-here}
 use Rattle.goal_kinds.specs.Interned.{predicate_at}
@@ -54,7 +55,7 @@ pub returns-clause-says : goal.returns-clause-says
 returns-clause-says c =
     run-says (λ S n T U. SaysAt (level S n) (predicate_at T c.args.predicate.now) c.predicate_outcome-outcome.result)
     _ _ _ _ _ c.args.self.now c.record_listed.new.self c.args.environment.now c.args.on_access c.predicate_outcome-outcome.new.terms
-    c.self.view_is c.predicate_outcome-outcome.ensures.says (c.rows.ensures.rows ∙ ap (λ (s : State). s.tables) c.self.view_is) (ap (λ (s : State). s.typing_mode) c.self.view_is) refl refl
+    (subst IsChecked (sym c.rows.ensures.rows) c.rows.ensures.checked) c.self.view_is c.predicate_outcome-outcome.ensures.says (c.rows.ensures.rows ∙ ap (λ (s : State). s.tables) c.self.view_is) (ap (λ (s : State). s.typing_mode) c.self.view_is) refl refl
     (ap (λ (s : State). s.terms) c.record_listed.ensures.unchanged)
 
 pub returns-clause-stops : goal.returns-clause-stops

@@ -1,5 +1,6 @@
 use Rattle.std.proofs.Common.{refl, sym, ap, subst, ◌∙◌}
 use Rattle.std.specs.Prelude.{IfOk}
+use Rattle.goal_tables.specs.Faults.{IsChecked}
 use Rattle.goal_eval.specs.Lists.{RunIn}
 use Rattle.goal_solver.specs.State.{State}
 use Rattle.goal_eval.proofs.CacheLemmas.{sound-new, sound-parts}
@@ -53,5 +54,5 @@ pub returns-clause-says : goal.returns-clause-says
 returns-clause-says c =
     run-says (λ (S : Setting) n T U. IfOk c.run_rule_entry-reached.result (RuleRunsOn S.tables (level S n) T c.args.run.now c.args.entry.now U c.run_rule_entry-reached.new.run))
     _ _ _ _ _ c.args.self.now c.record_effects.new.self c.args.environment.now c.args.on_access c.run_rule_entry-reached.new.terms
-    c.self.view_is c.run_rule_entry-reached.ensures.says (c.rows.ensures.rows ∙ ap (λ (s : State). s.tables) c.self.view_is) (ap (λ (s : State). s.typing_mode) c.self.view_is) refl refl
+    (subst IsChecked (sym c.rows.ensures.rows) c.rows.ensures.checked) c.self.view_is c.run_rule_entry-reached.ensures.says (c.rows.ensures.rows ∙ ap (λ (s : State). s.tables) c.self.view_is) (ap (λ (s : State). s.typing_mode) c.self.view_is) refl refl
     (ap (λ (s : State). s.terms) c.record_effects.ensures.unchanged)

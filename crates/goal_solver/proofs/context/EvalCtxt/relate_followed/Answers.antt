@@ -13,7 +13,7 @@ use Rattle.goal_solver.specs.GoingBack.{restored}
 use Rattle.goal_solver.specs.Relating.{Identifies, all_bound, all_replaced}
 use Rattle.goal_solver.specs.Settled.{AreSettledIn}
 use Rattle.goal_solver.specs.State.{State}
-use Rattle.goal_eval.specs.declared.eval.outcomes.Outcome.{Outcome}
+use Rattle.goal_kinds.specs.declared.outcomes.Outcome.{Outcome}
 use Rattle.goal_eval.specs.declared.eval.outcomes.Stop.{Stop}
 use Rattle.goal_solver.proofs.AddedGoalLemmas.{owed-before}
 use Rattle.goal_solver.proofs.SinceMarkLemmas.{resolution-kept}

@@ -10,6 +10,7 @@ use Rattle.goal_solver.specs.Relating.{all_bound}
 use Rattle.goal_solver.specs.State.{State}
 use Rattle.goal_solver.proofs.AccessLemmas.{ends-here}
 use Rattle.goal_solver.proofs.EvaluationLemmas.{memory-ends}
+use Rattle.goal_tables.specs.Faults.{IsChecked}
 use Rattle.goal_solver.proofs.RelatedLemmas.{followed-alike, followed-lefts, followed-rights, settled-in}
 use Rattle.goal_solver.proofs.BindingLemmas.{goes_back-interned}
 use Rattle.goal_eval.proofs.CacheLemmas.{sound-new, sound-parts}
@@ -119,7 +120,7 @@ pub returns-clause-settled : goal.returns-clause-settled
 returns-clause-settled c =
     settled-in _ c.args.self.now c.args.environment.now c.args.on_access _ c.args.depth
     (all_bound c.args.self.now (erased_all c.args.self.now.terms c.args.left.now)) (all_bound c.args.self.now (erased_all c.args.self.now.terms c.args.right.now))
-    (erased_all c.follow_all-2.new.table c.deref.result.now) (erased_all c.follow_all-2.new.table c.deref-2.result.now) c.relate_resolved_lists-outcome.result c.relate_resolved_lists-outcome.ensures.says
+    (erased_all c.follow_all-2.new.table c.deref.result.now) (erased_all c.follow_all-2.new.table c.deref-2.result.now) c.relate_resolved_lists-outcome.result (subst IsChecked (sym c.rows.ensures.rows) c.rows.ensures.checked) c.relate_resolved_lists-outcome.ensures.says
     (c.rows.ensures.rows ∙ ap (λ (s : State). s.tables) c.self.view_is) (ap (λ (s : State). s.typing_mode) c.self.view_is) refl refl (ap not c.some_in_env-opens.ensures)
     (lefts (goal.at.returns-clause-settled c).After-relate_resolved_lists-outcome) (rights (goal.at.returns-clause-settled c).After-relate_resolved_lists-outcome)
 

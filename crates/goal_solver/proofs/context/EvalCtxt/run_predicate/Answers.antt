@@ -1,8 +1,5 @@
 use Rattle.std.proofs.Common.{subst}
-use Rattle.std.specs.Prelude.{◌≡◌, true, Ok, Err}
-use Rattle.goal_terms.specs.declared.answers.Certainty.{Certainty}
-use Rattle.goal_kinds.specs.Settings.{is_headline}
-use Rattle.goal_kinds.specs.declared.faults.Fault.{Fault}
+use Rattle.std.specs.Prelude.{Ok, Err}
 use Rattle.goal_solver.specs.AddedGoals.{IsGoalAnswer}
 use Rattle.goal_solver.specs.Answers.{level_over}
 use Rattle.goal_solver.proofs.ComparisonLemmas.{holds-yes, undecided-maybe, refuted-no, owed-itself, question-closed}

@@ -1,4 +1,4 @@
-use Rattle.std.specs.Prelude.{Result, Ok, Err}
+use Rattle.std.specs.Prelude.{Result, Ok}
 use Rattle.goal_kinds.specs.declared.faults.Fault.{Fault}
 use Rattle.goal_kinds.specs.declared.rules.Candidate.{Candidate}
 use Rattle.goal_solver.specs.RunAnswers.{RunsClosed, RunsInTrial}

@@ -1,4 +1,4 @@
-use Rattle.std.proofs.Common.{◌∷◌, [], refl, sym, subst}
+use Rattle.std.proofs.Common.{◌∷◌, [], refl, subst}
 use Rattle.std.specs.Prelude.{slice_get}
 use Rattle.goal_terms.specs.TreeOf.{trees_of, tree_of_term}
 use Rattle.goal_terms.specs.declared.answers.GoalSource.TheVariants as source
@@ -9,7 +9,7 @@ use Rattle.goal_solver.proofs.GoingBackLemmas.{goes_back-same}
 use Rattle.goal_solver.proofs.OpenStepLemmas.{arguments-step, equation-step, clause-step, row-step, conditions-step, term-step, hidden-step, access-step, fault-step, fault-listed, undecided-step}
 use Rattle.goal_solver.proofs.RecordedLemmas.{none-listed}
 use Rattle.goal_solver.specs.Refusals.{RefusesNames, RefusesTerm}
-use Rattle.goal_solver.proofs.RefusalLemmas.{memory-only, refused-on, refused-map, arguments-refused, equation-refused, term-refused, hidden-refused, refusal-refused}
+use Rattle.goal_solver.proofs.RefusalLemmas.{memory-only, refused-on, arguments-refused, equation-refused, term-refused, hidden-refused, refusal-refused}
 use Rattle.goal_solver.proofs.context.EvalCtxt.step_through.Goals as goal
 
 pub returns-in_ok-found-in-Arguments-clause-steps : goal.returns-in_ok-found-in-Arguments-clause-steps

@@ -11,6 +11,7 @@ use Rattle.goal_kinds.specs.Interned.{erased_all}
 use Rattle.goal_kinds.specs.Levels.{level}
 use Rattle.goal_eval.specs.Outcomes.{SaysThrough}
 use Rattle.goal_solver.proofs.EvaluationLemmas.{memory-ends, run-says}
+use Rattle.goal_tables.specs.Faults.{IsChecked}
 use Rattle.goal_solver.specs.State.{State}
 use Rattle.goal_solver.proofs.AccessLemmas.{none-recorded, run-recorded, ends-here}
 use Rattle.goal_solver.specs.GoingBack.{GoesBack}
@@ -92,7 +93,7 @@ returns-clause-says c = λ m runs.
     (ap (erased_all c.intern_args.new.terms) c.deref.ensures.value ∙ c.in_ok-ids.ensures.trees)
     (run-says (λ S n T U. IfOk c.evaluate_trait_goal-outcome.result (SaysThrough (λ k. (level S c.args.depth).through k c.args.trait_id (erased_all c.intern_args.new.terms c.deref.result.now)) ((level S c.args.depth).trait_refuted c.args.trait_id (erased_all c.intern_args.new.terms c.deref.result.now))))
     _ _ _ _ _ c.args.self.now c.record_listed.new.self c.args.environment.now c.args.on_access c.evaluate_trait_goal-outcome.new.terms
-    c.self.view_is c.evaluate_trait_goal-outcome.ensures.says (c.rows.ensures.rows ∙ ap (λ (s : State). s.tables) c.self.view_is) (ap (λ (s : State). s.typing_mode) c.self.view_is) refl refl
+    (subst IsChecked (sym c.rows.ensures.rows) c.rows.ensures.checked) c.self.view_is c.evaluate_trait_goal-outcome.ensures.says (c.rows.ensures.rows ∙ ap (λ (s : State). s.tables) c.self.view_is) (ap (λ (s : State). s.typing_mode) c.self.view_is) refl refl
     (ap (λ (s : State). s.terms) c.record_listed.ensures.unchanged) m runs)
 
 pub returns-clause-stops : goal.returns-clause-stops

@@ -7,7 +7,7 @@ use Rattle.goal_eval.proofs.TraitOutcomeLemmas.{replaced-in}
 use Rattle.goal_eval.proofs.CacheLemmas.{sound-grown}
 use Rattle.goal_eval.proofs.ConstOutcomeLemmas.{const-no_self}
 use Rattle.goal_eval.proofs.HostEffectLemmas.{SaysHost, through-unformed, through-formed}
-use Rattle.goal_eval.specs.declared.eval.outcomes.Outcome.TheVariants as outcome
+use Rattle.goal_kinds.specs.declared.outcomes.Outcome.TheVariants as outcome
 use Rattle.goal_solver.proofs.effect_goals.proven_via.outcome_proven_via.Goals as goal
 
 pub returns-in_err-ids-clause-effects : goal.returns-in_err-ids-clause-effects

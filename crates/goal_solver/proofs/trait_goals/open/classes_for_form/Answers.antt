@@ -1,6 +1,5 @@
-use Rattle.std.proofs.Common.{◌≡◌, false, Option, subst}
+use Rattle.std.proofs.Common.{◌≡◌, false, subst}
 use Rattle.std.specs.Prelude.{IfSome}
-use Rattle.goal_terms.specs.declared.predicates.Goal.{Goal}
 use Rattle.goal_solver.specs.OpenGoals.{TakesSelf, has_kind_fault}
 use Rattle.goal_solver.proofs.trait_goals.open.classes_for_form.Goals as goal
 

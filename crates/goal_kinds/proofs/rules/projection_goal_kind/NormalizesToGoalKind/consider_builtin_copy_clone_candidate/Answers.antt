@@ -1,4 +1,4 @@
-use Rattle.std.proofs.Common.{true, refl}
+use Rattle.std.proofs.Common.{true}
 use Rattle.goal_kinds.specs.ProjectionKind.{is_for_alias}
 use Rattle.goal_kinds.proofs.RuleListLemmas.{other-named}
 use Rattle.goal_kinds.proofs.rules.projection_goal_kind.NormalizesToGoalKind.consider_builtin_copy_clone_candidate.Goals as goal

@@ -1,5 +1,3 @@
-use Rattle.std.proofs.Common.{◌∙◌}
-use Rattle.goal_kinds.specs.Answers.{setting_of}
 use Rattle.goal_kinds.specs.Candidates.{error}
 use Rattle.goal_kinds.proofs.TraitFaceLemmas.{sure-gives, sure-refuted, sure-told, trait-refusal}
 use Rattle.goal_kinds.proofs.rules.trait_goal_kind.TraitPredicateGoalKind.consider_error_guaranteed_candidate.Goals as goal

@@ -1,7 +1,7 @@
-use Rattle.std.proofs.Common.{◌∙◌, ap, ap₂, sym, Some}
+use Rattle.std.proofs.Common.{◌∙◌, ap, ap₂, sym}
 use Rattle.goal_tables.specs.Rows.{impl_of}
 use Rattle.goal_kinds.specs.Answers.{setting_of}
-use Rattle.goal_kinds.specs.CandidateRules.{refuses_impl, TraitCandidateRefuted}
+use Rattle.goal_kinds.specs.CandidateRules.{refuses_impl}
 use Rattle.goal_kinds.specs.Candidates.{by_impl}
 use Rattle.goal_kinds.specs.TraitGoals.{CandidateRefuted, ImplRefuted}
 use Rattle.goal_kinds.proofs.TraitCandidateLaws.{refused-impl}

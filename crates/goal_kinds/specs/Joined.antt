@@ -1,14 +1,10 @@
 -- Outcomes of several questions, joined.
-use Rattle.std.specs.Prelude.{Option, Some, None, Vec}
-use Rattle.std.specs.Global.{Global}
+use Rattle.std.specs.Prelude.{Option, Some, None}
 use Rattle.goal_terms.specs.declared.answers.TraitGoalProvenVia.{TraitGoalProvenVia}
-use Rattle.goal_terms.specs.declared.term_nodes.TermId.{TermId}
-use Rattle.goal_eval.specs.declared.eval.outcomes.Outcome.{Outcome}
-use Rattle.goal_eval.specs.declared.eval.outcomes.Outcome.TheVariants as outcome
-use Rattle.goal_eval.specs.declared.eval.outcomes.TraitOutcome.{TraitOutcome}
-use Rattle.goal_eval.specs.declared.eval.outcomes.TraitOutcome.TheVariants as trait_outcome
-use Rattle.goal_eval.specs.declared.eval.outcomes.HeaderMatch.{HeaderMatch}
-use Rattle.goal_eval.specs.declared.eval.outcomes.HeaderMatch.TheVariants as match
+use Rattle.goal_kinds.specs.declared.outcomes.Outcome.{Outcome}
+use Rattle.goal_kinds.specs.declared.outcomes.Outcome.TheVariants as outcome
+use Rattle.goal_kinds.specs.declared.outcomes.TraitOutcome.{TraitOutcome}
+use Rattle.goal_kinds.specs.declared.outcomes.TraitOutcome.TheVariants as trait_outcome
 
 -- two questions together: refuted where one is, else undecided where one is
 abbrev pub both : Outcome → Outcome → Outcome
@@ -26,6 +22,16 @@ one_of outcome.Undecided outcome.Holds = outcome.Holds
 one_of outcome.Undecided outcome.Refuted = outcome.Undecided
 one_of outcome.Undecided outcome.Undecided = outcome.Undecided
 
+-- a candidate beside the impls that are more special: ruled out where one of them holds, undecided until each is refuted, if it isn't refuted itself
+abbrev pub beside : Outcome → Outcome → Outcome
+beside outcome.Refuted o = outcome.Refuted
+beside outcome.Holds outcome.Holds = outcome.Refuted
+beside outcome.Holds outcome.Refuted = outcome.Holds
+beside outcome.Holds outcome.Undecided = outcome.Undecided
+beside outcome.Undecided outcome.Holds = outcome.Refuted
+beside outcome.Undecided outcome.Refuted = outcome.Undecided
+beside outcome.Undecided outcome.Undecided = outcome.Undecided
+
 -- a trait goal by the candidates of a class, those of the classes before being refuted; nothing where these are refuted, too
 abbrev pub through : Outcome → TraitGoalProvenVia → Option TraitOutcome
 through outcome.Holds c = Some (trait_outcome.Holds c)
@@ -37,9 +43,3 @@ abbrev pub held : TraitOutcome → Outcome
 held (trait_outcome.Holds c) = outcome.Holds
 held trait_outcome.Refuted = outcome.Refuted
 held trait_outcome.Undecided = outcome.Undecided
-
--- an impl whose header fits under some terms, by its where clauses
-abbrev pub fitting : Vec TermId Global → Outcome → HeaderMatch
-fitting s outcome.Holds = match.Fits s
-fitting s outcome.Refuted = match.Clashes
-fitting s outcome.Undecided = match.Known s

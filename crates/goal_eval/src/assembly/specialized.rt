@@ -1,0 +1,134 @@
+//! Impls that are more special than another: whether this is passed over, or decides where it holds.
+ghost use Rattle.std.specs.Prelude.{IfErr, IfOk};
+ghost use Rattle.goal_terms.specs.TableMeaning.{Keeps};
+ghost use Rattle.goal_terms.specs.declared.modes.TypingMode.{TypingMode as modes};
+ghost use Rattle.goal_tables.specs.Rows.{impl_of};
+ghost use Rattle.goal_kinds.specs.Causes.{IsCausedList};
+ghost use Rattle.goal_kinds.specs.Candidates.{by_impl};
+ghost use Rattle.goal_kinds.specs.Interned.{AreIn, erased_all, candidate_at};
+ghost use Rattle.goal_kinds.specs.InternedEntries.{ListIn, list_at};
+ghost use Rattle.goal_kinds.specs.TraitGoals.{ImplHolds, ImplRefuted};
+ghost use Rattle.goal_kinds.specs.TraitLists.{trait_list};
+ghost use Rattle.goal_eval.specs.Lists.{IsListFor};
+ghost use Rattle.goal_eval.specs.Outcomes.{RunsFor, setting_in, level_in, Says, ForEachMode};
+ghost use Rattle.goal_eval.specs.SpecialImpls.{IsOfRows, IsOwnRow, SaysMoreSpecial};
+ghost use Rattle.goal_eval.specs.Effects.{AreSound, IsStop};
+
+use crate::eval::effects::Effects;
+use crate::eval::lists::run_list;
+use crate::eval::outcomes::{Setting, Stop};
+use goal_kinds::candidates::interned::InternedCandidate;
+use goal_kinds::lists::InternedEntry;
+use goal_kinds::lists::traits::trait_list;
+use goal_kinds::outcomes::Outcome;
+use goal_tables::rows::ImplRow;
+use goal_terms::modes::TypingMode;
+use goal_terms::term_nodes::{OutOfMemory, TermId};
+use goal_terms::term_table::TermTable;
+
+/// Whether an impl that is more special than a candidate holds at a depth, for arguments of its trait. If one does,
+/// the candidate is passed over; if each of them is refuted, it decides where it holds; if neither, it doesn't decide.
+#[cycle(closed)]
+pub(crate) fn more_special_outcome(
+    setting: &Setting<'_>,
+    terms: &mut TermTable,
+    effects: &mut Effects,
+    args: &[TermId],
+    candidate: &InternedCandidate<'_>,
+    depth: u32,
+) -> Result<Outcome, Stop>
+    requires effects { AreSound setting.now terms.old effects.old }
+    requires args { AreIn terms.old args.now }
+    requires row { IsOfRows setting.now.rows.now candidate.now }
+    ensures effects { AreSound setting.now terms.new effects.new }
+    ensures kept { Keeps terms.old terms.new }
+    ensures stops { IfErr result (IsStop setting.now) }
+    ensures says { ForEachMode setting.now depth (λ S L. IfOk result (SaysMoreSpecial S L (erased_all terms.old args.now) (candidate_at terms.old candidate.now))) }
+{
+    match candidate {
+        InternedCandidate::Impl(row) => {
+            impls_outcome(setting, terms, effects, args, *row, depth)
+        }
+        _ => Ok(Outcome::Refuted),
+    }
+}
+
+/// Whether one of the impls that are more special than an impl holds at a depth. They are refuted where each of them
+/// is.
+#[cycle(closed)]
+fn impls_outcome(
+    setting: &Setting<'_>,
+    terms: &mut TermTable,
+    effects: &mut Effects,
+    args: &[TermId],
+    row: &ImplRow,
+    depth: u32,
+) -> Result<Outcome, Stop>
+    requires effects { AreSound setting.now terms.old effects.old }
+    requires args { AreIn terms.old args.now }
+    requires row { IsOwnRow setting.now.rows.now row.now }
+    ensures effects { AreSound setting.now terms.new effects.new }
+    ensures kept { Keeps terms.old terms.new }
+    ensures stops { IfErr result (IsStop setting.now) }
+    ensures says { ForEachMode setting.now depth (λ S L. IfOk result (SaysMoreSpecial S L (erased_all terms.old args.now) (by_impl row.now))) }
+{
+    let places = setting.rows.more_special(row.id);
+    let mut found = Outcome::Refuted;
+    for i in 0..places.len() {
+        let other = setting.rows.impl_at(places[i]);
+        let next = impl_outcome(setting, terms, effects, args, other, depth)?;
+        found = found.or(next);
+        if let Outcome::Holds = found {
+            return Ok(Outcome::Holds);
+        }
+    }
+    Ok(found)
+}
+
+/// Whether an impl holds at a depth, for arguments of its trait.
+#[tactic(auto, using(crate::proofs::CacheLemmas::caching))]
+#[cycle(closed)]
+fn impl_outcome(
+    setting: &Setting<'_>,
+    terms: &mut TermTable,
+    effects: &mut Effects,
+    args: &[TermId],
+    row: &ImplRow,
+    depth: u32,
+) -> Result<Outcome, Stop>
+    requires effects { AreSound setting.now terms.old effects.old }
+    requires args { AreIn terms.old args.now }
+    ensures effects { AreSound setting.now terms.new effects.new }
+    ensures kept { Keeps terms.old terms.new }
+    ensures stops { IfErr result (IsStop setting.now) }
+    ensures says { ForEachMode setting.now depth (λ _ L. IfOk result (Says (ImplHolds L (erased_all terms.old args.now) row.now) (ImplRefuted L (erased_all terms.old args.now) row.now))) }
+{
+    let list = impl_list(&*setting, terms, args, &*row)?;
+    let found = run_list(setting, terms, effects, &list, depth)?;
+    Ok(found.held())
+}
+
+/// The list of an impl for arguments of its trait, or none where its rule is refused. Want of memory or of
+/// numbers is the only fault.
+fn impl_list<'e>(
+    setting: &Setting<'e>,
+    terms: &mut TermTable,
+    args: &[TermId],
+    row: &'e ImplRow,
+) -> Result<Option<Vec<InternedEntry<'e>>>, OutOfMemory>
+    requires args { AreIn terms.old args.now }
+    ensures kept { Keeps terms.old terms.new }
+    ensures within { IfOk result (ListIn terms.new) }
+    ensures caused { IfOk result (IsCausedList setting.now.rows.now) }
+    ensures list { (m : modes) → RunsFor setting.now m → IfOk result (λ o. IsListFor setting.now.typing_mode.now (list_at terms.new o) (trait_list (setting_in setting.now m) row.now.trait_id (erased_all terms.old args.now) (by_impl row.now))) }
+{
+    let erased = TypingMode::ErasedNotCoherence;
+    let candidate = InternedCandidate::Impl(row);
+    trait_list(
+        setting.of_lists(&erased),
+        terms,
+        row.trait_id,
+        args,
+        &candidate,
+    )
+}
