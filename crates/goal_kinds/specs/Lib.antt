@@ -44,4 +44,5 @@ pub mod InternedEntries
 pub mod RuleLists
 pub mod NamedRows
 pub mod EffectKind
+pub mod KindWords
 pub mod Joined

@@ -3,8 +3,10 @@ use Rattle.std.specs.Prelude.{◌≡◌, ◌↔◌, List, [], ◌∷◌, Option}
 use Rattle.std.specs.Option.{option_map, option_and_then}
 use Rattle.goal_terms.specs.Tree.{Tree}
 use Rattle.goal_terms.specs.TreeOf.{trees_of, tree_of_term}
+use Rattle.goal_terms.specs.declared.answers.DelayedFault.TheVariants.{AutoTrait}
 use Rattle.goal_terms.specs.declared.answers.OpaqueTypeKey.{OpaqueTypeKey}
 use Rattle.goal_terms.specs.declared.ids.OpaqueId.{OpaqueId}
+use Rattle.goal_terms.specs.declared.ids.TraitId.{TraitId}
 use Rattle.goal_terms.specs.declared.terms.AliasTerm.{AliasTerm}
 use Rattle.goal_terms.specs.declared.terms.AliasTermKind.TheVariants.{OpaqueTy}
 use Rattle.goal_terms.specs.declared.terms.Term.{Term}
@@ -59,3 +61,7 @@ projection_in t a =
 -- the projection that an alias asks for, by its item
 abbrev pub asked_by : AskedItem → AliasTerm → Projection
 asked_by x a = record { item = x.row.now; trait_params = x.trait_params; args = given a.args }
+
+-- the entries of an auto trait's rule: it records the fault, and doesn't stand
+abbrev pub auto_trait_entries : TraitId → List RuleEntry
+auto_trait_entries i = entry.DelayedFault (AutoTrait i) ∷ entry.Refused ∷ []

@@ -1,31 +1,16 @@
 //! Kinds of goals with candidates: what each candidate asks for, as a rule.
-ghost use Rattle.std.specs.Prelude.{◌≡◌, ◌≤◌, ◌⊎◌, ◌∷◌, [], ℕ, Bool, true, false, List, Option, Some, Ok, Err, IfOk, IfErr, IsOkUnless, option_copied};
-ghost use Rattle.std.specs.List.{AllZip};
+ghost use Rattle.std.specs.Prelude.{◌≡◌, ◌≤◌, ℕ, true, false, Option, Some, Ok, Err, IfOk, IfErr, IsOkUnless, option_copied};
 ghost use Rattle.std.specs.Option.{option_map};
 ghost use Rattle.goal_terms.specs.Tree.{Tree as tree};
 ghost use Rattle.goal_terms.specs.TreeOf.{tree_of_ty};
-ghost use Rattle.goal_terms.specs.declared.predicates.BoundConstness.{BoundConstness as bound_constness};
-ghost use Rattle.goal_terms.specs.declared.predicates.ClauseKind.{ClauseKind as clause_kind};
-ghost use Rattle.goal_terms.specs.declared.terms.AliasTerm.{AliasTerm as alias_term};
-ghost use Rattle.goal_terms.specs.declared.terms.Ty.{Ty as ty};
-ghost use Rattle.goal_tables.specs.Faults.{IsChecked};
-ghost use Rattle.goal_tables.specs.Rows.{impl_of};
-ghost use Rattle.goal_tables.specs.declared.rows.ImplRow.{ImplRow as impl_row};
-ghost use Rattle.goal_tables.specs.declared.rows.Tables.{Tables as tables};
-ghost use Rattle.goal_kinds.specs.Answers.{setting_of};
-ghost use Rattle.goal_kinds.specs.CandidateRules.{RuleSays, GivesAs, RefutedAs, IsRefusal, HoldsError, AllHold, OneRefuted, HasNoKindFault, IsAcceptedClause, said_by, seen_trait, entries_for, only_given, IsNamedAnswer};
-ghost use Rattle.goal_kinds.specs.CandidateRules.{NamedRule as named_rule, trait_alias, sizedness, copy_clone, fn_ptr_trait, fn_trait, tuple, pointee, discriminant_kind, destruct, field};
-ghost use Rattle.goal_kinds.specs.Candidates.{Candidate as candidate, by_impl, built_in, error, IsNoImpl};
-ghost use Rattle.goal_kinds.specs.Entries.{Entry as list_entry};
-ghost use Rattle.goal_kinds.specs.Levels.{level};
+ghost use Rattle.goal_kinds.specs.CandidateRules.{HoldsError, HasNoKindFault, said_by, seen_trait, only_given};
+ghost use Rattle.goal_kinds.specs.CandidateRules.{trait_alias, sizedness, copy_clone, fn_ptr_trait, fn_trait, tuple, pointee, discriminant_kind, destruct, field};
+ghost use Rattle.goal_kinds.specs.Candidates.{Candidate as candidate, built_in, error};
+ghost use Rattle.goal_kinds.specs.KindWords.{KindWords, words_for, Gives, Refutes, HasList, GivesBeside, RefutesBeside, GivesAsImpl, RefutesAsImpl, HasListOfImpl, IsRefusalOf, RefusesFinally};
+ghost use Rattle.goal_kinds.specs.KindWords.{GiveAdditional, RefuteAdditional, ListAdditional, AddNoImpl, AnswersBy, RejectionIsFinal};
 ghost use Rattle.goal_kinds.specs.Premises.{TraitTree as trait_tree};
-ghost use Rattle.goal_kinds.specs.RuleLists.{IsToldBy};
-ghost use Rattle.goal_kinds.specs.Rules.{RuleRefuted};
-ghost use Rattle.goal_kinds.specs.RuleWords.{TermsAreFor};
-ghost use Rattle.goal_kinds.specs.Settings.{Setting as setting, is_headline};
-ghost use Rattle.goal_kinds.specs.declared.goal_kind.MergeRule.{MergeRule as merge_rule};
-ghost use Rattle.goal_kinds.specs.declared.rules.RuleEntry.TheVariants as entry;
-ghost use Rattle.goal_terms.specs.declared.answers.DelayedFault.TheVariants.{AutoTrait};
+ghost use Rattle.goal_kinds.specs.RuleWords.{TermsAreFor, auto_trait_entries};
+ghost use Rattle.goal_kinds.specs.Settings.{Setting as setting};
 
 use crate::faults::Fault;
 use crate::rules::Rule;
@@ -62,77 +47,38 @@ pub struct TraitView<'a> {
 /// a head form. A refusal `NoSolution` says that the candidate is refuted; `OutOfMemory` that a growth
 /// was refused; `NotForThisKind` that the function isn't for goals of this kind.
 pub trait GoalKind: PredicateTerms {
-    /// How candidates are merged.
-    ghost merging: { merge_rule };
-
-    /// Whether goals of this kind ask for a term.
-    ghost has_term: { Bool };
-
-    /// The trait with its arguments that a goal is about.
-    ghost trait_asked: { Self → tables → Option trait_tree };
-
-    /// The self type.
-    ghost self_type: { Self → Option ty };
-
-    /// With which constness a goal asks for its trait; one that asks for no const trait has none.
-    ghost constness: { Self → Option bound_constness };
-
-    /// That a predicate is another one with a type in place of the self type.
-    ghost is_with_self: { Self → tree → Self → Type 0 };
-
-    /// Whether the fast rejection lets a clause pass.
-    ghost passes: { Self → clause_kind → Bool };
-
-    /// That a term is the one that a goal expects; a goal that asks for none expects none.
-    ghost expected: { Self → tree → Type 0 };
-
-    /// Whether an impl is one of the trait that a goal is about.
-    ghost is_impl_for: { Self → tables → impl_row → Type 0 };
-
-    /// That a candidate holds at a height, or gives a term there.
-    ghost candidate_gives: { Self → setting → ℕ → candidate → tree → Type 0 };
-
-    /// That a candidate is refuted at a height.
-    ghost candidate_refuted: { Self → setting → ℕ → candidate → Type 0 };
-
-    /// The list of a candidate, by the mode; none in a kind whose rules no lists tell.
-    ghost candidate_list: { Self → setting → candidate → Option (Option (List list_entry)) };
-
-    /// Whether the trait alias or a built-in rule is for a goal.
-    ghost is_for: { Self → tables → named_rule → Bool };
-
-    /// The additional candidates that an alias has.
-    ghost additional: { Self → setting → alias_term → List candidate };
+    /// What this kind of goals says of its goals and of their candidates.
+    ghost words: { KindWords Self };
 
     /// How candidates are merged. It takes no memory.
     fn merge_rule() -> MergeRule
-        ensures { result ≡ merging };
+        ensures { result ≡ words.merging };
 
     /// The trait that a goal is about, with its arguments. It takes no memory.
     fn trait_ref<'a>(&'a self, tables: &'a CheckedTables) -> Option<TraitView<'a>>
-        ensures { option_map seen_trait result ≡ trait_asked self.now tables.now };
+        ensures { option_map seen_trait result ≡ words.asked self.now tables.now };
 
     /// The trait that a goal is about. It takes no memory.
     fn trait_def_id(&self, tables: &CheckedTables) -> Option<TraitId>
-        ensures { result ≡ option_map (λ q. q.def_id) (trait_asked self.now tables.now) };
+        ensures { result ≡ option_map (λ q. q.def_id) (words.asked self.now tables.now) };
 
     /// The self type. It takes no memory.
     fn self_ty(&self) -> Option<&Ty>
-        ensures { option_copied result ≡ self_type self.now };
+        ensures { option_copied result ≡ words.self_type self.now };
 
     /// The constness with which the trait is asked for, if it is as a const trait. It takes no memory.
     fn constness(&self) -> Option<BoundConstness>
-        ensures { result ≡ constness self.now };
+        ensures { result ≡ words.constness self.now };
 
     /// The predicate with another self type. Want of memory is the only refusal.
     fn with_replaced_self_ty(&self, self_ty: Ty) -> Result<Self, Fault>
-        ensures replaced { IfOk result (is_with_self self.now (tree_of_ty self_ty)) }
+        ensures replaced { IfOk result (words.is_with_self self.now (tree_of_ty self_ty)) }
         ensures memory { IsOkUnless result Fault.OutOfMemory };
 
     /// Whether a clause may show the goal, as far as heads and kinds say. It takes no memory.
     fn fast_reject_assumption(&self, assumption: &Clause) -> Result<(), Fault>
-        ensures passes { passes self.now assumption.now.kind ≡ true → result ≡ Ok tt }
-        ensures rejected { passes self.now assumption.now.kind ≡ false → result ≡ Err Fault.NoSolution };
+        ensures passes { words.passes self.now assumption.now.kind ≡ true → result ≡ Ok tt }
+        ensures rejected { words.passes self.now assumption.now.kind ≡ false → result ≡ Err Fault.NoSolution };
 
     /// The rule of a clause that the fast rejection lets pass. Want of memory is the only refusal.
     fn match_assumption(
@@ -143,13 +89,13 @@ pub trait GoalKind: PredicateTerms {
         assumption: &Clause,
         then: Certainty,
     ) -> Result<Rule, Fault>
-        requires passes { passes goal.now.predicate assumption.now.kind ≡ true }
+        requires passes { words.passes goal.now.predicate assumption.now.kind ≡ true }
         ensures source { IfOk result (λ r. r.source ≡ source) }
-        ensures list { IfOk result (IsToldBy tables.now then (candidate_list goal.now.predicate (setting_of tables.now mode.now goal.now.param_env.items) (said_by assumption.now.kind))) }
-        ensures gives { IfOk result (GivesAs has_term (setting_of tables.now mode.now goal.now.param_env.items) then (λ n t. candidate_gives goal.now.predicate (setting_of tables.now mode.now goal.now.param_env.items) n (said_by assumption.now.kind) t)) }
-        ensures refuted { IfOk result (RefutedAs (setting_of tables.now mode.now goal.now.param_env.items) (λ n. candidate_refuted goal.now.predicate (setting_of tables.now mode.now goal.now.param_env.items) n (said_by assumption.now.kind))) }
+        ensures list { IfOk result (HasList (words_for words tables.now goal.now mode.now) then (said_by assumption.now.kind)) }
+        ensures gives { IfOk result (Gives (words_for words tables.now goal.now mode.now) then (said_by assumption.now.kind)) }
+        ensures refuted { IfOk result (Refutes (words_for words tables.now goal.now mode.now) (said_by assumption.now.kind)) }
         ensures given { IfOk result (λ r. only_given r.entries.items ≡ true) }
-        ensures expected { IfOk result (λ r. TermsAreFor (expected goal.now.predicate) r.entries.items) }
+        ensures expected { IfOk result (λ r. TermsAreFor (words.expected goal.now.predicate) r.entries.items) }
         ensures memory { IsOkUnless result Fault.OutOfMemory };
 
     /// The rule of an impl of the goal's trait. In the headline modes it holds, gives a term and is refuted
@@ -162,12 +108,12 @@ pub trait GoalKind: PredicateTerms {
         then: Certainty,
     ) -> Result<Rule, Fault>
         requires accepted { HasNoKindFault (λ f. Self.has_fault goal.now.predicate tables.now f) }
-        ensures expected { IfOk result (λ r. TermsAreFor (expected goal.now.predicate) r.entries.items) }
+        ensures expected { IfOk result (λ r. TermsAreFor (words.expected goal.now.predicate) r.entries.items) }
         ensures source { IfOk result (λ r. r.source ≡ CandidateSource.Impl impl_id) }
-        ensures list { (row : impl_row) → impl_of tables.now impl_id ≡ Some row → IfOk result (IsToldBy tables.now then (candidate_list goal.now.predicate (setting_of tables.now mode.now goal.now.param_env.items) (by_impl row))) }
-        ensures gives { (row : impl_row) → is_headline mode.now ≡ true → impl_of tables.now impl_id ≡ Some row → is_impl_for goal.now.predicate tables.now row → IfOk result (GivesAs has_term (setting_of tables.now mode.now goal.now.param_env.items) then (λ n t. candidate_gives goal.now.predicate (setting_of tables.now mode.now goal.now.param_env.items) n (by_impl row) t)) }
-        ensures refuted { (row : impl_row) → is_headline mode.now ≡ true → impl_of tables.now impl_id ≡ Some row → is_impl_for goal.now.predicate tables.now row → IfOk result (RefutedAs (setting_of tables.now mode.now goal.now.param_env.items) (λ n. candidate_refuted goal.now.predicate (setting_of tables.now mode.now goal.now.param_env.items) n (by_impl row))) }
-        ensures fault { (row : impl_row) → impl_of tables.now impl_id ≡ Some row → is_impl_for goal.now.predicate tables.now row → IfErr result (IsRefusal (candidate_refuted goal.now.predicate (setting_of tables.now mode.now goal.now.param_env.items) 0 (by_impl row))) };
+        ensures list { HasListOfImpl (words_for words tables.now goal.now mode.now) then impl_id result }
+        ensures gives { GivesAsImpl (words_for words tables.now goal.now mode.now) mode.now then impl_id result }
+        ensures refuted { RefutesAsImpl (words_for words tables.now goal.now mode.now) mode.now impl_id result }
+        ensures fault { RefusesFinally (words_for words tables.now goal.now mode.now) impl_id result };
 
     /// The rule of an error that stands in the goal. A refusal says that an error shows nothing.
     fn consider_error_guaranteed_candidate(
@@ -175,12 +121,12 @@ pub trait GoalKind: PredicateTerms {
         mode: &TypingMode,
         goal: &Goal<Self>,
     ) -> Result<Rule, Fault>
-        requires stands { HoldsError (trait_asked goal.now.predicate tables.now) }
+        requires stands { HoldsError (words.asked goal.now.predicate tables.now) }
         ensures source { IfOk result (λ r. r.source ≡ CandidateSource.BuiltinImpl BuiltinImplSource.Misc) }
-        ensures list { IfOk result (IsToldBy tables.now Certainty.Yes (candidate_list goal.now.predicate (setting_of tables.now mode.now goal.now.param_env.items) error)) }
-        ensures gives { IfOk result (GivesAs has_term (setting_of tables.now mode.now goal.now.param_env.items) Certainty.Yes (λ n t. candidate_gives goal.now.predicate (setting_of tables.now mode.now goal.now.param_env.items) n error t)) }
-        ensures refuted { IfOk result (RefutedAs (setting_of tables.now mode.now goal.now.param_env.items) (λ n. candidate_refuted goal.now.predicate (setting_of tables.now mode.now goal.now.param_env.items) n error)) }
-        ensures fault { IfErr result (IsRefusal (candidate_refuted goal.now.predicate (setting_of tables.now mode.now goal.now.param_env.items) 0 error)) };
+        ensures list { IfOk result (HasList (words_for words tables.now goal.now mode.now) Certainty.Yes error) }
+        ensures gives { IfOk result (Gives (words_for words tables.now goal.now mode.now) Certainty.Yes error) }
+        ensures refuted { IfOk result (Refutes (words_for words tables.now goal.now mode.now) error) }
+        ensures fault { IfErr result (IsRefusalOf (words_for words tables.now goal.now mode.now) error) };
 
     /// The rules of the candidates that an alias has beside its bounds, in their order. Want of memory is
     /// the only refusal.
@@ -190,10 +136,10 @@ pub trait GoalKind: PredicateTerms {
         goal: &Goal<Self>,
         alias: &AliasTerm,
     ) -> Result<Vec<Rule>, Fault>
-        ensures gives { IfOk result (λ rs. AllZip (λ r c. GivesAs has_term (setting_of tables.now mode.now goal.now.param_env.items) Certainty.Yes (λ n t. candidate_gives goal.now.predicate (setting_of tables.now mode.now goal.now.param_env.items) n c t) r) rs.items (additional goal.now.predicate (setting_of tables.now mode.now goal.now.param_env.items) alias.now)) }
-        ensures list { IfOk result (λ rs. AllZip (λ r c. IsToldBy tables.now Certainty.Yes (candidate_list goal.now.predicate (setting_of tables.now mode.now goal.now.param_env.items) c) r) rs.items (additional goal.now.predicate (setting_of tables.now mode.now goal.now.param_env.items) alias.now)) }
-        ensures refuted { IfOk result (λ rs. AllZip (λ r c. RefutedAs (setting_of tables.now mode.now goal.now.param_env.items) (λ n. candidate_refuted goal.now.predicate (setting_of tables.now mode.now goal.now.param_env.items) n c) r) rs.items (additional goal.now.predicate (setting_of tables.now mode.now goal.now.param_env.items) alias.now)) }
-        ensures no_impl { IfOk result (λ rs. AllZip (λ r c. IsNoImpl c) rs.items (additional goal.now.predicate (setting_of tables.now mode.now goal.now.param_env.items) alias.now)) }
+        ensures gives { IfOk result (λ rs. GiveAdditional (words_for words tables.now goal.now mode.now) alias.now rs.items) }
+        ensures list { IfOk result (λ rs. ListAdditional (words_for words tables.now goal.now mode.now) alias.now rs.items) }
+        ensures refuted { IfOk result (λ rs. RefuteAdditional (words_for words tables.now goal.now mode.now) alias.now rs.items) }
+        ensures no_impl { IfOk result (λ rs. AddNoImpl (words_for words tables.now goal.now mode.now) alias.now rs.items) }
         ensures memory { IsOkUnless result Fault.OutOfMemory };
 
     /// The rule of a clause, which is refused where the fast rejection doesn't let it pass.
@@ -206,13 +152,13 @@ pub trait GoalKind: PredicateTerms {
         then: Certainty,
     ) -> Result<Rule, Fault>
         ensures source { IfOk result (λ r. r.source ≡ source) }
-        ensures list { IfOk result (IsToldBy tables.now then (candidate_list goal.now.predicate (setting_of tables.now mode.now goal.now.param_env.items) (said_by assumption.now.kind))) }
-        ensures gives { IfOk result (GivesAs has_term (setting_of tables.now mode.now goal.now.param_env.items) then (λ n t. candidate_gives goal.now.predicate (setting_of tables.now mode.now goal.now.param_env.items) n (said_by assumption.now.kind) t)) }
-        ensures refuted { IfOk result (RefutedAs (setting_of tables.now mode.now goal.now.param_env.items) (λ n. candidate_refuted goal.now.predicate (setting_of tables.now mode.now goal.now.param_env.items) n (said_by assumption.now.kind))) }
+        ensures list { IfOk result (HasList (words_for words tables.now goal.now mode.now) then (said_by assumption.now.kind)) }
+        ensures gives { IfOk result (Gives (words_for words tables.now goal.now mode.now) then (said_by assumption.now.kind)) }
+        ensures refuted { IfOk result (Refutes (words_for words tables.now goal.now mode.now) (said_by assumption.now.kind)) }
         ensures given { IfOk result (λ r. only_given r.entries.items ≡ true) }
-        ensures expected { IfOk result (λ r. TermsAreFor (expected goal.now.predicate) r.entries.items) }
-        ensures rejected { passes goal.now.predicate assumption.now.kind ≡ false → result ≡ Err Fault.NoSolution }
-        ensures memory { passes goal.now.predicate assumption.now.kind ≡ true → IsOkUnless result Fault.OutOfMemory }
+        ensures expected { IfOk result (λ r. TermsAreFor (words.expected goal.now.predicate) r.entries.items) }
+        ensures rejected { words.passes goal.now.predicate assumption.now.kind ≡ false → result ≡ Err Fault.NoSolution }
+        ensures memory { words.passes goal.now.predicate assumption.now.kind ≡ true → IsOkUnless result Fault.OutOfMemory }
     {
         goal.predicate.fast_reject_assumption(assumption)?;
         Self::match_assumption(tables, mode, goal, source, assumption, then)
@@ -229,11 +175,11 @@ pub trait GoalKind: PredicateTerms {
         requirements: Vec<(GoalSource, ClauseKind)>,
     ) -> Result<Rule, Fault>
         ensures source { IfOk result (λ r. r.source ≡ source) }
-        ensures gives { IfOk result (GivesAs has_term (setting_of tables.now mode.now goal.now.param_env.items) Certainty.Yes (λ n t. candidate_gives goal.now.predicate (setting_of tables.now mode.now goal.now.param_env.items) n (said_by assumption.now.kind) t × AllHold (setting_of tables.now mode.now goal.now.param_env.items) n requirements.items)) }
-        ensures refuted { IfOk result (RefutedAs (setting_of tables.now mode.now goal.now.param_env.items) (λ n. candidate_refuted goal.now.predicate (setting_of tables.now mode.now goal.now.param_env.items) n (said_by assumption.now.kind) ⊎ OneRefuted (setting_of tables.now mode.now goal.now.param_env.items) n requirements.items)) }
-        ensures expected { IfOk result (λ r. TermsAreFor (expected goal.now.predicate) r.entries.items) }
-        ensures rejected { passes goal.now.predicate assumption.now.kind ≡ false → result ≡ Err Fault.NoSolution }
-        ensures memory { passes goal.now.predicate assumption.now.kind ≡ true → IsOkUnless result Fault.OutOfMemory }
+        ensures gives { IfOk result (GivesBeside (words_for words tables.now goal.now mode.now) requirements.items (said_by assumption.now.kind)) }
+        ensures refuted { IfOk result (RefutesBeside (words_for words tables.now goal.now mode.now) requirements.items (said_by assumption.now.kind)) }
+        ensures expected { IfOk result (λ r. TermsAreFor (words.expected goal.now.predicate) r.entries.items) }
+        ensures rejected { words.passes goal.now.predicate assumption.now.kind ≡ false → result ≡ Err Fault.NoSolution }
+        ensures memory { words.passes goal.now.predicate assumption.now.kind ≡ true → IsOkUnless result Fault.OutOfMemory }
     {
         let rule = Self::probe_and_match_goal_against_assumption(
             tables,
@@ -255,12 +201,12 @@ pub trait GoalKind: PredicateTerms {
         assumption: &Clause,
     ) -> Result<Rule, Fault>
         ensures source { IfOk result (λ r. r.source ≡ source) }
-        ensures list { IfOk result (IsToldBy tables.now Certainty.Yes (candidate_list goal.now.predicate (setting_of tables.now mode.now goal.now.param_env.items) (said_by assumption.now.kind))) }
-        ensures gives { IfOk result (GivesAs has_term (setting_of tables.now mode.now goal.now.param_env.items) Certainty.Yes (λ n t. candidate_gives goal.now.predicate (setting_of tables.now mode.now goal.now.param_env.items) n (said_by assumption.now.kind) t)) }
-        ensures refuted { IfOk result (RefutedAs (setting_of tables.now mode.now goal.now.param_env.items) (λ n. candidate_refuted goal.now.predicate (setting_of tables.now mode.now goal.now.param_env.items) n (said_by assumption.now.kind))) }
-        ensures expected { IfOk result (λ r. TermsAreFor (expected goal.now.predicate) r.entries.items) }
-        ensures rejected { passes goal.now.predicate assumption.now.kind ≡ false → result ≡ Err Fault.NoSolution }
-        ensures memory { passes goal.now.predicate assumption.now.kind ≡ true → IsOkUnless result Fault.OutOfMemory }
+        ensures list { IfOk result (HasList (words_for words tables.now goal.now mode.now) Certainty.Yes (said_by assumption.now.kind)) }
+        ensures gives { IfOk result (Gives (words_for words tables.now goal.now mode.now) Certainty.Yes (said_by assumption.now.kind)) }
+        ensures refuted { IfOk result (Refutes (words_for words tables.now goal.now mode.now) (said_by assumption.now.kind)) }
+        ensures expected { IfOk result (λ r. TermsAreFor (words.expected goal.now.predicate) r.entries.items) }
+        ensures rejected { words.passes goal.now.predicate assumption.now.kind ≡ false → result ≡ Err Fault.NoSolution }
+        ensures memory { words.passes goal.now.predicate assumption.now.kind ≡ true → IsOkUnless result Fault.OutOfMemory }
     {
         Self::probe_and_match_goal_against_assumption(
             tables,
@@ -279,8 +225,8 @@ pub trait GoalKind: PredicateTerms {
         goal: &Goal<Self>,
     ) -> Result<Rule, Fault>
         ensures source { IfOk result (λ r. r.source ≡ CandidateSource.BuiltinImpl BuiltinImplSource.Misc) }
-        ensures recorded { (q : trait_tree) → trait_asked goal.now.predicate tables.now ≡ Some q → IfOk result (λ r. r.entries.items ≡ entry.DelayedFault (AutoTrait q.def_id) ∷ entry.Refused ∷ []) }
-        ensures memory { (q : trait_tree) → trait_asked goal.now.predicate tables.now ≡ Some q → IsOkUnless result Fault.OutOfMemory }
+        ensures recorded { (q : trait_tree) → words.asked goal.now.predicate tables.now ≡ Some q → IfOk result (λ r. r.entries.items ≡ auto_trait_entries q.def_id) }
+        ensures memory { (q : trait_tree) → words.asked goal.now.predicate tables.now ≡ Some q → IsOkUnless result Fault.OutOfMemory }
     {
         let Some(id) = goal.predicate.trait_def_id(tables) else {
             return Err(Fault::NoSolution);
@@ -294,8 +240,8 @@ pub trait GoalKind: PredicateTerms {
         mode: &TypingMode,
         goal: &Goal<Self>,
     ) -> Result<Rule, Fault>
-        ensures answer { IsNamedAnswer (is_for goal.now.predicate tables.now trait_alias) has_term (setting_of tables.now mode.now goal.now.param_env.items) (λ n t. candidate_gives goal.now.predicate (setting_of tables.now mode.now goal.now.param_env.items) n built_in t) (λ n. candidate_refuted goal.now.predicate (setting_of tables.now mode.now goal.now.param_env.items) n built_in) result }
-        ensures list { IfOk result (IsToldBy tables.now Certainty.Yes (candidate_list goal.now.predicate (setting_of tables.now mode.now goal.now.param_env.items) built_in)) };
+        ensures answer { AnswersBy (words_for words tables.now goal.now mode.now) trait_alias result }
+        ensures list { IfOk result (HasList (words_for words tables.now goal.now mode.now) Certainty.Yes built_in) };
 
     /// The rule of sized types. It says no more than the built-in candidate, and just its list where the kind tells it.
     fn consider_builtin_sizedness_candidates(
@@ -303,8 +249,8 @@ pub trait GoalKind: PredicateTerms {
         mode: &TypingMode,
         goal: &Goal<Self>,
     ) -> Result<Rule, Fault>
-        ensures answer { IsNamedAnswer (is_for goal.now.predicate tables.now sizedness) has_term (setting_of tables.now mode.now goal.now.param_env.items) (λ n t. candidate_gives goal.now.predicate (setting_of tables.now mode.now goal.now.param_env.items) n built_in t) (λ n. candidate_refuted goal.now.predicate (setting_of tables.now mode.now goal.now.param_env.items) n built_in) result }
-        ensures list { IfOk result (IsToldBy tables.now Certainty.Yes (candidate_list goal.now.predicate (setting_of tables.now mode.now goal.now.param_env.items) built_in)) };
+        ensures answer { AnswersBy (words_for words tables.now goal.now mode.now) sizedness result }
+        ensures list { IfOk result (HasList (words_for words tables.now goal.now mode.now) Certainty.Yes built_in) };
 
     /// The rule of types that are copied or cloned. It says no more than the built-in candidate, and just its list where the kind tells it.
     fn consider_builtin_copy_clone_candidate(
@@ -312,8 +258,8 @@ pub trait GoalKind: PredicateTerms {
         mode: &TypingMode,
         goal: &Goal<Self>,
     ) -> Result<Rule, Fault>
-        ensures answer { IsNamedAnswer (is_for goal.now.predicate tables.now copy_clone) has_term (setting_of tables.now mode.now goal.now.param_env.items) (λ n t. candidate_gives goal.now.predicate (setting_of tables.now mode.now goal.now.param_env.items) n built_in t) (λ n. candidate_refuted goal.now.predicate (setting_of tables.now mode.now goal.now.param_env.items) n built_in) result }
-        ensures list { IfOk result (IsToldBy tables.now Certainty.Yes (candidate_list goal.now.predicate (setting_of tables.now mode.now goal.now.param_env.items) built_in)) };
+        ensures answer { AnswersBy (words_for words tables.now goal.now mode.now) copy_clone result }
+        ensures list { IfOk result (HasList (words_for words tables.now goal.now mode.now) Certainty.Yes built_in) };
 
     /// The rule of function pointers. It says no more than the built-in candidate, and just its list where the kind tells it.
     fn consider_builtin_fn_ptr_trait_candidate(
@@ -321,8 +267,8 @@ pub trait GoalKind: PredicateTerms {
         mode: &TypingMode,
         goal: &Goal<Self>,
     ) -> Result<Rule, Fault>
-        ensures answer { IsNamedAnswer (is_for goal.now.predicate tables.now fn_ptr_trait) has_term (setting_of tables.now mode.now goal.now.param_env.items) (λ n t. candidate_gives goal.now.predicate (setting_of tables.now mode.now goal.now.param_env.items) n built_in t) (λ n. candidate_refuted goal.now.predicate (setting_of tables.now mode.now goal.now.param_env.items) n built_in) result }
-        ensures list { IfOk result (IsToldBy tables.now Certainty.Yes (candidate_list goal.now.predicate (setting_of tables.now mode.now goal.now.param_env.items) built_in)) };
+        ensures answer { AnswersBy (words_for words tables.now goal.now mode.now) fn_ptr_trait result }
+        ensures list { IfOk result (HasList (words_for words tables.now goal.now mode.now) Certainty.Yes built_in) };
 
     /// The rule of types that are called. It says no more than the built-in candidate, and just its list where the kind tells it.
     fn consider_builtin_fn_trait_candidates(
@@ -330,8 +276,8 @@ pub trait GoalKind: PredicateTerms {
         mode: &TypingMode,
         goal: &Goal<Self>,
     ) -> Result<Rule, Fault>
-        ensures answer { IsNamedAnswer (is_for goal.now.predicate tables.now fn_trait) has_term (setting_of tables.now mode.now goal.now.param_env.items) (λ n t. candidate_gives goal.now.predicate (setting_of tables.now mode.now goal.now.param_env.items) n built_in t) (λ n. candidate_refuted goal.now.predicate (setting_of tables.now mode.now goal.now.param_env.items) n built_in) result }
-        ensures list { IfOk result (IsToldBy tables.now Certainty.Yes (candidate_list goal.now.predicate (setting_of tables.now mode.now goal.now.param_env.items) built_in)) };
+        ensures answer { AnswersBy (words_for words tables.now goal.now mode.now) fn_trait result }
+        ensures list { IfOk result (HasList (words_for words tables.now goal.now mode.now) Certainty.Yes built_in) };
 
     /// The rule of tuples. It says no more than the built-in candidate, and just its list where the kind tells it.
     fn consider_builtin_tuple_candidate(
@@ -339,8 +285,8 @@ pub trait GoalKind: PredicateTerms {
         mode: &TypingMode,
         goal: &Goal<Self>,
     ) -> Result<Rule, Fault>
-        ensures answer { IsNamedAnswer (is_for goal.now.predicate tables.now tuple) has_term (setting_of tables.now mode.now goal.now.param_env.items) (λ n t. candidate_gives goal.now.predicate (setting_of tables.now mode.now goal.now.param_env.items) n built_in t) (λ n. candidate_refuted goal.now.predicate (setting_of tables.now mode.now goal.now.param_env.items) n built_in) result }
-        ensures list { IfOk result (IsToldBy tables.now Certainty.Yes (candidate_list goal.now.predicate (setting_of tables.now mode.now goal.now.param_env.items) built_in)) };
+        ensures answer { AnswersBy (words_for words tables.now goal.now mode.now) tuple result }
+        ensures list { IfOk result (HasList (words_for words tables.now goal.now mode.now) Certainty.Yes built_in) };
 
     /// The rule of what a pointer points to, and its metadata. It says no more than the built-in candidate, and just its list where the kind tells it.
     fn consider_builtin_pointee_candidate(
@@ -348,8 +294,8 @@ pub trait GoalKind: PredicateTerms {
         mode: &TypingMode,
         goal: &Goal<Self>,
     ) -> Result<Rule, Fault>
-        ensures answer { IsNamedAnswer (is_for goal.now.predicate tables.now pointee) has_term (setting_of tables.now mode.now goal.now.param_env.items) (λ n t. candidate_gives goal.now.predicate (setting_of tables.now mode.now goal.now.param_env.items) n built_in t) (λ n. candidate_refuted goal.now.predicate (setting_of tables.now mode.now goal.now.param_env.items) n built_in) result }
-        ensures list { IfOk result (IsToldBy tables.now Certainty.Yes (candidate_list goal.now.predicate (setting_of tables.now mode.now goal.now.param_env.items) built_in)) };
+        ensures answer { AnswersBy (words_for words tables.now goal.now mode.now) pointee result }
+        ensures list { IfOk result (HasList (words_for words tables.now goal.now mode.now) Certainty.Yes built_in) };
 
     /// The rule of discriminants. It says no more than the built-in candidate, and just its list where the kind tells it.
     fn consider_builtin_discriminant_kind_candidate(
@@ -357,8 +303,8 @@ pub trait GoalKind: PredicateTerms {
         mode: &TypingMode,
         goal: &Goal<Self>,
     ) -> Result<Rule, Fault>
-        ensures answer { IsNamedAnswer (is_for goal.now.predicate tables.now discriminant_kind) has_term (setting_of tables.now mode.now goal.now.param_env.items) (λ n t. candidate_gives goal.now.predicate (setting_of tables.now mode.now goal.now.param_env.items) n built_in t) (λ n. candidate_refuted goal.now.predicate (setting_of tables.now mode.now goal.now.param_env.items) n built_in) result }
-        ensures list { IfOk result (IsToldBy tables.now Certainty.Yes (candidate_list goal.now.predicate (setting_of tables.now mode.now goal.now.param_env.items) built_in)) };
+        ensures answer { AnswersBy (words_for words tables.now goal.now mode.now) discriminant_kind result }
+        ensures list { IfOk result (HasList (words_for words tables.now goal.now mode.now) Certainty.Yes built_in) };
 
     /// The rule of types that are dropped. It says no more than the built-in candidate, and just its list where the kind tells it.
     fn consider_builtin_destruct_candidate(
@@ -366,8 +312,8 @@ pub trait GoalKind: PredicateTerms {
         mode: &TypingMode,
         goal: &Goal<Self>,
     ) -> Result<Rule, Fault>
-        ensures answer { IsNamedAnswer (is_for goal.now.predicate tables.now destruct) has_term (setting_of tables.now mode.now goal.now.param_env.items) (λ n t. candidate_gives goal.now.predicate (setting_of tables.now mode.now goal.now.param_env.items) n built_in t) (λ n. candidate_refuted goal.now.predicate (setting_of tables.now mode.now goal.now.param_env.items) n built_in) result }
-        ensures list { IfOk result (IsToldBy tables.now Certainty.Yes (candidate_list goal.now.predicate (setting_of tables.now mode.now goal.now.param_env.items) built_in)) };
+        ensures answer { AnswersBy (words_for words tables.now goal.now mode.now) destruct result }
+        ensures list { IfOk result (HasList (words_for words tables.now goal.now mode.now) Certainty.Yes built_in) };
 
     /// The rule of fields. It says no more than the built-in candidate, and just its list where the kind tells it.
     fn consider_builtin_field_candidate(
@@ -375,17 +321,17 @@ pub trait GoalKind: PredicateTerms {
         mode: &TypingMode,
         goal: &Goal<Self>,
     ) -> Result<Rule, Fault>
-        ensures answer { IsNamedAnswer (is_for goal.now.predicate tables.now field) has_term (setting_of tables.now mode.now goal.now.param_env.items) (λ n t. candidate_gives goal.now.predicate (setting_of tables.now mode.now goal.now.param_env.items) n built_in t) (λ n. candidate_refuted goal.now.predicate (setting_of tables.now mode.now goal.now.param_env.items) n built_in) result }
-        ensures list { IfOk result (IsToldBy tables.now Certainty.Yes (candidate_list goal.now.predicate (setting_of tables.now mode.now goal.now.param_env.items) built_in)) };
+        ensures answer { AnswersBy (words_for words tables.now goal.now mode.now) field result }
+        ensures list { IfOk result (HasList (words_for words tables.now goal.now mode.now) Certainty.Yes built_in) };
 
     /// What a candidate gives at a height it gives at every greater one, and so is it refuted. It does
     /// nothing.
     fn more_height_keeps_candidates()
-        ensures gives { (p : Self) (S : setting) (n m : ℕ) (c : candidate) (t : tree) → n ≤ m → candidate_gives p S n c t → candidate_gives p S m c t }
-        ensures refuted { (p : Self) (S : setting) (n m : ℕ) (c : candidate) → n ≤ m → candidate_refuted p S n c → candidate_refuted p S m c };
+        ensures gives { (p : Self) (S : setting) (n m : ℕ) (c : candidate) (t : tree) → n ≤ m → words.gives p S n c t → words.gives p S m c t }
+        ensures refuted { (p : Self) (S : setting) (n m : ℕ) (c : candidate) → n ≤ m → words.refuted p S n c → words.refuted p S m c };
 
     /// Over accepted tables an accepted clause that the fast rejection doesn't let pass is refuted with no
     /// height. It does nothing.
     fn rejected_clauses_are_refuted()
-        ensures { (p : Self) (S : setting) (k : clause_kind) → IsChecked S.tables → HasNoKindFault (λ f. Self.has_fault p S.tables f) → IsAcceptedClause S.tables k → passes p k ≡ false → candidate_refuted p S 0 (said_by k) };
+        ensures { RejectionIsFinal words Self.has_fault };
 }

@@ -33,6 +33,7 @@ use Rattle.goal_kinds.proofs.ContraryWords.{Exists-Each, OfRow-twice}
 use Rattle.goal_kinds.proofs.EqualLemmas.{one_head_form, no_head_form_refuted}
 use Rattle.goal_kinds.proofs.ProjectionLemmas.{one_group_term, no_group_refuted}
 use Rattle.goal_eval.specs.ErasedArgs.{erased_args}
+use Rattle.goal_solver.specs.ThroughClasses.{SoundThrough, DecidesThrough}
 use Rattle.goal_solver.specs.Answers.{IsOwed, level_over, is_closed_alias, expected_variable, IsMaybe, IsAliasResponse, IsAliasAnswer, IsAliasOpen}
 use Rattle.goal_solver.specs.Assembled.{level_above, OfItem, HoldsThrough, level_through}
 use Rattle.goal_eval.specs.Outcomes.{SaysWhich}
@@ -231,26 +232,16 @@ open-above S n k ts c h a =
     let same = above-same S n k ts c h in
     (λ t y z. a.0 t y (same.1 t z), λ z. a.1 (same.3 z))
 
--- what a call answers through a class, for one goal or for another that is the same
-abbrev pub AnswersThrough : State → State → TraitGoalProvenVia → NormalizesTo → List Clause → Result Response Fault → Type 0
-AnswersThrough a z c q env r =
-    (m : TypingMode) → IsOwed z m → IsAliasAnswer (level_through (setting_of a.tables m env) (level_over a m env) c) q.alias.kind (erased_args q.alias.args.items) q.term r
-
-abbrev pub DecidesThrough : State → State → TraitGoalProvenVia → NormalizesTo → List Clause → Result Response Fault → Type 0
-DecidesThrough a z c q env r =
-    (m : TypingMode) (n : ℕ) → IsOwed z m → is_closed_alias q.alias env ≡ true → expected_variable q.term ≡ Some n → IsMaybe r →
-    IsAliasOpen (level_through (setting_of a.tables m env) (level_over a m env) c) q.alias.kind (erased_args q.alias.args.items)
-
 -- that is the alias's answer one above, where its trait goal holds through the class
 abbrev HoldsAt : State → TypingMode → TraitGoalProvenVia → NormalizesTo → List Clause → Type 0
 HoldsAt a m c q env = HoldsThrough (setting_of a.tables m env) (level_over a m env) c q.alias.kind (erased_args q.alias.args.items)
 
-pub answers-above : (a z : State) (c : TraitGoalProvenVia) (p q : NormalizesTo) (es env : List Clause) (r : Result Response Fault) → Some p ≡ Some q → es ≡ env → AnswersThrough a z c p es r →
+pub answers-above : (a z : State) (c : TraitGoalProvenVia) (p q : NormalizesTo) (es env : List Clause) (r : Result Response Fault) → Some p ≡ Some q → es ≡ env → SoundThrough a z c p es r →
     (m : TypingMode) → IsOwed z m → HoldsAt a m c q env → IsAliasAnswer (level_above a m env) q.alias.kind (erased_args q.alias.args.items) q.term r
 answers-above a z c p q es env r e f h m owed holds =
     let same : p ≡ q = cc in
     answer-above (setting_of a.tables m env) a.remaining_depth q.alias.kind (erased_args q.alias.args.items) c q.term r holds
-    (subst₂ (λ x y. AnswersThrough a z c x y r) same f h m owed)
+    (subst₂ (λ x y. SoundThrough a z c x y r) same f h m owed)
 
 pub decides-above : (a z : State) (c : TraitGoalProvenVia) (p q : NormalizesTo) (es env : List Clause) (r : Result Response Fault) → Some p ≡ Some q → es ≡ env → DecidesThrough a z c p es r →
     (m : TypingMode) (n : ℕ) → IsOwed z m → HoldsAt a m c q env → is_closed_alias q.alias env ≡ true → expected_variable q.term ≡ Some n → IsMaybe r →

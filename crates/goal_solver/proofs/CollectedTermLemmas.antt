@@ -33,7 +33,8 @@ use Rattle.goal_kinds.specs.declared.goal_kind.TraitView.{TraitView}
 use Rattle.goal_kinds.specs.declared.rules.Rule.{Rule}
 use Rattle.goal_kinds.proofs.InstanceLemmas.{instance-depth}
 use Rattle.goal_kinds.proofs.UnderLemmas.{under-erased_args}
-use Rattle.goal_solver.specs.Collecting.{GoalWords, bounds_of_kind, CollectsBounds, SaysTheSame, Speaks, Lacks, AreCollected, Collects}
+use Rattle.goal_kinds.specs.KindWords.{GoalWords}
+use Rattle.goal_solver.specs.Collecting.{bounds_of_kind, CollectsBounds, SaysTheSame, Speaks, Lacks, AreCollected, Collects}
 use Rattle.goal_solver.proofs.CollectingLemmas.{collected-append}
 use Rattle.goal_solver.proofs.TermErrorLemmas.{error-erased}
 

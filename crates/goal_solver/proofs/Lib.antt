@@ -3,11 +3,13 @@ pub mod VariableLemmas
 pub mod StoredLemmas
 pub mod PredicateLemmas
 pub mod AnswerLemmas
+pub mod AssembledAnswers
 pub mod TermErrorLemmas
 pub mod AccessLemmas
 pub mod FaultLemmas
 mod EqualResponses
 mod MergedLemmas
+pub mod MoreSpecialLemmas
 pub mod RecordedLemmas
 pub mod FoundAnswers
 pub mod FormAnswerLemmas

@@ -31,7 +31,8 @@ use Rattle.goal_kinds.specs.declared.faults.Fault.{Fault}
 use Rattle.goal_kinds.specs.declared.faults.Fault.TheVariants as fault
 use Rattle.goal_kinds.specs.declared.rules.Rule.{Rule}
 use Rattle.goal_solver.specs.Answers.{IsOwed, level_over}
-use Rattle.goal_solver.specs.Collecting.{KindWords, words_for, Speaks, Lacks, AreCollected, CollectsBounds, CollectsEnvironment, CollectsFor}
+use Rattle.goal_kinds.specs.KindWords.{words_for}
+use Rattle.goal_solver.specs.Collecting.{Kind, Speaks, Lacks, AreCollected, CollectsBounds, CollectsEnvironment, CollectsFor}
 use Rattle.goal_solver.specs.GoingBack.{restored}
 use Rattle.goal_solver.specs.HeadForms.{IsClosedForm, IsFormAnswer, IsFormOpen, IsAnswered, bound_term}
 use Rattle.goal_solver.specs.HiddenTypes.{AsksForm}
@@ -51,7 +52,7 @@ when-refused A fault.OutOfMemory h = tt
 when-refused A fault.NotForThisKind h = tt
 
 -- a goal whose self type is refuted to have a head form is refused
-pub refused-formless : {P : Type 0} (K : KindWords P) (g : Goal P) (s u : State) (f : Fault) → (f ≡ fault.NoSolution → IsFormless K.self_type g s u) →
+pub refused-formless : {P : Type 0} (K : Kind P) (g : Goal P) (s u : State) (f : Fault) → (f ≡ fault.NoSolution → IsFormless K.words.self_type g s u) →
     WhenAnswered (Err f) (MergesGoal K g s (Err f) u)
 refused-formless K g s u f h = when-refused (MergesGoal K g s (Err f) u) f (λ e. inr (inl (h e, ap Err e)))
 
@@ -76,7 +77,7 @@ clause-faultless : (t : Tables) (f : TermFault) (env : List Clause) (k : ℕ) (d
     lies_in_clause_kind t [] f (get_or env k d).kind ≡ false
 clause-faultless t f env k d l h = list_any-none (λ c. lies_in_clause_kind t [] f c.kind) env k (get_or env k d) (slice_get-get_or env k d l) h
 
-accepted-clauses : {P : Type 0} (lies : P → Tables → TermFault → Bool) (t : Tables) (g : Goal P) → has_kind_fault lies t g ≡ false → All (λ c. IsAcceptedClause t c.kind) g.param_env.items
+pub accepted-clauses : {P : Type 0} (lies : P → Tables → TermFault → Bool) (t : Tables) (g : Goal P) → has_kind_fault lies t g ≡ false → All (λ c. IsAcceptedClause t c.kind) g.param_env.items
 accepted-clauses lies t g h = λ k d l.
     let each = none-in lies t g h in (
       clause-faultless t UnknownItem g.param_env.items k d l (in-both lies t g UnknownItem each.0).1,
@@ -85,13 +86,13 @@ accepted-clauses lies t g h = λ k d l.
     )
 
 -- the rules of a class are collected, by what is said of each class
-pub collects-for : {P : Type 0} (K : KindWords P) (t : Tables) (g : Goal P) (m : TypingMode) (c : TraitGoalProvenVia) (rs : List Rule) → has_kind_fault K.has_fault t g ≡ false →
-    (c ≡ class.ParamEnv → All (λ x. IsAcceptedClause t x.kind) g.param_env.items → CollectsEnvironment (words_for K t g m) rs) →
-    ((q : TraitTree) (s : Ty) → c ≡ class.AliasBound → K.trait_asked g.predicate t ≡ Some q → K.self_type g.predicate ≡ Some s →
-    CollectsBounds (words_for K t g m) (K.additional g.predicate (setting_of t m g.param_env.items)) s [] rs) →
-    ((q : TraitTree) (s : Ty) → c ≡ class.Misc → is_headline m ≡ true → K.trait_asked g.predicate t ≡ Some q → K.self_type g.predicate ≡ Some s →
-    ((r : ImplRow) → r.trait_id ≡ q.def_id → K.is_impl_for g.predicate t r) →
-    AreCollected (Speaks (words_for K t g m)) (Lacks (words_for K t g m)) rs (rest (setting_of t m g.param_env.items) q.def_id (erased (tree_of_ty s)))) →
+pub collects-for : {P : Type 0} (K : Kind P) (t : Tables) (g : Goal P) (m : TypingMode) (c : TraitGoalProvenVia) (rs : List Rule) → has_kind_fault K.has_fault t g ≡ false →
+    (c ≡ class.ParamEnv → All (λ x. IsAcceptedClause t x.kind) g.param_env.items → CollectsEnvironment (words_for K.words t g m) rs) →
+    ((q : TraitTree) (s : Ty) → c ≡ class.AliasBound → K.words.asked g.predicate t ≡ Some q → K.words.self_type g.predicate ≡ Some s →
+    CollectsBounds (words_for K.words t g m) (K.words.additional g.predicate (setting_of t m g.param_env.items)) s [] rs) →
+    ((q : TraitTree) (s : Ty) → c ≡ class.Misc → is_headline m ≡ true → K.words.asked g.predicate t ≡ Some q → K.words.self_type g.predicate ≡ Some s →
+    ((r : ImplRow) → r.trait_id ≡ q.def_id → K.words.is_impl_for g.predicate t r) →
+    AreCollected (Speaks (words_for K.words t g m)) (Lacks (words_for K.words t g m)) rs (rest (setting_of t m g.param_env.items) q.def_id (erased (tree_of_ty s)))) →
     CollectsFor K t g m c rs
 collects-for K t g m class.ParamEnv rs f env bounds others = env refl (accepted-clauses K.has_fault t g f)
 collects-for K t g m class.AliasBound rs f env bounds others = λ q s asked of. bounds q s refl asked of
@@ -184,23 +185,23 @@ classes-mapped C D env (c ∷ cs) s u r f h =
     (λ k. inr (k.0, (k.1.0, f s.typing_mode c k.1.0 k.1.1, k.1.2, k.1.3, k.1.4), classes-mapped C D env cs k.0 u r f k.2)) h
 
 -- the rules of a class that were collected in a mode
-of-class : {P : Type 0} (K : KindWords P) (t : Tables) (h : Goal P) (w : ClassRules) (mode m : TypingMode) (c : TraitGoalProvenVia) (rs : List Rule) →
+of-class : {P : Type 0} (K : Kind P) (t : Tables) (h : Goal P) (w : ClassRules) (mode m : TypingMode) (c : TraitGoalProvenVia) (rs : List Rule) →
     ((x : TraitGoalProvenVia) → CollectsFor K t h mode x (rules_of_class w x)) → AreOfClass mode w m c rs → CollectsFor K t h m c rs
 of-class K t h w mode m c rs collected is = subst (λ xs. CollectsFor K t h m c xs) (sym is.1) (subst (λ x. CollectsFor K t h x c (rules_of_class w c)) (sym is.0) (collected c))
 
 -- the rules of all classes are collected
-pub each-class : {P : Type 0} (K : KindWords P) (t : Tables) (h : Goal P) (m : TypingMode) (w : ClassRules) → CollectsFor K t h m class.ParamEnv w.environment.items →
+pub each-class : {P : Type 0} (K : Kind P) (t : Tables) (h : Goal P) (m : TypingMode) (w : ClassRules) → CollectsFor K t h m class.ParamEnv w.environment.items →
     CollectsFor K t h m class.AliasBound w.bounds.items → CollectsFor K t h m class.Misc w.rest.items → (c : TraitGoalProvenVia) → CollectsFor K t h m c (rules_of_class w c)
 each-class K t h m w first second third class.ParamEnv = first
 each-class K t h m w first second third class.AliasBound = second
 each-class K t h m w first second third class.Misc = third
 
 -- for the goal that is considered in a goal's place
-pub collects-classes : {P : Type 0} (K : KindWords P) (g h : Goal P) (s x z : State) (w : ClassRules) (o : Option (Goal P)) → FormsGoal K.self_type K.is_with_self (has_kind_fault K.has_fault s.tables) g s z o →
+pub collects-classes : {P : Type 0} (K : Kind P) (g h : Goal P) (s x z : State) (w : ClassRules) (o : Option (Goal P)) → FormsGoal K.words.self_type K.words.is_with_self (has_kind_fault K.has_fault s.tables) g s z o →
     o ≡ Some h → x ≡ z → z ≡ restored s z → w.param_env.items ≡ h.param_env.items → ((c : TraitGoalProvenVia) → CollectsFor K x.tables h x.typing_mode c (rules_of_class w c)) →
     CollectsClasses K g s z w
 collects-classes K g h s x z w o forms is same back env collected =
-    let f = subst (λ y. FormsGoal K.self_type K.is_with_self (has_kind_fault K.has_fault s.tables) g s z y) is forms in
+    let f = subst (λ y. FormsGoal K.words.self_type K.words.is_with_self (has_kind_fault K.has_fault s.tables) g s z y) is forms in
     record {
       considered = h;
       considers = f.0;
@@ -210,14 +211,14 @@ collects-classes K g h s x z w o forms is same back env collected =
     }
 
 -- which is one that a check accepts
-pub considered-accepted : {P : Type 0} (K : KindWords P) (g h : Goal P) (s x z : State) (o : Option (Goal P)) → FormsGoal K.self_type K.is_with_self (has_kind_fault K.has_fault s.tables) g s z o →
+pub considered-accepted : {P : Type 0} (K : Kind P) (g h : Goal P) (s x z : State) (o : Option (Goal P)) → FormsGoal K.words.self_type K.words.is_with_self (has_kind_fault K.has_fault s.tables) g s z o →
     o ≡ Some h → x ≡ z → z ≡ restored s z → has_kind_fault K.has_fault x.tables h ≡ false
 considered-accepted K g h s x z o forms is same back =
-    let f = subst (λ y. FormsGoal K.self_type K.is_with_self (has_kind_fault K.has_fault s.tables) g s z y) is forms in
+    let f = subst (λ y. FormsGoal K.words.self_type K.words.is_with_self (has_kind_fault K.has_fault s.tables) g s z y) is forms in
     subst (λ (y : State). has_kind_fault K.has_fault y.tables h ≡ false) (sym (same ∙ back)) f.1
 
 -- a goal for which rules are collected is answered by its classes
-pub by-classes : {P : Type 0} (K : KindWords P) (g : Goal P) (s z u : State) (r : Result Response Fault) (o : Option ClassRules) (w : ClassRules) → ConsidersRules K g s o z → o ≡ Some w →
+pub by-classes : {P : Type 0} (K : Kind P) (g : Goal P) (s z u : State) (r : Result Response Fault) (o : Option ClassRules) (w : ClassRules) → ConsidersRules K g s o z → o ≡ Some w →
     z ≡ restored s z → WhenAnswered r (ByClasses (AreOfClass z.typing_mode w) w.param_env.items trait_classes z r u) → WhenAnswered r (MergesGoal K g s r u)
 by-classes K g s z u r o w considers is back by =
     let f = subst (λ x. ConsidersRules K g s x z) is considers in
@@ -240,19 +241,6 @@ none-left (Some x) n = absurd (n x refl)
 -- a state that is restored thrice is restored
 pub restored-thrice : (a b c d : State) → b ≡ restored a b → c ≡ restored b c → d ≡ restored c d → d ≡ restored a d
 restored-thrice a b c d e f g = g ∙ ap (λ (s : State). restored s d) f ∙ ap (λ (s : State). restored s d) e
-
--- the same of what a context shows
-pub collects-in : {P : Type 0} (K : KindWords P) (x a : State) (g : Goal P) (c : TraitGoalProvenVia) (rs : List Rule) → x ≡ a → has_kind_fault K.has_fault a.tables g ≡ false →
-    (c ≡ class.ParamEnv → All (λ k. IsAcceptedClause x.tables k.kind) g.param_env.items → CollectsEnvironment (words_for K x.tables g x.typing_mode) rs) →
-    ((q : TraitTree) (s : Ty) → c ≡ class.AliasBound → K.trait_asked g.predicate x.tables ≡ Some q → K.self_type g.predicate ≡ Some s →
-    CollectsBounds (words_for K x.tables g x.typing_mode) (K.additional g.predicate (setting_of x.tables x.typing_mode g.param_env.items)) s [] rs) →
-    ((q : TraitTree) (s : Ty) → c ≡ class.Misc → is_headline x.typing_mode ≡ true → K.trait_asked g.predicate x.tables ≡ Some q → K.self_type g.predicate ≡ Some s →
-    ((r : ImplRow) → r.trait_id ≡ q.def_id → K.is_impl_for g.predicate x.tables r) →
-    AreCollected (Speaks (words_for K x.tables g x.typing_mode)) (Lacks (words_for K x.tables g x.typing_mode)) rs (rest (setting_of x.tables x.typing_mode g.param_env.items) q.def_id (erased (tree_of_ty s)))) →
-    CollectsFor K a.tables g a.typing_mode c rs
-collects-in K x a g c rs e f env bounds others =
-    subst (λ (s : State). CollectsFor K s.tables g s.typing_mode c rs) e
-    (collects-for K x.tables g x.typing_mode c rs (subst (λ (s : State). has_kind_fault K.has_fault s.tables g ≡ false) (sym e) f) env bounds others)
 
 pub faulty-in : {P : Type 0} (lies : P → Tables → TermFault → Bool) (x u a : State) (g : Goal P) (r b : Bool) → x ≡ u → u ≡ restored a u → r ≡ has_kind_fault lies x.tables g → r ≡ b →
     has_kind_fault lies a.tables g ≡ b

@@ -10,11 +10,11 @@ use Rattle.goal_terms.specs.declared.predicates.TraitPredicate.{TraitPredicate}
 use Rattle.goal_kinds.specs.declared.faults.Fault.{Fault}
 use Rattle.goal_kinds.specs.declared.faults.Fault.TheVariants as fault
 use Rattle.goal_kinds.specs.declared.rules.Rule.{Rule}
-use Rattle.goal_solver.specs.Collecting.{KindWords}
+use Rattle.goal_solver.specs.Collecting.{Kind}
 use Rattle.goal_solver.specs.GoingBack.{restored}
 use Rattle.goal_solver.specs.MergedRules.{MergesRules}
 use Rattle.goal_solver.specs.OpenGoals.{IsFormless, WhenAnswered, at_depth}
-use Rattle.goal_solver.specs.OpenHostGoals.{rules_of_groups, GroupAnswers, ByRuleGroups, MergesConst, host_words, IsPlain, AnswersPlain, ByPlainClass, MergesHostEffect}
+use Rattle.goal_solver.specs.OpenHostGoals.{rules_of_groups, GroupAnswers, ByRuleGroups, MergesConst, host_kind, IsPlain, AnswersPlain, ByPlainClass, MergesHostEffect}
 use Rattle.goal_solver.specs.OpenProjections.{ConsidersGroups, proven_class}
 use Rattle.goal_solver.specs.State.{State}
 use Rattle.goal_solver.specs.declared.normalizes_to.groups.GroupRules.{GroupRules}
@@ -58,11 +58,11 @@ group-none env es ds first qs later ls s z u o p e f d l h none k other =
     inr (z, answers-by env es first qs s z o None e f h none, inr (u, answers-by env ds later ls z u p None d l k other, (refl, refl)))
 
 -- a goal is answered through a class
-pub const-formless : {P : Type 0} (K : KindWords P) (c : TraitGoalProvenVia) (g : Goal P) (s u : State) (f : Fault) → (f ≡ fault.NoSolution → IsFormless K.self_type g s u) →
+pub const-formless : {P : Type 0} (K : Kind P) (c : TraitGoalProvenVia) (g : Goal P) (s u : State) (f : Fault) → (f ≡ fault.NoSolution → IsFormless K.words.self_type g s u) →
     WhenAnswered (Err f) (MergesConst K c g s (Err f) u)
 const-formless K c g s u f h = when-refused (MergesConst K c g s (Err f) u) f (λ e. inr (inl (h e, ap Err e)))
 
-pub const-grouped : {P : Type 0} (K : KindWords P) (c : TraitGoalProvenVia) (g : Goal P) (s z u : State) (o : Option GroupRules) (w : GroupRules) (r : Result Response Fault) → ConsidersGroups K c g s o z → o ≡ Some w →
+pub const-grouped : {P : Type 0} (K : Kind P) (c : TraitGoalProvenVia) (g : Goal P) (s z u : State) (o : Option GroupRules) (w : GroupRules) (r : Result Response Fault) → ConsidersGroups K c g s o z → o ≡ Some w →
     WhenAnswered r (ByRuleGroups w.param_env.items (rules_of_groups w) z r u) → WhenAnswered r (MergesConst K c g s r u)
 const-grouped K c g s z u o w r h e by =
     answered-map (ByRuleGroups w.param_env.items (rules_of_groups w) z r u) (MergesConst K c g s r u) r
@@ -81,9 +81,9 @@ pub const-unproven : (g : Goal HostEffectPredicate) (q : Goal TraitPredicate) (s
 const-unproven g q s z a r plain h e maybe = inr (q, Ok a, z, plain, h, subst (λ o. ByPlainClass o g z (Ok r) z) e (maybe, refl))
 
 pub const-through : (g : Goal HostEffectPredicate) (q : Goal TraitPredicate) (c : TraitGoalProvenVia) (s z u : State) (a : Response) (r : Result Response Fault) → IsPlain g q → AnswersPlain q s z (Ok a) →
-    Some c ≡ proven_class a → WhenAnswered r (MergesConst host_words c g z r u) → WhenAnswered r (MergesHostEffect g s r u)
+    Some c ≡ proven_class a → WhenAnswered r (MergesConst host_kind c g z r u) → WhenAnswered r (MergesHostEffect g s r u)
 const-through g q c s z u a r plain h e m =
-    answered-map (MergesConst host_words c g z r u) (MergesHostEffect g s r u) r (λ k. inr (q, Ok a, z, plain, h, subst (λ o. ByPlainClass o g z r u) e k)) m
+    answered-map (MergesConst host_kind c g z r u) (MergesHostEffect g s r u) r (λ k. inr (q, Ok a, z, plain, h, subst (λ o. ByPlainClass o g z r u) e k)) m
 
 -- at one less of the depth
 pub const-below : (x a v w : State) (n : ℕ) (g : Goal HostEffectPredicate) (r : Result Response Fault) → x ≡ a → v ≡ w → w ≡ restored (at_depth (x.remaining_depth - 1) x) w →

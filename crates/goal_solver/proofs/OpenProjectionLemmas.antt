@@ -28,11 +28,11 @@ use Rattle.goal_kinds.specs.declared.rules.RuleEntry.{RuleEntry}
 use Rattle.goal_infer.specs.Resolution.{IsSolved}
 use Rattle.goal_solver.specs.Binding.{IsApplicable}
 use Rattle.goal_solver.specs.GoingBack.{GoesBack, restored}
-use Rattle.goal_solver.specs.Collecting.{KindWords, CollectsFor}
+use Rattle.goal_solver.specs.Collecting.{Kind, CollectsFor}
 use Rattle.goal_solver.specs.MergedRules.{MergesRules}
 use Rattle.goal_solver.specs.HiddenTypes.{AsksForm, tree_in}
 use Rattle.goal_solver.specs.OpenGoals.{FormsGoal, IsFormless, WhenAnswered, has_kind_fault}
-use Rattle.goal_solver.specs.OpenProjections.{CollectsAll, is_formed, Forms, FormsAll, RefusesForm, LacksForm, WithForms, IsRigidList, IsRigid, own_args, proven_class, classes_behind, CollectsGroups, ConsidersGroups, ByBounds, ByRest, ByLater, ByGroups, alias_words, ByClass, MergesThrough, MergesProjection, IsAliasRule, RunsAlias, RunsEquation, AsksItsTrait, AnswersTrait}
+use Rattle.goal_solver.specs.OpenProjections.{CollectsAll, is_formed, Forms, FormsAll, RefusesForm, LacksForm, WithForms, IsRigidList, IsRigid, own_args, proven_class, classes_behind, CollectsGroups, ConsidersGroups, ByBounds, ByRest, ByLater, ByGroups, alias_kind, ByClass, MergesThrough, MergesProjection, IsAliasRule, RunsAlias, RunsEquation, AsksItsTrait, AnswersTrait}
 use Rattle.goal_solver.specs.OpenRuns.{RunsOpen}
 use Rattle.goal_solver.specs.Refusals.{WhenRefused, IsRefusedOpen}
 use Rattle.goal_solver.specs.Relating.{IsFaultFor}
@@ -229,12 +229,12 @@ pub rest-refuses : (env : List Clause) (ls : List Rule) (s z : State) (r : Resul
 rest-refuses env ls s z r m h = (merged.Refuted, z, m, (h, refl))
 
 -- the rules of the groups of a goal that is considered are collected
-pub collects-groups : {P : Type 0} (K : KindWords P) (c : TraitGoalProvenVia) (g h : Goal P) (s x z : State) (w : GroupRules) (o : Option (Goal P)) →
-    FormsGoal K.self_type K.is_with_self (has_kind_fault K.has_fault s.tables) g s z o → o ≡ Some h → x ≡ z → z ≡ restored s z → w.param_env.items ≡ h.param_env.items →
+pub collects-groups : {P : Type 0} (K : Kind P) (c : TraitGoalProvenVia) (g h : Goal P) (s x z : State) (w : GroupRules) (o : Option (Goal P)) →
+    FormsGoal K.words.self_type K.words.is_with_self (has_kind_fault K.has_fault s.tables) g s z o → o ≡ Some h → x ≡ z → z ≡ restored s z → w.param_env.items ≡ h.param_env.items →
     CollectsAll (CollectsFor K x.tables h x.typing_mode) (class.ParamEnv ∷ []) w.environment.items → CollectsAll (CollectsFor K x.tables h x.typing_mode) (classes_behind c) w.later.items →
     CollectsGroups K c g s z w
 collects-groups K c g h s x z w o forms is same back env first later =
-    let f = subst (λ y. FormsGoal K.self_type K.is_with_self (has_kind_fault K.has_fault s.tables) g s z y) is forms in
+    let f = subst (λ y. FormsGoal K.words.self_type K.words.is_with_self (has_kind_fault K.has_fault s.tables) g s z y) is forms in
     record {
       considered = h;
       considers = f.0;
@@ -245,12 +245,12 @@ collects-groups K c g h s x z w o forms is same back env first later =
     }
 
 -- a goal is answered through a class
-pub through-formless : {P : Type 0} (K : KindWords P) (p : NormalizesTo) (c : TraitGoalProvenVia) (g : Goal P) (s u : State) (f : Fault) →
-    (f ≡ fault.NoSolution → IsFormless K.self_type g s u) → WhenAnswered (Err f) (MergesThrough K p c g s (Err f) u)
+pub through-formless : {P : Type 0} (K : Kind P) (p : NormalizesTo) (c : TraitGoalProvenVia) (g : Goal P) (s u : State) (f : Fault) →
+    (f ≡ fault.NoSolution → IsFormless K.words.self_type g s u) → WhenAnswered (Err f) (MergesThrough K p c g s (Err f) u)
 through-formless K p c g s u f h = when-refused (MergesThrough K p c g s (Err f) u) f (λ e. inr (inl (h e, ap Err e)))
 
 -- by its groups, where rules are collected for it
-pub through-groups : {P : Type 0} (K : KindWords P) (p : NormalizesTo) (c : TraitGoalProvenVia) (g : Goal P) (s z u : State) (r : Result Response Fault) (o : Option GroupRules) (w : GroupRules) →
+pub through-groups : {P : Type 0} (K : Kind P) (p : NormalizesTo) (c : TraitGoalProvenVia) (g : Goal P) (s z u : State) (r : Result Response Fault) (o : Option GroupRules) (w : GroupRules) →
     ConsidersGroups K c g s o z → o ≡ Some w → z ≡ restored s z →
     WhenAnswered r (ByGroups c w.param_env.items w.environment.items w.later.items (own_args z.tables p.alias) p z r u) → WhenAnswered r (MergesThrough K p c g s r u)
 through-groups K p c g s z u r o w considers is e m =
@@ -306,7 +306,7 @@ pub projects-unproven : (g : Goal NormalizesTo) (q : Goal TraitPredicate) (s z :
 projects-unproven g q s z a r asks h e maybe = inr (q, Ok a, z, asks, h, subst (λ o. ByClass o g z (Ok r) z) e (maybe, refl))
 
 pub projects-through : (g : Goal NormalizesTo) (q : Goal TraitPredicate) (c : TraitGoalProvenVia) (s z u : State) (a : Response) (r : Result Response Fault) → AsksItsTrait s.tables g q → AnswersTrait q s z (Ok a) →
-    Some c ≡ proven_class a → WhenAnswered r (MergesThrough alias_words g.predicate c g z r u) → WhenAnswered r (MergesProjection g s r u)
+    Some c ≡ proven_class a → WhenAnswered r (MergesThrough alias_kind g.predicate c g z r u) → WhenAnswered r (MergesProjection g s r u)
 projects-through g q c s z u a r asks h e m =
-    when-map (MergesThrough alias_words g.predicate c g z r u) (MergesProjection g s r u) r
+    when-map (MergesThrough alias_kind g.predicate c g z r u) (MergesProjection g s r u) r
     (λ k. inr (q, Ok a, z, asks, h, subst (λ o. ByClass o g z r u) e k)) m

@@ -19,11 +19,11 @@ use Rattle.goal_kinds.specs.declared.faults.Fault.{Fault}
 use Rattle.goal_kinds.specs.declared.faults.Fault.TheVariants as fault
 use Rattle.goal_solver.specs.Answers.{IsMaybe, IsQuiet}
 use Rattle.goal_solver.specs.Binding.{IsApplicable, bound_term}
-use Rattle.goal_solver.specs.Collecting.{KindWords}
+use Rattle.goal_solver.specs.Collecting.{Kind}
 use Rattle.goal_solver.specs.GoingBack.{GoesBack, begun, restored}
 use Rattle.goal_solver.specs.HeadForms.{bound_term as form_bound, is_open_form}
 use Rattle.goal_solver.specs.OpenForms.{OpensFrom, answers_somehow}
-use Rattle.goal_solver.specs.OpenGoals.{AsksOpenSelf, IsSelfAlias, IsLeft, WhenAnswered, WhenTried, MergesOpened, PassesSelf, ClassesForSelf, ClassesForForm, MergesGoal, IsAfterTrial, IsListedIn, IsBeside, ByFormedClasses, has_kind_fault}
+use Rattle.goal_solver.specs.OpenGoals.{AsksOpenSelf, IsSelfAlias, IsLeft, WhenAnswered, WhenTried, MergesOpened, PassesSelf, ClassesForSelf, ClassesForForm, MergesGoal, IsAfterTrial, IsListedIn, IsBeside, ByFormedClasses, has_kind_fault, FormedBy, InTrial}
 use Rattle.goal_solver.specs.OpenHostGoals.{ByFormedRuleGroups, MergesConst}
 use Rattle.goal_solver.specs.OpenProjections.{answers_term, ByFormedGroups, GroupsForForm, GroupsForSelf, MergesThrough}
 use Rattle.goal_solver.specs.Relating.{ChangesRecords, IsFaultFor}
@@ -85,10 +85,6 @@ said-map A B (Err fault.RerunNonErased) f h = tt
 said-map A B (Err fault.OutOfMemory) f h = tt
 said-map A B (Err fault.NotForThisKind) f h = tt
 
--- what is answered in a trial, by what is answered for a head form
-abbrev pub FormedBy : Type 1
-FormedBy = Result (Option Term) Fault → State → Result (Option Response) Fault → State → Type 0
-
 -- where no candidates are considered for a goal it is undecided, or answered by the head form of its self type
 left-opened : {P : Type 0} (self_of : P → Option Ty) (By : FormedBy) (g : Goal P) (s z u : State) (r : Result Response Fault) (A : Type 0) → z ≡ restored s z →
     ((AsksOpenSelf self_of g z → ⊥) → WhenAnswered r (IsMaybe r)) → (AsksOpenSelf self_of g z → (y : State) × (y ≡ restored z y) × WhenAnswered r (MergesOpened self_of By g y r u)) →
@@ -100,23 +96,23 @@ left-opened self_of By g s z u r A back undecided opened left merged =
     (λ n. not-both A r (undecided n) (left n))
     (asks-open_self self_of g z)
 
-pub left-or_opened : {P : Type 0} (K : KindWords P) (g : Goal P) (s z u : State) (r : Result Response Fault) → IsLeft K.self_type K.is_with_self (has_kind_fault K.has_fault s.tables) g s z →
-    z ≡ restored s z → u ≡ restored z u → ((AsksOpenSelf K.self_type g z → ⊥) → WhenAnswered r (IsMaybe r)) →
-    (AsksOpenSelf K.self_type g z → (y : State) × (y ≡ restored z y) × WhenAnswered r (MergesOpened K.self_type (ByFormedClasses K g) g y r u)) → WhenAnswered r (MergesGoal K g s r u)
+pub left-or_opened : {P : Type 0} (K : Kind P) (g : Goal P) (s z u : State) (r : Result Response Fault) → IsLeft K.words.self_type K.words.is_with_self (has_kind_fault K.has_fault s.tables) g s z →
+    z ≡ restored s z → u ≡ restored z u → ((AsksOpenSelf K.words.self_type g z → ⊥) → WhenAnswered r (IsMaybe r)) →
+    (AsksOpenSelf K.words.self_type g z → (y : State) × (y ≡ restored z y) × WhenAnswered r (MergesOpened K.words.self_type (ByFormedClasses K g) g y r u)) → WhenAnswered r (MergesGoal K g s r u)
 left-or_opened K g s z u r left back undone undecided opened =
-    left-opened K.self_type (ByFormedClasses K g) g s z u r (MergesGoal K g s r u) back undecided opened (λ n m. inl (z, left, n, undone, m)) (λ y e m. inr (inr (inr (y, e, m))))
+    left-opened K.words.self_type (ByFormedClasses K g) g s z u r (MergesGoal K g s r u) back undecided opened (λ n m. inl (z, left, n, undone, m)) (λ y e m. inr (inr (inr (y, e, m))))
 
-pub left-or_opened-through : {P : Type 0} (K : KindWords P) (p : NormalizesTo) (c : TraitGoalProvenVia) (g : Goal P) (s z u : State) (r : Result Response Fault) →
-    IsLeft K.self_type K.is_with_self (has_kind_fault K.has_fault s.tables) g s z → z ≡ restored s z → u ≡ restored z u → ((AsksOpenSelf K.self_type g z → ⊥) → WhenAnswered r (IsMaybe r)) →
-    (AsksOpenSelf K.self_type g z → (y : State) × (y ≡ restored z y) × WhenAnswered r (MergesOpened K.self_type (ByFormedGroups K p c g) g y r u)) → WhenAnswered r (MergesThrough K p c g s r u)
+pub left-or_opened-through : {P : Type 0} (K : Kind P) (p : NormalizesTo) (c : TraitGoalProvenVia) (g : Goal P) (s z u : State) (r : Result Response Fault) →
+    IsLeft K.words.self_type K.words.is_with_self (has_kind_fault K.has_fault s.tables) g s z → z ≡ restored s z → u ≡ restored z u → ((AsksOpenSelf K.words.self_type g z → ⊥) → WhenAnswered r (IsMaybe r)) →
+    (AsksOpenSelf K.words.self_type g z → (y : State) × (y ≡ restored z y) × WhenAnswered r (MergesOpened K.words.self_type (ByFormedGroups K p c g) g y r u)) → WhenAnswered r (MergesThrough K p c g s r u)
 left-or_opened-through K p c g s z u r left back undone undecided opened =
-    left-opened K.self_type (ByFormedGroups K p c g) g s z u r (MergesThrough K p c g s r u) back undecided opened (λ n m. inl (z, left, n, undone, m)) (λ y e m. inr (inr (inr (y, e, m))))
+    left-opened K.words.self_type (ByFormedGroups K p c g) g s z u r (MergesThrough K p c g s r u) back undecided opened (λ n m. inl (z, left, n, undone, m)) (λ y e m. inr (inr (inr (y, e, m))))
 
-pub left-or_opened-const : {P : Type 0} (K : KindWords P) (c : TraitGoalProvenVia) (g : Goal P) (s z u : State) (r : Result Response Fault) →
-    IsLeft K.self_type K.is_with_self (has_kind_fault K.has_fault s.tables) g s z → z ≡ restored s z → u ≡ restored z u → ((AsksOpenSelf K.self_type g z → ⊥) → WhenAnswered r (IsMaybe r)) →
-    (AsksOpenSelf K.self_type g z → (y : State) × (y ≡ restored z y) × WhenAnswered r (MergesOpened K.self_type (ByFormedRuleGroups K c g) g y r u)) → WhenAnswered r (MergesConst K c g s r u)
+pub left-or_opened-const : {P : Type 0} (K : Kind P) (c : TraitGoalProvenVia) (g : Goal P) (s z u : State) (r : Result Response Fault) →
+    IsLeft K.words.self_type K.words.is_with_self (has_kind_fault K.has_fault s.tables) g s z → z ≡ restored s z → u ≡ restored z u → ((AsksOpenSelf K.words.self_type g z → ⊥) → WhenAnswered r (IsMaybe r)) →
+    (AsksOpenSelf K.words.self_type g z → (y : State) × (y ≡ restored z y) × WhenAnswered r (MergesOpened K.words.self_type (ByFormedRuleGroups K c g) g y r u)) → WhenAnswered r (MergesConst K c g s r u)
 left-or_opened-const K c g s z u r left back undone undecided opened =
-    left-opened K.self_type (ByFormedRuleGroups K c g) g s z u r (MergesConst K c g s r u) back undecided opened (λ n m. inl (z, left, n, undone, m)) (λ y e m. inr (inr (inr (y, e, m))))
+    left-opened K.words.self_type (ByFormedRuleGroups K c g) g s z u r (MergesConst K c g s r u) back undecided opened (λ n m. inl (z, left, n, undone, m)) (λ y e m. inr (inr (inr (y, e, m))))
 
 -- nothing is claimed of it where memory is wanted
 pub opened-unsaid : {P : Type 0} (self_of : P → Option Ty) (By : FormedBy) (g : Goal P) (s z : State) (r : Result Response Fault) (f : Fault) → z ≡ record s { terms = z.terms } →
@@ -146,10 +142,6 @@ opens-somehow env t s z (Err fault.NoSolution) h = record { asked = h.asked; ask
 opens-somehow env t s z (Err fault.RerunNonErased) h = tt
 opens-somehow env t s z (Err fault.OutOfMemory) h = tt
 opens-somehow env t s z (Err fault.NotForThisKind) h = tt
-
--- an alias's head form is asked for, and then what is answered for it
-abbrev pub InTrial : FormedBy → List Clause → AliasTerm → State → Result (Option Response) Fault → State → Type 0
-InTrial By env l s r u = (a : Result (Option Term) Fault) × (z : State) × OpensFrom answers_somehow env (erased (tree_of_alias l)) s a z × ChangesRecords s z × By a z r u
 
 opened-by : {P : Type 0} (self_of : P → Option Ty) (By : FormedBy) (g : Goal P) (l : AliasTerm) (s b d u : State) (q : Result (Option Response) Fault) (r : Result Response Fault) → b ≡ begun s → u ≡ restored s d →
     IsSelfAlias self_of g s l → InTrial By g.param_env.items l b q d → IsAfterTrial q r → MergesOpened self_of By g s r u
@@ -209,26 +201,26 @@ after-fault s u (Err fault.OutOfMemory) r h after = subst (IsFaultFor s u) (sym 
 after-fault s u (Err fault.NotForThisKind) r h after = absurd h
 
 -- the rules that are made for a head form, by what a context shows
-pub classes-shown : {P : Type 0} (K : KindWords P) (x z : State) (g : Goal P) (a : Option Term) (o : Option ClassRules) (w : ClassRules) → x ≡ z → o ≡ Some w →
+pub classes-shown : {P : Type 0} (K : Kind P) (x z : State) (g : Goal P) (a : Option Term) (o : Option ClassRules) (w : ClassRules) → x ≡ z → o ≡ Some w →
     ClassesForForm K x.tables x.typing_mode g a o → ClassesForSelf K z.tables z.typing_mode g a w
 classes-shown K x z g a o w e is h =
     subst (λ (s : State). ClassesForSelf K s.tables s.typing_mode g a w) e (subst (λ p. ClassesForForm K x.tables x.typing_mode g a p) is h)
 
-pub groups-shown : {P : Type 0} (K : KindWords P) (x z : State) (c : TraitGoalProvenVia) (g : Goal P) (a : Option Term) (o : Option GroupRules) (w : GroupRules) → x ≡ z → o ≡ Some w →
+pub groups-shown : {P : Type 0} (K : Kind P) (x z : State) (c : TraitGoalProvenVia) (g : Goal P) (a : Option Term) (o : Option GroupRules) (w : GroupRules) → x ≡ z → o ≡ Some w →
     GroupsForForm K x.tables x.typing_mode c g a o → GroupsForSelf K z.tables z.typing_mode c g a w
 groups-shown K x z c g a o w e is h =
     subst (λ (s : State). GroupsForSelf K s.tables s.typing_mode c g a w) e (subst (λ p. GroupsForForm K x.tables x.typing_mode c g a p) is h)
 
 -- or there are none
-pub classes-passed : {P : Type 0} (K : KindWords P) (x z : State) (g : Goal P) (a : Option Term) (o : Option ClassRules) → x ≡ z → o ≡ None →
-    ClassesForForm K x.tables x.typing_mode g a o → PassesSelf K.is_with_self (has_kind_fault K.has_fault z.tables) g a
+pub classes-passed : {P : Type 0} (K : Kind P) (x z : State) (g : Goal P) (a : Option Term) (o : Option ClassRules) → x ≡ z → o ≡ None →
+    ClassesForForm K x.tables x.typing_mode g a o → PassesSelf K.words.is_with_self (has_kind_fault K.has_fault z.tables) g a
 classes-passed K x z g a o e is h =
-    subst (λ (s : State). PassesSelf K.is_with_self (has_kind_fault K.has_fault s.tables) g a) e (subst (λ p. ClassesForForm K x.tables x.typing_mode g a p) is h)
+    subst (λ (s : State). PassesSelf K.words.is_with_self (has_kind_fault K.has_fault s.tables) g a) e (subst (λ p. ClassesForForm K x.tables x.typing_mode g a p) is h)
 
-pub groups-passed : {P : Type 0} (K : KindWords P) (x z : State) (c : TraitGoalProvenVia) (g : Goal P) (a : Option Term) (o : Option GroupRules) → x ≡ z → o ≡ None →
-    GroupsForForm K x.tables x.typing_mode c g a o → PassesSelf K.is_with_self (has_kind_fault K.has_fault z.tables) g a
+pub groups-passed : {P : Type 0} (K : Kind P) (x z : State) (c : TraitGoalProvenVia) (g : Goal P) (a : Option Term) (o : Option GroupRules) → x ≡ z → o ≡ None →
+    GroupsForForm K x.tables x.typing_mode c g a o → PassesSelf K.words.is_with_self (has_kind_fault K.has_fault z.tables) g a
 groups-passed K x z c g a o e is h =
-    subst (λ (s : State). PassesSelf K.is_with_self (has_kind_fault K.has_fault s.tables) g a) e (subst (λ p. GroupsForForm K x.tables x.typing_mode c g a p) is h)
+    subst (λ (s : State). PassesSelf K.words.is_with_self (has_kind_fault K.has_fault s.tables) g a) e (subst (λ p. GroupsForForm K x.tables x.typing_mode c g a p) is h)
 
 -- nothing is claimed of want of memory
 pub trial-unsaid : (A : Type 0) (f : Fault) → f ≡ fault.OutOfMemory → WhenTried (Err f) A

@@ -39,15 +39,13 @@ use Rattle.goal_kinds.specs.Settings.{Setting}
 use Rattle.goal_kinds.proofs.AnswerLaws.{answer-within, answers-agree, const-agrees, const-plain}
 use Rattle.goal_kinds.proofs.WithinLevels.{within-level}
 use Rattle.goal_eval.specs.ErasedArgs.{erased_args}
-use Rattle.goal_solver.specs.Answers.{IsOwed, level_over, IsMaybe, IsOpen, IsUndecided, IsTraitResponse, IsTraitAnswer, IsHoldingResponse, IsPredicateAnswer, IsAliasResponse, IsAliasAnswer, AnswersAside, IsQuiet, ListsNothing, expected_variable, is_closed_alias, IsAliasOpen}
+use Rattle.goal_solver.specs.Answers.{IsOwed, level_over, IsMaybe, IsOpen, IsUndecided, IsTraitResponse, IsTraitAnswer, IsHoldingResponse, IsPredicateAnswer, IsAliasResponse, IsAliasAnswer, AnswersAside, IsQuiet, ListsNothing, expected_variable, IsAliasOpen}
 use Rattle.goal_solver.specs.Assembled.{level_above}
-use Rattle.goal_solver.specs.Binding.{IsApplicable}
 use Rattle.goal_solver.specs.FreeVariables.{general_variable, lacks_free_variable}
 use Rattle.goal_solver.specs.Goals.{IsAcceptedNormalization}
-use Rattle.goal_solver.specs.Promises.{whether_answered, said_of_whether, term_answered, said_of_term, listed_term, if_decided, decided_in, IsYes, LeavesUndecided, ChangesLifetimes, AnswersPredicate, NamesClass, NamesNoClass, AnswersTrait, AnswersProjection, AnswersHostEffect, ListsTerm, GivesTermAlone, AnswersAlias, NoTwoDisagree, equation_asked, const_asked, term_asked, one_deeper, AnswersTraitAbove, Through, given_through, asked_through, through_level, IsProven, AnswersThrough, AnswersGiven, AppliesProven, AppliesGiven}
+use Rattle.goal_solver.specs.Promises.{whether_answered, said_of_whether, term_answered, said_of_term, listed_term, if_decided, decided_in, IsYes, LeavesUndecided, ChangesLifetimes, AnswersPredicate, NamesClass, NamesNoClass, AnswersTrait, AnswersProjection, AnswersHostEffect, ListsTerm, GivesTermAlone, AnswersAlias, NoTwoDisagree, equation_asked, const_asked, term_asked, Through, given_through, asked_through, through_level, IsProven, AnswersThrough}
 use Rattle.goal_solver.specs.State.{State, kinds_of}
 use Rattle.goal_solver.specs.declared.eval.goals.GoalFault.TheVariants.{ExpectedTermNotFree}
-use Rattle.goal_solver.proofs.CollectedTermLemmas.{some-same}
 
 -- what lists nothing names no class
 pub nothing-named : (r : Result Response Fault) → ListsNothing r → IfOk r NamesNoClass
@@ -310,16 +308,6 @@ yes-unsure x A e h = absurd (cc)
 pub leaves-undecided : (s : State) (x : Response) → x.certainty ≡ certainty.Maybe → x.proven_via ≡ None → x.var_values.items ≡ [] → IsQuiet (length (kinds_of s)) x → LeavesUndecided s (Ok x)
 leaves-undecided s x e p v q = record { certainty = e; no_class = p; changes = record { quiet = q; values = v } }
 
--- what the candidates of a trait goal answer is its answer one above
-pub answers-trait_above : (before after : State) (env : List Clause) (o : Option TraitTree) (r : Result Response Fault) →
-    ((m : TypingMode) (q : TraitTree) → IsOwed after m → o ≡ Some q → IsTraitAnswer (level_above before m env) q.def_id q.args r) →
-    ((m : TypingMode) (q : TraitTree) → IsOwed after m → o ≡ Some q → IsMaybe r → IsOpen (level_above before m env) q.def_id q.args) →
-    AnswersAside (length (kinds_of before)) r → IfOk r (λ x. x.var_values.items ≡ []) → IfOk r (λ x. x.certainty ≡ certainty.Maybe → x.proven_via ≡ None) →
-    (o ≡ None → LeavesUndecided before r) → AnswersTraitAbove before after env o r
-answers-trait_above before after env None r sound decided quiet values class missing = missing refl
-answers-trait_above before after env (Some q) r sound decided quiet values class missing =
-    answers-trait (one_deeper before) after env q r (λ m o. sound m q o refl) (λ m o. decided m q o refl) quiet values class
-
 -- what the candidates of an alias answer through a class
 pub answers-through : (before after : State) (env : List Clause) (a : Through) (r : Result Response Fault) →
     ((m : TypingMode) → IsOwed after m → IsAliasAnswer (through_level before m env a) a.asked.alias.kind (erased_args a.asked.alias.args.items) a.asked.term r) →
@@ -342,19 +330,6 @@ answers-through before after env a r sound decided above whole quiet given value
       quiet = gives-alone before a.asked.term r quiet given values;
       no_class = unnamed;
     }
-
--- which alias is asked for, and through which class
-pub answers-given : (before after : State) (env : List Clause) (c : TraitGoalProvenVia) (o : Option NormalizesTo) (r : Result Response Fault) →
-    ((p : NormalizesTo) → o ≡ Some p → is_closed_alias p.alias env ≡ true → AnswersThrough before after env (record { class = c; asked = p }) r) →
-    (o ≡ None → LeavesUndecided before r) → AnswersGiven before after env (given_through (Some c) o) r
-answers-given before after env c None r answers missing = missing refl
-answers-given before after env c (Some p) r answers missing = answers p refl
-
-pub applies-given : (before after : State) (env : List Clause) (c : TraitGoalProvenVia) (o : Option NormalizesTo) (r : Result Response Fault) →
-    ((p : NormalizesTo) → o ≡ Some p → AppliesProven before after env (record { class = c; asked = p }) r) →
-    (o ≡ None → IfOk r (IsApplicable after)) → AppliesGiven before after env (given_through (Some c) o) r
-applies-given before after env c None r applies missing = missing refl
-applies-given before after env c (Some p) r applies missing = applies p refl
 
 pub none_through : (m : MergeRule) (c : Option TraitGoalProvenVia) (o : Option NormalizesTo) → m ≡ merge.Projections → c ≡ None → asked_through m c o ≡ None
 none_through m c o e f = ap (λ (x : MergeRule). asked_through x c o) e ∙ ap (λ (x : Option TraitGoalProvenVia). given_through x o) f
@@ -380,14 +355,6 @@ trait_not_host m e f = absurd (cc)
 
 pub host_not_projections : (m : MergeRule) → m ≡ merge.HostEffectGoals → m ≡ merge.Projections → ⊥
 host_not_projections m e f = absurd (cc)
-
--- what is asked through a class has it
-pub given-parts : (c : TraitGoalProvenVia) (o : Option NormalizesTo) (a : Through) → given_through (Some c) o ≡ Some a → (c ≡ a.class) × (o ≡ Some a.asked)
-given-parts c None a e = absurd (none-some a e)
-given-parts c (Some p) a e = let given : Through = record { class = c; asked = p } in let same : given ≡ a = some-same given a e in (ap (λ (x : Through). x.class) same, ap (λ (x : Through). Some x.asked) same)
-
-pub closed-same : (o : Option NormalizesTo) (p : NormalizesTo) (env : List Clause) → o ≡ Some p → is_closed_alias p.alias env ≡ true → (q : NormalizesTo) → o ≡ Some q → is_closed_alias q.alias env ≡ true
-closed-same o p env e closed q f = subst (λ (x : NormalizesTo). is_closed_alias x.alias env ≡ true) (some-same p q (sym e ∙ f)) closed
 
 -- a goal that isn't closed is open
 pub is-open : (b e : Bool) → b ≡ e → (e ≡ false → ⊥) → b ≡ true

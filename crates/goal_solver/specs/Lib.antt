@@ -4,6 +4,7 @@ pub mod Variables
 pub mod Added
 pub mod Stored
 pub mod Goals
+pub mod MoreSpecial
 pub mod MergedRules
 pub mod Accesses
 pub mod Answers
@@ -32,3 +33,5 @@ pub mod Promises
 pub mod Evaluations
 pub mod Comparisons
 pub mod HostGoals
+pub mod Assembling
+pub mod ThroughClasses

@@ -10,17 +10,22 @@ use Rattle.goal_terms.specs.declared.predicates.Clause.{Clause}
 use Rattle.goal_terms.specs.declared.terms.Term.{Term}
 use Rattle.goal_terms.specs.declared.terms.Ty.{Ty}
 use Rattle.goal_kinds.specs.Words.{Exists}
+use Rattle.goal_kinds.specs.declared.outcomes.Outcome.{Outcome}
 use Rattle.goal_kinds.specs.declared.rules.Rule.{Rule}
-use Rattle.goal_solver.specs.OpenRuns.{RunsOpen}
-use Rattle.goal_solver.specs.Refusals.{IsRefusedOpen}
+use Rattle.goal_kinds.specs.declared.rules.RuleEntry.{RuleEntry}
+use Rattle.goal_solver.specs.MoreSpecial.{RunsAlone, AsksMoreSpecial, matched_impl, answer_beside}
 use Rattle.goal_solver.specs.State.{State}
 use Rattle.goal_solver.specs.declared.assembly.merged_rules.Merged.{Merged}
 use Rattle.goal_solver.specs.declared.assembly.merged_rules.Merged.TheVariants as merged
 
--- a rule is run, by one step for each entry: it answers a response, or none where it is refused
-abbrev pub RunsTo : List Clause → Rule → State → Option Response → State → Type 0
-RunsTo env q s (Some r) u = RunsOpen env q.entries.items s u r
-RunsTo env q s None u = IsRefusedOpen env q.entries.items s u
+-- what a rule that has run answers beside the impls that are more special than its own
+abbrev pub IsBeside : List Clause → List RuleEntry → State → Option Response → Option Response → State → Type 0
+IsBeside env es s None a u = (a ≡ None) × (u ≡ s)
+IsBeside env es s (Some r) a u = (o : Outcome) × AsksMoreSpecial env (matched_impl es) s o u × (a ≡ answer_beside o r)
+
+-- a rule is run, and answers so: there is no response where it is refused, or where a more special impl holds
+unfoldable pub RunsTo : List Clause → Rule → State → Option Response → State → Type 0
+RunsTo env q s a u = (z : State) × (b : Option Response) × RunsAlone env q.entries.items s b z × IsBeside env q.entries.items z b a u
 
 -- responses behind that of a rule, if it isn't refused
 abbrev pub with_answer : Option Response → List Response → List Response

@@ -25,12 +25,12 @@ use Rattle.goal_kinds.specs.declared.faults.Fault.{Fault}
 use Rattle.goal_kinds.specs.declared.faults.Fault.TheVariants as fault
 use Rattle.goal_kinds.specs.declared.rules.Rule.{Rule}
 use Rattle.goal_solver.specs.Answers.{IsMaybe}
-use Rattle.goal_solver.specs.Collecting.{KindWords, trait_words, CollectsFor}
+use Rattle.goal_solver.specs.Collecting.{Kind, trait_kind, CollectsFor}
 use Rattle.goal_solver.specs.Binding.{Applies, bound_term}
 use Rattle.goal_solver.specs.GoingBack.{begun, restored}
 use Rattle.goal_solver.specs.HeadForms.{is_open_form}
 use Rattle.goal_solver.specs.HiddenTypes.{AsksForm}
-use Rattle.goal_solver.specs.OpenForms.{OpensForm, answers_somehow}
+use Rattle.goal_solver.specs.OpenForms.{OpensForm, OpensFrom, answers_somehow}
 use Rattle.goal_solver.specs.Relating.{ChangesRecords}
 use Rattle.goal_solver.specs.Responses.{ListsSinceMark}
 use Rattle.goal_solver.specs.MergedRules.{MergesRules}
@@ -140,16 +140,16 @@ WhenTried (Err fault.NoSolution) A = A
 WhenTried (Err f) A = Unit {0}
 
 -- the rules of a goal's candidates are collected, class by class, for the goal that is considered in its place
-pub record CollectsClasses {P : Type 0} (K : KindWords P) (g : Goal P) (s z : State) (w : ClassRules) : Type 0 where
+pub record CollectsClasses {P : Type 0} (K : Kind P) (g : Goal P) (s z : State) (w : ClassRules) : Type 0 where
   pub considered : Goal P
-  pub considers : Considers K.self_type K.is_with_self g considered s z
+  pub considers : Considers K.words.self_type K.words.is_with_self g considered s z
   pub accepted : has_kind_fault K.has_fault s.tables considered ≡ false
   pub environment : w.param_env.items ≡ considered.param_env.items
   pub collected : (c : TraitGoalProvenVia) → CollectsFor K s.tables considered s.typing_mode c (rules_of_class w c)
 
 -- there are none where no goal is considered
-abbrev pub ConsidersRules : {P : Type 0} → KindWords P → Goal P → State → Option ClassRules → State → Type 0
-ConsidersRules K g s None z = IsLeft K.self_type K.is_with_self (has_kind_fault K.has_fault s.tables) g s z
+abbrev pub ConsidersRules : {P : Type 0} → Kind P → Goal P → State → Option ClassRules → State → Type 0
+ConsidersRules K g s None z = IsLeft K.words.self_type K.words.is_with_self (has_kind_fault K.has_fault s.tables) g s z
 ConsidersRules K g s (Some w) z = CollectsClasses K g s z w
 
 -- an alias with inference variables, or in an environment with some, is the self type of a goal
@@ -182,16 +182,16 @@ abbrev pub PassesSelf : {P : Type 0} → (P → Tree → P → Type 0) → (Goal
 PassesSelf {P} with_self lies g a = IsNoForm a ⊎ ((h : Goal P) × TakesSelf with_self g h a × (lies h ≡ true))
 
 -- the rules of its candidates are collected for that goal, class by class
-pub record ClassesForSelf {P : Type 0} (K : KindWords P) (t : Tables) (m : TypingMode) (g : Goal P) (a : Option Term) (w : ClassRules) : Type 0 where
+pub record ClassesForSelf {P : Type 0} (K : Kind P) (t : Tables) (m : TypingMode) (g : Goal P) (a : Option Term) (w : ClassRules) : Type 0 where
   pub considered : Goal P
-  pub takes : TakesSelf K.is_with_self g considered a
+  pub takes : TakesSelf K.words.is_with_self g considered a
   pub accepted : has_kind_fault K.has_fault t considered ≡ false
   pub environment : w.param_env.items ≡ considered.param_env.items
   pub collected : (c : TraitGoalProvenVia) → CollectsFor K t considered m c (rules_of_class w c)
 
 -- there are none where no goal is considered
-abbrev pub ClassesForForm : {P : Type 0} → KindWords P → Tables → TypingMode → Goal P → Option Term → Option ClassRules → Type 0
-ClassesForForm K t m g a None = PassesSelf K.is_with_self (has_kind_fault K.has_fault t) g a
+abbrev pub ClassesForForm : {P : Type 0} → Kind P → Tables → TypingMode → Goal P → Option Term → Option ClassRules → Type 0
+ClassesForForm K t m g a None = PassesSelf K.words.is_with_self (has_kind_fault K.has_fault t) g a
 ClassesForForm K t m g a (Some w) = ClassesForSelf K t m g a w
 
 -- beside what came before it in a trial a response is applied, and all that came is listed
@@ -213,10 +213,10 @@ AnswersBeside s (Ok q) r u = (x : Response) × IsBeside s q x u × (r ≡ Ok (So
 AnswersBeside s (Err f) r u = (r ≡ Err f) × (u ≡ s)
 
 -- by its classes, for what is answered for the head form of its self type; a refused form refuses, and without candidates there is no answer
-abbrev pub ByFormedClasses : {P : Type 0} → KindWords P → Goal P → Result (Option Term) Fault → State → Result (Option Response) Fault → State → Type 0
+abbrev pub ByFormedClasses : {P : Type 0} → Kind P → Goal P → Result (Option Term) Fault → State → Result (Option Response) Fault → State → Type 0
 ByFormedClasses K g (Err f) z r u = (r ≡ Err f) × (u ≡ z)
 ByFormedClasses K g (Ok a) z r u =
-    (PassesSelf K.is_with_self (has_kind_fault K.has_fault z.tables) g a × (r ≡ Ok None) × (u ≡ z))
+    (PassesSelf K.words.is_with_self (has_kind_fault K.has_fault z.tables) g a × (r ≡ Ok None) × (u ≡ z))
     ⊎ ((w : ClassRules)
     × (q : Result Response Fault)
     × (y : State)
@@ -230,8 +230,16 @@ IsAfterTrial (Ok None) r = IsMaybe r
 IsAfterTrial (Ok (Some x)) r = r ≡ Ok x
 IsAfterTrial (Err f) r = r ≡ Err f
 
+-- how a goal is answered by the head form of its self type
+abbrev pub FormedBy : Type 1
+FormedBy = Result (Option Term) Fault → State → Result (Option Response) Fault → State → Type 0
+
+-- such an alias's head form is asked for, and then the goal is answered by it
+abbrev pub InTrial : FormedBy → List Clause → AliasTerm → State → Result (Option Response) Fault → State → Type 0
+InTrial By env l s r u = (a : Result (Option Term) Fault) × (z : State) × OpensFrom answers_somehow env (erased (tree_of_alias l)) s a z × ChangesRecords s z × By a z r u
+
 -- in a trial the head form of such an alias is asked for, the goal answered by it, and then everything goes back but terms and records
-pub record MergesOpened {P : Type 0} (self_of : P → Option Ty) (By : Result (Option Term) Fault → State → Result (Option Response) Fault → State → Type 0) (g : Goal P) (s : State) (r : Result Response Fault) (u : State) : Type 0 where
+pub record MergesOpened {P : Type 0} (self_of : P → Option Ty) (By : FormedBy) (g : Goal P) (s : State) (r : Result Response Fault) (u : State) : Type 0 where
   pub form : Result (Option Term) Fault
   pub formed : State
   pub opens : OpensSelf self_of g s form formed
@@ -241,18 +249,22 @@ pub record MergesOpened {P : Type 0} (self_of : P → Option Ty) (By : Result (O
   pub after : IsAfterTrial answer r
   pub back : u ≡ restored s last
 
+-- it is so where such an alias is the self type, but for terms and records
+abbrev pub OpensIfAsked : {P : Type 0} → (P → Option Ty) → FormedBy → Goal P → State → Result Response Fault → State → Type 0
+OpensIfAsked self_of By g s r u = AsksOpenSelf self_of g s → (z : State) × (z ≡ restored s z) × WhenAnswered r (MergesOpened self_of By g z r u)
+
 -- a goal is answered by its candidates: undecided where it isn't considered, refused where it is refuted that its self type has a head form, and else by its classes
-abbrev pub MergesGoal : {P : Type 0} → KindWords P → Goal P → State → Result Response Fault → State → Type 0
+abbrev pub MergesGoal : {P : Type 0} → Kind P → Goal P → State → Result Response Fault → State → Type 0
 MergesGoal {P} K g s r u =
-    ((z : State) × IsLeft K.self_type K.is_with_self (has_kind_fault K.has_fault s.tables) g s z × (AsksOpenSelf K.self_type g z → ⊥) × (u ≡ restored z u) × IsMaybe r)
-    ⊎ (IsFormless K.self_type g s u × (r ≡ Err fault.NoSolution))
+    ((z : State) × IsLeft K.words.self_type K.words.is_with_self (has_kind_fault K.has_fault s.tables) g s z × (AsksOpenSelf K.words.self_type g z → ⊥) × (u ≡ restored z u) × IsMaybe r)
+    ⊎ (IsFormless K.words.self_type g s u × (r ≡ Err fault.NoSolution))
     ⊎ ((h : Goal P)
     × (z : State)
-    × Considers K.self_type K.is_with_self g h s z
+    × Considers K.words.self_type K.words.is_with_self g h s z
     × (has_kind_fault K.has_fault s.tables h ≡ false)
     × ByClasses (CollectsFor K s.tables h) h.param_env.items trait_classes z r u)
-    ⊎ ((z : State) × (z ≡ restored s z) × MergesOpened K.self_type (ByFormedClasses K g) g z r u)
+    ⊎ ((z : State) × (z ≡ restored s z) × MergesOpened K.words.self_type (ByFormedClasses K g) g z r u)
 
 -- so a trait goal is
 abbrev pub MergesTrait : Goal TraitPredicate → State → Result Response Fault → State → Type 0
-MergesTrait g s r u = MergesGoal trait_words g s r u
+MergesTrait g s r u = MergesGoal trait_kind g s r u

@@ -1,5 +1,5 @@
 -- How the goal of a const trait with inference variables is answered: by its plain goal, and then by its candidates, group by group.
-use Rattle.std.specs.Prelude.{◌≡◌, ◌⊎◌, ℕ, suc, false, List, [], ◌∷◌, Option, Some, None, Result, Ok, Err}
+use Rattle.std.specs.Prelude.{◌≡◌, ◌⊎◌, ℕ, suc, List, [], ◌∷◌, Option, Some, None, Result, Ok, Err}
 use Rattle.goal_terms.specs.TreeOf.{trees_of}
 use Rattle.goal_terms.specs.declared.answers.Response.{Response}
 use Rattle.goal_terms.specs.declared.answers.TraitGoalProvenVia.{TraitGoalProvenVia}
@@ -9,14 +9,12 @@ use Rattle.goal_terms.specs.declared.predicates.HostEffectPredicate.{HostEffectP
 use Rattle.goal_terms.specs.declared.predicates.TraitPredicate.{TraitPredicate}
 use Rattle.goal_terms.specs.declared.terms.Term.{Term}
 use Rattle.goal_tables.specs.Clauses.{lies_in_const_ref}
-use Rattle.goal_kinds.specs.CandidateRules.{asked_trait, first_type}
-use Rattle.goal_kinds.specs.EffectKind.{EffectCandidateHolds, EffectCandidateRefuted, implied_bounds_for, IsEffectWithSelf, is_effect_rule_for, may_match_effect}
 use Rattle.goal_kinds.specs.declared.faults.Fault.{Fault}
 use Rattle.goal_kinds.specs.declared.faults.Fault.TheVariants as fault
-use Rattle.goal_kinds.specs.declared.goal_kind.MergeRule.TheVariants as merge
+use Rattle.goal_kinds.specs.KindWords.{host_words}
 use Rattle.goal_kinds.specs.declared.rules.Rule.{Rule}
 use Rattle.goal_solver.specs.Answers.{IsMaybe}
-use Rattle.goal_solver.specs.Collecting.{KindWords, kind_words}
+use Rattle.goal_solver.specs.Collecting.{Kind, kind_of}
 use Rattle.goal_solver.specs.GoingBack.{restored}
 use Rattle.goal_solver.specs.MergedRules.{MergesRules}
 use Rattle.goal_solver.specs.OpenGoals.{AnswersBeside, AsksOpenSelf, IsLeft, IsFormless, MergesOpened, PassesSelf, WhenAnswered, MergesTrait, at_depth, has_kind_fault}
@@ -50,10 +48,10 @@ ByRuleGroups env (rules ∷ groups) s r u =
     ⊎ ((z : State) × GroupAnswers env rules s None z × ByRuleGroups env groups z r u)
 
 -- by its groups, for what is answered for the head form of its self type; a refused form refuses, and without candidates there is no answer
-abbrev pub ByFormedRuleGroups : {P : Type 0} → KindWords P → TraitGoalProvenVia → Goal P → Result (Option Term) Fault → State → Result (Option Response) Fault → State → Type 0
+abbrev pub ByFormedRuleGroups : {P : Type 0} → Kind P → TraitGoalProvenVia → Goal P → Result (Option Term) Fault → State → Result (Option Response) Fault → State → Type 0
 ByFormedRuleGroups K c g (Err f) z r u = (r ≡ Err f) × (u ≡ z)
 ByFormedRuleGroups K c g (Ok a) z r u =
-    (PassesSelf K.is_with_self (has_kind_fault K.has_fault z.tables) g a × (r ≡ Ok None) × (u ≡ z))
+    (PassesSelf K.words.is_with_self (has_kind_fault K.has_fault z.tables) g a × (r ≡ Ok None) × (u ≡ z))
     ⊎ ((w : GroupRules)
     × (q : Result Response Fault)
     × (y : State)
@@ -62,19 +60,16 @@ ByFormedRuleGroups K c g (Ok a) z r u =
     × AnswersBeside y q r u)
 
 -- a goal whose plain goal holds through a class is answered by its candidates: undecided where it isn't considered, refused where it is refuted that its self type has a head form, and else by its groups
-abbrev pub MergesConst : {P : Type 0} → KindWords P → TraitGoalProvenVia → Goal P → State → Result Response Fault → State → Type 0
+abbrev pub MergesConst : {P : Type 0} → Kind P → TraitGoalProvenVia → Goal P → State → Result Response Fault → State → Type 0
 MergesConst {P} K c g s r u =
-    ((z : State) × IsLeft K.self_type K.is_with_self (has_kind_fault K.has_fault s.tables) g s z × (AsksOpenSelf K.self_type g z → ⊥) × (u ≡ restored z u) × IsMaybe r)
-    ⊎ (IsFormless K.self_type g s u × (r ≡ Err fault.NoSolution))
+    ((z : State) × IsLeft K.words.self_type K.words.is_with_self (has_kind_fault K.has_fault s.tables) g s z × (AsksOpenSelf K.words.self_type g z → ⊥) × (u ≡ restored z u) × IsMaybe r)
+    ⊎ (IsFormless K.words.self_type g s u × (r ≡ Err fault.NoSolution))
     ⊎ ((w : GroupRules) × (z : State) × CollectsGroups K c g s z w × ByRuleGroups w.param_env.items (rules_of_groups w) z r u)
-    ⊎ ((z : State) × (z ≡ restored s z) × MergesOpened K.self_type (ByFormedRuleGroups K c g) g z r u)
+    ⊎ ((z : State) × (z ≡ restored s z) × MergesOpened K.words.self_type (ByFormedRuleGroups K c g) g z r u)
 
 -- goals of const traits, as a kind of goals
-abbrev pub host_words : KindWords HostEffectPredicate
-host_words =
-    kind_words merge.HostEffectGoals false (λ p. first_type p.trait_ref.args.items) IsEffectWithSelf (λ p t f. lies_in_const_ref t [] f p.trait_ref) (λ p t. Some (asked_trait p.trait_ref))
-    may_match_effect (λ p t r. r.trait_id ≡ p.trait_ref.def_id) (λ p S n c t. EffectCandidateHolds p S n c) EffectCandidateRefuted
-    (λ p t k. is_effect_rule_for t p.trait_ref.def_id k) (λ p S a. implied_bounds_for S.tables p.trait_ref.def_id a)
+abbrev pub host_kind : Kind HostEffectPredicate
+host_kind = kind_of host_words (λ p t f. lies_in_const_ref t [] f p.trait_ref)
 
 -- the plain goal: that the trait holds, in the same environment
 pub record IsPlain (g : Goal HostEffectPredicate) (q : Goal TraitPredicate) : Type 0 where
@@ -90,7 +85,7 @@ pub record AnswersPlain (q : Goal TraitPredicate) (s z : State) (r : Result Resp
 -- by the class of the plain goal's answer, if it is sure; else the goal is undecided
 abbrev pub ByPlainClass : Option TraitGoalProvenVia → Goal HostEffectPredicate → State → Result Response Fault → State → Type 0
 ByPlainClass None g s r u = IsMaybe r × (u ≡ s)
-ByPlainClass (Some c) g s r u = MergesConst host_words c g s r u
+ByPlainClass (Some c) g s r u = MergesConst host_kind c g s r u
 
 -- by the plain goal's answer; its refusal is the answer
 abbrev pub ByPlain : Result Response Fault → Goal HostEffectPredicate → State → Result Response Fault → State → Type 0

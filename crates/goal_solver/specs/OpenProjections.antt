@@ -22,24 +22,23 @@ use Rattle.goal_tables.specs.Clauses.{lies_in_equation}
 use Rattle.goal_tables.specs.declared.rows.Tables.{Tables}
 use Rattle.goal_kinds.specs.AliasLists.{alias_list}
 use Rattle.goal_kinds.specs.Answers.{setting_of}
-use Rattle.goal_kinds.specs.CandidateRules.{first_type}
 use Rattle.goal_kinds.specs.Premises.{TraitTree}
-use Rattle.goal_kinds.specs.ProjectionKind.{ProjectionCandidateGives, ProjectionCandidateRefuted, IsImplForItem, projected_trait, lang_of_alias, is_for_alias, IsAliasWithSelf, may_match_term}
+use Rattle.goal_kinds.specs.ProjectionKind.{projected_trait}
 use Rattle.goal_kinds.specs.ProjectionLists.{equation_list}
 use Rattle.goal_kinds.specs.Projections.{projected_item}
 use Rattle.goal_kinds.specs.RuleLists.{IsListed}
 use Rattle.goal_kinds.specs.Rules.{given as given_args}
 use Rattle.goal_kinds.specs.RuleWords.{TermsAreFor}
-use Rattle.goal_kinds.specs.declared.goal_kind.MergeRule.TheVariants as merge
 use Rattle.goal_kinds.specs.declared.faults.Fault.{Fault}
 use Rattle.goal_kinds.specs.declared.faults.Fault.TheVariants as fault
 use Rattle.goal_kinds.specs.declared.rules.Rule.{Rule}
 use Rattle.goal_kinds.specs.declared.rules.RuleEntry.{RuleEntry}
 use Rattle.goal_kinds.specs.declared.rules.RuleEntry.TheVariants as entry
+use Rattle.goal_kinds.specs.KindWords.{alias_words}
 use Rattle.goal_kinds.specs.declared.rules.RuleTerm.TheVariants as given
 use Rattle.goal_eval.specs.ErasedArgs.{erased_args}
 use Rattle.goal_solver.specs.Answers.{IsOwed, level_over, AreClosed, IsTraitAnswer, IsOpen, IsMaybe}
-use Rattle.goal_solver.specs.Collecting.{KindWords, kind_words, CollectsFor}
+use Rattle.goal_solver.specs.Collecting.{Kind, kind_of, CollectsFor}
 use Rattle.goal_solver.specs.GoingBack.{restored}
 use Rattle.goal_solver.specs.MergedRules.{MergesRules}
 use Rattle.goal_solver.specs.HiddenTypes.{AsksForm, tree_in}
@@ -189,37 +188,37 @@ ByGroups c env es ls own p s r u =
     ⊎ ((z : State) × MergesRules env es s merged.Refuted z × ByLater c env ls own p z r u)
 
 -- the rules of a goal's candidates are collected, group by group, for the goal that is considered in its place
-pub record CollectsGroups {P : Type 0} (K : KindWords P) (c : TraitGoalProvenVia) (g : Goal P) (s z : State) (w : GroupRules) : Type 0 where
+pub record CollectsGroups {P : Type 0} (K : Kind P) (c : TraitGoalProvenVia) (g : Goal P) (s z : State) (w : GroupRules) : Type 0 where
   pub considered : Goal P
-  pub considers : Considers K.self_type K.is_with_self g considered s z
+  pub considers : Considers K.words.self_type K.words.is_with_self g considered s z
   pub accepted : has_kind_fault K.has_fault s.tables considered ≡ false
   pub environment : w.param_env.items ≡ considered.param_env.items
   pub first : CollectsAll (CollectsFor K s.tables considered s.typing_mode) (class.ParamEnv ∷ []) w.environment.items
   pub later : CollectsAll (CollectsFor K s.tables considered s.typing_mode) (classes_behind c) w.later.items
 
 -- there are none where no goal is considered
-abbrev pub ConsidersGroups : {P : Type 0} → KindWords P → TraitGoalProvenVia → Goal P → State → Option GroupRules → State → Type 0
-ConsidersGroups K c g s None z = IsLeft K.self_type K.is_with_self (has_kind_fault K.has_fault s.tables) g s z
+abbrev pub ConsidersGroups : {P : Type 0} → Kind P → TraitGoalProvenVia → Goal P → State → Option GroupRules → State → Type 0
+ConsidersGroups K c g s None z = IsLeft K.words.self_type K.words.is_with_self (has_kind_fault K.has_fault s.tables) g s z
 ConsidersGroups K c g s (Some w) z = CollectsGroups K c g s z w
 
 -- the same for a head form of its self type that was opened
-pub record GroupsForSelf {P : Type 0} (K : KindWords P) (t : Tables) (m : TypingMode) (c : TraitGoalProvenVia) (g : Goal P) (a : Option Term) (w : GroupRules) : Type 0 where
+pub record GroupsForSelf {P : Type 0} (K : Kind P) (t : Tables) (m : TypingMode) (c : TraitGoalProvenVia) (g : Goal P) (a : Option Term) (w : GroupRules) : Type 0 where
   pub considered : Goal P
-  pub takes : TakesSelf K.is_with_self g considered a
+  pub takes : TakesSelf K.words.is_with_self g considered a
   pub accepted : has_kind_fault K.has_fault t considered ≡ false
   pub environment : w.param_env.items ≡ considered.param_env.items
   pub first : CollectsAll (CollectsFor K t considered m) (class.ParamEnv ∷ []) w.environment.items
   pub later : CollectsAll (CollectsFor K t considered m) (classes_behind c) w.later.items
 
-abbrev pub GroupsForForm : {P : Type 0} → KindWords P → Tables → TypingMode → TraitGoalProvenVia → Goal P → Option Term → Option GroupRules → Type 0
-GroupsForForm K t m c g a None = PassesSelf K.is_with_self (has_kind_fault K.has_fault t) g a
+abbrev pub GroupsForForm : {P : Type 0} → Kind P → Tables → TypingMode → TraitGoalProvenVia → Goal P → Option Term → Option GroupRules → Type 0
+GroupsForForm K t m c g a None = PassesSelf K.words.is_with_self (has_kind_fault K.has_fault t) g a
 GroupsForForm K t m c g a (Some w) = GroupsForSelf K t m c g a w
 
 -- by its groups, for what is answered for the head form of its self type; a refused form refuses, and without candidates there is no answer
-abbrev pub ByFormedGroups : {P : Type 0} → KindWords P → NormalizesTo → TraitGoalProvenVia → Goal P → Result (Option Term) Fault → State → Result (Option Response) Fault → State → Type 0
+abbrev pub ByFormedGroups : {P : Type 0} → Kind P → NormalizesTo → TraitGoalProvenVia → Goal P → Result (Option Term) Fault → State → Result (Option Response) Fault → State → Type 0
 ByFormedGroups K p c g (Err f) z r u = (r ≡ Err f) × (u ≡ z)
 ByFormedGroups K p c g (Ok a) z r u =
-    (PassesSelf K.is_with_self (has_kind_fault K.has_fault z.tables) g a × (r ≡ Ok None) × (u ≡ z))
+    (PassesSelf K.words.is_with_self (has_kind_fault K.has_fault z.tables) g a × (r ≡ Ok None) × (u ≡ z))
     ⊎ ((w : GroupRules)
     × (q : Result Response Fault)
     × (y : State)
@@ -228,27 +227,24 @@ ByFormedGroups K p c g (Ok a) z r u =
     × AnswersBeside y q r u)
 
 -- a projection whose trait goal holds through a class is answered by its candidates: undecided where it isn't considered, refused where it is refuted that its self type has a head form, and else by its groups
-abbrev pub MergesThrough : {P : Type 0} → KindWords P → NormalizesTo → TraitGoalProvenVia → Goal P → State → Result Response Fault → State → Type 0
+abbrev pub MergesThrough : {P : Type 0} → Kind P → NormalizesTo → TraitGoalProvenVia → Goal P → State → Result Response Fault → State → Type 0
 MergesThrough {P} K p c g s r u =
-    ((z : State) × IsLeft K.self_type K.is_with_self (has_kind_fault K.has_fault s.tables) g s z × (AsksOpenSelf K.self_type g z → ⊥) × (u ≡ restored z u) × IsMaybe r)
-    ⊎ (IsFormless K.self_type g s u × (r ≡ Err fault.NoSolution))
+    ((z : State) × IsLeft K.words.self_type K.words.is_with_self (has_kind_fault K.has_fault s.tables) g s z × (AsksOpenSelf K.words.self_type g z → ⊥) × (u ≡ restored z u) × IsMaybe r)
+    ⊎ (IsFormless K.words.self_type g s u × (r ≡ Err fault.NoSolution))
     ⊎ ((w : GroupRules)
     × (z : State)
     × CollectsGroups K c g s z w
     × ByGroups c w.param_env.items w.environment.items w.later.items (own_args s.tables p.alias) p z r u)
-    ⊎ ((z : State) × (z ≡ restored s z) × MergesOpened K.self_type (ByFormedGroups K p c g) g z r u)
+    ⊎ ((z : State) × (z ≡ restored s z) × MergesOpened K.words.self_type (ByFormedGroups K p c g) g z r u)
 
 -- goals of the terms of aliases, as a kind of goals
-abbrev pub alias_words : KindWords NormalizesTo
-alias_words =
-    kind_words merge.Projections true (λ p. first_type p.alias.args.items) IsAliasWithSelf (λ p t f. lies_in_equation t [] f p.alias p.term) (λ p t. projected_trait t p.alias)
-    (λ p k. may_match_term p.alias k) (λ p t r. IsImplForItem t p.alias r) (λ p S n c t. ProjectionCandidateGives p.alias S n c t) (λ p S n c. ProjectionCandidateRefuted p.alias S n c)
-    (λ p t k. is_for_alias k (lang_of_alias t p.alias.kind)) (λ p S a. [])
+abbrev pub alias_kind : Kind NormalizesTo
+alias_kind = kind_of alias_words (λ p t f. lies_in_equation t [] f p.alias p.term)
 
 -- by the class of the trait goal's answer, if it is sure; else the goal is undecided
 abbrev pub ByClass : Option TraitGoalProvenVia → Goal NormalizesTo → State → Result Response Fault → State → Type 0
 ByClass None g s r u = IsMaybe r × (u ≡ s)
-ByClass (Some c) g s r u = MergesThrough alias_words g.predicate c g s r u
+ByClass (Some c) g s r u = MergesThrough alias_kind g.predicate c g s r u
 
 -- by the trait goal's answer; its refusal is the answer
 abbrev pub ByTrait : Result Response Fault → Goal NormalizesTo → State → Result Response Fault → State → Type 0

@@ -258,6 +258,9 @@ pub record Through : Type 0 where
   pub class : TraitGoalProvenVia
   pub asked : NormalizesTo
 
+abbrev pub through_of : TraitGoalProvenVia → NormalizesTo → Through
+through_of c p = record { class = c; asked = p }
+
 abbrev pub given_through : Option TraitGoalProvenVia → Option NormalizesTo → Option Through
 given_through None p = None
 given_through (Some c) None = None

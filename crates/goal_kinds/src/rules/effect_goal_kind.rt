@@ -43,38 +43,9 @@ fn named_rule(
 }
 
 impl GoalKind for HostEffectPredicate {
-    ghost use Rattle.std.specs.Prelude.{◌≡◌, false, Some};
-    ghost use Rattle.goal_kinds.specs.CandidateRules.{asked_trait, first_type};
-    ghost use Rattle.goal_kinds.specs.EffectKind.{asked_effect_list, EffectCandidateHolds, EffectCandidateRefuted, implied_bounds_for, IsEffectWithSelf, is_effect_rule_for, may_match_effect};
-    ghost use Rattle.goal_kinds.specs.declared.goal_kind.MergeRule.TheVariants as merging_by;
+    ghost use Rattle.goal_kinds.specs.KindWords.{host_words};
 
-    ghost merging = { merging_by.HostEffectGoals };
-
-    ghost has_term = { false };
-
-    ghost trait_asked = { λ p t. Some (asked_trait p.trait_ref) };
-
-    ghost self_type = { λ p. first_type p.trait_ref.args.items };
-
-    ghost constness = { λ p. Some p.constness };
-
-    ghost is_with_self = { IsEffectWithSelf };
-
-    ghost passes = { may_match_effect };
-
-    ghost expected = { λ p t. ⊥ };
-
-    ghost is_impl_for = { λ p t r. r.trait_id ≡ p.trait_ref.def_id };
-
-    ghost candidate_gives = { λ p S n c t. EffectCandidateHolds p S n c };
-
-    ghost candidate_refuted = { EffectCandidateRefuted };
-
-    ghost candidate_list = { λ p S c. Some (asked_effect_list p S c) };
-
-    ghost is_for = { λ p t k. is_effect_rule_for t p.trait_ref.def_id k };
-
-    ghost additional = { λ p S a. implied_bounds_for S.tables p.trait_ref.def_id a };
+    ghost words = { host_words };
 
     fn merge_rule() -> MergeRule {
         MergeRule::HostEffectGoals

@@ -1,8 +1,7 @@
 //! Lists of entries that rules of several kinds of goals have.
 ghost use Rattle.std.specs.Prelude.{◌≡◌, ◌∷◌, ◌++◌, [], IfOk};
-ghost use Rattle.goal_terms.specs.declared.answers.DelayedFault.TheVariants.{AutoTrait};
 ghost use Rattle.goal_kinds.specs.CandidateRules.{entries_for};
-ghost use Rattle.goal_kinds.specs.declared.rules.RuleEntry.TheVariants as entry;
+ghost use Rattle.goal_kinds.specs.RuleWords.{auto_trait_entries};
 
 use crate::rules::{Rule, RuleEntry};
 use goal_terms::answers::{BuiltinImplSource, CandidateSource, DelayedFault, GoalSource};
@@ -28,7 +27,7 @@ pub(crate) fn with_requirements(
 /// The rule of an auto trait: it records the fault, and doesn't stand. Want of memory is the only refusal.
 pub(crate) fn auto_trait_rule(alloc: Global, id: TraitId) -> Result<Rule, OutOfMemory>
     ensures source { IfOk result (λ r. r.source ≡ CandidateSource.BuiltinImpl BuiltinImplSource.Misc) }
-    ensures entries { IfOk result (λ r. r.entries.items ≡ entry.DelayedFault (AutoTrait id) ∷ entry.Refused ∷ []) }
+    ensures entries { IfOk result (λ r. r.entries.items ≡ auto_trait_entries id) }
 {
     let fault = RuleEntry::DelayedFault(DelayedFault::AutoTrait(id));
     Ok(Rule {

@@ -89,39 +89,9 @@ fn named_rule(
 }
 
 impl GoalKind for NormalizesTo {
-    ghost use Rattle.std.specs.Prelude.{◌≡◌, true, false, [], None, Some};
-    ghost use Rattle.goal_terms.specs.TreeOf.{tree_of_term};
-    ghost use Rattle.goal_kinds.specs.CandidateRules.{first_type};
-    ghost use Rattle.goal_kinds.specs.ProjectionKind.{asked_projection_list, ProjectionCandidateGives, ProjectionCandidateRefuted, projected_trait, IsAliasWithSelf, IsImplForItem, lang_of_alias, is_for_alias, may_match_term};
-    ghost use Rattle.goal_kinds.specs.declared.goal_kind.MergeRule.TheVariants as merging_by;
+    ghost use Rattle.goal_kinds.specs.KindWords.{alias_words};
 
-    ghost merging = { merging_by.Projections };
-
-    ghost has_term = { true };
-
-    ghost trait_asked = { λ p t. projected_trait t p.alias };
-
-    ghost self_type = { λ p. first_type p.alias.args.items };
-
-    ghost constness = { λ p. None };
-
-    ghost is_with_self = { IsAliasWithSelf };
-
-    ghost passes = { λ p k. may_match_term p.alias k };
-
-    ghost expected = { λ p t. t ≡ tree_of_term p.term };
-
-    ghost is_impl_for = { λ p t r. IsImplForItem t p.alias r };
-
-    ghost candidate_gives = { λ p S n c t. ProjectionCandidateGives p.alias S n c t };
-
-    ghost candidate_refuted = { λ p S n c. ProjectionCandidateRefuted p.alias S n c };
-
-    ghost candidate_list = { λ p S c. Some (asked_projection_list p.alias S c) };
-
-    ghost is_for = { λ p t k. is_for_alias k (lang_of_alias t p.alias.kind) };
-
-    ghost additional = { λ p S a. [] };
+    ghost words = { alias_words };
 
     fn merge_rule() -> MergeRule {
         MergeRule::Projections

@@ -81,39 +81,9 @@ fn named_rule(setting: ListSetting<'_, '_>, asked: &TraitRef, is_for: bool) -> R
 }
 
 impl GoalKind for TraitPredicate {
-    ghost use Rattle.std.specs.Prelude.{◌≡◌, true, false, [], None, Some};
-    ghost use Rattle.goal_kinds.specs.CandidateRules.{asked_trait, first_type, is_rule_for, IsWithSelf, may_match, TraitCandidateHolds, TraitCandidateRefuted};
-    ghost use Rattle.goal_kinds.specs.Rules.{given};
-    ghost use Rattle.goal_kinds.specs.TraitLists.{trait_list};
-    ghost use Rattle.goal_kinds.specs.declared.goal_kind.MergeRule.TheVariants as merging_by;
+    ghost use Rattle.goal_kinds.specs.KindWords.{trait_words};
 
-    ghost merging = { merging_by.TraitGoals };
-
-    ghost has_term = { false };
-
-    ghost trait_asked = { λ p t. Some (asked_trait p.trait_ref) };
-
-    ghost self_type = { λ p. first_type p.trait_ref.args.items };
-
-    ghost constness = { λ p. None };
-
-    ghost is_with_self = { λ p t q. IsWithSelf p.trait_ref t q.trait_ref };
-
-    ghost passes = { λ p k. may_match p.trait_ref k };
-
-    ghost expected = { λ p t. ⊥ };
-
-    ghost is_impl_for = { λ p t r. r.trait_id ≡ p.trait_ref.def_id };
-
-    ghost candidate_gives = { λ p S n c t. TraitCandidateHolds p.trait_ref S n c };
-
-    ghost candidate_refuted = { λ p S n c. TraitCandidateRefuted p.trait_ref S n c };
-
-    ghost candidate_list = { λ p S c. Some (trait_list S p.trait_ref.def_id (given p.trait_ref.args) c) };
-
-    ghost is_for = { λ p t k. is_rule_for t p.trait_ref.def_id k };
-
-    ghost additional = { λ p S a. [] };
+    ghost words = { trait_words };
 
     fn merge_rule() -> MergeRule {
         MergeRule::TraitGoals

@@ -1,20 +1,18 @@
 //! The rules of a goal's candidates, class by class. Nothing is evaluated here.
 ghost use Rattle.std.specs.Prelude.{◌≡◌, ◌≢◌, ◌∷◌, ◌++◌, [], true, false, map, Some, Err, IfOk, IsOkUnless};
-ghost use Rattle.std.specs.List.{All, list_any};
+ghost use Rattle.std.specs.List.{list_any};
 ghost use Rattle.goal_terms.specs.Erased.{erased};
 ghost use Rattle.goal_terms.specs.Occurrences.{has_error};
 ghost use Rattle.goal_terms.specs.PredicateTrees.{tree_of_kind};
 ghost use Rattle.goal_terms.specs.TreeOf.{tree_of_arg, tree_of_clause, tree_of_ty, trees_of};
-ghost use Rattle.goal_terms.specs.declared.terms.Ty.{Ty as ty};
-ghost use Rattle.goal_tables.specs.Rows.{impl_of, item_of, opaque_of};
-ghost use Rattle.goal_tables.specs.declared.rows.ImplRow.{ImplRow as impl_row};
-ghost use Rattle.goal_kinds.specs.Answers.{setting_of};
-ghost use Rattle.goal_kinds.specs.CandidateRules.{HasNoKindFault, IsAcceptedClause, IsNamedAnswer, said_by};
-ghost use Rattle.goal_kinds.specs.Candidates.{assumption, by_impl, built_in, error, bounds_under, object_bound, object_bounds, impls_for, environment, rest};
-ghost use Rattle.goal_kinds.specs.Premises.{TraitTree as trait_tree, predicate_under};
-ghost use Rattle.goal_kinds.specs.RuleWords.{TermsAreFor};
-ghost use Rattle.goal_kinds.specs.Settings.{is_headline};
-ghost use Rattle.goal_solver.specs.Collecting.{impl_certainty, words_over, is_later_named, is_any_named, args_and_itself, clauses_of_item, clauses_of_opaque, Speaks, Lacks, Adds, AreCollected, Collects, CollectsBounds};
+ghost use Rattle.goal_tables.specs.Rows.{item_of, opaque_of};
+ghost use Rattle.goal_kinds.specs.CandidateRules.{HasNoKindFault, said_by};
+ghost use Rattle.goal_kinds.specs.Candidates.{assumption, built_in, error, object_bound, environment, rest};
+ghost use Rattle.goal_kinds.specs.Premises.{predicate_under};
+ghost use Rattle.goal_kinds.specs.KindWords.{words_for, AnswersWhere};
+ghost use Rattle.goal_solver.specs.Collecting.{is_later_named, is_any_named, args_and_itself, clauses_of_item, clauses_of_opaque, kind_of};
+ghost use Rattle.goal_solver.specs.Collecting.{AddsFor, AddsClause, AddsImpl, CollectsClauses, CollectsImpls, CollectsOthers, CollectsObjects, CollectsDeclared, CollectsAlias, CollectsSelf, CollectsFor, KeepTermsFor};
+ghost use Rattle.goal_solver.specs.OpenGoals.{has_kind_fault};
 
 use crate::faults::Fault;
 use goal_kinds::goal_kind::GoalKind;
@@ -60,8 +58,8 @@ fn push_clause_rule<G: GoalKind>(
     clause: &Clause,
     found: &mut Vec<Rule>,
 ) -> Result<(), Fault>
-    ensures adds { IfOk result (λ _. Adds (Speaks (words_over G.merging G.has_term (G.candidate_gives goal.now.predicate) (G.candidate_refuted goal.now.predicate) (G.passes goal.now.predicate) (G.is_for goal.now.predicate tables.now) (G.trait_asked goal.now.predicate tables.now) (setting_of tables.now mode.now goal.now.param_env.items))) (λ _. G.passes goal.now.predicate clause.now.kind ≡ false) (said_by clause.now.kind) found.old.items found.new.items) }
-    ensures expected { All (λ r. TermsAreFor (G.expected goal.now.predicate) r.entries.items) found.old.items → IfOk result (λ _. All (λ r. TermsAreFor (G.expected goal.now.predicate) r.entries.items) found.new.items) }
+    ensures adds { IfOk result (λ _. AddsClause (words_for G.words tables.now goal.now mode.now) clause.now.kind found.old.items found.new.items) }
+    ensures expected { IfOk result (λ _. KeepTermsFor (G.words.expected goal.now.predicate) found.old.items found.new.items) }
     ensures only_memory { IsOkUnless result Fault.OutOfMemory }
 {
     match G::probe_and_match_goal_against_assumption(
@@ -86,8 +84,8 @@ fn push_environment_rules<G: GoalKind>(
     found: &mut Vec<Rule>,
 ) -> Result<(), Fault>
     requires accepted { HasNoKindFault (λ f. G.has_fault goal.now.predicate tables.now f) }
-    ensures collected { All (λ c. IsAcceptedClause tables.now c.kind) goal.now.param_env.items → IfOk result (λ _. Collects (Speaks (words_over G.merging G.has_term (G.candidate_gives goal.now.predicate) (G.candidate_refuted goal.now.predicate) (G.passes goal.now.predicate) (G.is_for goal.now.predicate tables.now) (G.trait_asked goal.now.predicate tables.now) (setting_of tables.now mode.now goal.now.param_env.items))) (λ c. G.candidate_refuted goal.now.predicate (setting_of tables.now mode.now goal.now.param_env.items) 0 c) (environment (setting_of tables.now mode.now goal.now.param_env.items)) found.old.items found.new.items) }
-    ensures expected { All (λ r. TermsAreFor (G.expected goal.now.predicate) r.entries.items) found.old.items → IfOk result (λ _. All (λ r. TermsAreFor (G.expected goal.now.predicate) r.entries.items) found.new.items) }
+    ensures collected { IfOk result (λ _. CollectsClauses (words_for G.words tables.now goal.now mode.now) goal.now.param_env.items found.old.items found.new.items) }
+    ensures expected { IfOk result (λ _. KeepTermsFor (G.words.expected goal.now.predicate) found.old.items found.new.items) }
     ensures only_memory { IsOkUnless result Fault.OutOfMemory }
 {
     G::rejected_clauses_are_refuted();
@@ -100,17 +98,6 @@ fn push_environment_rules<G: GoalKind>(
     Ok(())
 }
 
-/// How sure the rule of an impl is: not where others are more special, since these aren't asked.
-fn impl_certainty(row: &ImplRow) -> Certainty
-    ensures { result ≡ impl_certainty row.now }
-{
-    if row.more_special.is_empty() {
-        Certainty::Yes
-    } else {
-        Certainty::Maybe
-    }
-}
-
 /// Adds the rule of an impl of the goal's trait. No impl of that trait is refused for another reason than
 /// that it is refuted, or want of memory.
 fn push_impl_rule<G: GoalKind>(
@@ -121,12 +108,11 @@ fn push_impl_rule<G: GoalKind>(
     found: &mut Vec<Rule>,
 ) -> Result<(), Fault>
     requires accepted { HasNoKindFault (λ f. G.has_fault goal.now.predicate tables.now f) }
-    ensures adds { is_headline mode.now ≡ true → impl_of tables.now row.now.id ≡ Some row.now → G.is_impl_for goal.now.predicate tables.now row.now → IfOk result (λ _. Adds (Speaks (words_over G.merging G.has_term (G.candidate_gives goal.now.predicate) (G.candidate_refuted goal.now.predicate) (G.passes goal.now.predicate) (G.is_for goal.now.predicate tables.now) (G.trait_asked goal.now.predicate tables.now) (setting_of tables.now mode.now goal.now.param_env.items))) (Lacks (words_over G.merging G.has_term (G.candidate_gives goal.now.predicate) (G.candidate_refuted goal.now.predicate) (G.passes goal.now.predicate) (G.is_for goal.now.predicate tables.now) (G.trait_asked goal.now.predicate tables.now) (setting_of tables.now mode.now goal.now.param_env.items))) (by_impl row.now) found.old.items found.new.items) }
-    ensures expected { All (λ r. TermsAreFor (G.expected goal.now.predicate) r.entries.items) found.old.items → IfOk result (λ _. All (λ r. TermsAreFor (G.expected goal.now.predicate) r.entries.items) found.new.items) }
+    ensures adds { IfOk result (λ _. AddsImpl (words_for G.words tables.now goal.now mode.now) mode.now row.now found.old.items found.new.items) }
+    ensures expected { IfOk result (λ _. KeepTermsFor (G.words.expected goal.now.predicate) found.old.items found.new.items) }
     ensures only_memory { IsOkUnless result Fault.OutOfMemory }
 {
-    let then = impl_certainty(row);
-    match G::consider_impl_candidate(tables, mode, goal, row.id, then) {
+    match G::consider_impl_candidate(tables, mode, goal, row.id, Certainty::Yes) {
         Ok(rule) => Ok(push_rule(found, rule)?),
         Err(Fault::NoSolution) => Ok(()),
         Err(_) => Err(Fault::OutOfMemory),
@@ -142,8 +128,8 @@ fn push_impl_rules<G: GoalKind>(
     found: &mut Vec<Rule>,
 ) -> Result<(), Fault>
     requires accepted { HasNoKindFault (λ f. G.has_fault goal.now.predicate tables.now f) }
-    ensures collected { is_headline mode.now ≡ true → ((row : impl_row) → row.trait_id ≡ trait_id → G.is_impl_for goal.now.predicate tables.now row) → IfOk result (λ _. Collects (Speaks (words_over G.merging G.has_term (G.candidate_gives goal.now.predicate) (G.candidate_refuted goal.now.predicate) (G.passes goal.now.predicate) (G.is_for goal.now.predicate tables.now) (G.trait_asked goal.now.predicate tables.now) (setting_of tables.now mode.now goal.now.param_env.items))) (Lacks (words_over G.merging G.has_term (G.candidate_gives goal.now.predicate) (G.candidate_refuted goal.now.predicate) (G.passes goal.now.predicate) (G.is_for goal.now.predicate tables.now) (G.trait_asked goal.now.predicate tables.now) (setting_of tables.now mode.now goal.now.param_env.items))) (map by_impl (impls_for tables.now trait_id)) found.old.items found.new.items) }
-    ensures expected { All (λ r. TermsAreFor (G.expected goal.now.predicate) r.entries.items) found.old.items → IfOk result (λ _. All (λ r. TermsAreFor (G.expected goal.now.predicate) r.entries.items) found.new.items) }
+    ensures collected { IfOk result (λ _. CollectsImpls (words_for G.words tables.now goal.now mode.now) mode.now trait_id found.old.items found.new.items) }
+    ensures expected { IfOk result (λ _. KeepTermsFor (G.words.expected goal.now.predicate) found.old.items found.new.items) }
     ensures only_memory { IsOkUnless result Fault.OutOfMemory }
 {
     let rows = tables.rows();
@@ -172,7 +158,7 @@ fn named_rule<G: GoalKind>(
     mode: &TypingMode,
     goal: &Goal<G>,
 ) -> Result<Rule, Fault>
-    ensures { IsNamedAnswer (is_any_named (G.is_for goal.now.predicate tables.now)) G.has_term (setting_of tables.now mode.now goal.now.param_env.items) (λ n t. G.candidate_gives goal.now.predicate (setting_of tables.now mode.now goal.now.param_env.items) n built_in t) (λ n. G.candidate_refuted goal.now.predicate (setting_of tables.now mode.now goal.now.param_env.items) n built_in) result }
+    ensures { AnswersWhere (words_for G.words tables.now goal.now mode.now) (is_any_named (G.words.is_for goal.now.predicate tables.now)) result }
 {
     let alias = G::consider_trait_alias_candidate(tables, mode, goal);
     if is_for_goal(&alias) {
@@ -203,7 +189,7 @@ fn later_named_rule<G: GoalKind>(
     mode: &TypingMode,
     goal: &Goal<G>,
 ) -> Result<Rule, Fault>
-    ensures { IsNamedAnswer (is_later_named (G.is_for goal.now.predicate tables.now)) G.has_term (setting_of tables.now mode.now goal.now.param_env.items) (λ n t. G.candidate_gives goal.now.predicate (setting_of tables.now mode.now goal.now.param_env.items) n built_in t) (λ n. G.candidate_refuted goal.now.predicate (setting_of tables.now mode.now goal.now.param_env.items) n built_in) result }
+    ensures { AnswersWhere (words_for G.words tables.now goal.now mode.now) (is_later_named (G.words.is_for goal.now.predicate tables.now)) result }
 {
     let tuple = G::consider_builtin_tuple_candidate(tables, mode, goal);
     if is_for_goal(&tuple) {
@@ -232,7 +218,7 @@ fn push_built_in_rule<G: GoalKind>(
     goal: &Goal<G>,
     found: &mut Vec<Rule>,
 ) -> Result<(), Fault>
-    ensures adds { IfOk result (λ _. Adds (Speaks (words_over G.merging G.has_term (G.candidate_gives goal.now.predicate) (G.candidate_refuted goal.now.predicate) (G.passes goal.now.predicate) (G.is_for goal.now.predicate tables.now) (G.trait_asked goal.now.predicate tables.now) (setting_of tables.now mode.now goal.now.param_env.items))) (Lacks (words_over G.merging G.has_term (G.candidate_gives goal.now.predicate) (G.candidate_refuted goal.now.predicate) (G.passes goal.now.predicate) (G.is_for goal.now.predicate tables.now) (G.trait_asked goal.now.predicate tables.now) (setting_of tables.now mode.now goal.now.param_env.items))) built_in found.old.items found.new.items) }
+    ensures adds { IfOk result (λ _. AddsFor (words_for G.words tables.now goal.now mode.now) built_in found.old.items found.new.items) }
     ensures only_memory { IsOkUnless result Fault.OutOfMemory }
 {
     match named_rule(tables, mode, goal) {
@@ -257,7 +243,7 @@ fn push_error_rule<G: GoalKind>(
     goal: &Goal<G>,
     found: &mut Vec<Rule>,
 ) -> Result<(), Fault>
-    ensures adds { IfOk result (λ _. Adds (Speaks (words_over G.merging G.has_term (G.candidate_gives goal.now.predicate) (G.candidate_refuted goal.now.predicate) (G.passes goal.now.predicate) (G.is_for goal.now.predicate tables.now) (G.trait_asked goal.now.predicate tables.now) (setting_of tables.now mode.now goal.now.param_env.items))) (Lacks (words_over G.merging G.has_term (G.candidate_gives goal.now.predicate) (G.candidate_refuted goal.now.predicate) (G.passes goal.now.predicate) (G.is_for goal.now.predicate tables.now) (G.trait_asked goal.now.predicate tables.now) (setting_of tables.now mode.now goal.now.param_env.items))) error found.old.items found.new.items) }
+    ensures adds { IfOk result (λ _. AddsFor (words_for G.words tables.now goal.now mode.now) error found.old.items found.new.items) }
     ensures only_memory { IsOkUnless result Fault.OutOfMemory }
 {
     let Some(asked) = goal.predicate.trait_ref(tables) else {
@@ -290,7 +276,7 @@ fn push_declared_rules<G: GoalKind>(
     args: &[GenericArg],
     found: &mut Vec<Rule>,
 ) -> Result<(), Fault>
-    ensures collected { IfOk result (λ _. Collects (Speaks (words_over G.merging G.has_term (G.candidate_gives goal.now.predicate) (G.candidate_refuted goal.now.predicate) (G.passes goal.now.predicate) (G.is_for goal.now.predicate tables.now) (G.trait_asked goal.now.predicate tables.now) (setting_of tables.now mode.now goal.now.param_env.items))) (Lacks (words_over G.merging G.has_term (G.candidate_gives goal.now.predicate) (G.candidate_refuted goal.now.predicate) (G.passes goal.now.predicate) (G.is_for goal.now.predicate tables.now) (G.trait_asked goal.now.predicate tables.now) (setting_of tables.now mode.now goal.now.param_env.items))) (bounds_under (map erased (trees_of args.now)) clauses.now) found.old.items found.new.items) }
+    ensures collected { IfOk result (λ _. CollectsDeclared (words_for G.words tables.now goal.now mode.now) args.now clauses.now found.old.items found.new.items) }
     ensures only_memory { IsOkUnless result Fault.OutOfMemory }
 {
     let alloc = *goal.param_env.allocator();
@@ -337,7 +323,7 @@ fn push_alias_rules<G: GoalKind>(
     clauses: &[Clause],
     found: &mut Vec<Rule>,
 ) -> Result<(), Fault>
-    ensures collected { IfOk result (λ _. Collects (Speaks (words_over G.merging G.has_term (G.candidate_gives goal.now.predicate) (G.candidate_refuted goal.now.predicate) (G.passes goal.now.predicate) (G.is_for goal.now.predicate tables.now) (G.trait_asked goal.now.predicate tables.now) (setting_of tables.now mode.now goal.now.param_env.items))) (Lacks (words_over G.merging G.has_term (G.candidate_gives goal.now.predicate) (G.candidate_refuted goal.now.predicate) (G.passes goal.now.predicate) (G.is_for goal.now.predicate tables.now) (G.trait_asked goal.now.predicate tables.now) (setting_of tables.now mode.now goal.now.param_env.items))) (bounds_under (args_and_itself alias.now) clauses.now ++ G.additional goal.now.predicate (setting_of tables.now mode.now goal.now.param_env.items) alias.now) found.old.items found.new.items) }
+    ensures collected { IfOk result (λ _. CollectsAlias (words_for G.words tables.now goal.now mode.now) alias.now clauses.now found.old.items found.new.items) }
     ensures only_memory { IsOkUnless result Fault.OutOfMemory }
 {
     let args = args_and_itself(alias)?;
@@ -376,7 +362,7 @@ fn push_bound_rules<G: GoalKind>(
     self_ty: &Ty,
     found: &mut Vec<Rule>,
 ) -> Result<(), Fault>
-    ensures collected { IfOk result (λ _. CollectsBounds (words_over G.merging G.has_term (G.candidate_gives goal.now.predicate) (G.candidate_refuted goal.now.predicate) (G.passes goal.now.predicate) (G.is_for goal.now.predicate tables.now) (G.trait_asked goal.now.predicate tables.now) (setting_of tables.now mode.now goal.now.param_env.items)) (G.additional goal.now.predicate (setting_of tables.now mode.now goal.now.param_env.items)) self_ty.now found.old.items found.new.items) }
+    ensures collected { IfOk result (λ _. CollectsSelf (words_for G.words tables.now goal.now mode.now) self_ty.now found.old.items found.new.items) }
     ensures only_memory { IsOkUnless result Fault.OutOfMemory }
 {
     let Ty::Alias(alias) = self_ty else {
@@ -450,7 +436,7 @@ fn push_object_rule<G: GoalKind>(
     kind: ClauseKind,
     found: &mut Vec<Rule>,
 ) -> Result<(), Fault>
-    ensures adds { IfOk result (λ _. Adds (Speaks (words_over G.merging G.has_term (G.candidate_gives goal.now.predicate) (G.candidate_refuted goal.now.predicate) (G.passes goal.now.predicate) (G.is_for goal.now.predicate tables.now) (G.trait_asked goal.now.predicate tables.now) (setting_of tables.now mode.now goal.now.param_env.items))) (λ _. G.passes goal.now.predicate kind ≡ false) (said_by kind) found.old.items found.new.items) }
+    ensures adds { IfOk result (λ _. AddsClause (words_for G.words tables.now goal.now mode.now) kind found.old.items found.new.items) }
     ensures only_memory { IsOkUnless result Fault.OutOfMemory }
 {
     let clause = Clause {
@@ -473,7 +459,7 @@ fn push_object_rules<G: GoalKind>(
     self_ty: &Ty,
     found: &mut Vec<Rule>,
 ) -> Result<(), Fault>
-    ensures collected { IfOk result (λ _. Collects (Speaks (words_over G.merging G.has_term (G.candidate_gives goal.now.predicate) (G.candidate_refuted goal.now.predicate) (G.passes goal.now.predicate) (G.is_for goal.now.predicate tables.now) (G.trait_asked goal.now.predicate tables.now) (setting_of tables.now mode.now goal.now.param_env.items))) (Lacks (words_over G.merging G.has_term (G.candidate_gives goal.now.predicate) (G.candidate_refuted goal.now.predicate) (G.passes goal.now.predicate) (G.is_for goal.now.predicate tables.now) (G.trait_asked goal.now.predicate tables.now) (setting_of tables.now mode.now goal.now.param_env.items))) (object_bounds (erased (tree_of_ty self_ty.now))) found.old.items found.new.items) }
+    ensures collected { IfOk result (λ _. CollectsObjects (words_for G.words tables.now goal.now mode.now) self_ty.now found.old.items found.new.items) }
     ensures only_memory { IsOkUnless result Fault.OutOfMemory }
 {
     let Ty::Dynamic(clauses, _) = self_ty else {
@@ -501,7 +487,7 @@ fn push_rest_rules<G: GoalKind>(
     found: &mut Vec<Rule>,
 ) -> Result<(), Fault>
     requires accepted { HasNoKindFault (λ f. G.has_fault goal.now.predicate tables.now f) }
-    ensures collected { is_headline mode.now ≡ true → ((row : impl_row) → row.trait_id ≡ trait_id → G.is_impl_for goal.now.predicate tables.now row) → IfOk result (λ _. Collects (Speaks (words_over G.merging G.has_term (G.candidate_gives goal.now.predicate) (G.candidate_refuted goal.now.predicate) (G.passes goal.now.predicate) (G.is_for goal.now.predicate tables.now) (G.trait_asked goal.now.predicate tables.now) (setting_of tables.now mode.now goal.now.param_env.items))) (Lacks (words_over G.merging G.has_term (G.candidate_gives goal.now.predicate) (G.candidate_refuted goal.now.predicate) (G.passes goal.now.predicate) (G.is_for goal.now.predicate tables.now) (G.trait_asked goal.now.predicate tables.now) (setting_of tables.now mode.now goal.now.param_env.items))) (rest (setting_of tables.now mode.now goal.now.param_env.items) trait_id (erased (tree_of_ty self_ty.now))) found.old.items found.new.items) }
+    ensures collected { IfOk result (λ _. CollectsOthers (words_for G.words tables.now goal.now mode.now) mode.now trait_id self_ty.now found.old.items found.new.items) }
     ensures only_memory { IsOkUnless result Fault.OutOfMemory }
 {
     push_impl_rules(tables, mode, goal, trait_id, found)?;
@@ -520,10 +506,8 @@ pub(crate) fn class_rules<G: GoalKind>(
     goal: &Goal<G>,
     class: TraitGoalProvenVia,
 ) -> Result<Vec<Rule>, Fault>
-    requires accepted { HasNoKindFault (λ f. G.has_fault goal.now.predicate tables.now f) }
-    ensures environment { class ≡ TraitGoalProvenVia.ParamEnv → All (λ c. IsAcceptedClause tables.now c.kind) goal.now.param_env.items → IfOk result (λ rs. AreCollected (Speaks (words_over G.merging G.has_term (G.candidate_gives goal.now.predicate) (G.candidate_refuted goal.now.predicate) (G.passes goal.now.predicate) (G.is_for goal.now.predicate tables.now) (G.trait_asked goal.now.predicate tables.now) (setting_of tables.now mode.now goal.now.param_env.items))) (λ c. G.candidate_refuted goal.now.predicate (setting_of tables.now mode.now goal.now.param_env.items) 0 c) rs.items (environment (setting_of tables.now mode.now goal.now.param_env.items))) }
-    ensures bounds { (q : trait_tree) (s : ty) → class ≡ TraitGoalProvenVia.AliasBound → G.trait_asked goal.now.predicate tables.now ≡ Some q → G.self_type goal.now.predicate ≡ Some s → IfOk result (λ rs. CollectsBounds (words_over G.merging G.has_term (G.candidate_gives goal.now.predicate) (G.candidate_refuted goal.now.predicate) (G.passes goal.now.predicate) (G.is_for goal.now.predicate tables.now) (G.trait_asked goal.now.predicate tables.now) (setting_of tables.now mode.now goal.now.param_env.items)) (G.additional goal.now.predicate (setting_of tables.now mode.now goal.now.param_env.items)) s [] rs.items) }
-    ensures rest { (q : trait_tree) (s : ty) → class ≡ TraitGoalProvenVia.Misc → is_headline mode.now ≡ true → G.trait_asked goal.now.predicate tables.now ≡ Some q → G.self_type goal.now.predicate ≡ Some s → ((row : impl_row) → row.trait_id ≡ q.def_id → G.is_impl_for goal.now.predicate tables.now row) → IfOk result (λ rs. AreCollected (Speaks (words_over G.merging G.has_term (G.candidate_gives goal.now.predicate) (G.candidate_refuted goal.now.predicate) (G.passes goal.now.predicate) (G.is_for goal.now.predicate tables.now) (G.trait_asked goal.now.predicate tables.now) (setting_of tables.now mode.now goal.now.param_env.items))) (Lacks (words_over G.merging G.has_term (G.candidate_gives goal.now.predicate) (G.candidate_refuted goal.now.predicate) (G.passes goal.now.predicate) (G.is_for goal.now.predicate tables.now) (G.trait_asked goal.now.predicate tables.now) (setting_of tables.now mode.now goal.now.param_env.items))) rs.items (rest (setting_of tables.now mode.now goal.now.param_env.items) q.def_id (erased (tree_of_ty s)))) }
+    requires accepted { has_kind_fault G.has_fault tables.now goal.now ≡ false }
+    ensures collected { IfOk result (λ rs. CollectsFor (kind_of G.words G.has_fault) tables.now goal.now mode.now class rs.items) }
     ensures only_memory { IsOkUnless result Fault.OutOfMemory }
 {
     let mut found = Vec::new(*goal.param_env.allocator());

@@ -1,5 +1,5 @@
 //! Rules run one after the other, and what those of them that aren't refused make of a goal together.
-ghost use Rattle.std.specs.Prelude.{◌≡◌, ◌↔◌, ◌∷◌, ◌++◌, [], IsTrue, List, Option as option, Err, IfOk, IfSome, map};
+ghost use Rattle.std.specs.Prelude.{◌≡◌, ◌↔◌, ◌∷◌, ◌++◌, [], IsTrue, List, Option as option, Err, IfOk, map};
 ghost use Rattle.goal_terms.specs.declared.answers.Response.{Response as reply};
 ghost use Rattle.goal_solver.specs.Binding.{IsApplicable};
 ghost use Rattle.goal_solver.specs.GoingBack.{GoesBack, restored};
@@ -89,8 +89,8 @@ fn has_same_entries(a: &Vec<(OpaqueTypeKey, Ty)>, b: &Vec<(OpaqueTypeKey, Ty)>) 
 }
 
 impl EvalCtxt<'_> {
-    /// Runs rules under an environment, each at the remaining depth, and merges the responses of those that
-    /// aren't refused. Inference state, added goals and storage are as before.
+    /// Runs rules under an environment, each at the remaining depth and beside the impls that are more special than its
+    /// own, and merges their responses. Inference state, added goals and storage are as before.
     #[cycle(open)]
     pub(crate) fn merge_rules(
         &mut self,
@@ -111,7 +111,7 @@ impl EvalCtxt<'_> {
         Ok(merged)
     }
 
-    /// Runs one more rule, and merges its response with those before it, if it isn't refused.
+    /// Runs one more rule, and merges its response with those before it, if it has one beside more special impls.
     #[cycle(open)]
     fn merge_next(
         &mut self,
@@ -128,31 +128,9 @@ impl EvalCtxt<'_> {
         ensures fault { IsFaultFor self.old self.new result }
     {
         self.holds_together();
-        match self.run_unrefused(environment, rule)? {
+        match self.run_beside(environment, rule)? {
             None => Ok(merged),
             Some(response) => Ok(merged.with(response)),
-        }
-    }
-
-    /// Runs a rule under an environment at the remaining depth. Where it is refused, there is no response.
-    /// Inference state, added goals and storage are as before.
-    #[cycle(open)]
-    fn run_unrefused(
-        &mut self,
-        environment: &[Clause],
-        rule: &Rule,
-    ) -> Result<Option<Response>, Fault>
-        ensures runs { IfOk result (λ a. RunsTo environment.now rule.now self.old a self.new) }
-        ensures applies { IfOk result (λ a. IfSome a (IsApplicable self.new)) }
-        ensures never { result ≡ Err Fault.NoSolution → ⊥ }
-        ensures unchanged { self.new ≡ restored self.old self.new }
-        ensures goes_back { GoesBack self.old self.new }
-        ensures fault { IsFaultFor self.old self.new result }
-    {
-        match self.run_open(environment, &rule.entries) {
-            Ok(response) => Ok(Some(response)),
-            Err(Fault::NoSolution) => Ok(None),
-            Err(fault) => Err(fault),
         }
     }
 }

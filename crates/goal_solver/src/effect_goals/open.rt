@@ -1,16 +1,13 @@
 //! Goals with inference variables that a trait holds as a const trait.
 ghost use Rattle.std.specs.Prelude.{◌≡◌, ◌<◌, ℕ, suc, Option, Result, Err, IfOk, IfSome, IsOkUnless};
-ghost use Rattle.goal_terms.specs.Erased.{erased};
-ghost use Rattle.goal_terms.specs.TreeOf.{tree_of_alias};
 ghost use Rattle.goal_solver.specs.Answers.{IsMaybe};
 ghost use Rattle.goal_solver.specs.Binding.{IsApplicable};
-ghost use Rattle.goal_solver.specs.Collecting.{kind_words};
+ghost use Rattle.goal_solver.specs.Collecting.{kind_of};
 ghost use Rattle.goal_solver.specs.GoingBack.{GoesBack, restored};
-ghost use Rattle.goal_solver.specs.OpenForms.{OpensFrom, answers_somehow};
-ghost use Rattle.goal_solver.specs.OpenGoals.{AsksOpenSelf, IsListedIn, IsSelfAlias, MergesOpened, WhenAnswered, WhenTried, at_depth};
-ghost use Rattle.goal_solver.specs.OpenHostGoals.{ByFormedRuleGroups, ByRuleGroups, GroupAnswers, host_words, IsPlain, MergesConst, MergesHostEffect, rules_of_groups};
+ghost use Rattle.goal_solver.specs.OpenGoals.{AsksOpenSelf, IsListedIn, IsSelfAlias, MergesOpened, WhenAnswered, WhenTried, at_depth, InTrial, OpensIfAsked};
+ghost use Rattle.goal_solver.specs.OpenHostGoals.{ByFormedRuleGroups, ByRuleGroups, GroupAnswers, host_kind, IsPlain, MergesConst, MergesHostEffect, rules_of_groups};
 ghost use Rattle.goal_solver.specs.Promises.{LeavesUndecided, MergesOpenHostEffect};
-ghost use Rattle.goal_solver.specs.Relating.{ChangesRecords, IsFaultFor};
+ghost use Rattle.goal_solver.specs.Relating.{IsFaultFor};
 ghost use Rattle.goal_solver.specs.State.{State as state};
 
 use crate::assembly::merged_rules::Merged;
@@ -98,7 +95,7 @@ impl EvalCtxt<'_> {
         class: TraitGoalProvenVia,
         goal: &Goal<HostEffectPredicate>,
     ) -> Result<Response, Fault>
-        ensures merges { WhenAnswered result (MergesConst host_words class goal.now self.old result self.new) }
+        ensures merges { WhenAnswered result (MergesConst host_kind class goal.now self.old result self.new) }
         ensures applies { IfOk result (IsApplicable self.new) }
         ensures unchanged { self.new ≡ restored self.old self.new }
         ensures goes_back { GoesBack self.old self.new }
@@ -118,8 +115,8 @@ impl EvalCtxt<'_> {
         class: TraitGoalProvenVia,
         goal: &Goal<HostEffectPredicate>,
     ) -> Result<Response, Fault>
-        ensures undecided { (AsksOpenSelf host_words.self_type goal.now self.old → ⊥) → WhenAnswered result (IsMaybe result) }
-        ensures opened { AsksOpenSelf host_words.self_type goal.now self.old → (z : state) × (z ≡ restored self.old z) × WhenAnswered result (MergesOpened host_words.self_type (ByFormedRuleGroups host_words class goal.now) goal.now z result self.new) }
+        ensures undecided { (AsksOpenSelf host_kind.words.self_type goal.now self.old → ⊥) → WhenAnswered result (IsMaybe result) }
+        ensures opened { OpensIfAsked host_kind.words.self_type (ByFormedRuleGroups host_kind class goal.now) goal.now self.old result self.new }
         ensures applies { IfOk result (IsApplicable self.new) }
         ensures unchanged { self.new ≡ restored self.old self.new }
         ensures goes_back { GoesBack self.old self.new }
@@ -140,8 +137,8 @@ impl EvalCtxt<'_> {
         goal: &Goal<HostEffectPredicate>,
         alias: AliasTerm,
     ) -> Result<Response, Fault>
-        requires opens { IsSelfAlias host_words.self_type goal.now self.old alias }
-        ensures merges { WhenAnswered result (MergesOpened host_words.self_type (ByFormedRuleGroups host_words class goal.now) goal.now self.old result self.new) }
+        requires opens { IsSelfAlias host_kind.words.self_type goal.now self.old alias }
+        ensures merges { WhenAnswered result (MergesOpened host_kind.words.self_type (ByFormedRuleGroups host_kind class goal.now) goal.now self.old result self.new) }
         ensures applies { IfOk result (IsApplicable self.new) }
         ensures unchanged { self.new ≡ restored self.old self.new }
         ensures goes_back { GoesBack self.old self.new }
@@ -167,7 +164,7 @@ impl EvalCtxt<'_> {
         goal: &Goal<HostEffectPredicate>,
         alias: AliasTerm,
     ) -> Result<Option<Response>, Fault>
-        ensures by { WhenTried result ((a : Result (Option Term) Fault) × (z : state) × OpensFrom answers_somehow goal.now.param_env.items (erased (tree_of_alias alias)) self.old a z × ChangesRecords self.old z × ByFormedRuleGroups host_words class goal.now a z result self.new) }
+        ensures by { WhenTried result (InTrial (ByFormedRuleGroups host_kind class goal.now) goal.now.param_env.items alias self.old result self.new) }
         ensures lists { IfOk result (λ o. IfSome o (IsListedIn self.new)) }
         ensures goes_back { GoesBack self.old self.new }
         ensures fault { IsFaultFor self.old self.new result }
@@ -187,7 +184,7 @@ impl EvalCtxt<'_> {
         class: TraitGoalProvenVia,
         goal: &Goal<G>,
     ) -> Result<Response, Fault>
-        ensures merges { WhenAnswered result (MergesConst (kind_words G.merging G.has_term G.self_type G.is_with_self G.has_fault G.trait_asked G.passes G.is_impl_for G.candidate_gives G.candidate_refuted G.is_for G.additional) class goal.now self.old result self.new) }
+        ensures merges { WhenAnswered result (MergesConst (kind_of G.words G.has_fault) class goal.now self.old result self.new) }
         ensures applies { IfOk result (IsApplicable self.new) }
         ensures unchanged { self.new ≡ restored self.old self.new }
         ensures goes_back { GoesBack self.old self.new }
@@ -206,8 +203,8 @@ impl EvalCtxt<'_> {
         class: TraitGoalProvenVia,
         goal: &Goal<G>,
     ) -> Result<Response, Fault>
-        ensures undecided { (AsksOpenSelf G.self_type goal.now self.old → ⊥) → WhenAnswered result (IsMaybe result) }
-        ensures opened { AsksOpenSelf G.self_type goal.now self.old → (z : state) × (z ≡ restored self.old z) × WhenAnswered result (MergesOpened G.self_type (ByFormedRuleGroups (kind_words G.merging G.has_term G.self_type G.is_with_self G.has_fault G.trait_asked G.passes G.is_impl_for G.candidate_gives G.candidate_refuted G.is_for G.additional) class goal.now) goal.now z result self.new) }
+        ensures undecided { (AsksOpenSelf G.words.self_type goal.now self.old → ⊥) → WhenAnswered result (IsMaybe result) }
+        ensures opened { OpensIfAsked G.words.self_type (ByFormedRuleGroups (kind_of G.words G.has_fault) class goal.now) goal.now self.old result self.new }
         ensures applies { IfOk result (IsApplicable self.new) }
         ensures unchanged { self.new ≡ restored self.old self.new }
         ensures goes_back { GoesBack self.old self.new }
@@ -227,8 +224,8 @@ impl EvalCtxt<'_> {
         goal: &Goal<G>,
         alias: AliasTerm,
     ) -> Result<Response, Fault>
-        requires opens { IsSelfAlias G.self_type goal.now self.old alias }
-        ensures merges { WhenAnswered result (MergesOpened G.self_type (ByFormedRuleGroups (kind_words G.merging G.has_term G.self_type G.is_with_self G.has_fault G.trait_asked G.passes G.is_impl_for G.candidate_gives G.candidate_refuted G.is_for G.additional) class goal.now) goal.now self.old result self.new) }
+        requires opens { IsSelfAlias G.words.self_type goal.now self.old alias }
+        ensures merges { WhenAnswered result (MergesOpened G.words.self_type (ByFormedRuleGroups (kind_of G.words G.has_fault) class goal.now) goal.now self.old result self.new) }
         ensures applies { IfOk result (IsApplicable self.new) }
         ensures unchanged { self.new ≡ restored self.old self.new }
         ensures goes_back { GoesBack self.old self.new }
@@ -253,7 +250,7 @@ impl EvalCtxt<'_> {
         goal: &Goal<G>,
         alias: AliasTerm,
     ) -> Result<Option<Response>, Fault>
-        ensures by { WhenTried result ((a : Result (Option Term) Fault) × (z : state) × OpensFrom answers_somehow goal.now.param_env.items (erased (tree_of_alias alias)) self.old a z × ChangesRecords self.old z × ByFormedRuleGroups (kind_words G.merging G.has_term G.self_type G.is_with_self G.has_fault G.trait_asked G.passes G.is_impl_for G.candidate_gives G.candidate_refuted G.is_for G.additional) class goal.now a z result self.new) }
+        ensures by { WhenTried result (InTrial (ByFormedRuleGroups (kind_of G.words G.has_fault) class goal.now) goal.now.param_env.items alias self.old result self.new) }
         ensures lists { IfOk result (λ o. IfSome o (IsListedIn self.new)) }
         ensures goes_back { GoesBack self.old self.new }
         ensures fault { IsFaultFor self.old self.new result }

@@ -1,6 +1,6 @@
 //! The rules of a goal's candidates whose plain goal holds through a class, by their groups.
 ghost use Rattle.std.specs.Prelude.{◌≡◌, ◌∷◌, [], false, IfOk, IsOkUnless};
-ghost use Rattle.goal_solver.specs.Collecting.{kind_words, CollectsFor};
+ghost use Rattle.goal_solver.specs.Collecting.{kind_of, CollectsFor};
 ghost use Rattle.goal_solver.specs.OpenGoals.{has_kind_fault};
 ghost use Rattle.goal_solver.specs.OpenProjections.{CollectsAll, GroupsForForm, classes_behind};
 
@@ -32,8 +32,8 @@ pub(crate) fn rules_by_group<G: GoalKind + Drop>(
     goal: Goal<G>,
 ) -> Result<GroupRules, Fault>
     requires accepted { has_kind_fault G.has_fault tables.now goal ≡ false }
-    ensures first { IfOk result (λ w. CollectsAll (CollectsFor (kind_words G.merging G.has_term G.self_type G.is_with_self G.has_fault G.trait_asked G.passes G.is_impl_for G.candidate_gives G.candidate_refuted G.is_for G.additional) tables.now goal mode.now) (TraitGoalProvenVia.ParamEnv ∷ []) w.environment.items) }
-    ensures later { IfOk result (λ w. CollectsAll (CollectsFor (kind_words G.merging G.has_term G.self_type G.is_with_self G.has_fault G.trait_asked G.passes G.is_impl_for G.candidate_gives G.candidate_refuted G.is_for G.additional) tables.now goal mode.now) (classes_behind class) w.later.items) }
+    ensures first { IfOk result (λ w. CollectsAll (CollectsFor (kind_of G.words G.has_fault) tables.now goal mode.now) (TraitGoalProvenVia.ParamEnv ∷ []) w.environment.items) }
+    ensures later { IfOk result (λ w. CollectsAll (CollectsFor (kind_of G.words G.has_fault) tables.now goal mode.now) (classes_behind class) w.later.items) }
     ensures environment { IfOk result (λ w. w.param_env.items ≡ goal.param_env.items) }
     ensures only_memory { IsOkUnless result Fault.OutOfMemory }
 {
@@ -55,7 +55,7 @@ pub(crate) fn groups_for_form<G: GoalKind + Drop>(
     goal: &Goal<G>,
     found: Option<Term>,
 ) -> Result<Option<GroupRules>, Fault>
-    ensures rules { IfOk result (λ o. GroupsForForm (kind_words G.merging G.has_term G.self_type G.is_with_self G.has_fault G.trait_asked G.passes G.is_impl_for G.candidate_gives G.candidate_refuted G.is_for G.additional) tables.now mode.now class goal.now found o) }
+    ensures rules { IfOk result (λ o. GroupsForForm (kind_of G.words G.has_fault) tables.now mode.now class goal.now found o) }
     ensures only_memory { IsOkUnless result Fault.OutOfMemory }
 {
     match considered_for(tables, goal, found)? {
@@ -72,7 +72,7 @@ fn later_rules<G: GoalKind>(
     goal: &Goal<G>,
 ) -> Result<Vec<Rule>, Fault>
     requires accepted { has_kind_fault G.has_fault tables.now goal.now ≡ false }
-    ensures collected { IfOk result (λ rs. CollectsAll (CollectsFor (kind_words G.merging G.has_term G.self_type G.is_with_self G.has_fault G.trait_asked G.passes G.is_impl_for G.candidate_gives G.candidate_refuted G.is_for G.additional) tables.now goal.now mode.now) (classes_behind class) rs.items) }
+    ensures collected { IfOk result (λ rs. CollectsAll (CollectsFor (kind_of G.words G.has_fault) tables.now goal.now mode.now) (classes_behind class) rs.items) }
     ensures only_memory { IsOkUnless result Fault.OutOfMemory }
 {
     let classes = [TraitGoalProvenVia::AliasBound, TraitGoalProvenVia::Misc];
@@ -102,7 +102,7 @@ fn rules_of<G: GoalKind>(
     classes: &[TraitGoalProvenVia],
 ) -> Result<Vec<Rule>, Fault>
     requires accepted { has_kind_fault G.has_fault tables.now goal.now ≡ false }
-    ensures collected { IfOk result (λ rs. CollectsAll (CollectsFor (kind_words G.merging G.has_term G.self_type G.is_with_self G.has_fault G.trait_asked G.passes G.is_impl_for G.candidate_gives G.candidate_refuted G.is_for G.additional) tables.now goal.now mode.now) classes.now rs.items) }
+    ensures collected { IfOk result (λ rs. CollectsAll (CollectsFor (kind_of G.words G.has_fault) tables.now goal.now mode.now) classes.now rs.items) }
     ensures only_memory { IsOkUnless result Fault.OutOfMemory }
 {
     let mut found = Vec::new(*goal.param_env.allocator());

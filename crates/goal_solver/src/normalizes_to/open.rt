@@ -1,19 +1,17 @@
 //! Goals of the terms of projections with inference variables.
 ghost use Rattle.std.specs.Prelude.{◌≡◌, ◌<◌, ◌⊎◌, ℕ, suc, true, false, drop, Option, Result, None, IfOk, IfErr, IfSome, IsOkUnless, MatchOption};
 ghost use Rattle.std.specs.Option.{option_map};
-ghost use Rattle.goal_terms.specs.Erased.{erased};
 ghost use Rattle.goal_terms.specs.TreeOf.{tree_of_alias, tree_of_term};
 ghost use Rattle.goal_kinds.specs.ProjectionKind.{projected_trait};
 ghost use Rattle.goal_solver.specs.Answers.{is_closed_alias, expected_variable, IsMaybe};
 ghost use Rattle.goal_solver.specs.Binding.{IsApplicable};
-ghost use Rattle.goal_solver.specs.Collecting.{kind_words};
+ghost use Rattle.goal_solver.specs.Collecting.{kind_of};
 ghost use Rattle.goal_solver.specs.GoingBack.{GoesBack, restored};
 ghost use Rattle.goal_solver.specs.HiddenTypes.{tree_in};
-ghost use Rattle.goal_solver.specs.OpenForms.{OpensFrom, answers_somehow};
-ghost use Rattle.goal_solver.specs.OpenGoals.{AsksOpenSelf, IsSelfAlias, IsListedIn, MergesOpened, WhenAnswered, WhenTried, IsFormless, at_depth};
-ghost use Rattle.goal_solver.specs.OpenProjections.{AsksItsTrait, proven_class, own_args, alias_words, ByFormedGroups, ConsidersGroups, is_formed, Forms, FormsAll, RefusesForm, LacksForm, WithForms, IsRigidList, IsRigid, ByBounds, ByRest, ByLater, ByGroups, MergesThrough, MergesProjection, RunsAlias};
+ghost use Rattle.goal_solver.specs.OpenGoals.{AsksOpenSelf, IsSelfAlias, IsListedIn, MergesOpened, WhenAnswered, WhenTried, IsFormless, at_depth, InTrial, OpensIfAsked};
+ghost use Rattle.goal_solver.specs.OpenProjections.{AsksItsTrait, proven_class, own_args, alias_kind, ByFormedGroups, ConsidersGroups, is_formed, Forms, FormsAll, RefusesForm, LacksForm, WithForms, IsRigidList, IsRigid, ByBounds, ByRest, ByLater, ByGroups, MergesThrough, MergesProjection, RunsAlias};
 ghost use Rattle.goal_solver.specs.Refusals.{WhenRefused};
-ghost use Rattle.goal_solver.specs.Relating.{ChangesRecords, IsFaultFor};
+ghost use Rattle.goal_solver.specs.Relating.{IsFaultFor};
 ghost use Rattle.goal_solver.specs.State.{State as state};
 
 use crate::assembly::merged_rules::Merged;
@@ -100,7 +98,7 @@ impl EvalCtxt<'_> {
         class: TraitGoalProvenVia,
         goal: &Goal<NormalizesTo>,
     ) -> Result<Response, Fault>
-        ensures merges { WhenAnswered result (MergesThrough alias_words goal.now.predicate class goal.now self.old result self.new) }
+        ensures merges { WhenAnswered result (MergesThrough alias_kind goal.now.predicate class goal.now self.old result self.new) }
         ensures applies { IfOk result (IsApplicable self.new) }
         ensures unchanged { self.new ≡ restored self.old self.new }
         ensures goes_back { GoesBack self.old self.new }
@@ -120,8 +118,8 @@ impl EvalCtxt<'_> {
         class: TraitGoalProvenVia,
         goal: &Goal<NormalizesTo>,
     ) -> Result<Response, Fault>
-        ensures undecided { (AsksOpenSelf alias_words.self_type goal.now self.old → ⊥) → WhenAnswered result (IsMaybe result) }
-        ensures opened { AsksOpenSelf alias_words.self_type goal.now self.old → (z : state) × (z ≡ restored self.old z) × WhenAnswered result (MergesOpened alias_words.self_type (ByFormedGroups alias_words goal.now.predicate class goal.now) goal.now z result self.new) }
+        ensures undecided { (AsksOpenSelf alias_kind.words.self_type goal.now self.old → ⊥) → WhenAnswered result (IsMaybe result) }
+        ensures opened { OpensIfAsked alias_kind.words.self_type (ByFormedGroups alias_kind goal.now.predicate class goal.now) goal.now self.old result self.new }
         ensures applies { IfOk result (IsApplicable self.new) }
         ensures unchanged { self.new ≡ restored self.old self.new }
         ensures goes_back { GoesBack self.old self.new }
@@ -142,8 +140,8 @@ impl EvalCtxt<'_> {
         goal: &Goal<NormalizesTo>,
         alias: AliasTerm,
     ) -> Result<Response, Fault>
-        requires opens { IsSelfAlias alias_words.self_type goal.now self.old alias }
-        ensures merges { WhenAnswered result (MergesOpened alias_words.self_type (ByFormedGroups alias_words goal.now.predicate class goal.now) goal.now self.old result self.new) }
+        requires opens { IsSelfAlias alias_kind.words.self_type goal.now self.old alias }
+        ensures merges { WhenAnswered result (MergesOpened alias_kind.words.self_type (ByFormedGroups alias_kind goal.now.predicate class goal.now) goal.now self.old result self.new) }
         ensures applies { IfOk result (IsApplicable self.new) }
         ensures unchanged { self.new ≡ restored self.old self.new }
         ensures goes_back { GoesBack self.old self.new }
@@ -169,7 +167,7 @@ impl EvalCtxt<'_> {
         goal: &Goal<NormalizesTo>,
         alias: AliasTerm,
     ) -> Result<Option<Response>, Fault>
-        ensures by { WhenTried result ((a : Result (Option Term) Fault) × (z : state) × OpensFrom answers_somehow goal.now.param_env.items (erased (tree_of_alias alias)) self.old a z × ChangesRecords self.old z × ByFormedGroups alias_words goal.now.predicate class goal.now a z result self.new) }
+        ensures by { WhenTried result (InTrial (ByFormedGroups alias_kind goal.now.predicate class goal.now) goal.now.param_env.items alias self.old result self.new) }
         ensures lists { IfOk result (λ o. IfSome o (IsListedIn self.new)) }
         ensures goes_back { GoesBack self.old self.new }
         ensures fault { IsFaultFor self.old self.new result }
@@ -192,7 +190,7 @@ impl EvalCtxt<'_> {
         asked: &NormalizesTo,
         goal: &Goal<G>,
     ) -> Result<Response, Fault>
-        ensures merges { WhenAnswered result (MergesThrough (kind_words G.merging G.has_term G.self_type G.is_with_self G.has_fault G.trait_asked G.passes G.is_impl_for G.candidate_gives G.candidate_refuted G.is_for G.additional) asked.now class goal.now self.old result self.new) }
+        ensures merges { WhenAnswered result (MergesThrough (kind_of G.words G.has_fault) asked.now class goal.now self.old result self.new) }
         ensures applies { IfOk result (IsApplicable self.new) }
         ensures unchanged { self.new ≡ restored self.old self.new }
         ensures goes_back { GoesBack self.old self.new }
@@ -212,8 +210,8 @@ impl EvalCtxt<'_> {
         asked: &NormalizesTo,
         goal: &Goal<G>,
     ) -> Result<Response, Fault>
-        ensures undecided { (AsksOpenSelf G.self_type goal.now self.old → ⊥) → WhenAnswered result (IsMaybe result) }
-        ensures opened { AsksOpenSelf G.self_type goal.now self.old → (z : state) × (z ≡ restored self.old z) × WhenAnswered result (MergesOpened G.self_type (ByFormedGroups (kind_words G.merging G.has_term G.self_type G.is_with_self G.has_fault G.trait_asked G.passes G.is_impl_for G.candidate_gives G.candidate_refuted G.is_for G.additional) asked.now class goal.now) goal.now z result self.new) }
+        ensures undecided { (AsksOpenSelf G.words.self_type goal.now self.old → ⊥) → WhenAnswered result (IsMaybe result) }
+        ensures opened { OpensIfAsked G.words.self_type (ByFormedGroups (kind_of G.words G.has_fault) asked.now class goal.now) goal.now self.old result self.new }
         ensures applies { IfOk result (IsApplicable self.new) }
         ensures unchanged { self.new ≡ restored self.old self.new }
         ensures goes_back { GoesBack self.old self.new }
@@ -234,8 +232,8 @@ impl EvalCtxt<'_> {
         goal: &Goal<G>,
         alias: AliasTerm,
     ) -> Result<Response, Fault>
-        requires opens { IsSelfAlias G.self_type goal.now self.old alias }
-        ensures merges { WhenAnswered result (MergesOpened G.self_type (ByFormedGroups (kind_words G.merging G.has_term G.self_type G.is_with_self G.has_fault G.trait_asked G.passes G.is_impl_for G.candidate_gives G.candidate_refuted G.is_for G.additional) asked.now class goal.now) goal.now self.old result self.new) }
+        requires opens { IsSelfAlias G.words.self_type goal.now self.old alias }
+        ensures merges { WhenAnswered result (MergesOpened G.words.self_type (ByFormedGroups (kind_of G.words G.has_fault) asked.now class goal.now) goal.now self.old result self.new) }
         ensures applies { IfOk result (IsApplicable self.new) }
         ensures unchanged { self.new ≡ restored self.old self.new }
         ensures goes_back { GoesBack self.old self.new }
@@ -261,7 +259,7 @@ impl EvalCtxt<'_> {
         goal: &Goal<G>,
         alias: AliasTerm,
     ) -> Result<Option<Response>, Fault>
-        ensures by { WhenTried result ((a : Result (Option Term) Fault) × (z : state) × OpensFrom answers_somehow goal.now.param_env.items (erased (tree_of_alias alias)) self.old a z × ChangesRecords self.old z × ByFormedGroups (kind_words G.merging G.has_term G.self_type G.is_with_self G.has_fault G.trait_asked G.passes G.is_impl_for G.candidate_gives G.candidate_refuted G.is_for G.additional) asked.now class goal.now a z result self.new) }
+        ensures by { WhenTried result (InTrial (ByFormedGroups (kind_of G.words G.has_fault) asked.now class goal.now) goal.now.param_env.items alias self.old result self.new) }
         ensures lists { IfOk result (λ o. IfSome o (IsListedIn self.new)) }
         ensures goes_back { GoesBack self.old self.new }
         ensures fault { IsFaultFor self.old self.new result }
@@ -282,8 +280,8 @@ impl EvalCtxt<'_> {
         class: TraitGoalProvenVia,
         goal: &Goal<G>,
     ) -> Result<Option<GroupRules>, Fault>
-        ensures considers { IfOk result (λ o. ConsidersGroups (kind_words G.merging G.has_term G.self_type G.is_with_self G.has_fault G.trait_asked G.passes G.is_impl_for G.candidate_gives G.candidate_refuted G.is_for G.additional) class goal.now self.old o self.new) }
-        ensures formless { IfErr result (λ f. f ≡ Fault.NoSolution → IsFormless G.self_type goal.now self.old self.new) }
+        ensures considers { IfOk result (λ o. ConsidersGroups (kind_of G.words G.has_fault) class goal.now self.old o self.new) }
+        ensures formless { IfErr result (λ f. f ≡ Fault.NoSolution → IsFormless G.words.self_type goal.now self.old self.new) }
         ensures unchanged { self.new ≡ restored self.old self.new }
         ensures goes_back { GoesBack self.old self.new }
         ensures fault { IsFaultFor self.old self.new result }

@@ -1,21 +1,17 @@
 //! The terms that projections have through a class by which their trait goals hold.
-ghost use Rattle.std.specs.Prelude.{◌≡◌, ◌⊎◌, ℕ, true, [], length, Some, None, IfOk, IfErr};
+ghost use Rattle.std.specs.Prelude.{◌≡◌, ◌⊎◌, true, [], length, Some, None, IfOk, IfErr};
 ghost use Rattle.goal_terms.specs.declared.answers.Certainty.TheVariants as certainty;
 ghost use Rattle.goal_terms.specs.TableMeaning.{Keeps};
 ghost use Rattle.goal_terms.specs.declared.modes.TypingMode.{TypingMode};
-ghost use Rattle.goal_kinds.specs.Answers.{setting_of};
 ghost use Rattle.goal_kinds.specs.Projections.{projected_item};
 ghost use Rattle.goal_kinds.specs.Settings.{is_headline};
-ghost use Rattle.goal_eval.specs.ErasedArgs.{erased_args};
-ghost use Rattle.goal_solver.specs.Answers.{IsOwed, level_over, is_closed_alias, IsAliasAnswer, IsAliasOpen, expected_variable, IsMaybe, AnswersAside, IsFaultOf};
-ghost use Rattle.goal_solver.specs.Assembled.{HoldsThrough, level_through};
-ghost use Rattle.goal_solver.specs.Binding.{IsApplicable};
-ghost use Rattle.goal_solver.specs.Goals.{IsAcceptedNormalization};
+ghost use Rattle.goal_solver.specs.Answers.{IsOwed, is_closed_alias, AnswersAside, IsFaultOf};
 ghost use Rattle.goal_solver.specs.GoingBack.{GoesBack, restored};
 ghost use Rattle.goal_solver.specs.Recording.{FitsKind};
-ghost use Rattle.goal_eval.specs.Outcomes.{RunsAs, RunsFor, StandsFor, setting_in, level_in, SaysWhich, FoundIn};
+ghost use Rattle.goal_eval.specs.Outcomes.{RunsAs, RunsFor, StandsFor, setting_in, level_in, FoundIn};
 ghost use Rattle.goal_solver.specs.Promises.{ListsTerm};
 ghost use Rattle.goal_solver.specs.State.{kinds_of};
+ghost use Rattle.goal_solver.specs.ThroughClasses.{SaysTermThrough, SaysClassTerm, SoundThrough, DecidesThrough, AppliesThrough};
 ghost use Rattle.goal_eval.specs.Effects.{AreSound, IsStop};
 
 use crate::context::EvalCtxt;
@@ -58,7 +54,7 @@ fn alias_proven_via(
     ensures kept { Keeps terms.old terms.new }
     ensures within { IfOk result (FoundIn terms.new) }
     ensures stops { IfErr result (IsStop setting.now) }
-    ensures says { (m : TypingMode) → RunsFor setting.now m → IfOk result (SaysWhich ((level_through (setting_in setting.now m) (level_in setting.now m depth) class).gives alias.now.kind (erased_args alias.now.args.items)) ((level_through (setting_in setting.now m) (level_in setting.now m depth) class).gives_refuted alias.now.kind (erased_args alias.now.args.items)) terms.new) }
+    ensures says { (m : TypingMode) → RunsFor setting.now m → SaysTermThrough (setting_in setting.now m) (level_in setting.now m depth) class alias.now terms.new result }
 {
     let Some(id) = projected_item(alias.kind) else {
         return Ok(Found::Undecided);
@@ -96,8 +92,8 @@ impl EvalCtxt<'_> {
         ensures unchanged { self.new ≡ restored self.old self.new }
         ensures goes_back { GoesBack self.old self.new }
         ensures within { IfOk result (FoundIn self.new.terms) }
-        ensures says { (m : TypingMode) → IsOwed self.new m → IfOk result (SaysWhich ((level_through (setting_of self.old.tables m environment.now) (level_over self.old m environment.now) class).gives alias.now.kind (erased_args alias.now.args.items)) ((level_through (setting_of self.old.tables m environment.now) (level_over self.old m environment.now) class).gives_refuted alias.now.kind (erased_args alias.now.args.items)) self.new.terms) }
-        ensures fits { IfOk result (FitsKind alias.now.kind self.new.terms) ⊎ ((m : TypingMode) → StandsFor self.old.typing_mode m → IfOk result (SaysWhich ((level_through (setting_of self.old.tables m environment.now) (level_over self.old m environment.now) class).gives alias.now.kind (erased_args alias.now.args.items)) ((level_through (setting_of self.old.tables m environment.now) (level_over self.old m environment.now) class).gives_refuted alias.now.kind (erased_args alias.now.args.items)) self.new.terms)) }
+        ensures says { (m : TypingMode) → IsOwed self.new m → SaysClassTerm self.old self.new m environment.now class alias.now result }
+        ensures fits { IfOk result (FitsKind alias.now.kind self.new.terms) ⊎ ((m : TypingMode) → StandsFor self.old.typing_mode m → SaysClassTerm self.old self.new m environment.now class alias.now result) }
         ensures stops { is_headline self.old.typing_mode ≡ true → IfErr result (λ s. s ≡ Stop.OutOfMemory) }
     {
         if let OnAccess::Record = self.first_access() {
@@ -142,7 +138,7 @@ impl EvalCtxt<'_> {
         ensures unchanged { self.new ≡ restored self.old self.new }
         ensures goes_back { GoesBack self.old self.new }
         ensures within { IfOk result (FoundIn self.new.terms) }
-        ensures says { (m : TypingMode) → RunsAs on_access self.old.typing_mode m → IfOk result (SaysWhich ((level_through (setting_of self.old.tables m environment.now) (level_over self.old m environment.now) class).gives alias.now.kind (erased_args alias.now.args.items)) ((level_through (setting_of self.old.tables m environment.now) (level_over self.old m environment.now) class).gives_refuted alias.now.kind (erased_args alias.now.args.items)) self.new.terms) }
+        ensures says { (m : TypingMode) → RunsAs on_access self.old.typing_mode m → SaysClassTerm self.old self.new m environment.now class alias.now result }
         ensures stops { is_headline self.old.typing_mode ≡ true → IfErr result (λ s. s ≡ Stop.OutOfMemory) }
     {
         let mut effects = self.listing_effects();
@@ -168,8 +164,8 @@ impl EvalCtxt<'_> {
         asked: &NormalizesTo,
         environment: &[Clause],
     ) -> Result<Response, Fault>
-        ensures sound { (m : TypingMode) → IsOwed self.new m → IsAliasAnswer (level_through (setting_of self.old.tables m environment.now) (level_over self.old m environment.now) class) asked.now.alias.kind (erased_args asked.now.alias.args.items) asked.now.term result }
-        ensures decided { (m : TypingMode) (n : ℕ) → IsOwed self.new m → is_closed_alias asked.now.alias environment.now ≡ true → expected_variable asked.now.term ≡ Some n → IsMaybe result → IsAliasOpen (level_through (setting_of self.old.tables m environment.now) (level_over self.old m environment.now) class) asked.now.alias.kind (erased_args asked.now.alias.args.items) }
+        ensures sound { SoundThrough self.old self.new class asked.now environment.now result }
+        ensures decided { DecidesThrough self.old self.new class asked.now environment.now result }
         ensures unchanged { self.new ≡ restored self.old self.new }
         ensures goes_back { GoesBack self.old self.new }
         ensures fault { IsFaultOf self.old self.new result }
@@ -177,7 +173,7 @@ impl EvalCtxt<'_> {
         ensures lists { IfOk result (λ r. r.certainty ≡ certainty.Maybe → r.var_values.items ≡ []) }
         ensures gives { IfOk result (λ r. r.certainty ≡ certainty.Yes → ListsTerm asked.now.term certainty.Yes r.var_values.items) }
         ensures no_class { IfOk result (λ r. r.proven_via ≡ None) }
-        ensures applies { (m : TypingMode) → StandsFor self.old.typing_mode m → IsAcceptedNormalization self.old asked.now environment.now → HoldsThrough (setting_of self.old.tables m environment.now) (level_over self.old m environment.now) class asked.now.alias.kind (erased_args asked.now.alias.args.items) → IfOk result (IsApplicable self.new) }
+        ensures applies { AppliesThrough self.old self.new class asked.now environment.now result }
     {
         self.is_well_formed();
         let Some(expected) = general_variable(asked.term.view().node()) else {

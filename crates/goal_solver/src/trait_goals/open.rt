@@ -1,15 +1,13 @@
 //! Trait goals with inference variables.
 ghost use Rattle.std.specs.Prelude.{◌≡◌, ◌<◌, ℕ, suc, [], false, true, is_some, length, Option, Result, None, Ok, Err, IfOk, IfErr, IfSome, IsOkUnless};
-ghost use Rattle.goal_terms.specs.Erased.{erased};
 ghost use Rattle.goal_terms.specs.TableMeaning.{Keeps};
-ghost use Rattle.goal_terms.specs.TreeOf.{tree_of_alias, tree_of_ty};
+ghost use Rattle.goal_terms.specs.TreeOf.{tree_of_ty};
 ghost use Rattle.goal_solver.specs.Binding.{IsApplicable};
 ghost use Rattle.goal_solver.specs.Answers.{IsMaybe, IsQuiet};
-ghost use Rattle.goal_solver.specs.Collecting.{kind_words, trait_words};
+ghost use Rattle.goal_solver.specs.Collecting.{kind_of, trait_kind};
 ghost use Rattle.goal_solver.specs.GoingBack.{GoesBack, restored};
-ghost use Rattle.goal_solver.specs.OpenGoals.{FormsGoal, IsFormless, MergesGoal, MergesTrait, WhenAnswered, at_depth, has_kind_fault, IsConsidered, AreOfClass, ConsidersRules, ClassAnswers, ByClasses, proven_by, trait_classes, AsksOpenSelf, IsSelfAlias, MergesOpened, WhenTried, ByFormedClasses, ClassesForForm, IsListedIn, IsBeside, IsAfterTrial, TakesSelf, PassesSelf};
-ghost use Rattle.goal_solver.specs.OpenForms.{OpensFrom, answers_somehow};
-ghost use Rattle.goal_solver.specs.Relating.{ChangesRecords, IsFaultFor};
+ghost use Rattle.goal_solver.specs.OpenGoals.{FormsGoal, IsFormless, MergesGoal, MergesTrait, WhenAnswered, at_depth, has_kind_fault, IsConsidered, AreOfClass, ConsidersRules, ClassAnswers, ByClasses, proven_by, trait_classes, AsksOpenSelf, IsSelfAlias, MergesOpened, WhenTried, ByFormedClasses, ClassesForForm, IsListedIn, IsBeside, IsAfterTrial, TakesSelf, PassesSelf, InTrial, OpensIfAsked};
+ghost use Rattle.goal_solver.specs.Relating.{IsFaultFor};
 ghost use Rattle.goal_solver.specs.State.{State as state, kinds_of};
 ghost use Rattle.goal_solver.specs.TranslatedArgs.{IsSameEnvironment};
 
@@ -68,8 +66,8 @@ impl EvalCtxt<'_> {
     /// undecided, or answered in a trial.
     #[cycle(open)]
     fn merge_open_trait(&mut self, goal: &Goal<TraitPredicate>) -> Result<Response, Fault>
-        ensures undecided { (AsksOpenSelf trait_words.self_type goal.now self.old → ⊥) → WhenAnswered result (IsMaybe result) }
-        ensures opened { AsksOpenSelf trait_words.self_type goal.now self.old → (z : state) × (z ≡ restored self.old z) × WhenAnswered result (MergesOpened trait_words.self_type (ByFormedClasses trait_words goal.now) goal.now z result self.new) }
+        ensures undecided { (AsksOpenSelf trait_kind.words.self_type goal.now self.old → ⊥) → WhenAnswered result (IsMaybe result) }
+        ensures opened { OpensIfAsked trait_kind.words.self_type (ByFormedClasses trait_kind goal.now) goal.now self.old result self.new }
         ensures applies { IfOk result (IsApplicable self.new) }
         ensures unchanged { self.new ≡ restored self.old self.new }
         ensures goes_back { GoesBack self.old self.new }
@@ -89,8 +87,8 @@ impl EvalCtxt<'_> {
         goal: &Goal<TraitPredicate>,
         alias: AliasTerm,
     ) -> Result<Response, Fault>
-        requires opens { IsSelfAlias trait_words.self_type goal.now self.old alias }
-        ensures merges { WhenAnswered result (MergesOpened trait_words.self_type (ByFormedClasses trait_words goal.now) goal.now self.old result self.new) }
+        requires opens { IsSelfAlias trait_kind.words.self_type goal.now self.old alias }
+        ensures merges { WhenAnswered result (MergesOpened trait_kind.words.self_type (ByFormedClasses trait_kind goal.now) goal.now self.old result self.new) }
         ensures applies { IfOk result (IsApplicable self.new) }
         ensures unchanged { self.new ≡ restored self.old self.new }
         ensures goes_back { GoesBack self.old self.new }
@@ -115,7 +113,7 @@ impl EvalCtxt<'_> {
         goal: &Goal<TraitPredicate>,
         alias: AliasTerm,
     ) -> Result<Option<Response>, Fault>
-        ensures by { WhenTried result ((a : Result (Option Term) Fault) × (z : state) × OpensFrom answers_somehow goal.now.param_env.items (erased (tree_of_alias alias)) self.old a z × ChangesRecords self.old z × ByFormedClasses trait_words goal.now a z result self.new) }
+        ensures by { WhenTried result (InTrial (ByFormedClasses trait_kind goal.now) goal.now.param_env.items alias self.old result self.new) }
         ensures lists { IfOk result (λ o. IfSome o (IsListedIn self.new)) }
         ensures goes_back { GoesBack self.old self.new }
         ensures fault { IsFaultFor self.old self.new result }
@@ -134,7 +132,7 @@ impl EvalCtxt<'_> {
         &mut self,
         goal: &Goal<G>,
     ) -> Result<Response, Fault>
-        ensures merges { WhenAnswered result (MergesGoal (kind_words G.merging G.has_term G.self_type G.is_with_self G.has_fault G.trait_asked G.passes G.is_impl_for G.candidate_gives G.candidate_refuted G.is_for G.additional) goal.now self.old result self.new) }
+        ensures merges { WhenAnswered result (MergesGoal (kind_of G.words G.has_fault) goal.now self.old result self.new) }
         ensures applies { IfOk result (IsApplicable self.new) }
         ensures unchanged { self.new ≡ restored self.old self.new }
         ensures goes_back { GoesBack self.old self.new }
@@ -149,8 +147,8 @@ impl EvalCtxt<'_> {
     /// What the candidates of a goal make of it where no candidates are considered, or where the self type is an alias with inference variables: it is
     /// undecided, or answered in a trial.
     fn merge_open_goal<G: GoalKind + Drop>(&mut self, goal: &Goal<G>) -> Result<Response, Fault>
-        ensures undecided { (AsksOpenSelf G.self_type goal.now self.old → ⊥) → WhenAnswered result (IsMaybe result) }
-        ensures opened { AsksOpenSelf G.self_type goal.now self.old → (z : state) × (z ≡ restored self.old z) × WhenAnswered result (MergesOpened G.self_type (ByFormedClasses (kind_words G.merging G.has_term G.self_type G.is_with_self G.has_fault G.trait_asked G.passes G.is_impl_for G.candidate_gives G.candidate_refuted G.is_for G.additional) goal.now) goal.now z result self.new) }
+        ensures undecided { (AsksOpenSelf G.words.self_type goal.now self.old → ⊥) → WhenAnswered result (IsMaybe result) }
+        ensures opened { OpensIfAsked G.words.self_type (ByFormedClasses (kind_of G.words G.has_fault) goal.now) goal.now self.old result self.new }
         ensures applies { IfOk result (IsApplicable self.new) }
         ensures unchanged { self.new ≡ restored self.old self.new }
         ensures goes_back { GoesBack self.old self.new }
@@ -169,8 +167,8 @@ impl EvalCtxt<'_> {
         goal: &Goal<G>,
         alias: AliasTerm,
     ) -> Result<Response, Fault>
-        requires opens { IsSelfAlias G.self_type goal.now self.old alias }
-        ensures merges { WhenAnswered result (MergesOpened G.self_type (ByFormedClasses (kind_words G.merging G.has_term G.self_type G.is_with_self G.has_fault G.trait_asked G.passes G.is_impl_for G.candidate_gives G.candidate_refuted G.is_for G.additional) goal.now) goal.now self.old result self.new) }
+        requires opens { IsSelfAlias G.words.self_type goal.now self.old alias }
+        ensures merges { WhenAnswered result (MergesOpened G.words.self_type (ByFormedClasses (kind_of G.words G.has_fault) goal.now) goal.now self.old result self.new) }
         ensures applies { IfOk result (IsApplicable self.new) }
         ensures unchanged { self.new ≡ restored self.old self.new }
         ensures goes_back { GoesBack self.old self.new }
@@ -194,7 +192,7 @@ impl EvalCtxt<'_> {
         goal: &Goal<G>,
         alias: AliasTerm,
     ) -> Result<Option<Response>, Fault>
-        ensures by { WhenTried result ((a : Result (Option Term) Fault) × (z : state) × OpensFrom answers_somehow goal.now.param_env.items (erased (tree_of_alias alias)) self.old a z × ChangesRecords self.old z × ByFormedClasses (kind_words G.merging G.has_term G.self_type G.is_with_self G.has_fault G.trait_asked G.passes G.is_impl_for G.candidate_gives G.candidate_refuted G.is_for G.additional) goal.now a z result self.new) }
+        ensures by { WhenTried result (InTrial (ByFormedClasses (kind_of G.words G.has_fault) goal.now) goal.now.param_env.items alias self.old result self.new) }
         ensures lists { IfOk result (λ o. IfSome o (IsListedIn self.new)) }
         ensures goes_back { GoesBack self.old self.new }
         ensures fault { IsFaultFor self.old self.new result }
@@ -213,9 +211,9 @@ impl EvalCtxt<'_> {
         &mut self,
         goal: &Goal<G>,
     ) -> Result<Option<AliasTerm>, Fault>
-        ensures none { result ≡ Ok None → AsksOpenSelf G.self_type goal.now self.old → ⊥ }
-        ensures asks { IfOk result (λ o. IfSome o (λ a. AsksOpenSelf G.self_type goal.now self.old)) }
-        ensures alias { IfOk result (λ o. IfSome o (IsSelfAlias G.self_type goal.now self.new)) }
+        ensures none { result ≡ Ok None → AsksOpenSelf G.words.self_type goal.now self.old → ⊥ }
+        ensures asks { IfOk result (λ o. IfSome o (λ a. AsksOpenSelf G.words.self_type goal.now self.old)) }
+        ensures alias { IfOk result (λ o. IfSome o (IsSelfAlias G.words.self_type goal.now self.new)) }
         ensures kept { Keeps self.old.terms self.new.terms }
         ensures unchanged { self.new ≡ record self.old { terms = self.new.terms } }
         ensures only_memory { IsOkUnless result Fault.OutOfMemory }
@@ -265,8 +263,8 @@ impl EvalCtxt<'_> {
         &mut self,
         goal: &Goal<G>,
     ) -> Result<Option<ClassRules>, Fault>
-        ensures considers { IfOk result (λ o. ConsidersRules (kind_words G.merging G.has_term G.self_type G.is_with_self G.has_fault G.trait_asked G.passes G.is_impl_for G.candidate_gives G.candidate_refuted G.is_for G.additional) goal.now self.old o self.new) }
-        ensures formless { IfErr result (λ f. f ≡ Fault.NoSolution → IsFormless G.self_type goal.now self.old self.new) }
+        ensures considers { IfOk result (λ o. ConsidersRules (kind_of G.words G.has_fault) goal.now self.old o self.new) }
+        ensures formless { IfErr result (λ f. f ≡ Fault.NoSolution → IsFormless G.words.self_type goal.now self.old self.new) }
         ensures unchanged { self.new ≡ restored self.old self.new }
         ensures goes_back { GoesBack self.old self.new }
         ensures fault { IsFaultFor self.old self.new result }
@@ -285,8 +283,8 @@ impl EvalCtxt<'_> {
         &mut self,
         goal: &Goal<G>,
     ) -> Result<Option<Goal<G>>, Fault>
-        ensures forms { IfOk result (FormsGoal G.self_type G.is_with_self (has_kind_fault G.has_fault self.old.tables) goal.now self.old self.new) }
-        ensures formless { IfErr result (λ f. f ≡ Fault.NoSolution → IsFormless G.self_type goal.now self.old self.new) }
+        ensures forms { IfOk result (FormsGoal G.words.self_type G.words.is_with_self (has_kind_fault G.has_fault self.old.tables) goal.now self.old self.new) }
+        ensures formless { IfErr result (λ f. f ≡ Fault.NoSolution → IsFormless G.words.self_type goal.now self.old self.new) }
         ensures unchanged { self.new ≡ restored self.old self.new }
         ensures goes_back { GoesBack self.old self.new }
         ensures fault { IsFaultFor self.old self.new result }
@@ -374,7 +372,7 @@ fn classes_for_form<G: GoalKind + Drop>(
     goal: &Goal<G>,
     found: Option<Term>,
 ) -> Result<Option<ClassRules>, Fault>
-    ensures rules { IfOk result (λ o. ClassesForForm (kind_words G.merging G.has_term G.self_type G.is_with_self G.has_fault G.trait_asked G.passes G.is_impl_for G.candidate_gives G.candidate_refuted G.is_for G.additional) tables.now mode.now goal.now found o) }
+    ensures rules { IfOk result (λ o. ClassesForForm (kind_of G.words G.has_fault) tables.now mode.now goal.now found o) }
     ensures only_memory { IsOkUnless result Fault.OutOfMemory }
 {
     match considered_for(tables, goal, found)? {
@@ -390,8 +388,8 @@ pub(crate) fn considered_for<G: GoalKind + Drop>(
     goal: &Goal<G>,
     found: Option<Term>,
 ) -> Result<Option<Goal<G>>, Fault>
-    ensures takes { IfOk result (λ o. IfSome o (λ h. TakesSelf G.is_with_self goal.now h found × (has_kind_fault G.has_fault tables.now h ≡ false))) }
-    ensures passes { result ≡ Ok None → PassesSelf G.is_with_self (has_kind_fault G.has_fault tables.now) goal.now found }
+    ensures takes { IfOk result (λ o. IfSome o (λ h. TakesSelf G.words.is_with_self goal.now h found × (has_kind_fault G.has_fault tables.now h ≡ false))) }
+    ensures passes { result ≡ Ok None → PassesSelf G.words.is_with_self (has_kind_fault G.has_fault tables.now) goal.now found }
     ensures only_memory { IsOkUnless result Fault.OutOfMemory }
 {
     let Some(form) = form_to_consider(found) else {
@@ -406,7 +404,7 @@ pub(crate) fn considered_for<G: GoalKind + Drop>(
 
 /// The goal with another self type, in the same environment.
 fn with_form<G: GoalKind + Drop>(goal: &Goal<G>, form: Ty) -> Result<Goal<G>, Fault>
-    ensures replaced { IfOk result (λ h. G.is_with_self goal.now.predicate (tree_of_ty form) h.predicate) }
+    ensures replaced { IfOk result (λ h. G.words.is_with_self goal.now.predicate (tree_of_ty form) h.predicate) }
     ensures environment { IfOk result (λ h. IsSameEnvironment goal.now.param_env.items h.param_env.items) }
     ensures only_memory { IsOkUnless result Fault.OutOfMemory }
 {

@@ -5,7 +5,7 @@ use Rattle.goal_kinds.proofs.goal_kind.GoalKind.probe_and_consider_implied_claus
 
 pub returns-clause-gives : goal.returns-clause-gives
 returns-clause-gives g c =
-    gives-behind g.Self.GoalKind.has_term (setting_of c.args.tables.now c.args.mode.now c.args.goal.now.param_env.items) _
+    gives-behind g.Self.GoalKind.words.has_term (setting_of c.args.tables.now c.args.mode.now c.args.goal.now.param_env.items) _
     c.in_ok-rule.rule c.in_ok-with_requirements.field-0 c.args.requirements.items
     c.in_ok-with_requirements.ensures.entries c.in_ok-rule.ensures.gives
 
@@ -17,5 +17,5 @@ returns-clause-refuted g c =
 
 pub returns-clause-expected : goal.returns-clause-expected
 returns-clause-expected g c =
-    requirements-for (g.Self.GoalKind.expected c.args.goal.now.predicate) _ c.in_ok-rule.rule.entries.items c.args.requirements.items
+    requirements-for (g.Self.GoalKind.words.expected c.args.goal.now.predicate) _ c.in_ok-rule.rule.entries.items c.args.requirements.items
     c.in_ok-with_requirements.ensures.entries c.in_ok-rule.ensures.expected

@@ -1,7 +1,8 @@
 use Rattle.std.proofs.Common.{◌++◌, ◌∙◌, inl, sym, ap, subst}
 use Rattle.goal_kinds.specs.Answers.{setting_of}
 use Rattle.goal_kinds.specs.Candidates.{bounds_under}
-use Rattle.goal_solver.specs.Collecting.{words_over, args_and_itself, bounds_of_kind, Speaks, Lacks, Collects}
+use Rattle.goal_kinds.specs.KindWords.{words_for}
+use Rattle.goal_solver.specs.Collecting.{args_and_itself, bounds_of_kind, Speaks, Lacks, Collects}
 use Rattle.goal_solver.proofs.CollectingLemmas.{collects-nothing}
 use Rattle.goal_solver.proofs.CollectedTermLemmas.{kind-none}
 use Rattle.goal_solver.proofs.assembly.collecting.push_bound_rules.Goals as goal
@@ -11,9 +12,9 @@ returns-in_ok-push_alias_rules-in-ProjectionTy-clause-collected g c =
     inl (
       c.in-Alias.alias,
       c.in-Alias.is,
-      subst (λ ds. Collects (Speaks (words_over g.G.GoalKind.merging g.G.GoalKind.has_term (g.G.GoalKind.candidate_gives c.args.goal.now.predicate) (g.G.GoalKind.candidate_refuted c.args.goal.now.predicate) (g.G.GoalKind.passes c.args.goal.now.predicate) (g.G.GoalKind.is_for c.args.goal.now.predicate c.args.tables.now) (g.G.GoalKind.trait_asked c.args.goal.now.predicate c.args.tables.now) (setting_of c.args.tables.now c.args.mode.now c.args.goal.now.param_env.items))) (Lacks (words_over g.G.GoalKind.merging g.G.GoalKind.has_term (g.G.GoalKind.candidate_gives c.args.goal.now.predicate) (g.G.GoalKind.candidate_refuted c.args.goal.now.predicate) (g.G.GoalKind.passes c.args.goal.now.predicate) (g.G.GoalKind.is_for c.args.goal.now.predicate c.args.tables.now) (g.G.GoalKind.trait_asked c.args.goal.now.predicate c.args.tables.now) (setting_of c.args.tables.now c.args.mode.now c.args.goal.now.param_env.items))) ds c.args.found.now.items c.push_alias_rules.new.found.items)
-          (ap (λ cs. bounds_under (args_and_itself c.in-Alias.alias) cs ++ g.G.GoalKind.additional c.args.goal.now.predicate (setting_of c.args.tables.now c.args.mode.now c.args.goal.now.param_env.items) c.in-Alias.alias) c.clauses_of_item-clauses.ensures
-          ∙ ap (λ k. bounds_of_kind c.args.tables.now k (args_and_itself c.in-Alias.alias) (g.G.GoalKind.additional c.args.goal.now.predicate (setting_of c.args.tables.now c.args.mode.now c.args.goal.now.param_env.items) c.in-Alias.alias)) (sym c.in-ProjectionTy.is))
+      subst (λ ds. Collects (Speaks (words_for g.G.GoalKind.words c.args.tables.now c.args.goal.now c.args.mode.now)) (Lacks (words_for g.G.GoalKind.words c.args.tables.now c.args.goal.now c.args.mode.now)) ds c.args.found.now.items c.push_alias_rules.new.found.items)
+          (ap (λ cs. bounds_under (args_and_itself c.in-Alias.alias) cs ++ g.G.GoalKind.words.additional c.args.goal.now.predicate (setting_of c.args.tables.now c.args.mode.now c.args.goal.now.param_env.items) c.in-Alias.alias) c.clauses_of_item-clauses.ensures
+          ∙ ap (λ k. bounds_of_kind c.args.tables.now k (args_and_itself c.in-Alias.alias) (g.G.GoalKind.words.additional c.args.goal.now.predicate (setting_of c.args.tables.now c.args.mode.now c.args.goal.now.param_env.items) c.in-Alias.alias)) (sym c.in-ProjectionTy.is))
           c.in_ok-push_alias_rules-in-ProjectionTy.ensures.collected,
     )
 
@@ -22,9 +23,9 @@ returns-in_ok-push_alias_rules-in-OpaqueTy-clause-collected g c =
     inl (
       c.in-Alias.alias,
       c.in-Alias.is,
-      subst (λ ds. Collects (Speaks (words_over g.G.GoalKind.merging g.G.GoalKind.has_term (g.G.GoalKind.candidate_gives c.args.goal.now.predicate) (g.G.GoalKind.candidate_refuted c.args.goal.now.predicate) (g.G.GoalKind.passes c.args.goal.now.predicate) (g.G.GoalKind.is_for c.args.goal.now.predicate c.args.tables.now) (g.G.GoalKind.trait_asked c.args.goal.now.predicate c.args.tables.now) (setting_of c.args.tables.now c.args.mode.now c.args.goal.now.param_env.items))) (Lacks (words_over g.G.GoalKind.merging g.G.GoalKind.has_term (g.G.GoalKind.candidate_gives c.args.goal.now.predicate) (g.G.GoalKind.candidate_refuted c.args.goal.now.predicate) (g.G.GoalKind.passes c.args.goal.now.predicate) (g.G.GoalKind.is_for c.args.goal.now.predicate c.args.tables.now) (g.G.GoalKind.trait_asked c.args.goal.now.predicate c.args.tables.now) (setting_of c.args.tables.now c.args.mode.now c.args.goal.now.param_env.items))) ds c.args.found.now.items c.push_alias_rules-in-OpaqueTy.new.found.items)
-          (ap (λ cs. bounds_under (args_and_itself c.in-Alias.alias) cs ++ g.G.GoalKind.additional c.args.goal.now.predicate (setting_of c.args.tables.now c.args.mode.now c.args.goal.now.param_env.items) c.in-Alias.alias) c.clauses_of_opaque-clauses.ensures
-          ∙ ap (λ k. bounds_of_kind c.args.tables.now k (args_and_itself c.in-Alias.alias) (g.G.GoalKind.additional c.args.goal.now.predicate (setting_of c.args.tables.now c.args.mode.now c.args.goal.now.param_env.items) c.in-Alias.alias)) (sym c.in-OpaqueTy.is))
+      subst (λ ds. Collects (Speaks (words_for g.G.GoalKind.words c.args.tables.now c.args.goal.now c.args.mode.now)) (Lacks (words_for g.G.GoalKind.words c.args.tables.now c.args.goal.now c.args.mode.now)) ds c.args.found.now.items c.push_alias_rules-in-OpaqueTy.new.found.items)
+          (ap (λ cs. bounds_under (args_and_itself c.in-Alias.alias) cs ++ g.G.GoalKind.words.additional c.args.goal.now.predicate (setting_of c.args.tables.now c.args.mode.now c.args.goal.now.param_env.items) c.in-Alias.alias) c.clauses_of_opaque-clauses.ensures
+          ∙ ap (λ k. bounds_of_kind c.args.tables.now k (args_and_itself c.in-Alias.alias) (g.G.GoalKind.words.additional c.args.goal.now.predicate (setting_of c.args.tables.now c.args.mode.now c.args.goal.now.param_env.items) c.in-Alias.alias)) (sym c.in-OpaqueTy.is))
           c.in_ok-push_alias_rules-in-OpaqueTy.ensures.collected,
     )
 
@@ -34,10 +35,10 @@ returns-in_default-kind g c = record {
       inl (
         c.in-Alias.alias,
         c.in-Alias.is,
-        subst (λ ds. Collects (Speaks (words_over g.G.GoalKind.merging g.G.GoalKind.has_term (g.G.GoalKind.candidate_gives c.args.goal.now.predicate) (g.G.GoalKind.candidate_refuted c.args.goal.now.predicate) (g.G.GoalKind.passes c.args.goal.now.predicate) (g.G.GoalKind.is_for c.args.goal.now.predicate c.args.tables.now) (g.G.GoalKind.trait_asked c.args.goal.now.predicate c.args.tables.now) (setting_of c.args.tables.now c.args.mode.now c.args.goal.now.param_env.items))) (Lacks (words_over g.G.GoalKind.merging g.G.GoalKind.has_term (g.G.GoalKind.candidate_gives c.args.goal.now.predicate) (g.G.GoalKind.candidate_refuted c.args.goal.now.predicate) (g.G.GoalKind.passes c.args.goal.now.predicate) (g.G.GoalKind.is_for c.args.goal.now.predicate c.args.tables.now) (g.G.GoalKind.trait_asked c.args.goal.now.predicate c.args.tables.now) (setting_of c.args.tables.now c.args.mode.now c.args.goal.now.param_env.items))) ds c.args.found.now.items c.args.found.now.items)
-            (sym (kind-none c.args.tables.now c.in-Alias.alias.kind (args_and_itself c.in-Alias.alias) (g.G.GoalKind.additional c.args.goal.now.predicate (setting_of c.args.tables.now c.args.mode.now c.args.goal.now.param_env.items) c.in-Alias.alias)
+        subst (λ ds. Collects (Speaks (words_for g.G.GoalKind.words c.args.tables.now c.args.goal.now c.args.mode.now)) (Lacks (words_for g.G.GoalKind.words c.args.tables.now c.args.goal.now c.args.mode.now)) ds c.args.found.now.items c.args.found.now.items)
+            (sym (kind-none c.args.tables.now c.in-Alias.alias.kind (args_and_itself c.in-Alias.alias) (g.G.GoalKind.words.additional c.args.goal.now.predicate (setting_of c.args.tables.now c.args.mode.now c.args.goal.now.param_env.items) c.in-Alias.alias)
             c.in_default-kind.not-ProjectionTy c.in_default-kind.not-OpaqueTy))
-            (collects-nothing (Speaks (words_over g.G.GoalKind.merging g.G.GoalKind.has_term (g.G.GoalKind.candidate_gives c.args.goal.now.predicate) (g.G.GoalKind.candidate_refuted c.args.goal.now.predicate) (g.G.GoalKind.passes c.args.goal.now.predicate) (g.G.GoalKind.is_for c.args.goal.now.predicate c.args.tables.now) (g.G.GoalKind.trait_asked c.args.goal.now.predicate c.args.tables.now) (setting_of c.args.tables.now c.args.mode.now c.args.goal.now.param_env.items))) (Lacks (words_over g.G.GoalKind.merging g.G.GoalKind.has_term (g.G.GoalKind.candidate_gives c.args.goal.now.predicate) (g.G.GoalKind.candidate_refuted c.args.goal.now.predicate) (g.G.GoalKind.passes c.args.goal.now.predicate) (g.G.GoalKind.is_for c.args.goal.now.predicate c.args.tables.now) (g.G.GoalKind.trait_asked c.args.goal.now.predicate c.args.tables.now) (setting_of c.args.tables.now c.args.mode.now c.args.goal.now.param_env.items))) c.args.found.now.items),
+            (collects-nothing (Speaks (words_for g.G.GoalKind.words c.args.tables.now c.args.goal.now c.args.mode.now)) (Lacks (words_for g.G.GoalKind.words c.args.tables.now c.args.goal.now c.args.mode.now)) c.args.found.now.items),
       );
   only_memory = tt;
 }

@@ -14,7 +14,7 @@ returns-in_ok-push_rule-in-Ok-clause-adds g c =
       c.in-Ok.rule,
       c.in_ok-push_rule-in-Ok.ensures,
       (
-        subst (λ a. IfOk a (λ x. (n : ℕ) (t : Tree) → RuleSays g.G.GoalKind.has_term (setting_of c.args.tables.now c.args.mode.now c.args.goal.now.param_env.items) n x t → g.G.GoalKind.candidate_gives c.args.goal.now.predicate (setting_of c.args.tables.now c.args.mode.now c.args.goal.now.param_env.items) n built_in t)) c.in-Ok.is c.named_rule.ensures.gives,
-        subst (λ a. IfOk a (λ x. (n : ℕ) → RuleRefuted (setting_of c.args.tables.now c.args.mode.now c.args.goal.now.param_env.items) (level (setting_of c.args.tables.now c.args.mode.now c.args.goal.now.param_env.items) n) x → g.G.GoalKind.candidate_refuted c.args.goal.now.predicate (setting_of c.args.tables.now c.args.mode.now c.args.goal.now.param_env.items) n built_in)) c.in-Ok.is c.named_rule.ensures.refuted,
+        subst (λ a. IfOk a (λ x. (n : ℕ) (t : Tree) → RuleSays g.G.GoalKind.words.has_term (setting_of c.args.tables.now c.args.mode.now c.args.goal.now.param_env.items) n x t → g.G.GoalKind.words.gives c.args.goal.now.predicate (setting_of c.args.tables.now c.args.mode.now c.args.goal.now.param_env.items) n built_in t)) c.in-Ok.is c.named_rule.ensures.gives,
+        subst (λ a. IfOk a (λ x. (n : ℕ) → RuleRefuted (setting_of c.args.tables.now c.args.mode.now c.args.goal.now.param_env.items) (level (setting_of c.args.tables.now c.args.mode.now c.args.goal.now.param_env.items) n) x → g.G.GoalKind.words.refuted c.args.goal.now.predicate (setting_of c.args.tables.now c.args.mode.now c.args.goal.now.param_env.items) n built_in)) c.in-Ok.is c.named_rule.ensures.refuted,
       ),
     )

@@ -1,9 +1,9 @@
 use Rattle.std.proofs.Common.{◌≡◌, get_or, map, Some, subst, arith}
 use Rattle.std.specs.Prelude.{slice_get}
-use Rattle.goal_kinds.specs.Answers.{setting_of}
 use Rattle.goal_kinds.specs.Candidates.{impls_for}
 use Rattle.goal_kinds.proofs.PlaceLists.{place-within}
-use Rattle.goal_solver.specs.Collecting.{words_over, Speaks, Lacks}
+use Rattle.goal_kinds.specs.KindWords.{words_for}
+use Rattle.goal_solver.specs.Collecting.{Speaks, Lacks}
 use Rattle.goal_solver.proofs.CollectingLemmas.{collects-impl, collects-impls, impl-at_place, impl-of_trait}
 use Rattle.goal_solver.proofs.assembly.collecting.push_impl_rules.Goals as goal
 
@@ -22,7 +22,7 @@ loop-i-preserved g c =
     c.impl_at-row.ensures in
     record {
       collected = λ headline own.
-          collects-impl (Speaks (words_over g.G.GoalKind.merging g.G.GoalKind.has_term (g.G.GoalKind.candidate_gives c.args.goal.now.predicate) (g.G.GoalKind.candidate_refuted c.args.goal.now.predicate) (g.G.GoalKind.passes c.args.goal.now.predicate) (g.G.GoalKind.is_for c.args.goal.now.predicate c.args.tables.now) (g.G.GoalKind.trait_asked c.args.goal.now.predicate c.args.tables.now) (setting_of c.args.tables.now c.args.mode.now c.args.goal.now.param_env.items))) (Lacks (words_over g.G.GoalKind.merging g.G.GoalKind.has_term (g.G.GoalKind.candidate_gives c.args.goal.now.predicate) (g.G.GoalKind.candidate_refuted c.args.goal.now.predicate) (g.G.GoalKind.passes c.args.goal.now.predicate) (g.G.GoalKind.is_for c.args.goal.now.predicate c.args.tables.now) (g.G.GoalKind.trait_asked c.args.goal.now.predicate c.args.tables.now) (setting_of c.args.tables.now c.args.mode.now c.args.goal.now.param_env.items)))
+          collects-impl (Speaks (words_for g.G.GoalKind.words c.args.tables.now c.args.goal.now c.args.mode.now)) (Lacks (words_for g.G.GoalKind.words c.args.tables.now c.args.goal.now c.args.mode.now))
           c.args.tables.now c.args.trait_id c.impls_of_trait-places.result.now c.loop-i.i c.impl_at-row.result.now c.args.found.now.items c.loop-i.found.items
           c.push_impl_rule.new.found.items listed c.loop-i-test.true here
           (c.in_ok-push_impl_rule.ensures.adds headline
@@ -36,7 +36,7 @@ loop-i-preserved g c =
 
 pub returns-clause-collected : goal.returns-clause-collected
 returns-clause-collected g c headline own =
-    collects-impls (Speaks (words_over g.G.GoalKind.merging g.G.GoalKind.has_term (g.G.GoalKind.candidate_gives c.args.goal.now.predicate) (g.G.GoalKind.candidate_refuted c.args.goal.now.predicate) (g.G.GoalKind.passes c.args.goal.now.predicate) (g.G.GoalKind.is_for c.args.goal.now.predicate c.args.tables.now) (g.G.GoalKind.trait_asked c.args.goal.now.predicate c.args.tables.now) (setting_of c.args.tables.now c.args.mode.now c.args.goal.now.param_env.items))) (Lacks (words_over g.G.GoalKind.merging g.G.GoalKind.has_term (g.G.GoalKind.candidate_gives c.args.goal.now.predicate) (g.G.GoalKind.candidate_refuted c.args.goal.now.predicate) (g.G.GoalKind.passes c.args.goal.now.predicate) (g.G.GoalKind.is_for c.args.goal.now.predicate c.args.tables.now) (g.G.GoalKind.trait_asked c.args.goal.now.predicate c.args.tables.now) (setting_of c.args.tables.now c.args.mode.now c.args.goal.now.param_env.items)))
+    collects-impls (Speaks (words_for g.G.GoalKind.words c.args.tables.now c.args.goal.now c.args.mode.now)) (Lacks (words_for g.G.GoalKind.words c.args.tables.now c.args.goal.now c.args.mode.now))
     c.args.tables.now c.args.trait_id c.impls_of_trait-places.result.now c.loop-i.i c.args.found.now.items c.loop-i.found.items
     (subst (λ t. map (slice_get t.impls.items) c.impls_of_trait-places.result.now ≡ map Some (impls_for t c.args.trait_id)) c.rows-rows.ensures.rows
     c.impls_of_trait-places.ensures)

@@ -1,39 +1,39 @@
 use Rattle.std.proofs.Common.{◌≡◌, ◌≤◌, ◌∙◌, length, false, inr, refl, sym, ap, subst, arith}
 use Rattle.goal_terms.specs.Erased.{erased}
 use Rattle.goal_terms.specs.TreeOf.{tree_of_ty}
-use Rattle.goal_kinds.specs.Answers.{setting_of}
 use Rattle.goal_kinds.specs.CandidateRules.{said_by}
-use Rattle.goal_solver.specs.Collecting.{words_over, Speaks, Lacks, Collects}
+use Rattle.goal_kinds.specs.KindWords.{words_for}
+use Rattle.goal_solver.specs.Collecting.{Speaks, Lacks, Collects}
 use Rattle.goal_solver.proofs.CollectingLemmas.{adds-weaker, collects-nothing}
 use Rattle.goal_solver.proofs.CollectedObjectLemmas.{said_before, said-none, collects-object, objects-say, objects-none}
 use Rattle.goal_solver.proofs.assembly.collecting.push_object_rules.Goals as goal
 
 pub loop-k-init : goal.loop-k-init
 loop-k-init g c =
-    subst (λ ds. Collects (Speaks (words_over g.G.GoalKind.merging g.G.GoalKind.has_term (g.G.GoalKind.candidate_gives c.args.goal.now.predicate) (g.G.GoalKind.candidate_refuted c.args.goal.now.predicate) (g.G.GoalKind.passes c.args.goal.now.predicate) (g.G.GoalKind.is_for c.args.goal.now.predicate c.args.tables.now) (g.G.GoalKind.trait_asked c.args.goal.now.predicate c.args.tables.now) (setting_of c.args.tables.now c.args.mode.now c.args.goal.now.param_env.items))) (Lacks (words_over g.G.GoalKind.merging g.G.GoalKind.has_term (g.G.GoalKind.candidate_gives c.args.goal.now.predicate) (g.G.GoalKind.candidate_refuted c.args.goal.now.predicate) (g.G.GoalKind.passes c.args.goal.now.predicate) (g.G.GoalKind.is_for c.args.goal.now.predicate c.args.tables.now) (g.G.GoalKind.trait_asked c.args.goal.now.predicate c.args.tables.now) (setting_of c.args.tables.now c.args.mode.now c.args.goal.now.param_env.items))) ds c.args.found.now.items c.args.found.now.items) (sym (said-none (erased (tree_of_ty c.args.self_ty.now)) c.as_slice-clauses.result.now))
-    (collects-nothing (Speaks (words_over g.G.GoalKind.merging g.G.GoalKind.has_term (g.G.GoalKind.candidate_gives c.args.goal.now.predicate) (g.G.GoalKind.candidate_refuted c.args.goal.now.predicate) (g.G.GoalKind.passes c.args.goal.now.predicate) (g.G.GoalKind.is_for c.args.goal.now.predicate c.args.tables.now) (g.G.GoalKind.trait_asked c.args.goal.now.predicate c.args.tables.now) (setting_of c.args.tables.now c.args.mode.now c.args.goal.now.param_env.items))) (Lacks (words_over g.G.GoalKind.merging g.G.GoalKind.has_term (g.G.GoalKind.candidate_gives c.args.goal.now.predicate) (g.G.GoalKind.candidate_refuted c.args.goal.now.predicate) (g.G.GoalKind.passes c.args.goal.now.predicate) (g.G.GoalKind.is_for c.args.goal.now.predicate c.args.tables.now) (g.G.GoalKind.trait_asked c.args.goal.now.predicate c.args.tables.now) (setting_of c.args.tables.now c.args.mode.now c.args.goal.now.param_env.items))) c.args.found.now.items)
+    subst (λ ds. Collects (Speaks (words_for g.G.GoalKind.words c.args.tables.now c.args.goal.now c.args.mode.now)) (Lacks (words_for g.G.GoalKind.words c.args.tables.now c.args.goal.now c.args.mode.now)) ds c.args.found.now.items c.args.found.now.items) (sym (said-none (erased (tree_of_ty c.args.self_ty.now)) c.as_slice-clauses.result.now))
+    (collects-nothing (Speaks (words_for g.G.GoalKind.words c.args.tables.now c.args.goal.now c.args.mode.now)) (Lacks (words_for g.G.GoalKind.words c.args.tables.now c.args.goal.now c.args.mode.now)) c.args.found.now.items)
 
 pub loop-k-preserved : goal.loop-k-preserved
 loop-k-preserved g c =
-    collects-object (Speaks (words_over g.G.GoalKind.merging g.G.GoalKind.has_term (g.G.GoalKind.candidate_gives c.args.goal.now.predicate) (g.G.GoalKind.candidate_refuted c.args.goal.now.predicate) (g.G.GoalKind.passes c.args.goal.now.predicate) (g.G.GoalKind.is_for c.args.goal.now.predicate c.args.tables.now) (g.G.GoalKind.trait_asked c.args.goal.now.predicate c.args.tables.now) (setting_of c.args.tables.now c.args.mode.now c.args.goal.now.param_env.items))) (Lacks (words_over g.G.GoalKind.merging g.G.GoalKind.has_term (g.G.GoalKind.candidate_gives c.args.goal.now.predicate) (g.G.GoalKind.candidate_refuted c.args.goal.now.predicate) (g.G.GoalKind.passes c.args.goal.now.predicate) (g.G.GoalKind.is_for c.args.goal.now.predicate c.args.tables.now) (g.G.GoalKind.trait_asked c.args.goal.now.predicate c.args.tables.now) (setting_of c.args.tables.now c.args.mode.now c.args.goal.now.param_env.items)))
+    collects-object (Speaks (words_for g.G.GoalKind.words c.args.tables.now c.args.goal.now c.args.mode.now)) (Lacks (words_for g.G.GoalKind.words c.args.tables.now c.args.goal.now c.args.mode.now))
     (erased (tree_of_ty c.args.self_ty.now)) c.as_slice-clauses.result.now c.loop-k.k c.index-clauses-k.result (said_by c.in_ok-kind.kind)
     c.args.found.now.items c.loop-k.found.items c.push_object_rule.new.found.items c.loop-k-test.true c.index-clauses-k.is c.in_ok-kind.ensures
-    (adds-weaker (Speaks (words_over g.G.GoalKind.merging g.G.GoalKind.has_term (g.G.GoalKind.candidate_gives c.args.goal.now.predicate) (g.G.GoalKind.candidate_refuted c.args.goal.now.predicate) (g.G.GoalKind.passes c.args.goal.now.predicate) (g.G.GoalKind.is_for c.args.goal.now.predicate c.args.tables.now) (g.G.GoalKind.trait_asked c.args.goal.now.predicate c.args.tables.now) (setting_of c.args.tables.now c.args.mode.now c.args.goal.now.param_env.items))) (Speaks (words_over g.G.GoalKind.merging g.G.GoalKind.has_term (g.G.GoalKind.candidate_gives c.args.goal.now.predicate) (g.G.GoalKind.candidate_refuted c.args.goal.now.predicate) (g.G.GoalKind.passes c.args.goal.now.predicate) (g.G.GoalKind.is_for c.args.goal.now.predicate c.args.tables.now) (g.G.GoalKind.trait_asked c.args.goal.now.predicate c.args.tables.now) (setting_of c.args.tables.now c.args.mode.now c.args.goal.now.param_env.items)))
-    (λ x. g.G.GoalKind.passes c.args.goal.now.predicate c.in_ok-kind.kind ≡ false) (Lacks (words_over g.G.GoalKind.merging g.G.GoalKind.has_term (g.G.GoalKind.candidate_gives c.args.goal.now.predicate) (g.G.GoalKind.candidate_refuted c.args.goal.now.predicate) (g.G.GoalKind.passes c.args.goal.now.predicate) (g.G.GoalKind.is_for c.args.goal.now.predicate c.args.tables.now) (g.G.GoalKind.trait_asked c.args.goal.now.predicate c.args.tables.now) (setting_of c.args.tables.now c.args.mode.now c.args.goal.now.param_env.items))) (said_by c.in_ok-kind.kind) (λ r h. h)
+    (adds-weaker (Speaks (words_for g.G.GoalKind.words c.args.tables.now c.args.goal.now c.args.mode.now)) (Speaks (words_for g.G.GoalKind.words c.args.tables.now c.args.goal.now c.args.mode.now))
+    (λ x. g.G.GoalKind.words.passes c.args.goal.now.predicate c.in_ok-kind.kind ≡ false) (Lacks (words_for g.G.GoalKind.words c.args.tables.now c.args.goal.now c.args.mode.now)) (said_by c.in_ok-kind.kind) (λ r h. h)
     (λ barred. inr (c.in_ok-kind.kind, refl, barred)) c.loop-k.found.items c.push_object_rule.new.found.items c.in_ok-push_object_rule.ensures.adds)
     c.loop-k.invariant
 
 pub returns-in_default : goal.returns-in_default
 returns-in_default g c = record {
   collected =
-      subst (λ ds. Collects (Speaks (words_over g.G.GoalKind.merging g.G.GoalKind.has_term (g.G.GoalKind.candidate_gives c.args.goal.now.predicate) (g.G.GoalKind.candidate_refuted c.args.goal.now.predicate) (g.G.GoalKind.passes c.args.goal.now.predicate) (g.G.GoalKind.is_for c.args.goal.now.predicate c.args.tables.now) (g.G.GoalKind.trait_asked c.args.goal.now.predicate c.args.tables.now) (setting_of c.args.tables.now c.args.mode.now c.args.goal.now.param_env.items))) (Lacks (words_over g.G.GoalKind.merging g.G.GoalKind.has_term (g.G.GoalKind.candidate_gives c.args.goal.now.predicate) (g.G.GoalKind.candidate_refuted c.args.goal.now.predicate) (g.G.GoalKind.passes c.args.goal.now.predicate) (g.G.GoalKind.is_for c.args.goal.now.predicate c.args.tables.now) (g.G.GoalKind.trait_asked c.args.goal.now.predicate c.args.tables.now) (setting_of c.args.tables.now c.args.mode.now c.args.goal.now.param_env.items))) ds c.args.found.now.items c.args.found.now.items) (sym (objects-none c.args.self_ty.now c.in_default.not-Dynamic))
-      (collects-nothing (Speaks (words_over g.G.GoalKind.merging g.G.GoalKind.has_term (g.G.GoalKind.candidate_gives c.args.goal.now.predicate) (g.G.GoalKind.candidate_refuted c.args.goal.now.predicate) (g.G.GoalKind.passes c.args.goal.now.predicate) (g.G.GoalKind.is_for c.args.goal.now.predicate c.args.tables.now) (g.G.GoalKind.trait_asked c.args.goal.now.predicate c.args.tables.now) (setting_of c.args.tables.now c.args.mode.now c.args.goal.now.param_env.items))) (Lacks (words_over g.G.GoalKind.merging g.G.GoalKind.has_term (g.G.GoalKind.candidate_gives c.args.goal.now.predicate) (g.G.GoalKind.candidate_refuted c.args.goal.now.predicate) (g.G.GoalKind.passes c.args.goal.now.predicate) (g.G.GoalKind.is_for c.args.goal.now.predicate c.args.tables.now) (g.G.GoalKind.trait_asked c.args.goal.now.predicate c.args.tables.now) (setting_of c.args.tables.now c.args.mode.now c.args.goal.now.param_env.items))) c.args.found.now.items);
+      subst (λ ds. Collects (Speaks (words_for g.G.GoalKind.words c.args.tables.now c.args.goal.now c.args.mode.now)) (Lacks (words_for g.G.GoalKind.words c.args.tables.now c.args.goal.now c.args.mode.now)) ds c.args.found.now.items c.args.found.now.items) (sym (objects-none c.args.self_ty.now c.in_default.not-Dynamic))
+      (collects-nothing (Speaks (words_for g.G.GoalKind.words c.args.tables.now c.args.goal.now c.args.mode.now)) (Lacks (words_for g.G.GoalKind.words c.args.tables.now c.args.goal.now c.args.mode.now)) c.args.found.now.items);
   only_memory = tt;
 }
 
 pub returns-clause-collected : goal.returns-clause-collected
 returns-clause-collected g c =
-    subst (λ ds. Collects (Speaks (words_over g.G.GoalKind.merging g.G.GoalKind.has_term (g.G.GoalKind.candidate_gives c.args.goal.now.predicate) (g.G.GoalKind.candidate_refuted c.args.goal.now.predicate) (g.G.GoalKind.passes c.args.goal.now.predicate) (g.G.GoalKind.is_for c.args.goal.now.predicate c.args.tables.now) (g.G.GoalKind.trait_asked c.args.goal.now.predicate c.args.tables.now) (setting_of c.args.tables.now c.args.mode.now c.args.goal.now.param_env.items))) (Lacks (words_over g.G.GoalKind.merging g.G.GoalKind.has_term (g.G.GoalKind.candidate_gives c.args.goal.now.predicate) (g.G.GoalKind.candidate_refuted c.args.goal.now.predicate) (g.G.GoalKind.passes c.args.goal.now.predicate) (g.G.GoalKind.is_for c.args.goal.now.predicate c.args.tables.now) (g.G.GoalKind.trait_asked c.args.goal.now.predicate c.args.tables.now) (setting_of c.args.tables.now c.args.mode.now c.args.goal.now.param_env.items))) ds c.args.found.now.items c.loop-k.found.items)
+    subst (λ ds. Collects (Speaks (words_for g.G.GoalKind.words c.args.tables.now c.args.goal.now c.args.mode.now)) (Lacks (words_for g.G.GoalKind.words c.args.tables.now c.args.goal.now c.args.mode.now)) ds c.args.found.now.items c.loop-k.found.items)
     (ap (λ xs. said_before (erased (tree_of_ty c.args.self_ty.now)) xs c.loop-k.k) c.as_slice-clauses.ensures.value
     ∙ objects-say c.in-Dynamic.clauses c.in-Dynamic.field-1 c.args.self_ty.now c.in-Dynamic.is c.loop-k.k
     (subst (λ xs. length xs ≤ c.loop-k.k) c.as_slice-clauses.ensures.value (omega (arith, c.loop-k-test.false))))

@@ -1,24 +1,24 @@
 use Rattle.std.proofs.Common.{◌++◌, ◌∷◌, [], map}
 use Rattle.goal_terms.specs.Erased.{erased}
 use Rattle.goal_terms.specs.TreeOf.{tree_of_ty}
-use Rattle.goal_kinds.specs.Answers.{setting_of}
 use Rattle.goal_kinds.specs.Candidates.{by_impl, built_in, error, impls_for, object_bounds}
-use Rattle.goal_solver.specs.Collecting.{words_over, Speaks, Lacks}
+use Rattle.goal_kinds.specs.KindWords.{words_for}
+use Rattle.goal_solver.specs.Collecting.{Speaks, Lacks}
 use Rattle.goal_solver.proofs.CollectingLemmas.{collects-chain, collects-one}
 use Rattle.goal_solver.proofs.assembly.collecting.push_rest_rules.Goals as goal
 
 pub returns-clause-collected : goal.returns-clause-collected
 returns-clause-collected g c headline own =
-    collects-chain (Speaks (words_over g.G.GoalKind.merging g.G.GoalKind.has_term (g.G.GoalKind.candidate_gives c.args.goal.now.predicate) (g.G.GoalKind.candidate_refuted c.args.goal.now.predicate) (g.G.GoalKind.passes c.args.goal.now.predicate) (g.G.GoalKind.is_for c.args.goal.now.predicate c.args.tables.now) (g.G.GoalKind.trait_asked c.args.goal.now.predicate c.args.tables.now) (setting_of c.args.tables.now c.args.mode.now c.args.goal.now.param_env.items))) (Lacks (words_over g.G.GoalKind.merging g.G.GoalKind.has_term (g.G.GoalKind.candidate_gives c.args.goal.now.predicate) (g.G.GoalKind.candidate_refuted c.args.goal.now.predicate) (g.G.GoalKind.passes c.args.goal.now.predicate) (g.G.GoalKind.is_for c.args.goal.now.predicate c.args.tables.now) (g.G.GoalKind.trait_asked c.args.goal.now.predicate c.args.tables.now) (setting_of c.args.tables.now c.args.mode.now c.args.goal.now.param_env.items)))
+    collects-chain (Speaks (words_for g.G.GoalKind.words c.args.tables.now c.args.goal.now c.args.mode.now)) (Lacks (words_for g.G.GoalKind.words c.args.tables.now c.args.goal.now c.args.mode.now))
     (map by_impl (impls_for c.args.tables.now c.args.trait_id) ++ (built_in ∷ object_bounds (erased (tree_of_ty c.args.self_ty.now)))) (error ∷ [])
     c.args.found.now.items c.push_object_rules.new.found.items c.push_error_rule.new.found.items
-    (collects-chain (Speaks (words_over g.G.GoalKind.merging g.G.GoalKind.has_term (g.G.GoalKind.candidate_gives c.args.goal.now.predicate) (g.G.GoalKind.candidate_refuted c.args.goal.now.predicate) (g.G.GoalKind.passes c.args.goal.now.predicate) (g.G.GoalKind.is_for c.args.goal.now.predicate c.args.tables.now) (g.G.GoalKind.trait_asked c.args.goal.now.predicate c.args.tables.now) (setting_of c.args.tables.now c.args.mode.now c.args.goal.now.param_env.items))) (Lacks (words_over g.G.GoalKind.merging g.G.GoalKind.has_term (g.G.GoalKind.candidate_gives c.args.goal.now.predicate) (g.G.GoalKind.candidate_refuted c.args.goal.now.predicate) (g.G.GoalKind.passes c.args.goal.now.predicate) (g.G.GoalKind.is_for c.args.goal.now.predicate c.args.tables.now) (g.G.GoalKind.trait_asked c.args.goal.now.predicate c.args.tables.now) (setting_of c.args.tables.now c.args.mode.now c.args.goal.now.param_env.items)))
+    (collects-chain (Speaks (words_for g.G.GoalKind.words c.args.tables.now c.args.goal.now c.args.mode.now)) (Lacks (words_for g.G.GoalKind.words c.args.tables.now c.args.goal.now c.args.mode.now))
     (map by_impl (impls_for c.args.tables.now c.args.trait_id)) (built_in ∷ object_bounds (erased (tree_of_ty c.args.self_ty.now)))
     c.args.found.now.items c.push_impl_rules.new.found.items c.push_object_rules.new.found.items
     (c.in_ok-push_impl_rules.ensures.collected headline own)
-    (collects-chain (Speaks (words_over g.G.GoalKind.merging g.G.GoalKind.has_term (g.G.GoalKind.candidate_gives c.args.goal.now.predicate) (g.G.GoalKind.candidate_refuted c.args.goal.now.predicate) (g.G.GoalKind.passes c.args.goal.now.predicate) (g.G.GoalKind.is_for c.args.goal.now.predicate c.args.tables.now) (g.G.GoalKind.trait_asked c.args.goal.now.predicate c.args.tables.now) (setting_of c.args.tables.now c.args.mode.now c.args.goal.now.param_env.items))) (Lacks (words_over g.G.GoalKind.merging g.G.GoalKind.has_term (g.G.GoalKind.candidate_gives c.args.goal.now.predicate) (g.G.GoalKind.candidate_refuted c.args.goal.now.predicate) (g.G.GoalKind.passes c.args.goal.now.predicate) (g.G.GoalKind.is_for c.args.goal.now.predicate c.args.tables.now) (g.G.GoalKind.trait_asked c.args.goal.now.predicate c.args.tables.now) (setting_of c.args.tables.now c.args.mode.now c.args.goal.now.param_env.items)))
+    (collects-chain (Speaks (words_for g.G.GoalKind.words c.args.tables.now c.args.goal.now c.args.mode.now)) (Lacks (words_for g.G.GoalKind.words c.args.tables.now c.args.goal.now c.args.mode.now))
     (built_in ∷ []) (object_bounds (erased (tree_of_ty c.args.self_ty.now)))
     c.push_impl_rules.new.found.items c.push_built_in_rule.new.found.items c.push_object_rules.new.found.items
-    (collects-one (Speaks (words_over g.G.GoalKind.merging g.G.GoalKind.has_term (g.G.GoalKind.candidate_gives c.args.goal.now.predicate) (g.G.GoalKind.candidate_refuted c.args.goal.now.predicate) (g.G.GoalKind.passes c.args.goal.now.predicate) (g.G.GoalKind.is_for c.args.goal.now.predicate c.args.tables.now) (g.G.GoalKind.trait_asked c.args.goal.now.predicate c.args.tables.now) (setting_of c.args.tables.now c.args.mode.now c.args.goal.now.param_env.items))) (Lacks (words_over g.G.GoalKind.merging g.G.GoalKind.has_term (g.G.GoalKind.candidate_gives c.args.goal.now.predicate) (g.G.GoalKind.candidate_refuted c.args.goal.now.predicate) (g.G.GoalKind.passes c.args.goal.now.predicate) (g.G.GoalKind.is_for c.args.goal.now.predicate c.args.tables.now) (g.G.GoalKind.trait_asked c.args.goal.now.predicate c.args.tables.now) (setting_of c.args.tables.now c.args.mode.now c.args.goal.now.param_env.items))) c.push_impl_rules.new.found.items c.push_built_in_rule.new.found.items built_in c.in_ok-push_built_in_rule.ensures.adds)
+    (collects-one (Speaks (words_for g.G.GoalKind.words c.args.tables.now c.args.goal.now c.args.mode.now)) (Lacks (words_for g.G.GoalKind.words c.args.tables.now c.args.goal.now c.args.mode.now)) c.push_impl_rules.new.found.items c.push_built_in_rule.new.found.items built_in c.in_ok-push_built_in_rule.ensures.adds)
     c.in_ok-push_object_rules.ensures.collected))
-    (collects-one (Speaks (words_over g.G.GoalKind.merging g.G.GoalKind.has_term (g.G.GoalKind.candidate_gives c.args.goal.now.predicate) (g.G.GoalKind.candidate_refuted c.args.goal.now.predicate) (g.G.GoalKind.passes c.args.goal.now.predicate) (g.G.GoalKind.is_for c.args.goal.now.predicate c.args.tables.now) (g.G.GoalKind.trait_asked c.args.goal.now.predicate c.args.tables.now) (setting_of c.args.tables.now c.args.mode.now c.args.goal.now.param_env.items))) (Lacks (words_over g.G.GoalKind.merging g.G.GoalKind.has_term (g.G.GoalKind.candidate_gives c.args.goal.now.predicate) (g.G.GoalKind.candidate_refuted c.args.goal.now.predicate) (g.G.GoalKind.passes c.args.goal.now.predicate) (g.G.GoalKind.is_for c.args.goal.now.predicate c.args.tables.now) (g.G.GoalKind.trait_asked c.args.goal.now.predicate c.args.tables.now) (setting_of c.args.tables.now c.args.mode.now c.args.goal.now.param_env.items))) c.push_object_rules.new.found.items c.push_error_rule.new.found.items error c.in_ok-push_error_rule.ensures.adds)
+    (collects-one (Speaks (words_for g.G.GoalKind.words c.args.tables.now c.args.goal.now c.args.mode.now)) (Lacks (words_for g.G.GoalKind.words c.args.tables.now c.args.goal.now c.args.mode.now)) c.push_object_rules.new.found.items c.push_error_rule.new.found.items error c.in_ok-push_error_rule.ensures.adds)

@@ -1,7 +1,7 @@
 use Rattle.goal_solver.proofs.AnswerLemmas.{goes_back-grown, open-ground}
 use Rattle.goal_solver.proofs.BindingLemmas.{on_ok-map}
 use Rattle.goal_solver.proofs.OpenStepLemmas.{evaluation-step}
-use Rattle.std.proofs.Common.{◌≡◌, ◌++◌, ℕ, List, Vec, Global, Result, length, get_or, drop, refl, sym, ◌∙◌, subst, arith, [], ap, inl, Some, None, Ok, Err, ◌∷◌, Option, inr}
+use Rattle.std.proofs.Common.{◌≡◌, ◌++◌, ◌+◌, ℕ, List, Vec, Global, Result, length, get_or, drop, take, refl, sym, ◌∙◌, subst, subst₂, arith, [], ap, inl, Some, None, Ok, Err, ◌∷◌, Option, inr}
 use Rattle.std.specs.Prelude.{IfOk, IfErr, IfSome}
 use Rattle.std.proofs.Math.Seq.{take-length}
 use Rattle.goal_terms.specs.declared.answers.Certainty.{Certainty}
@@ -15,7 +15,7 @@ use Rattle.goal_solver.proofs.RoundLemmas.{next-listed, next-within, next-fault,
 use Rattle.goal_solver.proofs.RefusalLemmas.{refused-on, refuses-later, refuses-among, aside-refused, restored-refused, memory-only, pending-refused, stops-at, refused-map, stops-last, open-refused, open-goal-refused, evaluation-refused}
 use Rattle.std.proofs.lemmas.Bool.{false≢true}
 use Rattle.goal_solver.specs.State.{State, kinds_of}
-use Rattle.goal_solver.specs.Refusals.{RefusesListed, IsRefusedOpen}
+use Rattle.goal_solver.specs.Refusals.{RefusesListed}
 use Rattle.goal_terms.specs.declared.answers.GoalSource.{GoalSource}
 use Rattle.goal_terms.specs.declared.predicates.Goal.{Goal}
 use Rattle.goal_terms.specs.declared.predicates.Predicate.{Predicate}
@@ -37,18 +37,22 @@ use Rattle.goal_solver.specs.Binding.{IsApplicable}
 use Rattle.goal_solver.proofs.ListedLemmas.{listed-applies}
 use Rattle.goal_solver.proofs.LaterLemmas.{merged-later}
 use Rattle.goal_solver.proofs.MergedLemmas.{runs-none, merged-next}
+use Rattle.std.specs.Option.{option_map}
+use Rattle.goal_kinds.specs.declared.outcomes.Outcome.TheVariants as outcome
+use Rattle.goal_solver.specs.MoreSpecial.{RunsAlone, IsTraitRule, AsksEach, AsksMoreSpecial, match_seen}
+use Rattle.goal_solver.proofs.MoreSpecialLemmas.{asks-none, asked-next, asked-all, runs-refused, runs-beside, beside-applies}
 use Rattle.goal_solver.proofs.BelowLemmas.{applies-below, merges-below, projects-below}
 use Rattle.goal_terms.specs.declared.answers.Response.{Response}
 use Rattle.goal_eval.specs.ErasedArgs.{erased_args}
 use Rattle.goal_solver.specs.Answers.{IsQuiet}
-use Rattle.goal_solver.specs.Collecting.{trait_words}
-use Rattle.goal_solver.specs.OpenGoals.{AsksOpenSelf, WhenTried, ConsidersRules, AreOfClass, rules_of_class, trait_classes, WhenAnswered, ByClasses, ByFormedClasses}
+use Rattle.goal_solver.specs.Collecting.{trait_kind}
+use Rattle.goal_solver.specs.OpenGoals.{AsksOpenSelf, WhenTried, ConsidersRules, AreOfClass, rules_of_class, trait_classes, WhenAnswered, ByClasses, ByFormedClasses, InTrial}
 use Rattle.goal_solver.proofs.ApplicableLemmas.{nothing-applies-after, nothing-applies}
 use Rattle.goal_solver.proofs.OpenClassLemmas.{answered-in, by-classes, class-answers, first-answers, next-answers, none-answers, none-left}
 use Rattle.goal_solver.proofs.OpenTraitLemmas.{grown-records, some-unless, restored-records, let-go, let-go-back, let-go-caused, let-go-fault}
-use Rattle.goal_solver.specs.OpenHostGoals.{host_words, rules_of_groups, AnswersPlain, ByFormedRuleGroups, ByRuleGroups, MergesHostEffect}
+use Rattle.goal_solver.specs.OpenHostGoals.{host_kind, rules_of_groups, AnswersPlain, ByFormedRuleGroups, ByRuleGroups, MergesHostEffect}
 use Rattle.goal_solver.proofs.OpenHostLemmas.{const-at_once, const-below, const-grouped, const-refused, const-through, const-unproven, group-answered, group-first, group-later, group-none, group-refuted, group-split}
-use Rattle.goal_solver.specs.OpenProjections.{ConsidersGroups, AnswersTrait, IsAliasRule, MergesProjection, IsRigid, WithForms, alias_words, own_args, answers_term, ByFormedGroups, ByGroups}
+use Rattle.goal_solver.specs.OpenProjections.{ConsidersGroups, AnswersTrait, IsAliasRule, MergesProjection, IsRigid, WithForms, alias_kind, own_args, answers_term, ByFormedGroups, ByGroups}
 use Rattle.goal_solver.proofs.OpenProjectionLemmas.{alias-none, alias-run, asks-its-trait, no-trait, projects-alias, projects-refused, projects-unproven, projects-through, rules-merged, environment-answers, environment-splits, later-answers, bounds-answer, bounds-split, bounds-rigid, rest-answers, rest-splits, rest-refuses, through-groups, not-maybe}
 use Rattle.goal_kinds.specs.Answers.{setting_of}
 use Rattle.goal_solver.proofs.PromiseLemmas.{leaves-undecided}
@@ -61,7 +65,7 @@ use Rattle.goal_kinds.specs.Interned.{erased_at}
 use Rattle.goal_solver.specs.OpenForms.{OpensFrom}
 use Rattle.goal_solver.proofs.OpenFormLemmas.{answers-err, answers-ok, asks-term, grown-left, known, made-records, opens-answered, opens-let_go, opens-refused, opens-undone, refuses-term, same-records, undone-fault, with-fresh, restored-grown, restored-twice}
 use Rattle.goal_terms.specs.declared.terms.AliasTerm.{AliasTerm}
-use Rattle.goal_solver.proofs.OpenedSelfLemmas.{left-or_opened, left-or_opened-const, left-or_opened-through, InTrial, after-fault, classes-passed, classes-shown, form-passed, form-refused, groups-passed, groups-shown, merge-answered, merge-refused, opened-applies, opened-merges, opened-unsaid}
+use Rattle.goal_solver.proofs.OpenedSelfLemmas.{left-or_opened, left-or_opened-const, left-or_opened-through, after-fault, classes-passed, classes-shown, form-passed, form-refused, groups-passed, groups-shown, merge-answered, merge-refused, opened-applies, opened-merges, opened-unsaid}
 use Rattle.goal_solver.specs.Accesses.{uncaused}
 use Rattle.goal_terms.specs.declared.answers.TraitGoalProvenVia.TheVariants as class
 use Rattle.goal_kinds.specs.declared.faults.Fault.TheVariants as fault
@@ -583,20 +587,88 @@ run_open-returns-clause-refused t c =
     open-refused c.args.environment.now c.args.entries.now c.args.self.now c.begin-around.new.self c.answer_open-response.new.self c.end.new.self c.answer_open-response.result
     c.begin-around.ensures.began undone c.answer_open-response.ensures.refused
 
-pub run_unrefused-returns-in-Err-NoSolution-clause-runs : goal.run_unrefused-returns-in-Err-NoSolution-clause-runs
-run_unrefused-returns-in-Err-NoSolution-clause-runs t c =
-    subst (λ es. IsRefusedOpen c.args.environment.now es c.args.self.now c.run_open.new.self) c.deref.ensures.value
-    (c.in-Err-NoSolution.ensures.refused c.in-Err-NoSolution.field-0-is)
+pub run_alone-returns-in-Err-NoSolution-clause-runs : goal.run_alone-returns-in-Err-NoSolution-clause-runs
+run_alone-returns-in-Err-NoSolution-clause-runs t c = c.in-Err-NoSolution.ensures.refused c.in-Err-NoSolution.field-0-is
+
+-- what more special impls come to
+pub impl_outcome-returns-in_err-rule-clause-goes_back : goal.impl_outcome-returns-in_err-rule-clause-goes_back
+impl_outcome-returns-in_err-rule-clause-goes_back t c = goes_back-same c.args.self.now
+
+pub impl_outcome-returns-in_default-clause-goes_back : goal.impl_outcome-returns-in_default-clause-goes_back
+impl_outcome-returns-in_default-clause-goes_back t c = goes_back-same c.args.self.now
+
+pub impl_outcome-returns-in_default-clause-asks : goal.impl_outcome-returns-in_default-clause-asks
+impl_outcome-returns-in_default-clause-asks t c = (
+  None,
+  subst (IsTraitRule c.args.self.now.tables c.args.self.now.typing_mode c.args.args.now c.args.row.now) (none-left _ c.in_default.not-Some)
+      (subst₂ (λ x y. IsTraitRule x y c.args.args.now c.args.row.now c.in_ok-rule.field-0) c.tables.ensures c.typing_mode.ensures c.in_ok-rule.ensures.rule),
+  (refl, refl),
+)
+
+pub impl_outcome-returns-clause-asks : goal.impl_outcome-returns-clause-asks
+impl_outcome-returns-clause-asks t c = (
+  Some c.in-Some.rule,
+  subst (IsTraitRule c.args.self.now.tables c.args.self.now.typing_mode c.args.args.now c.args.row.now) c.in-Some.is
+      (subst₂ (λ x y. IsTraitRule x y c.args.args.now c.args.row.now c.in_ok-rule.field-0) c.tables.ensures c.typing_mode.ensures c.in_ok-rule.ensures.rule),
+  (
+    c.in_ok-answer.answer,
+    subst (λ es. RunsAlone c.args.environment.now es c.args.self.now c.in_ok-answer.answer c.run_alone.new.self) c.deref.ensures.value c.in_ok-answer.ensures.runs,
+    c.said_plainly.ensures,
+  ),
+)
+
+pub more_special_outcome-returns-in_default-clause-goes_back : goal.more_special_outcome-returns-in_default-clause-goes_back
+more_special_outcome-returns-in_default-clause-goes_back t c = goes_back-same c.args.self.now
+
+pub more_special_outcome-returns-in_default-clause-asks : goal.more_special_outcome-returns-in_default-clause-asks
+more_special_outcome-returns-in_default-clause-asks t c =
+    subst (λ o. AsksMoreSpecial c.args.environment.now o c.args.self.now outcome.Refuted c.args.self.now) (ap (option_map match_seen) (sym (none-left _ c.in_default.not-Some)) ∙ c.matched_impl.ensures)
+    (refl, refl)
+
+pub more_special_outcome-loop-i-init : goal.more_special_outcome-loop-i-init
+more_special_outcome-loop-i-init t c =
+    record { asks = asks-none c.rows-rows.result.now c.args.environment.now c.in-Some.matched.args.now c.args.self.now; unchanged = refl; back = goes_back-same c.args.self.now }
+
+pub more_special_outcome-loop-i-preserved : goal.more_special_outcome-loop-i-preserved
+more_special_outcome-loop-i-preserved t c = record {
+  asks =
+      subst (λ o. AsksEach c.rows-rows.result.now c.args.environment.now c.in-Some.matched.args.now (take (c.loop-i.i + 1) c.more_special-places.result.now) c.args.self.now o c.impl_outcome.new.self) (sym c.or-found.ensures)
+      (asked-next c.rows-rows.result.now c.args.environment.now c.in-Some.matched.args.now c.more_special-places.result.now c.loop-i.i c.impl_at-row.result.now c.args.self.now c.loop-i.self c.impl_outcome.new.self c.loop-i.found c.in_ok-next.next
+      c.loop-i-test.true c.loop-i.invariant.asks c.impl_at-row.ensures c.in_ok-next.ensures.asks);
+  unchanged = c.impl_outcome.ensures.unchanged ∙ ap (λ (z : State). restored z c.impl_outcome.new.self) c.loop-i.invariant.unchanged;
+  back = goes_back-through c.args.self.now c.loop-i.self c.impl_outcome.new.self c.loop-i.invariant.back c.impl_outcome.ensures.goes_back;
+}
+
+pub more_special_outcome-returns-clause-asks : goal.more_special_outcome-returns-clause-asks
+more_special_outcome-returns-clause-asks t c =
+    subst (λ o. AsksMoreSpecial c.args.environment.now o c.args.self.now c.loop-i.found c.loop-i.self) (ap (option_map match_seen) (sym c.in-Some.is) ∙ c.matched_impl.ensures)
+    (asked-all c.rows-rows.result.now c.args.environment.now c.in-Some.matched.args.now c.in-Some.matched.id c.more_special-places.result.now c.loop-i.i c.args.self.now c.loop-i.self c.loop-i.found
+    (c.rows-rows.ensures.rows ∙ c.tables.ensures) (omega (arith, c.loop-i-test.false)) c.more_special-places.ensures.listed c.loop-i.invariant.asks)
+
+-- a rule beside them
+pub run_beside-returns-in_default-clause-runs : goal.run_beside-returns-in_default-clause-runs
+run_beside-returns-in_default-clause-runs t c =
+    runs-refused c.args.environment.now c.args.rule.now c.deref.result.now c.args.self.now c.run_alone.new.self c.in_ok-response.field-0 c.deref.ensures.value (none-left _ c.in_default.not-Some) c.in_ok-response.ensures.runs
+
+pub run_beside-returns-clause-runs : goal.run_beside-returns-clause-runs
+run_beside-returns-clause-runs t c =
+    runs-beside c.args.environment.now c.args.rule.now c.deref.result.now c.deref-2.result.now c.args.self.now c.run_alone.new.self c.more_special_outcome.new.self c.in_ok-response.field-0 c.in-Some.response c.in_ok-found.found
+    c.answer_beside.result c.deref.ensures.value c.deref-2.ensures.value c.in-Some.is c.in_ok-response.ensures.runs c.in_ok-found.ensures.asks c.answer_beside.ensures
+
+pub run_beside-returns-clause-applies : goal.run_beside-returns-clause-applies
+run_beside-returns-clause-applies t c =
+    beside-applies c.run_alone.new.self c.more_special_outcome.new.self c.in_ok-found.found c.in-Some.response c.answer_beside.result c.answer_beside.ensures c.more_special_outcome.ensures.unchanged
+    c.more_special_outcome.ensures.goes_back.terms c.holds_together.ensures.solved (subst (λ o. IfSome o (IsApplicable c.run_alone.new.self)) c.in-Some.is c.in_ok-response.ensures.applies)
 
 pub merge_next-returns-in-None-clause-applies : goal.merge_next-returns-in-None-clause-applies
 merge_next-returns-in-None-clause-applies t c =
-    merged-later c.args.self.now c.run_unrefused.new.self c.args.merged c.run_unrefused.ensures.unchanged c.run_unrefused.ensures.goes_back.terms c.holds_together.ensures.solved c.requires.applies
+    merged-later c.args.self.now c.run_beside.new.self c.args.merged c.run_beside.ensures.unchanged c.run_beside.ensures.goes_back.terms c.holds_together.ensures.solved c.requires.applies
 
 pub merge_next-returns-in-Some-clause-applies : goal.merge_next-returns-in-Some-clause-applies
 merge_next-returns-in-Some-clause-applies t c =
-    c.with.ensures.applies c.run_unrefused.new.self
-    (merged-later c.args.self.now c.run_unrefused.new.self c.args.merged c.run_unrefused.ensures.unchanged c.run_unrefused.ensures.goes_back.terms c.holds_together.ensures.solved c.requires.applies)
-    (subst (λ o. IfSome o (IsApplicable c.run_unrefused.new.self)) c.in-Some.is c.in_ok-run_unrefused.ensures.applies)
+    c.with.ensures.applies c.run_beside.new.self
+    (merged-later c.args.self.now c.run_beside.new.self c.args.merged c.run_beside.ensures.unchanged c.run_beside.ensures.goes_back.terms c.holds_together.ensures.solved c.requires.applies)
+    (subst (λ o. IfSome o (IsApplicable c.run_beside.new.self)) c.in-Some.is c.in_ok-run_beside.ensures.applies)
 
 pub merge_rules-loop-rule-init : goal.merge_rules-loop-rule-init
 merge_rules-loop-rule-init t c = record { merges = runs-none c.args.environment.now c.args.self.now; applies = tt; unchanged = refl; back = goes_back-same c.args.self.now }
@@ -688,7 +760,7 @@ merge_classes-returns-clause-goes_back t c =
 
 pub merge_trait-returns-in-Some-clause-merges : goal.merge_trait-returns-in-Some-clause-merges
 merge_trait-returns-in-Some-clause-merges t c =
-    by-classes trait_words c.args.goal.now c.args.self.now c.considered_rules.new.self c.merge_classes.new.self c.merge_classes.result c.in_ok-considered_rules.field-0 c.in-Some.rules
+    by-classes trait_kind c.args.goal.now c.args.self.now c.considered_rules.new.self c.merge_classes.new.self c.merge_classes.result c.in_ok-considered_rules.field-0 c.in-Some.rules
     c.in_ok-considered_rules.ensures.considers c.in-Some.is c.considered_rules.ensures.unchanged c.merge_classes.ensures.decides
 
 pub hold_const_below-returns-clause-merges : goal.hold_const_below-returns-clause-merges
@@ -747,13 +819,13 @@ hold_const-returns-clause-goes_back t c =
 
 pub merge_const_through-returns-in-None-clause-merges : goal.merge_const_through-returns-in-None-clause-merges
 merge_const_through-returns-in-None-clause-merges t c =
-    left-or_opened-const host_words c.args.class c.args.goal.now c.args.self.now c.considered_groups.new.self c.merge_open_const.new.self c.merge_open_const.result
-    (subst (λ o. ConsidersGroups host_words c.args.class c.args.goal.now c.args.self.now o c.considered_groups.new.self) c.in-None.is c.in_ok-considered_groups.ensures.considers) c.considered_groups.ensures.unchanged
+    left-or_opened-const host_kind c.args.class c.args.goal.now c.args.self.now c.considered_groups.new.self c.merge_open_const.new.self c.merge_open_const.result
+    (subst (λ o. ConsidersGroups host_kind c.args.class c.args.goal.now c.args.self.now o c.considered_groups.new.self) c.in-None.is c.in_ok-considered_groups.ensures.considers) c.considered_groups.ensures.unchanged
     c.merge_open_const.ensures.unchanged c.merge_open_const.ensures.undecided c.merge_open_const.ensures.opened
 
 pub merge_const_through-returns-in-Some-clause-merges : goal.merge_const_through-returns-in-Some-clause-merges
 merge_const_through-returns-in-Some-clause-merges t c =
-    const-grouped host_words c.args.class c.args.goal.now c.args.self.now c.considered_groups.new.self c.merge_const_groups.new.self c.in_ok-considered_groups.field-0 c.in-Some.rules c.merge_const_groups.result
+    const-grouped host_kind c.args.class c.args.goal.now c.args.self.now c.considered_groups.new.self c.merge_const_groups.new.self c.in_ok-considered_groups.field-0 c.in-Some.rules c.merge_const_groups.result
     c.in_ok-considered_groups.ensures.considers c.in-Some.is c.merge_const_groups.ensures.decides
 
 pub group_answer-returns-in-Refuted-clause-answers : goal.group_answer-returns-in-Refuted-clause-answers
@@ -1074,7 +1146,7 @@ trait_goal_response-returns-clause-caused t c = λ closed. c.answer_trait.ensure
 
 pub merge_alias-returns-in-Some-clause-merges : goal.merge_alias-returns-in-Some-clause-merges
 merge_alias-returns-in-Some-clause-merges t c =
-    through-groups alias_words c.args.goal.now.predicate c.args.class c.args.goal.now c.args.self.now c.considered_groups.new.self c.merge_groups.new.self c.merge_groups.result
+    through-groups alias_kind c.args.goal.now.predicate c.args.class c.args.goal.now c.args.self.now c.considered_groups.new.self c.merge_groups.new.self c.merge_groups.result
     c.in_ok-considered_groups.field-0 c.in-Some.rules c.in_ok-considered_groups.ensures.considers c.in-Some.is c.considered_groups.ensures.unchanged c.merge_groups.ensures.decides
 
 pub merge_groups-returns-in-Refuted-clause-decides : goal.merge_groups-returns-in-Refuted-clause-decides
@@ -1285,7 +1357,7 @@ found_form-returns-clause-goes_back t c =
 
 pub merge_open_trait-returns-in_err-open_self-clause-opened : goal.merge_open_trait-returns-in_err-open_self-clause-opened
 merge_open_trait-returns-in_err-open_self-clause-opened t c =
-    λ asks. opened-unsaid trait_words.self_type (ByFormedClasses trait_words c.args.goal.now) c.args.goal.now c.args.self.now c.open_self.new.self c.from_residual.result c.in_err-open_self.field-0.0 c.open_self.ensures.unchanged c.from_residual.ensures.1 c.in_err-open_self.ensures.only_memory
+    λ asks. opened-unsaid trait_kind.words.self_type (ByFormedClasses trait_kind c.args.goal.now) c.args.goal.now c.args.self.now c.open_self.new.self c.from_residual.result c.in_err-open_self.field-0.0 c.open_self.ensures.unchanged c.from_residual.ensures.1 c.in_err-open_self.ensures.only_memory
 
 pub merge_open_trait-returns-in_err-open_self-clause-goes_back : goal.merge_open_trait-returns-in_err-open_self-clause-goes_back
 merge_open_trait-returns-in_err-open_self-clause-goes_back t c =
@@ -1306,7 +1378,7 @@ merge_open_trait-returns-in-None-clause-goes_back t c =
 
 pub merge_open_trait-returns-in-Some-clause-undecided : goal.merge_open_trait-returns-in-Some-clause-undecided
 merge_open_trait-returns-in-Some-clause-undecided t c =
-    λ other. absurd (other (known c.in_ok-open_self.field-0 c.in-Some.alias (λ a. AsksOpenSelf trait_words.self_type c.args.goal.now c.args.self.now) c.in-Some.is c.in_ok-open_self.ensures.asks))
+    λ other. absurd (other (known c.in_ok-open_self.field-0 c.in-Some.alias (λ a. AsksOpenSelf trait_kind.words.self_type c.args.goal.now c.args.self.now) c.in-Some.is c.in_ok-open_self.ensures.asks))
 
 pub merge_open_trait-returns-in-Some-clause-opened : goal.merge_open_trait-returns-in-Some-clause-opened
 merge_open_trait-returns-in-Some-clause-opened t c =
@@ -1335,7 +1407,7 @@ merge_opened_trait-returns-clause-merges t c =
     let undone : c.end.new.self ≡ restored c.args.self.now c.answer_opened_trait-answer.new.self =
     c.end.ensures ∙ ap (λ (z : State). record z { mark = c.begin-around.result }) (c.rollback.ensures.undone (begun c.args.self.now) c.snapshot-before.ensures back)
     ∙ ap (λ m. record (restored (begun c.args.self.now) c.answer_opened_trait-answer.new.self) { mark = m }) c.begin-around.ensures.around in
-    opened-merges trait_words.self_type (ByFormedClasses trait_words c.args.goal.now) c.args.goal.now c.args.alias c.args.self.now c.begin-around.new.self c.answer_opened_trait-answer.new.self c.end.new.self c.answer_opened_trait-answer.result c.or_undecided.result
+    opened-merges trait_kind.words.self_type (ByFormedClasses trait_kind c.args.goal.now) c.args.goal.now c.args.alias c.args.self.now c.begin-around.new.self c.answer_opened_trait-answer.new.self c.end.new.self c.answer_opened_trait-answer.result c.or_undecided.result
     c.begin-around.ensures.began undone c.requires.opens c.answer_opened_trait-answer.ensures.by c.or_undecided.ensures.after
 
 pub merge_opened_trait-returns-clause-applies : goal.merge_opened_trait-returns-clause-applies
@@ -1374,24 +1446,24 @@ merge_opened_trait-returns-clause-fault t c =
 
 pub answer_opened_trait-returns-in_err-found-clause-by : goal.answer_opened_trait-returns-in_err-found-clause-by
 answer_opened_trait-returns-in_err-found-clause-by t c =
-    handed-on c.from_residual.result c.in_err-found.field-0.0 (λ (r : Result (Option Response) Fault). WhenTried r (InTrial (ByFormedClasses trait_words c.args.goal.now) c.args.goal.now.param_env.items c.args.alias c.args.self.now r c.form_of_open.new.self)) c.from_residual.ensures.1
-    (form-refused (ByFormedClasses trait_words c.args.goal.now) c.args.goal.now.param_env.items c.args.alias c.args.self.now c.form_of_open.new.self c.in_err-found.field-0.0 (subst (λ (es : List Clause). OpensFrom answers_term es (erased (tree_of_alias c.args.alias)) c.args.self.now (Err c.in_err-found.field-0.0) c.form_of_open.new.self) c.deref.ensures.value c.in_err-found.ensures.opens) c.form_of_open.ensures.alone (refl, refl))
+    handed-on c.from_residual.result c.in_err-found.field-0.0 (λ (r : Result (Option Response) Fault). WhenTried r (InTrial (ByFormedClasses trait_kind c.args.goal.now) c.args.goal.now.param_env.items c.args.alias c.args.self.now r c.form_of_open.new.self)) c.from_residual.ensures.1
+    (form-refused (ByFormedClasses trait_kind c.args.goal.now) c.args.goal.now.param_env.items c.args.alias c.args.self.now c.form_of_open.new.self c.in_err-found.field-0.0 (subst (λ (es : List Clause). OpensFrom answers_term es (erased (tree_of_alias c.args.alias)) c.args.self.now (Err c.in_err-found.field-0.0) c.form_of_open.new.self) c.deref.ensures.value c.in_err-found.ensures.opens) c.form_of_open.ensures.alone (refl, refl))
 
 pub answer_opened_trait-returns-in_default-clause-by : goal.answer_opened_trait-returns-in_default-clause-by
 answer_opened_trait-returns-in_default-clause-by t c =
-    form-passed (ByFormedClasses trait_words c.args.goal.now) c.args.goal.now.param_env.items c.args.alias c.args.self.now c.form_of_open.new.self c.in_ok-found.found (subst (λ (es : List Clause). OpensFrom answers_term es (erased (tree_of_alias c.args.alias)) c.args.self.now (Ok c.in_ok-found.found) c.form_of_open.new.self) c.deref.ensures.value c.in_ok-found.ensures.opens) c.form_of_open.ensures.alone
-    (inl (classes-passed trait_words _ c.form_of_open.new.self c.args.goal.now c.in_ok-found.found c.in_ok-rules.field-0 c.self.view_is (none-left _ c.in_default.not-Some) c.in_ok-rules.ensures.rules, refl, refl))
+    form-passed (ByFormedClasses trait_kind c.args.goal.now) c.args.goal.now.param_env.items c.args.alias c.args.self.now c.form_of_open.new.self c.in_ok-found.found (subst (λ (es : List Clause). OpensFrom answers_term es (erased (tree_of_alias c.args.alias)) c.args.self.now (Ok c.in_ok-found.found) c.form_of_open.new.self) c.deref.ensures.value c.in_ok-found.ensures.opens) c.form_of_open.ensures.alone
+    (inl (classes-passed trait_kind _ c.form_of_open.new.self c.args.goal.now c.in_ok-found.found c.in_ok-rules.field-0 c.self.view_is (none-left _ c.in_default.not-Some) c.in_ok-rules.ensures.rules, refl, refl))
 
 pub answer_opened_trait-returns-in_err-answer-clause-by : goal.answer_opened_trait-returns-in_err-answer-clause-by
 answer_opened_trait-returns-in_err-answer-clause-by t c =
-    handed-on c.from_residual-in_err-answer.result c.in_err-answer.field-0.0 (λ (r : Result (Option Response) Fault). WhenTried r (InTrial (ByFormedClasses trait_words c.args.goal.now) c.args.goal.now.param_env.items c.args.alias c.args.self.now r c.merge_classes.new.self)) c.from_residual-in_err-answer.ensures.1
-    (merge-refused (ByFormedClasses trait_words c.args.goal.now) (λ x. ByClasses (AreOfClass c.form_of_open.new.self.typing_mode c.in-Some.rules) c.in-Some.rules.param_env.items trait_classes c.form_of_open.new.self x c.merge_classes.new.self) c.args.goal.now.param_env.items c.args.alias c.args.self.now c.form_of_open.new.self c.merge_classes.new.self c.in_ok-found.found c.merge_classes.result c.in_err-answer.field-0.0 c.in_err-answer.was (subst (λ (es : List Clause). OpensFrom answers_term es (erased (tree_of_alias c.args.alias)) c.args.self.now (Ok c.in_ok-found.found) c.form_of_open.new.self) c.deref.ensures.value c.in_ok-found.ensures.opens) c.form_of_open.ensures.alone c.merge_classes.ensures.decides
-    (λ d. inr (c.in-Some.rules, Err c.in_err-answer.field-0.0, c.merge_classes.new.self, classes-shown trait_words _ c.form_of_open.new.self c.args.goal.now c.in_ok-found.found c.in_ok-rules.field-0 c.in-Some.rules c.self.view_is c.in-Some.is c.in_ok-rules.ensures.rules, d, (refl, refl))))
+    handed-on c.from_residual-in_err-answer.result c.in_err-answer.field-0.0 (λ (r : Result (Option Response) Fault). WhenTried r (InTrial (ByFormedClasses trait_kind c.args.goal.now) c.args.goal.now.param_env.items c.args.alias c.args.self.now r c.merge_classes.new.self)) c.from_residual-in_err-answer.ensures.1
+    (merge-refused (ByFormedClasses trait_kind c.args.goal.now) (λ x. ByClasses (AreOfClass c.form_of_open.new.self.typing_mode c.in-Some.rules) c.in-Some.rules.param_env.items trait_classes c.form_of_open.new.self x c.merge_classes.new.self) c.args.goal.now.param_env.items c.args.alias c.args.self.now c.form_of_open.new.self c.merge_classes.new.self c.in_ok-found.found c.merge_classes.result c.in_err-answer.field-0.0 c.in_err-answer.was (subst (λ (es : List Clause). OpensFrom answers_term es (erased (tree_of_alias c.args.alias)) c.args.self.now (Ok c.in_ok-found.found) c.form_of_open.new.self) c.deref.ensures.value c.in_ok-found.ensures.opens) c.form_of_open.ensures.alone c.merge_classes.ensures.decides
+    (λ d. inr (c.in-Some.rules, Err c.in_err-answer.field-0.0, c.merge_classes.new.self, classes-shown trait_kind _ c.form_of_open.new.self c.args.goal.now c.in_ok-found.found c.in_ok-rules.field-0 c.in-Some.rules c.self.view_is c.in-Some.is c.in_ok-rules.ensures.rules, d, (refl, refl))))
 
 pub answer_opened_trait-returns-clause-by : goal.answer_opened_trait-returns-clause-by
 answer_opened_trait-returns-clause-by t c =
-    merge-answered (ByFormedClasses trait_words c.args.goal.now) (λ x. ByClasses (AreOfClass c.form_of_open.new.self.typing_mode c.in-Some.rules) c.in-Some.rules.param_env.items trait_classes c.form_of_open.new.self x c.merge_classes.new.self) c.args.goal.now.param_env.items c.args.alias c.args.self.now c.form_of_open.new.self c.merge_classes.new.self c.beside.new.self c.in_ok-found.found c.merge_classes.result c.in_ok-answer.answer c.beside.result c.in_ok-answer.was (subst (λ (es : List Clause). OpensFrom answers_term es (erased (tree_of_alias c.args.alias)) c.args.self.now (Ok c.in_ok-found.found) c.form_of_open.new.self) c.deref.ensures.value c.in_ok-found.ensures.opens) c.form_of_open.ensures.alone c.merge_classes.ensures.decides c.beside.ensures.beside c.beside.ensures.only_memory
-    (λ x b d. inr (c.in-Some.rules, Ok c.in_ok-answer.answer, c.merge_classes.new.self, classes-shown trait_words _ c.form_of_open.new.self c.args.goal.now c.in_ok-found.found c.in_ok-rules.field-0 c.in-Some.rules c.self.view_is c.in-Some.is c.in_ok-rules.ensures.rules, d, (x, b, refl)))
+    merge-answered (ByFormedClasses trait_kind c.args.goal.now) (λ x. ByClasses (AreOfClass c.form_of_open.new.self.typing_mode c.in-Some.rules) c.in-Some.rules.param_env.items trait_classes c.form_of_open.new.self x c.merge_classes.new.self) c.args.goal.now.param_env.items c.args.alias c.args.self.now c.form_of_open.new.self c.merge_classes.new.self c.beside.new.self c.in_ok-found.found c.merge_classes.result c.in_ok-answer.answer c.beside.result c.in_ok-answer.was (subst (λ (es : List Clause). OpensFrom answers_term es (erased (tree_of_alias c.args.alias)) c.args.self.now (Ok c.in_ok-found.found) c.form_of_open.new.self) c.deref.ensures.value c.in_ok-found.ensures.opens) c.form_of_open.ensures.alone c.merge_classes.ensures.decides c.beside.ensures.beside c.beside.ensures.only_memory
+    (λ x b d. inr (c.in-Some.rules, Ok c.in_ok-answer.answer, c.merge_classes.new.self, classes-shown trait_kind _ c.form_of_open.new.self c.args.goal.now c.in_ok-found.found c.in_ok-rules.field-0 c.in-Some.rules c.self.view_is c.in-Some.is c.in_ok-rules.ensures.rules, d, (x, b, refl)))
 
 pub answer_opened_trait-returns-in_err-answer-clause-goes_back : goal.answer_opened_trait-returns-in_err-answer-clause-goes_back
 answer_opened_trait-returns-in_err-answer-clause-goes_back t c =
@@ -1408,7 +1480,7 @@ answer_opened_trait-returns-in_err-answer-clause-fault t c =
 
 pub merge_open_alias-returns-in_err-open_self-clause-opened : goal.merge_open_alias-returns-in_err-open_self-clause-opened
 merge_open_alias-returns-in_err-open_self-clause-opened t c =
-    λ asks. opened-unsaid alias_words.self_type (ByFormedGroups alias_words c.args.goal.now.predicate c.args.class c.args.goal.now) c.args.goal.now c.args.self.now c.open_self.new.self c.from_residual.result c.in_err-open_self.field-0.0 c.open_self.ensures.unchanged c.from_residual.ensures.1 c.in_err-open_self.ensures.only_memory
+    λ asks. opened-unsaid alias_kind.words.self_type (ByFormedGroups alias_kind c.args.goal.now.predicate c.args.class c.args.goal.now) c.args.goal.now c.args.self.now c.open_self.new.self c.from_residual.result c.in_err-open_self.field-0.0 c.open_self.ensures.unchanged c.from_residual.ensures.1 c.in_err-open_self.ensures.only_memory
 
 pub merge_open_alias-returns-in_err-open_self-clause-goes_back : goal.merge_open_alias-returns-in_err-open_self-clause-goes_back
 merge_open_alias-returns-in_err-open_self-clause-goes_back t c =
@@ -1429,7 +1501,7 @@ merge_open_alias-returns-in-None-clause-goes_back t c =
 
 pub merge_open_alias-returns-in-Some-clause-undecided : goal.merge_open_alias-returns-in-Some-clause-undecided
 merge_open_alias-returns-in-Some-clause-undecided t c =
-    λ other. absurd (other (known c.in_ok-open_self.field-0 c.in-Some.alias (λ a. AsksOpenSelf alias_words.self_type c.args.goal.now c.args.self.now) c.in-Some.is c.in_ok-open_self.ensures.asks))
+    λ other. absurd (other (known c.in_ok-open_self.field-0 c.in-Some.alias (λ a. AsksOpenSelf alias_kind.words.self_type c.args.goal.now c.args.self.now) c.in-Some.is c.in_ok-open_self.ensures.asks))
 
 pub merge_open_alias-returns-in-Some-clause-opened : goal.merge_open_alias-returns-in-Some-clause-opened
 merge_open_alias-returns-in-Some-clause-opened t c =
@@ -1458,7 +1530,7 @@ merge_opened_alias-returns-clause-merges t c =
     let undone : c.end.new.self ≡ restored c.args.self.now c.answer_opened_alias-answer.new.self =
     c.end.ensures ∙ ap (λ (z : State). record z { mark = c.begin-around.result }) (c.rollback.ensures.undone (begun c.args.self.now) c.snapshot-before.ensures back)
     ∙ ap (λ m. record (restored (begun c.args.self.now) c.answer_opened_alias-answer.new.self) { mark = m }) c.begin-around.ensures.around in
-    opened-merges alias_words.self_type (ByFormedGroups alias_words c.args.goal.now.predicate c.args.class c.args.goal.now) c.args.goal.now c.args.alias c.args.self.now c.begin-around.new.self c.answer_opened_alias-answer.new.self c.end.new.self c.answer_opened_alias-answer.result c.or_undecided.result
+    opened-merges alias_kind.words.self_type (ByFormedGroups alias_kind c.args.goal.now.predicate c.args.class c.args.goal.now) c.args.goal.now c.args.alias c.args.self.now c.begin-around.new.self c.answer_opened_alias-answer.new.self c.end.new.self c.answer_opened_alias-answer.result c.or_undecided.result
     c.begin-around.ensures.began undone c.requires.opens c.answer_opened_alias-answer.ensures.by c.or_undecided.ensures.after
 
 pub merge_opened_alias-returns-clause-applies : goal.merge_opened_alias-returns-clause-applies
@@ -1497,24 +1569,24 @@ merge_opened_alias-returns-clause-fault t c =
 
 pub answer_opened_alias-returns-in_err-found-clause-by : goal.answer_opened_alias-returns-in_err-found-clause-by
 answer_opened_alias-returns-in_err-found-clause-by t c =
-    handed-on c.from_residual.result c.in_err-found.field-0.0 (λ (r : Result (Option Response) Fault). WhenTried r (InTrial (ByFormedGroups alias_words c.args.goal.now.predicate c.args.class c.args.goal.now) c.args.goal.now.param_env.items c.args.alias c.args.self.now r c.form_of_open.new.self)) c.from_residual.ensures.1
-    (form-refused (ByFormedGroups alias_words c.args.goal.now.predicate c.args.class c.args.goal.now) c.args.goal.now.param_env.items c.args.alias c.args.self.now c.form_of_open.new.self c.in_err-found.field-0.0 (subst (λ (es : List Clause). OpensFrom answers_term es (erased (tree_of_alias c.args.alias)) c.args.self.now (Err c.in_err-found.field-0.0) c.form_of_open.new.self) c.deref.ensures.value c.in_err-found.ensures.opens) c.form_of_open.ensures.alone (refl, refl))
+    handed-on c.from_residual.result c.in_err-found.field-0.0 (λ (r : Result (Option Response) Fault). WhenTried r (InTrial (ByFormedGroups alias_kind c.args.goal.now.predicate c.args.class c.args.goal.now) c.args.goal.now.param_env.items c.args.alias c.args.self.now r c.form_of_open.new.self)) c.from_residual.ensures.1
+    (form-refused (ByFormedGroups alias_kind c.args.goal.now.predicate c.args.class c.args.goal.now) c.args.goal.now.param_env.items c.args.alias c.args.self.now c.form_of_open.new.self c.in_err-found.field-0.0 (subst (λ (es : List Clause). OpensFrom answers_term es (erased (tree_of_alias c.args.alias)) c.args.self.now (Err c.in_err-found.field-0.0) c.form_of_open.new.self) c.deref.ensures.value c.in_err-found.ensures.opens) c.form_of_open.ensures.alone (refl, refl))
 
 pub answer_opened_alias-returns-in_default-clause-by : goal.answer_opened_alias-returns-in_default-clause-by
 answer_opened_alias-returns-in_default-clause-by t c =
-    form-passed (ByFormedGroups alias_words c.args.goal.now.predicate c.args.class c.args.goal.now) c.args.goal.now.param_env.items c.args.alias c.args.self.now c.form_of_open.new.self c.in_ok-found.found (subst (λ (es : List Clause). OpensFrom answers_term es (erased (tree_of_alias c.args.alias)) c.args.self.now (Ok c.in_ok-found.found) c.form_of_open.new.self) c.deref.ensures.value c.in_ok-found.ensures.opens) c.form_of_open.ensures.alone
-    (inl (groups-passed alias_words _ c.form_of_open.new.self c.args.class c.args.goal.now c.in_ok-found.found c.in_ok-rules.field-0 c.self.view_is (none-left _ c.in_default.not-Some) c.in_ok-rules.ensures.rules, refl, refl))
+    form-passed (ByFormedGroups alias_kind c.args.goal.now.predicate c.args.class c.args.goal.now) c.args.goal.now.param_env.items c.args.alias c.args.self.now c.form_of_open.new.self c.in_ok-found.found (subst (λ (es : List Clause). OpensFrom answers_term es (erased (tree_of_alias c.args.alias)) c.args.self.now (Ok c.in_ok-found.found) c.form_of_open.new.self) c.deref.ensures.value c.in_ok-found.ensures.opens) c.form_of_open.ensures.alone
+    (inl (groups-passed alias_kind _ c.form_of_open.new.self c.args.class c.args.goal.now c.in_ok-found.found c.in_ok-rules.field-0 c.self.view_is (none-left _ c.in_default.not-Some) c.in_ok-rules.ensures.rules, refl, refl))
 
 pub answer_opened_alias-returns-in_err-answer-clause-by : goal.answer_opened_alias-returns-in_err-answer-clause-by
 answer_opened_alias-returns-in_err-answer-clause-by t c =
-    handed-on c.from_residual-in_err-answer.result c.in_err-answer.field-0.0 (λ (r : Result (Option Response) Fault). WhenTried r (InTrial (ByFormedGroups alias_words c.args.goal.now.predicate c.args.class c.args.goal.now) c.args.goal.now.param_env.items c.args.alias c.args.self.now r c.merge_groups.new.self)) c.from_residual-in_err-answer.ensures.1
-    (merge-refused (ByFormedGroups alias_words c.args.goal.now.predicate c.args.class c.args.goal.now) (λ x. ByGroups c.args.class c.in-Some.rules.param_env.items c.in-Some.rules.environment.items c.in-Some.rules.later.items (own_args c.form_of_open.new.self.tables c.args.goal.now.predicate.alias) c.args.goal.now.predicate c.form_of_open.new.self x c.merge_groups.new.self) c.args.goal.now.param_env.items c.args.alias c.args.self.now c.form_of_open.new.self c.merge_groups.new.self c.in_ok-found.found c.merge_groups.result c.in_err-answer.field-0.0 c.in_err-answer.was (subst (λ (es : List Clause). OpensFrom answers_term es (erased (tree_of_alias c.args.alias)) c.args.self.now (Ok c.in_ok-found.found) c.form_of_open.new.self) c.deref.ensures.value c.in_ok-found.ensures.opens) c.form_of_open.ensures.alone c.merge_groups.ensures.decides
-    (λ d. inr (c.in-Some.rules, Err c.in_err-answer.field-0.0, c.merge_groups.new.self, groups-shown alias_words _ c.form_of_open.new.self c.args.class c.args.goal.now c.in_ok-found.found c.in_ok-rules.field-0 c.in-Some.rules c.self.view_is c.in-Some.is c.in_ok-rules.ensures.rules, d, (refl, refl))))
+    handed-on c.from_residual-in_err-answer.result c.in_err-answer.field-0.0 (λ (r : Result (Option Response) Fault). WhenTried r (InTrial (ByFormedGroups alias_kind c.args.goal.now.predicate c.args.class c.args.goal.now) c.args.goal.now.param_env.items c.args.alias c.args.self.now r c.merge_groups.new.self)) c.from_residual-in_err-answer.ensures.1
+    (merge-refused (ByFormedGroups alias_kind c.args.goal.now.predicate c.args.class c.args.goal.now) (λ x. ByGroups c.args.class c.in-Some.rules.param_env.items c.in-Some.rules.environment.items c.in-Some.rules.later.items (own_args c.form_of_open.new.self.tables c.args.goal.now.predicate.alias) c.args.goal.now.predicate c.form_of_open.new.self x c.merge_groups.new.self) c.args.goal.now.param_env.items c.args.alias c.args.self.now c.form_of_open.new.self c.merge_groups.new.self c.in_ok-found.found c.merge_groups.result c.in_err-answer.field-0.0 c.in_err-answer.was (subst (λ (es : List Clause). OpensFrom answers_term es (erased (tree_of_alias c.args.alias)) c.args.self.now (Ok c.in_ok-found.found) c.form_of_open.new.self) c.deref.ensures.value c.in_ok-found.ensures.opens) c.form_of_open.ensures.alone c.merge_groups.ensures.decides
+    (λ d. inr (c.in-Some.rules, Err c.in_err-answer.field-0.0, c.merge_groups.new.self, groups-shown alias_kind _ c.form_of_open.new.self c.args.class c.args.goal.now c.in_ok-found.found c.in_ok-rules.field-0 c.in-Some.rules c.self.view_is c.in-Some.is c.in_ok-rules.ensures.rules, d, (refl, refl))))
 
 pub answer_opened_alias-returns-clause-by : goal.answer_opened_alias-returns-clause-by
 answer_opened_alias-returns-clause-by t c =
-    merge-answered (ByFormedGroups alias_words c.args.goal.now.predicate c.args.class c.args.goal.now) (λ x. ByGroups c.args.class c.in-Some.rules.param_env.items c.in-Some.rules.environment.items c.in-Some.rules.later.items (own_args c.form_of_open.new.self.tables c.args.goal.now.predicate.alias) c.args.goal.now.predicate c.form_of_open.new.self x c.merge_groups.new.self) c.args.goal.now.param_env.items c.args.alias c.args.self.now c.form_of_open.new.self c.merge_groups.new.self c.beside.new.self c.in_ok-found.found c.merge_groups.result c.in_ok-answer.answer c.beside.result c.in_ok-answer.was (subst (λ (es : List Clause). OpensFrom answers_term es (erased (tree_of_alias c.args.alias)) c.args.self.now (Ok c.in_ok-found.found) c.form_of_open.new.self) c.deref.ensures.value c.in_ok-found.ensures.opens) c.form_of_open.ensures.alone c.merge_groups.ensures.decides c.beside.ensures.beside c.beside.ensures.only_memory
-    (λ x b d. inr (c.in-Some.rules, Ok c.in_ok-answer.answer, c.merge_groups.new.self, groups-shown alias_words _ c.form_of_open.new.self c.args.class c.args.goal.now c.in_ok-found.found c.in_ok-rules.field-0 c.in-Some.rules c.self.view_is c.in-Some.is c.in_ok-rules.ensures.rules, d, (x, b, refl)))
+    merge-answered (ByFormedGroups alias_kind c.args.goal.now.predicate c.args.class c.args.goal.now) (λ x. ByGroups c.args.class c.in-Some.rules.param_env.items c.in-Some.rules.environment.items c.in-Some.rules.later.items (own_args c.form_of_open.new.self.tables c.args.goal.now.predicate.alias) c.args.goal.now.predicate c.form_of_open.new.self x c.merge_groups.new.self) c.args.goal.now.param_env.items c.args.alias c.args.self.now c.form_of_open.new.self c.merge_groups.new.self c.beside.new.self c.in_ok-found.found c.merge_groups.result c.in_ok-answer.answer c.beside.result c.in_ok-answer.was (subst (λ (es : List Clause). OpensFrom answers_term es (erased (tree_of_alias c.args.alias)) c.args.self.now (Ok c.in_ok-found.found) c.form_of_open.new.self) c.deref.ensures.value c.in_ok-found.ensures.opens) c.form_of_open.ensures.alone c.merge_groups.ensures.decides c.beside.ensures.beside c.beside.ensures.only_memory
+    (λ x b d. inr (c.in-Some.rules, Ok c.in_ok-answer.answer, c.merge_groups.new.self, groups-shown alias_kind _ c.form_of_open.new.self c.args.class c.args.goal.now c.in_ok-found.found c.in_ok-rules.field-0 c.in-Some.rules c.self.view_is c.in-Some.is c.in_ok-rules.ensures.rules, d, (x, b, refl)))
 
 pub answer_opened_alias-returns-in_err-answer-clause-goes_back : goal.answer_opened_alias-returns-in_err-answer-clause-goes_back
 answer_opened_alias-returns-in_err-answer-clause-goes_back t c =
@@ -1531,7 +1603,7 @@ answer_opened_alias-returns-in_err-answer-clause-fault t c =
 
 pub merge_open_const-returns-in_err-open_self-clause-opened : goal.merge_open_const-returns-in_err-open_self-clause-opened
 merge_open_const-returns-in_err-open_self-clause-opened t c =
-    λ asks. opened-unsaid host_words.self_type (ByFormedRuleGroups host_words c.args.class c.args.goal.now) c.args.goal.now c.args.self.now c.open_self.new.self c.from_residual.result c.in_err-open_self.field-0.0 c.open_self.ensures.unchanged c.from_residual.ensures.1 c.in_err-open_self.ensures.only_memory
+    λ asks. opened-unsaid host_kind.words.self_type (ByFormedRuleGroups host_kind c.args.class c.args.goal.now) c.args.goal.now c.args.self.now c.open_self.new.self c.from_residual.result c.in_err-open_self.field-0.0 c.open_self.ensures.unchanged c.from_residual.ensures.1 c.in_err-open_self.ensures.only_memory
 
 pub merge_open_const-returns-in_err-open_self-clause-goes_back : goal.merge_open_const-returns-in_err-open_self-clause-goes_back
 merge_open_const-returns-in_err-open_self-clause-goes_back t c =
@@ -1552,7 +1624,7 @@ merge_open_const-returns-in-None-clause-goes_back t c =
 
 pub merge_open_const-returns-in-Some-clause-undecided : goal.merge_open_const-returns-in-Some-clause-undecided
 merge_open_const-returns-in-Some-clause-undecided t c =
-    λ other. absurd (other (known c.in_ok-open_self.field-0 c.in-Some.alias (λ a. AsksOpenSelf host_words.self_type c.args.goal.now c.args.self.now) c.in-Some.is c.in_ok-open_self.ensures.asks))
+    λ other. absurd (other (known c.in_ok-open_self.field-0 c.in-Some.alias (λ a. AsksOpenSelf host_kind.words.self_type c.args.goal.now c.args.self.now) c.in-Some.is c.in_ok-open_self.ensures.asks))
 
 pub merge_open_const-returns-in-Some-clause-opened : goal.merge_open_const-returns-in-Some-clause-opened
 merge_open_const-returns-in-Some-clause-opened t c =
@@ -1581,7 +1653,7 @@ merge_opened_const-returns-clause-merges t c =
     let undone : c.end.new.self ≡ restored c.args.self.now c.answer_opened_const-answer.new.self =
     c.end.ensures ∙ ap (λ (z : State). record z { mark = c.begin-around.result }) (c.rollback.ensures.undone (begun c.args.self.now) c.snapshot-before.ensures back)
     ∙ ap (λ m. record (restored (begun c.args.self.now) c.answer_opened_const-answer.new.self) { mark = m }) c.begin-around.ensures.around in
-    opened-merges host_words.self_type (ByFormedRuleGroups host_words c.args.class c.args.goal.now) c.args.goal.now c.args.alias c.args.self.now c.begin-around.new.self c.answer_opened_const-answer.new.self c.end.new.self c.answer_opened_const-answer.result c.or_undecided.result
+    opened-merges host_kind.words.self_type (ByFormedRuleGroups host_kind c.args.class c.args.goal.now) c.args.goal.now c.args.alias c.args.self.now c.begin-around.new.self c.answer_opened_const-answer.new.self c.end.new.self c.answer_opened_const-answer.result c.or_undecided.result
     c.begin-around.ensures.began undone c.requires.opens c.answer_opened_const-answer.ensures.by c.or_undecided.ensures.after
 
 pub merge_opened_const-returns-clause-applies : goal.merge_opened_const-returns-clause-applies
@@ -1620,24 +1692,24 @@ merge_opened_const-returns-clause-fault t c =
 
 pub answer_opened_const-returns-in_err-found-clause-by : goal.answer_opened_const-returns-in_err-found-clause-by
 answer_opened_const-returns-in_err-found-clause-by t c =
-    handed-on c.from_residual.result c.in_err-found.field-0.0 (λ (r : Result (Option Response) Fault). WhenTried r (InTrial (ByFormedRuleGroups host_words c.args.class c.args.goal.now) c.args.goal.now.param_env.items c.args.alias c.args.self.now r c.form_of_open.new.self)) c.from_residual.ensures.1
-    (form-refused (ByFormedRuleGroups host_words c.args.class c.args.goal.now) c.args.goal.now.param_env.items c.args.alias c.args.self.now c.form_of_open.new.self c.in_err-found.field-0.0 (subst (λ (es : List Clause). OpensFrom answers_term es (erased (tree_of_alias c.args.alias)) c.args.self.now (Err c.in_err-found.field-0.0) c.form_of_open.new.self) c.deref.ensures.value c.in_err-found.ensures.opens) c.form_of_open.ensures.alone (refl, refl))
+    handed-on c.from_residual.result c.in_err-found.field-0.0 (λ (r : Result (Option Response) Fault). WhenTried r (InTrial (ByFormedRuleGroups host_kind c.args.class c.args.goal.now) c.args.goal.now.param_env.items c.args.alias c.args.self.now r c.form_of_open.new.self)) c.from_residual.ensures.1
+    (form-refused (ByFormedRuleGroups host_kind c.args.class c.args.goal.now) c.args.goal.now.param_env.items c.args.alias c.args.self.now c.form_of_open.new.self c.in_err-found.field-0.0 (subst (λ (es : List Clause). OpensFrom answers_term es (erased (tree_of_alias c.args.alias)) c.args.self.now (Err c.in_err-found.field-0.0) c.form_of_open.new.self) c.deref.ensures.value c.in_err-found.ensures.opens) c.form_of_open.ensures.alone (refl, refl))
 
 pub answer_opened_const-returns-in_default-clause-by : goal.answer_opened_const-returns-in_default-clause-by
 answer_opened_const-returns-in_default-clause-by t c =
-    form-passed (ByFormedRuleGroups host_words c.args.class c.args.goal.now) c.args.goal.now.param_env.items c.args.alias c.args.self.now c.form_of_open.new.self c.in_ok-found.found (subst (λ (es : List Clause). OpensFrom answers_term es (erased (tree_of_alias c.args.alias)) c.args.self.now (Ok c.in_ok-found.found) c.form_of_open.new.self) c.deref.ensures.value c.in_ok-found.ensures.opens) c.form_of_open.ensures.alone
-    (inl (groups-passed host_words _ c.form_of_open.new.self c.args.class c.args.goal.now c.in_ok-found.found c.in_ok-rules.field-0 c.self.view_is (none-left _ c.in_default.not-Some) c.in_ok-rules.ensures.rules, refl, refl))
+    form-passed (ByFormedRuleGroups host_kind c.args.class c.args.goal.now) c.args.goal.now.param_env.items c.args.alias c.args.self.now c.form_of_open.new.self c.in_ok-found.found (subst (λ (es : List Clause). OpensFrom answers_term es (erased (tree_of_alias c.args.alias)) c.args.self.now (Ok c.in_ok-found.found) c.form_of_open.new.self) c.deref.ensures.value c.in_ok-found.ensures.opens) c.form_of_open.ensures.alone
+    (inl (groups-passed host_kind _ c.form_of_open.new.self c.args.class c.args.goal.now c.in_ok-found.found c.in_ok-rules.field-0 c.self.view_is (none-left _ c.in_default.not-Some) c.in_ok-rules.ensures.rules, refl, refl))
 
 pub answer_opened_const-returns-in_err-answer-clause-by : goal.answer_opened_const-returns-in_err-answer-clause-by
 answer_opened_const-returns-in_err-answer-clause-by t c =
-    handed-on c.from_residual-in_err-answer.result c.in_err-answer.field-0.0 (λ (r : Result (Option Response) Fault). WhenTried r (InTrial (ByFormedRuleGroups host_words c.args.class c.args.goal.now) c.args.goal.now.param_env.items c.args.alias c.args.self.now r c.merge_const_groups.new.self)) c.from_residual-in_err-answer.ensures.1
-    (merge-refused (ByFormedRuleGroups host_words c.args.class c.args.goal.now) (λ x. ByRuleGroups c.in-Some.rules.param_env.items (rules_of_groups c.in-Some.rules) c.form_of_open.new.self x c.merge_const_groups.new.self) c.args.goal.now.param_env.items c.args.alias c.args.self.now c.form_of_open.new.self c.merge_const_groups.new.self c.in_ok-found.found c.merge_const_groups.result c.in_err-answer.field-0.0 c.in_err-answer.was (subst (λ (es : List Clause). OpensFrom answers_term es (erased (tree_of_alias c.args.alias)) c.args.self.now (Ok c.in_ok-found.found) c.form_of_open.new.self) c.deref.ensures.value c.in_ok-found.ensures.opens) c.form_of_open.ensures.alone c.merge_const_groups.ensures.decides
-    (λ d. inr (c.in-Some.rules, Err c.in_err-answer.field-0.0, c.merge_const_groups.new.self, groups-shown host_words _ c.form_of_open.new.self c.args.class c.args.goal.now c.in_ok-found.found c.in_ok-rules.field-0 c.in-Some.rules c.self.view_is c.in-Some.is c.in_ok-rules.ensures.rules, d, (refl, refl))))
+    handed-on c.from_residual-in_err-answer.result c.in_err-answer.field-0.0 (λ (r : Result (Option Response) Fault). WhenTried r (InTrial (ByFormedRuleGroups host_kind c.args.class c.args.goal.now) c.args.goal.now.param_env.items c.args.alias c.args.self.now r c.merge_const_groups.new.self)) c.from_residual-in_err-answer.ensures.1
+    (merge-refused (ByFormedRuleGroups host_kind c.args.class c.args.goal.now) (λ x. ByRuleGroups c.in-Some.rules.param_env.items (rules_of_groups c.in-Some.rules) c.form_of_open.new.self x c.merge_const_groups.new.self) c.args.goal.now.param_env.items c.args.alias c.args.self.now c.form_of_open.new.self c.merge_const_groups.new.self c.in_ok-found.found c.merge_const_groups.result c.in_err-answer.field-0.0 c.in_err-answer.was (subst (λ (es : List Clause). OpensFrom answers_term es (erased (tree_of_alias c.args.alias)) c.args.self.now (Ok c.in_ok-found.found) c.form_of_open.new.self) c.deref.ensures.value c.in_ok-found.ensures.opens) c.form_of_open.ensures.alone c.merge_const_groups.ensures.decides
+    (λ d. inr (c.in-Some.rules, Err c.in_err-answer.field-0.0, c.merge_const_groups.new.self, groups-shown host_kind _ c.form_of_open.new.self c.args.class c.args.goal.now c.in_ok-found.found c.in_ok-rules.field-0 c.in-Some.rules c.self.view_is c.in-Some.is c.in_ok-rules.ensures.rules, d, (refl, refl))))
 
 pub answer_opened_const-returns-clause-by : goal.answer_opened_const-returns-clause-by
 answer_opened_const-returns-clause-by t c =
-    merge-answered (ByFormedRuleGroups host_words c.args.class c.args.goal.now) (λ x. ByRuleGroups c.in-Some.rules.param_env.items (rules_of_groups c.in-Some.rules) c.form_of_open.new.self x c.merge_const_groups.new.self) c.args.goal.now.param_env.items c.args.alias c.args.self.now c.form_of_open.new.self c.merge_const_groups.new.self c.beside.new.self c.in_ok-found.found c.merge_const_groups.result c.in_ok-answer.answer c.beside.result c.in_ok-answer.was (subst (λ (es : List Clause). OpensFrom answers_term es (erased (tree_of_alias c.args.alias)) c.args.self.now (Ok c.in_ok-found.found) c.form_of_open.new.self) c.deref.ensures.value c.in_ok-found.ensures.opens) c.form_of_open.ensures.alone c.merge_const_groups.ensures.decides c.beside.ensures.beside c.beside.ensures.only_memory
-    (λ x b d. inr (c.in-Some.rules, Ok c.in_ok-answer.answer, c.merge_const_groups.new.self, groups-shown host_words _ c.form_of_open.new.self c.args.class c.args.goal.now c.in_ok-found.found c.in_ok-rules.field-0 c.in-Some.rules c.self.view_is c.in-Some.is c.in_ok-rules.ensures.rules, d, (x, b, refl)))
+    merge-answered (ByFormedRuleGroups host_kind c.args.class c.args.goal.now) (λ x. ByRuleGroups c.in-Some.rules.param_env.items (rules_of_groups c.in-Some.rules) c.form_of_open.new.self x c.merge_const_groups.new.self) c.args.goal.now.param_env.items c.args.alias c.args.self.now c.form_of_open.new.self c.merge_const_groups.new.self c.beside.new.self c.in_ok-found.found c.merge_const_groups.result c.in_ok-answer.answer c.beside.result c.in_ok-answer.was (subst (λ (es : List Clause). OpensFrom answers_term es (erased (tree_of_alias c.args.alias)) c.args.self.now (Ok c.in_ok-found.found) c.form_of_open.new.self) c.deref.ensures.value c.in_ok-found.ensures.opens) c.form_of_open.ensures.alone c.merge_const_groups.ensures.decides c.beside.ensures.beside c.beside.ensures.only_memory
+    (λ x b d. inr (c.in-Some.rules, Ok c.in_ok-answer.answer, c.merge_const_groups.new.self, groups-shown host_kind _ c.form_of_open.new.self c.args.class c.args.goal.now c.in_ok-found.found c.in_ok-rules.field-0 c.in-Some.rules c.self.view_is c.in-Some.is c.in_ok-rules.ensures.rules, d, (x, b, refl)))
 
 pub answer_opened_const-returns-in_err-answer-clause-goes_back : goal.answer_opened_const-returns-in_err-answer-clause-goes_back
 answer_opened_const-returns-in_err-answer-clause-goes_back t c =
@@ -1654,14 +1726,14 @@ answer_opened_const-returns-in_err-answer-clause-fault t c =
 
 pub merge_trait-returns-in-None-clause-merges : goal.merge_trait-returns-in-None-clause-merges
 merge_trait-returns-in-None-clause-merges t c =
-    left-or_opened trait_words c.args.goal.now c.args.self.now c.considered_rules.new.self c.merge_open_trait.new.self c.merge_open_trait.result
-    (subst (λ o. ConsidersRules trait_words c.args.goal.now c.args.self.now o c.considered_rules.new.self) c.in-None.is c.in_ok-considered_rules.ensures.considers) c.considered_rules.ensures.unchanged
+    left-or_opened trait_kind c.args.goal.now c.args.self.now c.considered_rules.new.self c.merge_open_trait.new.self c.merge_open_trait.result
+    (subst (λ o. ConsidersRules trait_kind c.args.goal.now c.args.self.now o c.considered_rules.new.self) c.in-None.is c.in_ok-considered_rules.ensures.considers) c.considered_rules.ensures.unchanged
     c.merge_open_trait.ensures.unchanged c.merge_open_trait.ensures.undecided c.merge_open_trait.ensures.opened
 
 pub merge_alias-returns-in-None-clause-merges : goal.merge_alias-returns-in-None-clause-merges
 merge_alias-returns-in-None-clause-merges t c =
-    left-or_opened-through alias_words c.args.goal.now.predicate c.args.class c.args.goal.now c.args.self.now c.considered_groups.new.self c.merge_open_alias.new.self c.merge_open_alias.result
-    (subst (λ o. ConsidersGroups alias_words c.args.class c.args.goal.now c.args.self.now o c.considered_groups.new.self) c.in-None.is c.in_ok-considered_groups.ensures.considers) c.considered_groups.ensures.unchanged
+    left-or_opened-through alias_kind c.args.goal.now.predicate c.args.class c.args.goal.now c.args.self.now c.considered_groups.new.self c.merge_open_alias.new.self c.merge_open_alias.result
+    (subst (λ o. ConsidersGroups alias_kind c.args.class c.args.goal.now c.args.self.now o c.considered_groups.new.self) c.in-None.is c.in_ok-considered_groups.ensures.considers) c.considered_groups.ensures.unchanged
     c.merge_open_alias.ensures.unchanged c.merge_open_alias.ensures.undecided c.merge_open_alias.ensures.opened
 
 pub evaluate_open_alias-rollback-requires : goal.evaluate_open_alias-rollback-requires

@@ -9,6 +9,7 @@ use Rattle.goal_solver.specs.OpenRuns.{RunsThrough, open_progress, open_start}
 use Rattle.goal_solver.specs.RunRules.{AreListed, AreRecorded}
 use Rattle.goal_solver.specs.Binding.{IsApplicable}
 use Rattle.goal_solver.specs.MergedRules.{MergesRules, IfAnswered}
+use Rattle.goal_solver.specs.MoreSpecial.{AsksEach}
 use Rattle.goal_terms.specs.declared.answers.Certainty.TheVariants as certainty
 use Rattle.goal_solver.proofs.context.EvalCtxt.+open.Given as goal
 
@@ -81,8 +82,17 @@ decreases-answer_open l = 40 * l.self.now.remaining_depth + 15
 abbrev pub decreases-run_open : goal.decreases-run_open
 decreases-run_open l = 40 * l.self.now.remaining_depth + 16
 
-abbrev pub decreases-run_unrefused : goal.decreases-run_unrefused
-decreases-run_unrefused l = 40 * l.self.now.remaining_depth + 17
+abbrev pub decreases-run_alone : goal.decreases-run_alone
+decreases-run_alone l = 40 * l.self.now.remaining_depth + 17
+
+abbrev pub decreases-impl_outcome : goal.decreases-impl_outcome
+decreases-impl_outcome l = 40 * l.self.now.remaining_depth + 18
+
+abbrev pub decreases-more_special_outcome : goal.decreases-more_special_outcome
+decreases-more_special_outcome l = 40 * l.self.now.remaining_depth + 19
+
+abbrev pub decreases-run_beside : goal.decreases-run_beside
+decreases-run_beside l = 40 * l.self.now.remaining_depth + 20
 
 abbrev pub decreases-rigid : goal.decreases-rigid
 decreases-rigid l = 40 * l.self.now.remaining_depth + 17
@@ -91,76 +101,76 @@ abbrev pub decreases-run_alias_rule : goal.decreases-run_alias_rule
 decreases-run_alias_rule l = 40 * l.self.now.remaining_depth + 17
 
 abbrev pub decreases-merge_next : goal.decreases-merge_next
-decreases-merge_next l = 40 * l.self.now.remaining_depth + 18
+decreases-merge_next l = 40 * l.self.now.remaining_depth + 21
 
 abbrev pub decreases-merge_rules : goal.decreases-merge_rules
-decreases-merge_rules l = 40 * l.self.now.remaining_depth + 19
+decreases-merge_rules l = 40 * l.self.now.remaining_depth + 22
 
 abbrev pub decreases-class_answer : goal.decreases-class_answer
-decreases-class_answer l = 40 * l.self.now.remaining_depth + 20
+decreases-class_answer l = 40 * l.self.now.remaining_depth + 23
 
 abbrev pub decreases-group_answer : goal.decreases-group_answer
-decreases-group_answer l = 40 * l.self.now.remaining_depth + 20
+decreases-group_answer l = 40 * l.self.now.remaining_depth + 23
 
 abbrev pub decreases-merge_classes : goal.decreases-merge_classes
-decreases-merge_classes l = 40 * l.self.now.remaining_depth + 21
+decreases-merge_classes l = 40 * l.self.now.remaining_depth + 24
 
 abbrev pub decreases-merge_const_groups : goal.decreases-merge_const_groups
-decreases-merge_const_groups l = 40 * l.self.now.remaining_depth + 21
+decreases-merge_const_groups l = 40 * l.self.now.remaining_depth + 24
 
 abbrev pub decreases-answer_opened_trait : goal.decreases-answer_opened_trait
-decreases-answer_opened_trait l = 40 * l.self.now.remaining_depth + 22
+decreases-answer_opened_trait l = 40 * l.self.now.remaining_depth + 25
 
 abbrev pub decreases-merge_opened_trait : goal.decreases-merge_opened_trait
-decreases-merge_opened_trait l = 40 * l.self.now.remaining_depth + 23
+decreases-merge_opened_trait l = 40 * l.self.now.remaining_depth + 26
 
 abbrev pub decreases-merge_open_trait : goal.decreases-merge_open_trait
-decreases-merge_open_trait l = 40 * l.self.now.remaining_depth + 24
+decreases-merge_open_trait l = 40 * l.self.now.remaining_depth + 27
 
 abbrev pub decreases-merge_trait : goal.decreases-merge_trait
-decreases-merge_trait l = 40 * l.self.now.remaining_depth + 25
+decreases-merge_trait l = 40 * l.self.now.remaining_depth + 28
 
 abbrev pub decreases-answer_opened_const : goal.decreases-answer_opened_const
-decreases-answer_opened_const l = 40 * l.self.now.remaining_depth + 22
+decreases-answer_opened_const l = 40 * l.self.now.remaining_depth + 25
 
 abbrev pub decreases-merge_opened_const : goal.decreases-merge_opened_const
-decreases-merge_opened_const l = 40 * l.self.now.remaining_depth + 23
+decreases-merge_opened_const l = 40 * l.self.now.remaining_depth + 26
 
 abbrev pub decreases-merge_open_const : goal.decreases-merge_open_const
-decreases-merge_open_const l = 40 * l.self.now.remaining_depth + 24
+decreases-merge_open_const l = 40 * l.self.now.remaining_depth + 27
 
 abbrev pub decreases-merge_const_through : goal.decreases-merge_const_through
-decreases-merge_const_through l = 40 * l.self.now.remaining_depth + 25
+decreases-merge_const_through l = 40 * l.self.now.remaining_depth + 28
 
 abbrev pub decreases-hold_const : goal.decreases-hold_const
-decreases-hold_const l = 40 * l.self.now.remaining_depth + 26
+decreases-hold_const l = 40 * l.self.now.remaining_depth + 29
 
 abbrev pub decreases-merge_bounds : goal.decreases-merge_bounds
-decreases-merge_bounds l = 40 * l.self.now.remaining_depth + 20
+decreases-merge_bounds l = 40 * l.self.now.remaining_depth + 23
 
 abbrev pub decreases-merge_rest : goal.decreases-merge_rest
-decreases-merge_rest l = 40 * l.self.now.remaining_depth + 20
+decreases-merge_rest l = 40 * l.self.now.remaining_depth + 23
 
 abbrev pub decreases-merge_later : goal.decreases-merge_later
-decreases-merge_later l = 40 * l.self.now.remaining_depth + 21
+decreases-merge_later l = 40 * l.self.now.remaining_depth + 24
 
 abbrev pub decreases-merge_groups : goal.decreases-merge_groups
-decreases-merge_groups l = 40 * l.self.now.remaining_depth + 22
+decreases-merge_groups l = 40 * l.self.now.remaining_depth + 25
 
 abbrev pub decreases-answer_opened_alias : goal.decreases-answer_opened_alias
-decreases-answer_opened_alias l = 40 * l.self.now.remaining_depth + 23
+decreases-answer_opened_alias l = 40 * l.self.now.remaining_depth + 26
 
 abbrev pub decreases-merge_opened_alias : goal.decreases-merge_opened_alias
-decreases-merge_opened_alias l = 40 * l.self.now.remaining_depth + 24
+decreases-merge_opened_alias l = 40 * l.self.now.remaining_depth + 27
 
 abbrev pub decreases-merge_open_alias : goal.decreases-merge_open_alias
-decreases-merge_open_alias l = 40 * l.self.now.remaining_depth + 25
+decreases-merge_open_alias l = 40 * l.self.now.remaining_depth + 28
 
 abbrev pub decreases-merge_alias : goal.decreases-merge_alias
-decreases-merge_alias l = 40 * l.self.now.remaining_depth + 26
+decreases-merge_alias l = 40 * l.self.now.remaining_depth + 29
 
 abbrev pub decreases-project : goal.decreases-project
-decreases-project l = 40 * l.self.now.remaining_depth + 27
+decreases-project l = 40 * l.self.now.remaining_depth + 30
 
 abbrev pub invariant-evaluate_round-loop-i : goal.invariant-evaluate_round-loop-i
 invariant-evaluate_round-loop-i l = record {
@@ -195,6 +205,13 @@ abbrev pub invariant-merge_rules-loop-rule : goal.invariant-merge_rules-loop-rul
 invariant-merge_rules-loop-rule l = record {
   merges : MergesRules l.environment (take l.rule-index l.rules) l.fn.self l.merged l.self;
   applies : IfAnswered l.merged (IsApplicable l.self);
+  unchanged : l.self ≡ restored l.fn.self l.self;
+  back : GoesBack l.fn.self l.self;
+}
+
+abbrev pub invariant-more_special_outcome-loop-i : goal.invariant-more_special_outcome-loop-i
+invariant-more_special_outcome-loop-i l = record {
+  asks : AsksEach l.rows l.environment l.matched.args.now (take l.i l.places) l.fn.self l.found l.self;
   unchanged : l.self ≡ restored l.fn.self l.self;
   back : GoesBack l.fn.self l.self;
 }

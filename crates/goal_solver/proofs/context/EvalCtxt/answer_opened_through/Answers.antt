@@ -4,38 +4,38 @@ use Rattle.goal_terms.specs.TreeOf.{tree_of_alias}
 use Rattle.goal_terms.specs.declared.answers.Response.{Response}
 use Rattle.goal_terms.specs.declared.predicates.Clause.{Clause}
 use Rattle.goal_kinds.specs.declared.faults.Fault.{Fault}
-use Rattle.goal_solver.specs.Collecting.{kind_words}
+use Rattle.goal_solver.specs.Collecting.{kind_of}
 use Rattle.goal_solver.specs.OpenForms.{OpensFrom}
-use Rattle.goal_solver.specs.OpenGoals.{WhenTried}
+use Rattle.goal_solver.specs.OpenGoals.{WhenTried, InTrial}
 use Rattle.goal_solver.specs.OpenProjections.{ByFormedGroups, ByGroups, answers_term, own_args}
 use Rattle.goal_solver.specs.Relating.{IsFaultFor}
 use Rattle.goal_solver.proofs.AddedGoalLemmas.{fault-before}
 use Rattle.goal_solver.proofs.GoingBackLemmas.{goes_back-through}
 use Rattle.goal_solver.proofs.OpenClassLemmas.{none-left}
-use Rattle.goal_solver.proofs.OpenedSelfLemmas.{InTrial, form-passed, form-refused, groups-passed, groups-shown, merge-answered, merge-refused}
+use Rattle.goal_solver.proofs.OpenedSelfLemmas.{form-passed, form-refused, groups-passed, groups-shown, merge-answered, merge-refused}
 use Rattle.goal_solver.proofs.RoundLemmas.{handed-on}
 use Rattle.goal_solver.proofs.context.EvalCtxt.answer_opened_through.Goals as goal
 
 pub returns-in_err-found-clause-by : goal.returns-in_err-found-clause-by
 returns-in_err-found-clause-by g c =
-    handed-on c.from_residual.result c.in_err-found.field-0.0 (λ (r : Result (Option Response) Fault). WhenTried r (InTrial (ByFormedGroups (kind_words g.G.GoalKind.merging g.G.GoalKind.has_term g.G.GoalKind.self_type g.G.GoalKind.is_with_self g.G.PredicateTerms.has_fault g.G.GoalKind.trait_asked g.G.GoalKind.passes g.G.GoalKind.is_impl_for g.G.GoalKind.candidate_gives g.G.GoalKind.candidate_refuted g.G.GoalKind.is_for g.G.GoalKind.additional) c.args.asked.now c.args.class c.args.goal.now) c.args.goal.now.param_env.items c.args.alias c.args.self.now r c.form_of_open.new.self)) c.from_residual.ensures.1
-    (form-refused (ByFormedGroups (kind_words g.G.GoalKind.merging g.G.GoalKind.has_term g.G.GoalKind.self_type g.G.GoalKind.is_with_self g.G.PredicateTerms.has_fault g.G.GoalKind.trait_asked g.G.GoalKind.passes g.G.GoalKind.is_impl_for g.G.GoalKind.candidate_gives g.G.GoalKind.candidate_refuted g.G.GoalKind.is_for g.G.GoalKind.additional) c.args.asked.now c.args.class c.args.goal.now) c.args.goal.now.param_env.items c.args.alias c.args.self.now c.form_of_open.new.self c.in_err-found.field-0.0 (subst (λ (es : List Clause). OpensFrom answers_term es (erased (tree_of_alias c.args.alias)) c.args.self.now (Err c.in_err-found.field-0.0) c.form_of_open.new.self) c.deref.ensures.value c.in_err-found.ensures.opens) c.form_of_open.ensures.alone (refl, refl))
+    handed-on c.from_residual.result c.in_err-found.field-0.0 (λ (r : Result (Option Response) Fault). WhenTried r (InTrial (ByFormedGroups (kind_of g.G.GoalKind.words g.G.PredicateTerms.has_fault) c.args.asked.now c.args.class c.args.goal.now) c.args.goal.now.param_env.items c.args.alias c.args.self.now r c.form_of_open.new.self)) c.from_residual.ensures.1
+    (form-refused (ByFormedGroups (kind_of g.G.GoalKind.words g.G.PredicateTerms.has_fault) c.args.asked.now c.args.class c.args.goal.now) c.args.goal.now.param_env.items c.args.alias c.args.self.now c.form_of_open.new.self c.in_err-found.field-0.0 (subst (λ (es : List Clause). OpensFrom answers_term es (erased (tree_of_alias c.args.alias)) c.args.self.now (Err c.in_err-found.field-0.0) c.form_of_open.new.self) c.deref.ensures.value c.in_err-found.ensures.opens) c.form_of_open.ensures.alone (refl, refl))
 
 pub returns-in_default-clause-by : goal.returns-in_default-clause-by
 returns-in_default-clause-by g c =
-    form-passed (ByFormedGroups (kind_words g.G.GoalKind.merging g.G.GoalKind.has_term g.G.GoalKind.self_type g.G.GoalKind.is_with_self g.G.PredicateTerms.has_fault g.G.GoalKind.trait_asked g.G.GoalKind.passes g.G.GoalKind.is_impl_for g.G.GoalKind.candidate_gives g.G.GoalKind.candidate_refuted g.G.GoalKind.is_for g.G.GoalKind.additional) c.args.asked.now c.args.class c.args.goal.now) c.args.goal.now.param_env.items c.args.alias c.args.self.now c.form_of_open.new.self c.in_ok-found.found (subst (λ (es : List Clause). OpensFrom answers_term es (erased (tree_of_alias c.args.alias)) c.args.self.now (Ok c.in_ok-found.found) c.form_of_open.new.self) c.deref.ensures.value c.in_ok-found.ensures.opens) c.form_of_open.ensures.alone
-    (inl (groups-passed (kind_words g.G.GoalKind.merging g.G.GoalKind.has_term g.G.GoalKind.self_type g.G.GoalKind.is_with_self g.G.PredicateTerms.has_fault g.G.GoalKind.trait_asked g.G.GoalKind.passes g.G.GoalKind.is_impl_for g.G.GoalKind.candidate_gives g.G.GoalKind.candidate_refuted g.G.GoalKind.is_for g.G.GoalKind.additional) _ c.form_of_open.new.self c.args.class c.args.goal.now c.in_ok-found.found c.in_ok-rules.field-0 c.self.view_is (none-left _ c.in_default.not-Some) c.in_ok-rules.ensures.rules, refl, refl))
+    form-passed (ByFormedGroups (kind_of g.G.GoalKind.words g.G.PredicateTerms.has_fault) c.args.asked.now c.args.class c.args.goal.now) c.args.goal.now.param_env.items c.args.alias c.args.self.now c.form_of_open.new.self c.in_ok-found.found (subst (λ (es : List Clause). OpensFrom answers_term es (erased (tree_of_alias c.args.alias)) c.args.self.now (Ok c.in_ok-found.found) c.form_of_open.new.self) c.deref.ensures.value c.in_ok-found.ensures.opens) c.form_of_open.ensures.alone
+    (inl (groups-passed (kind_of g.G.GoalKind.words g.G.PredicateTerms.has_fault) _ c.form_of_open.new.self c.args.class c.args.goal.now c.in_ok-found.found c.in_ok-rules.field-0 c.self.view_is (none-left _ c.in_default.not-Some) c.in_ok-rules.ensures.rules, refl, refl))
 
 pub returns-in_err-answer-clause-by : goal.returns-in_err-answer-clause-by
 returns-in_err-answer-clause-by g c =
-    handed-on c.from_residual-in_err-answer.result c.in_err-answer.field-0.0 (λ (r : Result (Option Response) Fault). WhenTried r (InTrial (ByFormedGroups (kind_words g.G.GoalKind.merging g.G.GoalKind.has_term g.G.GoalKind.self_type g.G.GoalKind.is_with_self g.G.PredicateTerms.has_fault g.G.GoalKind.trait_asked g.G.GoalKind.passes g.G.GoalKind.is_impl_for g.G.GoalKind.candidate_gives g.G.GoalKind.candidate_refuted g.G.GoalKind.is_for g.G.GoalKind.additional) c.args.asked.now c.args.class c.args.goal.now) c.args.goal.now.param_env.items c.args.alias c.args.self.now r c.merge_groups.new.self)) c.from_residual-in_err-answer.ensures.1
-    (merge-refused (ByFormedGroups (kind_words g.G.GoalKind.merging g.G.GoalKind.has_term g.G.GoalKind.self_type g.G.GoalKind.is_with_self g.G.PredicateTerms.has_fault g.G.GoalKind.trait_asked g.G.GoalKind.passes g.G.GoalKind.is_impl_for g.G.GoalKind.candidate_gives g.G.GoalKind.candidate_refuted g.G.GoalKind.is_for g.G.GoalKind.additional) c.args.asked.now c.args.class c.args.goal.now) (λ x. ByGroups c.args.class c.in-Some.rules.param_env.items c.in-Some.rules.environment.items c.in-Some.rules.later.items (own_args c.form_of_open.new.self.tables c.args.asked.now.alias) c.args.asked.now c.form_of_open.new.self x c.merge_groups.new.self) c.args.goal.now.param_env.items c.args.alias c.args.self.now c.form_of_open.new.self c.merge_groups.new.self c.in_ok-found.found c.merge_groups.result c.in_err-answer.field-0.0 c.in_err-answer.was (subst (λ (es : List Clause). OpensFrom answers_term es (erased (tree_of_alias c.args.alias)) c.args.self.now (Ok c.in_ok-found.found) c.form_of_open.new.self) c.deref.ensures.value c.in_ok-found.ensures.opens) c.form_of_open.ensures.alone c.merge_groups.ensures.decides
-    (λ d. inr (c.in-Some.rules, Err c.in_err-answer.field-0.0, c.merge_groups.new.self, groups-shown (kind_words g.G.GoalKind.merging g.G.GoalKind.has_term g.G.GoalKind.self_type g.G.GoalKind.is_with_self g.G.PredicateTerms.has_fault g.G.GoalKind.trait_asked g.G.GoalKind.passes g.G.GoalKind.is_impl_for g.G.GoalKind.candidate_gives g.G.GoalKind.candidate_refuted g.G.GoalKind.is_for g.G.GoalKind.additional) _ c.form_of_open.new.self c.args.class c.args.goal.now c.in_ok-found.found c.in_ok-rules.field-0 c.in-Some.rules c.self.view_is c.in-Some.is c.in_ok-rules.ensures.rules, d, (refl, refl))))
+    handed-on c.from_residual-in_err-answer.result c.in_err-answer.field-0.0 (λ (r : Result (Option Response) Fault). WhenTried r (InTrial (ByFormedGroups (kind_of g.G.GoalKind.words g.G.PredicateTerms.has_fault) c.args.asked.now c.args.class c.args.goal.now) c.args.goal.now.param_env.items c.args.alias c.args.self.now r c.merge_groups.new.self)) c.from_residual-in_err-answer.ensures.1
+    (merge-refused (ByFormedGroups (kind_of g.G.GoalKind.words g.G.PredicateTerms.has_fault) c.args.asked.now c.args.class c.args.goal.now) (λ x. ByGroups c.args.class c.in-Some.rules.param_env.items c.in-Some.rules.environment.items c.in-Some.rules.later.items (own_args c.form_of_open.new.self.tables c.args.asked.now.alias) c.args.asked.now c.form_of_open.new.self x c.merge_groups.new.self) c.args.goal.now.param_env.items c.args.alias c.args.self.now c.form_of_open.new.self c.merge_groups.new.self c.in_ok-found.found c.merge_groups.result c.in_err-answer.field-0.0 c.in_err-answer.was (subst (λ (es : List Clause). OpensFrom answers_term es (erased (tree_of_alias c.args.alias)) c.args.self.now (Ok c.in_ok-found.found) c.form_of_open.new.self) c.deref.ensures.value c.in_ok-found.ensures.opens) c.form_of_open.ensures.alone c.merge_groups.ensures.decides
+    (λ d. inr (c.in-Some.rules, Err c.in_err-answer.field-0.0, c.merge_groups.new.self, groups-shown (kind_of g.G.GoalKind.words g.G.PredicateTerms.has_fault) _ c.form_of_open.new.self c.args.class c.args.goal.now c.in_ok-found.found c.in_ok-rules.field-0 c.in-Some.rules c.self.view_is c.in-Some.is c.in_ok-rules.ensures.rules, d, (refl, refl))))
 
 pub returns-clause-by : goal.returns-clause-by
 returns-clause-by g c =
-    merge-answered (ByFormedGroups (kind_words g.G.GoalKind.merging g.G.GoalKind.has_term g.G.GoalKind.self_type g.G.GoalKind.is_with_self g.G.PredicateTerms.has_fault g.G.GoalKind.trait_asked g.G.GoalKind.passes g.G.GoalKind.is_impl_for g.G.GoalKind.candidate_gives g.G.GoalKind.candidate_refuted g.G.GoalKind.is_for g.G.GoalKind.additional) c.args.asked.now c.args.class c.args.goal.now) (λ x. ByGroups c.args.class c.in-Some.rules.param_env.items c.in-Some.rules.environment.items c.in-Some.rules.later.items (own_args c.form_of_open.new.self.tables c.args.asked.now.alias) c.args.asked.now c.form_of_open.new.self x c.merge_groups.new.self) c.args.goal.now.param_env.items c.args.alias c.args.self.now c.form_of_open.new.self c.merge_groups.new.self c.beside.new.self c.in_ok-found.found c.merge_groups.result c.in_ok-answer.answer c.beside.result c.in_ok-answer.was (subst (λ (es : List Clause). OpensFrom answers_term es (erased (tree_of_alias c.args.alias)) c.args.self.now (Ok c.in_ok-found.found) c.form_of_open.new.self) c.deref.ensures.value c.in_ok-found.ensures.opens) c.form_of_open.ensures.alone c.merge_groups.ensures.decides c.beside.ensures.beside c.beside.ensures.only_memory
-    (λ x b d. inr (c.in-Some.rules, Ok c.in_ok-answer.answer, c.merge_groups.new.self, groups-shown (kind_words g.G.GoalKind.merging g.G.GoalKind.has_term g.G.GoalKind.self_type g.G.GoalKind.is_with_self g.G.PredicateTerms.has_fault g.G.GoalKind.trait_asked g.G.GoalKind.passes g.G.GoalKind.is_impl_for g.G.GoalKind.candidate_gives g.G.GoalKind.candidate_refuted g.G.GoalKind.is_for g.G.GoalKind.additional) _ c.form_of_open.new.self c.args.class c.args.goal.now c.in_ok-found.found c.in_ok-rules.field-0 c.in-Some.rules c.self.view_is c.in-Some.is c.in_ok-rules.ensures.rules, d, (x, b, refl)))
+    merge-answered (ByFormedGroups (kind_of g.G.GoalKind.words g.G.PredicateTerms.has_fault) c.args.asked.now c.args.class c.args.goal.now) (λ x. ByGroups c.args.class c.in-Some.rules.param_env.items c.in-Some.rules.environment.items c.in-Some.rules.later.items (own_args c.form_of_open.new.self.tables c.args.asked.now.alias) c.args.asked.now c.form_of_open.new.self x c.merge_groups.new.self) c.args.goal.now.param_env.items c.args.alias c.args.self.now c.form_of_open.new.self c.merge_groups.new.self c.beside.new.self c.in_ok-found.found c.merge_groups.result c.in_ok-answer.answer c.beside.result c.in_ok-answer.was (subst (λ (es : List Clause). OpensFrom answers_term es (erased (tree_of_alias c.args.alias)) c.args.self.now (Ok c.in_ok-found.found) c.form_of_open.new.self) c.deref.ensures.value c.in_ok-found.ensures.opens) c.form_of_open.ensures.alone c.merge_groups.ensures.decides c.beside.ensures.beside c.beside.ensures.only_memory
+    (λ x b d. inr (c.in-Some.rules, Ok c.in_ok-answer.answer, c.merge_groups.new.self, groups-shown (kind_of g.G.GoalKind.words g.G.PredicateTerms.has_fault) _ c.form_of_open.new.self c.args.class c.args.goal.now c.in_ok-found.found c.in_ok-rules.field-0 c.in-Some.rules c.self.view_is c.in-Some.is c.in_ok-rules.ensures.rules, d, (x, b, refl)))
 
 pub returns-in_err-answer-clause-goes_back : goal.returns-in_err-answer-clause-goes_back
 returns-in_err-answer-clause-goes_back g c =

@@ -1,12 +1,11 @@
 use Rattle.std.proofs.Common.{◌≡◌, None, Some, sym, ◌∙◌, subst}
 use Rattle.std.specs.Prelude.{Ok}
 use Rattle.goal_kinds.specs.declared.goal_kind.MergeRule.{MergeRule}
-use Rattle.goal_solver.specs.Collecting.{kind_words}
+use Rattle.goal_solver.specs.Collecting.{kind_of}
 use Rattle.goal_solver.specs.OpenGoals.{WhenAnswered}
 use Rattle.goal_solver.specs.OpenHostGoals.{MergesConst}
-use Rattle.goal_solver.specs.OpenProjections.{MergesThrough}
 use Rattle.goal_solver.specs.Promises.{AnswersGiven, AppliesGiven, asked_through}
-use Rattle.goal_solver.proofs.PromiseLemmas.{answers-trait_above, answers-through, answers-given, applies-given, given-parts, trait_not_projection, host_not_projection, trait_not_projections, trait_not_host, host_not_projections, none_through, some_through, none-some, closed-same}
+use Rattle.goal_solver.proofs.PromiseLemmas.{trait_not_projection, host_not_projection, trait_not_projections, trait_not_host, host_not_projections, none_through, some_through, none-some}
 use Rattle.goal_solver.proofs.GoingBackLemmas.{goes_back-same}
 use Rattle.goal_solver.proofs.StoredLemmas.{some-is}
 use Rattle.goal_solver.proofs.HostGoalLemmas.{class-given, class-missing}
@@ -14,22 +13,19 @@ use Rattle.goal_solver.proofs.context.EvalCtxt.assemble_and_merge_candidates.Goa
 
 -- trait goals
 pub returns-in-TraitGoals-clause-trait_goals : goal.returns-in-TraitGoals-clause-trait_goals
-returns-in-TraitGoals-clause-trait_goals g c = λ is closed.
-    answers-trait_above c.args.self.now c.merge_trait_goal.new.self c.args.goal.now.param_env.items (g.G.GoalKind.trait_asked c.args.goal.now.predicate c.args.self.now.tables) c.merge_trait_goal.result
-    (λ m q stands asked. c.merge_trait_goal.ensures.sound m q stands asked closed) (λ m q owed asked undecided. c.merge_trait_goal.ensures.decided m q owed asked closed undecided)
-    (c.merge_trait_goal.ensures.quiet closed) (c.merge_trait_goal.ensures.lists closed) (c.merge_trait_goal.ensures.class closed) (λ asked. c.merge_trait_goal.ensures.missing closed asked)
+returns-in-TraitGoals-clause-trait_goals g c = λ is closed. c.merge_trait_goal.ensures.answers closed
 
 pub returns-in-TraitGoals-clause-merged : goal.returns-in-TraitGoals-clause-merged
 returns-in-TraitGoals-clause-merged g c = λ is variables. c.merge_trait_goal.ensures.merged variables
 
 pub returns-in-TraitGoals-clause-given : goal.returns-in-TraitGoals-clause-given
-returns-in-TraitGoals-clause-given g c = λ is. absurd (trait_not_projections g.G.GoalKind.merging (sym c.merge_rule.ensures ∙ c.in-TraitGoals.is) is)
+returns-in-TraitGoals-clause-given g c = λ is. absurd (trait_not_projections g.G.GoalKind.words.merging (sym c.merge_rule.ensures ∙ c.in-TraitGoals.is) is)
 
 pub returns-in-TraitGoals-clause-host_effects : goal.returns-in-TraitGoals-clause-host_effects
-returns-in-TraitGoals-clause-host_effects g c = λ is. absurd (trait_not_host g.G.GoalKind.merging (sym c.merge_rule.ensures ∙ c.in-TraitGoals.is) is)
+returns-in-TraitGoals-clause-host_effects g c = λ is. absurd (trait_not_host g.G.GoalKind.words.merging (sym c.merge_rule.ensures ∙ c.in-TraitGoals.is) is)
 
 pub returns-in-TraitGoals-clause-merged_through : goal.returns-in-TraitGoals-clause-merged_through
-returns-in-TraitGoals-clause-merged_through g c = λ a k asked. absurd (trait_not_projection g.G.GoalKind.merging c.args.proven_via (g.G.PredicateTerms.normalization c.args.goal.now.predicate) a (sym c.merge_rule.ensures ∙ c.in-TraitGoals.is) asked)
+returns-in-TraitGoals-clause-merged_through g c = λ a k asked. absurd (trait_not_projection g.G.GoalKind.words.merging c.args.proven_via (g.G.PredicateTerms.normalization c.args.goal.now.predicate) a (sym c.merge_rule.ensures ∙ c.in-TraitGoals.is) asked)
 
 pub returns-in-TraitGoals-clause-applies : goal.returns-in-TraitGoals-clause-applies
 returns-in-TraitGoals-clause-applies g c =
@@ -37,7 +33,7 @@ returns-in-TraitGoals-clause-applies g c =
     (sym (sym c.merge_rule.ensures ∙ c.in-TraitGoals.is)) c.merge_trait_goal.ensures.applies
 
 pub returns-in-TraitGoals-clause-merged_host : goal.returns-in-TraitGoals-clause-merged_host
-returns-in-TraitGoals-clause-merged_host g c = λ class is. absurd (trait_not_host g.G.GoalKind.merging (sym c.merge_rule.ensures ∙ c.in-TraitGoals.is) is)
+returns-in-TraitGoals-clause-merged_host g c = λ class is. absurd (trait_not_host g.G.GoalKind.words.merging (sym c.merge_rule.ensures ∙ c.in-TraitGoals.is) is)
 
 -- host effect goals without a class
 pub returns-in-None-clause-goes_back : goal.returns-in-None-clause-goes_back
@@ -45,17 +41,17 @@ returns-in-None-clause-goes_back g c = goes_back-same c.args.self.now
 
 pub returns-in-None-clause-host_effects : goal.returns-in-None-clause-host_effects
 returns-in-None-clause-host_effects g c = λ is closed.
-    class-missing c.args.self.now c.args.self.now c.args.goal.now.param_env.items c.args.proven_via (g.G.GoalKind.constness c.args.goal.now.predicate)
-    (g.G.GoalKind.trait_asked c.args.goal.now.predicate c.args.self.now.tables) (Ok c.undecided.result) c.in-None.is c.undecided.ensures.nothing
+    class-missing c.args.self.now c.args.self.now c.args.goal.now.param_env.items c.args.proven_via (g.G.GoalKind.words.constness c.args.goal.now.predicate)
+    (g.G.GoalKind.words.asked c.args.goal.now.predicate c.args.self.now.tables) (Ok c.undecided.result) c.in-None.is c.undecided.ensures.nothing
 
 pub returns-in-None-clause-merged_host : goal.returns-in-None-clause-merged_host
 returns-in-None-clause-merged_host g c = λ class is via. let none : None ≡ Some class = sym c.in-None.is ∙ via in absurd (cc)
 
 pub returns-in-None-clause-given : goal.returns-in-None-clause-given
-returns-in-None-clause-given g c = λ is. absurd (host_not_projections g.G.GoalKind.merging (sym c.merge_rule.ensures ∙ c.in-HostEffectGoals.is) is)
+returns-in-None-clause-given g c = λ is. absurd (host_not_projections g.G.GoalKind.words.merging (sym c.merge_rule.ensures ∙ c.in-HostEffectGoals.is) is)
 
 pub returns-in-None-clause-merged_through : goal.returns-in-None-clause-merged_through
-returns-in-None-clause-merged_through g c = λ a k asked. absurd (host_not_projection g.G.GoalKind.merging c.args.proven_via (g.G.PredicateTerms.normalization c.args.goal.now.predicate) a (sym c.merge_rule.ensures ∙ c.in-HostEffectGoals.is) asked)
+returns-in-None-clause-merged_through g c = λ a k asked. absurd (host_not_projection g.G.GoalKind.words.merging c.args.proven_via (g.G.PredicateTerms.normalization c.args.goal.now.predicate) a (sym c.merge_rule.ensures ∙ c.in-HostEffectGoals.is) asked)
 
 pub returns-in-None-clause-applies : goal.returns-in-None-clause-applies
 returns-in-None-clause-applies g c =
@@ -65,19 +61,19 @@ returns-in-None-clause-applies g c =
 -- and with one
 pub returns-in-Some-clause-host_effects : goal.returns-in-Some-clause-host_effects
 returns-in-Some-clause-host_effects g c = λ is closed.
-    class-given c.args.self.now c.merge_host_effect.new.self c.args.goal.now.param_env.items c.args.proven_via c.in-Some.class (g.G.GoalKind.constness c.args.goal.now.predicate)
-    (g.G.GoalKind.trait_asked c.args.goal.now.predicate c.args.self.now.tables) c.merge_host_effect.result c.in-Some.is (c.merge_host_effect.ensures.host_effects closed)
+    class-given c.args.self.now c.merge_host_effect.new.self c.args.goal.now.param_env.items c.args.proven_via c.in-Some.class (g.G.GoalKind.words.constness c.args.goal.now.predicate)
+    (g.G.GoalKind.words.asked c.args.goal.now.predicate c.args.self.now.tables) c.merge_host_effect.result c.in-Some.is (c.merge_host_effect.ensures.host_effects closed)
 
 pub returns-in-Some-clause-merged_host : goal.returns-in-Some-clause-merged_host
 returns-in-Some-clause-merged_host g c = λ class is via others.
-    subst (λ x. WhenAnswered c.merge_host_effect.result (MergesConst (kind_words g.G.GoalKind.merging g.G.GoalKind.has_term g.G.GoalKind.self_type g.G.GoalKind.is_with_self g.G.PredicateTerms.has_fault g.G.GoalKind.trait_asked g.G.GoalKind.passes g.G.GoalKind.is_impl_for g.G.GoalKind.candidate_gives g.G.GoalKind.candidate_refuted g.G.GoalKind.is_for g.G.GoalKind.additional) x c.args.goal.now c.args.self.now c.merge_host_effect.result c.merge_host_effect.new.self)) (some-is c.in-Some.class class (sym c.in-Some.is ∙ via))
+    subst (λ x. WhenAnswered c.merge_host_effect.result (MergesConst (kind_of g.G.GoalKind.words g.G.PredicateTerms.has_fault) x c.args.goal.now c.args.self.now c.merge_host_effect.result c.merge_host_effect.new.self)) (some-is c.in-Some.class class (sym c.in-Some.is ∙ via))
     (c.merge_host_effect.ensures.merged others)
 
 pub returns-in-Some-clause-given : goal.returns-in-Some-clause-given
-returns-in-Some-clause-given g c = λ is. absurd (host_not_projections g.G.GoalKind.merging (sym c.merge_rule.ensures ∙ c.in-HostEffectGoals.is) is)
+returns-in-Some-clause-given g c = λ is. absurd (host_not_projections g.G.GoalKind.words.merging (sym c.merge_rule.ensures ∙ c.in-HostEffectGoals.is) is)
 
 pub returns-in-Some-clause-merged_through : goal.returns-in-Some-clause-merged_through
-returns-in-Some-clause-merged_through g c = λ a k asked. absurd (host_not_projection g.G.GoalKind.merging c.args.proven_via (g.G.PredicateTerms.normalization c.args.goal.now.predicate) a (sym c.merge_rule.ensures ∙ c.in-HostEffectGoals.is) asked)
+returns-in-Some-clause-merged_through g c = λ a k asked. absurd (host_not_projection g.G.GoalKind.words.merging c.args.proven_via (g.G.PredicateTerms.normalization c.args.goal.now.predicate) a (sym c.merge_rule.ensures ∙ c.in-HostEffectGoals.is) asked)
 
 pub returns-in-Some-clause-applies : goal.returns-in-Some-clause-applies
 returns-in-Some-clause-applies g c =
@@ -89,60 +85,45 @@ pub returns-in-None-proven_via-clause-goes_back : goal.returns-in-None-proven_vi
 returns-in-None-proven_via-clause-goes_back g c = goes_back-same c.args.self.now
 
 pub returns-in-None-proven_via-clause-host_effects : goal.returns-in-None-proven_via-clause-host_effects
-returns-in-None-proven_via-clause-host_effects g c = λ is closed. absurd (host_not_projections g.G.GoalKind.merging is (sym c.merge_rule.ensures ∙ c.in-Projections.is))
+returns-in-None-proven_via-clause-host_effects g c = λ is closed. absurd (host_not_projections g.G.GoalKind.words.merging is (sym c.merge_rule.ensures ∙ c.in-Projections.is))
 
 pub returns-in-None-proven_via-clause-given : goal.returns-in-None-proven_via-clause-given
 returns-in-None-proven_via-clause-given g c = λ other.
     subst (λ o. AnswersGiven c.args.self.now c.args.self.now c.args.goal.now.param_env.items o (Ok c.undecided-in-None-proven_via.result))
-    (sym (none_through g.G.GoalKind.merging c.args.proven_via (g.G.PredicateTerms.normalization c.args.goal.now.predicate) (sym c.merge_rule.ensures ∙ c.in-Projections.is) c.in-None-proven_via.is)) c.undecided-in-None-proven_via.ensures.nothing
+    (sym (none_through g.G.GoalKind.words.merging c.args.proven_via (g.G.PredicateTerms.normalization c.args.goal.now.predicate) (sym c.merge_rule.ensures ∙ c.in-Projections.is) c.in-None-proven_via.is)) c.undecided-in-None-proven_via.ensures.nothing
 
 pub returns-in-None-proven_via-clause-merged_through : goal.returns-in-None-proven_via-clause-merged_through
 returns-in-None-proven_via-clause-merged_through g c = λ a k asked.
-    absurd (none-some a (sym (none_through g.G.GoalKind.merging c.args.proven_via (g.G.PredicateTerms.normalization c.args.goal.now.predicate) (sym c.merge_rule.ensures ∙ c.in-Projections.is) c.in-None-proven_via.is) ∙ asked))
+    absurd (none-some a (sym (none_through g.G.GoalKind.words.merging c.args.proven_via (g.G.PredicateTerms.normalization c.args.goal.now.predicate) (sym c.merge_rule.ensures ∙ c.in-Projections.is) c.in-None-proven_via.is) ∙ asked))
 
 pub returns-in-None-proven_via-clause-applies : goal.returns-in-None-proven_via-clause-applies
 returns-in-None-proven_via-clause-applies g c =
     subst (λ o. AppliesGiven c.args.self.now c.args.self.now c.args.goal.now.param_env.items o (Ok c.undecided-in-None-proven_via.result))
-    (sym (none_through g.G.GoalKind.merging c.args.proven_via (g.G.PredicateTerms.normalization c.args.goal.now.predicate) (sym c.merge_rule.ensures ∙ c.in-Projections.is) c.in-None-proven_via.is)) c.undecided-in-None-proven_via.ensures.applies
+    (sym (none_through g.G.GoalKind.words.merging c.args.proven_via (g.G.PredicateTerms.normalization c.args.goal.now.predicate) (sym c.merge_rule.ensures ∙ c.in-Projections.is) c.in-None-proven_via.is)) c.undecided-in-None-proven_via.ensures.applies
 
 pub returns-in-None-proven_via-clause-merged_host : goal.returns-in-None-proven_via-clause-merged_host
-returns-in-None-proven_via-clause-merged_host g c = λ class is. absurd (host_not_projections g.G.GoalKind.merging is (sym c.merge_rule.ensures ∙ c.in-Projections.is))
+returns-in-None-proven_via-clause-merged_host g c = λ class is. absurd (host_not_projections g.G.GoalKind.words.merging is (sym c.merge_rule.ensures ∙ c.in-Projections.is))
 
 -- projections through a class
 pub returns-in-Some-proven_via-clause-merged_host : goal.returns-in-Some-proven_via-clause-merged_host
-returns-in-Some-proven_via-clause-merged_host g c = λ class is. absurd (host_not_projections g.G.GoalKind.merging is (sym c.merge_rule.ensures ∙ c.in-Projections.is))
+returns-in-Some-proven_via-clause-merged_host g c = λ class is. absurd (host_not_projections g.G.GoalKind.words.merging is (sym c.merge_rule.ensures ∙ c.in-Projections.is))
 
 pub returns-in-Some-proven_via-clause-host_effects : goal.returns-in-Some-proven_via-clause-host_effects
-returns-in-Some-proven_via-clause-host_effects g c = λ is closed. absurd (host_not_projections g.G.GoalKind.merging is (sym c.merge_rule.ensures ∙ c.in-Projections.is))
+returns-in-Some-proven_via-clause-host_effects g c = λ is closed. absurd (host_not_projections g.G.GoalKind.words.merging is (sym c.merge_rule.ensures ∙ c.in-Projections.is))
 
 pub returns-in-Some-proven_via-clause-given : goal.returns-in-Some-proven_via-clause-given
 returns-in-Some-proven_via-clause-given g c = λ other.
     subst (λ o. AnswersGiven c.args.self.now c.merge_projection.new.self c.args.goal.now.param_env.items o c.merge_projection.result)
-    (sym (some_through g.G.GoalKind.merging c.args.proven_via (g.G.PredicateTerms.normalization c.args.goal.now.predicate) c.in-Some-proven_via.class (sym c.merge_rule.ensures ∙ c.in-Projections.is) c.in-Some-proven_via.is))
-    (answers-given c.args.self.now c.merge_projection.new.self c.args.goal.now.param_env.items c.in-Some-proven_via.class (g.G.PredicateTerms.normalization c.args.goal.now.predicate) c.merge_projection.result
-    (λ p asked closed. answers-through c.args.self.now c.merge_projection.new.self c.args.goal.now.param_env.items (record { class = c.in-Some-proven_via.class; asked = p }) c.merge_projection.result
-    (λ m stands. c.merge_projection.ensures.sound_through m p stands asked closed)
-    (λ m n owed expected undecided. c.merge_projection.ensures.decided_through m p n owed asked closed expected undecided)
-    (λ m stands proven. c.merge_projection.ensures.sound_above m p stands asked proven closed)
-    (λ m n owed proven ok expected undecided. c.merge_projection.ensures.whole m p n owed asked proven ok closed expected undecided)
-    (c.merge_projection.ensures.quiet (closed-same (g.G.PredicateTerms.normalization c.args.goal.now.predicate) p c.args.goal.now.param_env.items asked closed))
-    (c.merge_projection.ensures.gives p asked closed) (c.merge_projection.ensures.lists p asked closed) (c.merge_projection.ensures.no_class p asked closed))
-    c.merge_projection.ensures.missing)
+    (sym (some_through g.G.GoalKind.words.merging c.args.proven_via (g.G.PredicateTerms.normalization c.args.goal.now.predicate) c.in-Some-proven_via.class (sym c.merge_rule.ensures ∙ c.in-Projections.is) c.in-Some-proven_via.is))
+    c.merge_projection.ensures.given
 
 pub returns-in-Some-proven_via-clause-applies : goal.returns-in-Some-proven_via-clause-applies
 returns-in-Some-proven_via-clause-applies g c =
     subst (λ o. AppliesGiven c.args.self.now c.merge_projection.new.self c.args.goal.now.param_env.items o c.merge_projection.result)
-    (sym (some_through g.G.GoalKind.merging c.args.proven_via (g.G.PredicateTerms.normalization c.args.goal.now.predicate) c.in-Some-proven_via.class (sym c.merge_rule.ensures ∙ c.in-Projections.is) c.in-Some-proven_via.is))
-    (applies-given c.args.self.now c.merge_projection.new.self c.args.goal.now.param_env.items c.in-Some-proven_via.class (g.G.PredicateTerms.normalization c.args.goal.now.predicate) c.merge_projection.result
-    (λ p asked. record {
-      proven = λ m stands proven ok. c.merge_projection.ensures.applies_above m p stands asked proven ok;
-      variables = λ n others expected. c.merge_projection.ensures.applies_open p n asked others expected;
-    })
-    c.merge_projection.ensures.applies_missing)
+    (sym (some_through g.G.GoalKind.words.merging c.args.proven_via (g.G.PredicateTerms.normalization c.args.goal.now.predicate) c.in-Some-proven_via.class (sym c.merge_rule.ensures ∙ c.in-Projections.is) c.in-Some-proven_via.is))
+    c.merge_projection.ensures.applies
 
 pub returns-in-Some-proven_via-clause-merged_through : goal.returns-in-Some-proven_via-clause-merged_through
-returns-in-Some-proven_via-clause-merged_through g c = λ a k asked others expected.
-    let parts = given-parts c.in-Some-proven_via.class (g.G.PredicateTerms.normalization c.args.goal.now.predicate) a
-    (sym (some_through g.G.GoalKind.merging c.args.proven_via (g.G.PredicateTerms.normalization c.args.goal.now.predicate) c.in-Some-proven_via.class (sym c.merge_rule.ensures ∙ c.in-Projections.is) c.in-Some-proven_via.is) ∙ asked) in
-    subst (λ x. WhenAnswered c.merge_projection.result (MergesThrough (kind_words g.G.GoalKind.merging g.G.GoalKind.has_term g.G.GoalKind.self_type g.G.GoalKind.is_with_self g.G.PredicateTerms.has_fault g.G.GoalKind.trait_asked g.G.GoalKind.passes g.G.GoalKind.is_impl_for g.G.GoalKind.candidate_gives g.G.GoalKind.candidate_refuted g.G.GoalKind.is_for g.G.GoalKind.additional) a.asked x c.args.goal.now c.args.self.now c.merge_projection.result c.merge_projection.new.self)) parts.0
-    (c.merge_projection.ensures.merged_through a.asked k parts.1 others expected)
+returns-in-Some-proven_via-clause-merged_through g c = λ a k asked.
+    c.merge_projection.ensures.merged_through a k
+    (sym (some_through g.G.GoalKind.words.merging c.args.proven_via (g.G.PredicateTerms.normalization c.args.goal.now.predicate) c.in-Some-proven_via.class (sym c.merge_rule.ensures ∙ c.in-Projections.is) c.in-Some-proven_via.is) ∙ asked)

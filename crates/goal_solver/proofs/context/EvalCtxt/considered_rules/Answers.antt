@@ -1,14 +1,14 @@
-use Rattle.goal_solver.specs.Collecting.{kind_words}
+use Rattle.goal_solver.specs.Collecting.{kind_of}
 use Rattle.goal_solver.proofs.OpenClassLemmas.{collects-classes, considered-accepted}
 use Rattle.goal_solver.proofs.context.EvalCtxt.considered_rules.Goals as goal
 
 pub rules_by_class-requires : goal.rules_by_class-requires
 rules_by_class-requires g c = record {
-  accepted = considered-accepted (kind_words g.G.GoalKind.merging g.G.GoalKind.has_term g.G.GoalKind.self_type g.G.GoalKind.is_with_self g.G.PredicateTerms.has_fault g.G.GoalKind.trait_asked g.G.GoalKind.passes g.G.GoalKind.is_impl_for g.G.GoalKind.candidate_gives g.G.GoalKind.candidate_refuted g.G.GoalKind.is_for g.G.GoalKind.additional) c.args.goal.now c.in-Some.normalized c.args.self.now _ c.with_normalized_self_ty.new.self c.in_ok-normalized.field-0
+  accepted = considered-accepted (kind_of g.G.GoalKind.words g.G.PredicateTerms.has_fault) c.args.goal.now c.in-Some.normalized c.args.self.now _ c.with_normalized_self_ty.new.self c.in_ok-normalized.field-0
       c.in_ok-normalized.ensures.forms c.in-Some.is c.self.view_is c.with_normalized_self_ty.ensures.unchanged;
 }
 
 pub returns-clause-considers : goal.returns-clause-considers
 returns-clause-considers g c =
-    collects-classes (kind_words g.G.GoalKind.merging g.G.GoalKind.has_term g.G.GoalKind.self_type g.G.GoalKind.is_with_self g.G.PredicateTerms.has_fault g.G.GoalKind.trait_asked g.G.GoalKind.passes g.G.GoalKind.is_impl_for g.G.GoalKind.candidate_gives g.G.GoalKind.candidate_refuted g.G.GoalKind.is_for g.G.GoalKind.additional) c.args.goal.now c.in-Some.normalized c.args.self.now _ c.with_normalized_self_ty.new.self c.in_ok-rules.rules c.in_ok-normalized.field-0
+    collects-classes (kind_of g.G.GoalKind.words g.G.PredicateTerms.has_fault) c.args.goal.now c.in-Some.normalized c.args.self.now _ c.with_normalized_self_ty.new.self c.in_ok-rules.rules c.in_ok-normalized.field-0
     c.in_ok-normalized.ensures.forms c.in-Some.is c.self.view_is c.with_normalized_self_ty.ensures.unchanged c.in_ok-rules.ensures.environment c.in_ok-rules.ensures.collected

@@ -1,7 +1,7 @@
 use Rattle.std.proofs.Common.{◌∙◌, ap, subst, length, Option, Ok}
 use Rattle.goal_terms.specs.declared.terms.AliasTerm.{AliasTerm}
 use Rattle.goal_solver.specs.Answers.{IsQuiet}
-use Rattle.goal_solver.specs.Collecting.{kind_words}
+use Rattle.goal_solver.specs.Collecting.{kind_of}
 use Rattle.goal_solver.specs.OpenGoals.{AsksOpenSelf}
 use Rattle.goal_solver.specs.OpenHostGoals.{ByFormedRuleGroups}
 use Rattle.goal_solver.specs.State.{State, kinds_of}
@@ -15,7 +15,7 @@ use Rattle.goal_solver.proofs.context.EvalCtxt.merge_open_const_goal.Goals as go
 
 pub returns-in_err-open_self-clause-opened : goal.returns-in_err-open_self-clause-opened
 returns-in_err-open_self-clause-opened g c =
-    λ asks. opened-unsaid g.G.GoalKind.self_type (ByFormedRuleGroups (kind_words g.G.GoalKind.merging g.G.GoalKind.has_term g.G.GoalKind.self_type g.G.GoalKind.is_with_self g.G.PredicateTerms.has_fault g.G.GoalKind.trait_asked g.G.GoalKind.passes g.G.GoalKind.is_impl_for g.G.GoalKind.candidate_gives g.G.GoalKind.candidate_refuted g.G.GoalKind.is_for g.G.GoalKind.additional) c.args.class c.args.goal.now) c.args.goal.now c.args.self.now c.open_self.new.self c.from_residual.result c.in_err-open_self.field-0.0 c.open_self.ensures.unchanged c.from_residual.ensures.1 c.in_err-open_self.ensures.only_memory
+    λ asks. opened-unsaid g.G.GoalKind.words.self_type (ByFormedRuleGroups (kind_of g.G.GoalKind.words g.G.PredicateTerms.has_fault) c.args.class c.args.goal.now) c.args.goal.now c.args.self.now c.open_self.new.self c.from_residual.result c.in_err-open_self.field-0.0 c.open_self.ensures.unchanged c.from_residual.ensures.1 c.in_err-open_self.ensures.only_memory
 
 pub returns-in_err-open_self-clause-goes_back : goal.returns-in_err-open_self-clause-goes_back
 returns-in_err-open_self-clause-goes_back g c =
@@ -36,7 +36,7 @@ returns-in-None-clause-goes_back g c =
 
 pub returns-in-Some-clause-undecided : goal.returns-in-Some-clause-undecided
 returns-in-Some-clause-undecided g c =
-    λ other. absurd (other (known c.in_ok-open_self.field-0 c.in-Some.alias (λ a. AsksOpenSelf g.G.GoalKind.self_type c.args.goal.now c.args.self.now) c.in-Some.is c.in_ok-open_self.ensures.asks))
+    λ other. absurd (other (known c.in_ok-open_self.field-0 c.in-Some.alias (λ a. AsksOpenSelf g.G.GoalKind.words.self_type c.args.goal.now c.args.self.now) c.in-Some.is c.in_ok-open_self.ensures.asks))
 
 pub returns-in-Some-clause-opened : goal.returns-in-Some-clause-opened
 returns-in-Some-clause-opened g c =

@@ -1,5 +1,5 @@
 use Rattle.std.proofs.Common.{◌≡◌, ◌∙◌, ap, sym, subst}
-use Rattle.goal_solver.specs.Collecting.{kind_words}
+use Rattle.goal_solver.specs.Collecting.{kind_of}
 use Rattle.goal_solver.specs.GoingBack.{GoesBack, begun, restored}
 use Rattle.goal_solver.specs.OpenGoals.{ByFormedClasses}
 use Rattle.goal_solver.specs.State.{State}
@@ -19,7 +19,7 @@ returns-clause-merges g c =
     let undone : c.end.new.self ≡ restored c.args.self.now c.answer_opened_goal-answer.new.self =
     c.end.ensures ∙ ap (λ (z : State). record z { mark = c.begin-around.result }) (c.rollback.ensures.undone (begun c.args.self.now) c.snapshot-before.ensures back)
     ∙ ap (λ m. record (restored (begun c.args.self.now) c.answer_opened_goal-answer.new.self) { mark = m }) c.begin-around.ensures.around in
-    opened-merges g.G.GoalKind.self_type (ByFormedClasses (kind_words g.G.GoalKind.merging g.G.GoalKind.has_term g.G.GoalKind.self_type g.G.GoalKind.is_with_self g.G.PredicateTerms.has_fault g.G.GoalKind.trait_asked g.G.GoalKind.passes g.G.GoalKind.is_impl_for g.G.GoalKind.candidate_gives g.G.GoalKind.candidate_refuted g.G.GoalKind.is_for g.G.GoalKind.additional) c.args.goal.now) c.args.goal.now c.args.alias c.args.self.now c.begin-around.new.self c.answer_opened_goal-answer.new.self c.end.new.self c.answer_opened_goal-answer.result c.or_undecided.result
+    opened-merges g.G.GoalKind.words.self_type (ByFormedClasses (kind_of g.G.GoalKind.words g.G.PredicateTerms.has_fault) c.args.goal.now) c.args.goal.now c.args.alias c.args.self.now c.begin-around.new.self c.answer_opened_goal-answer.new.self c.end.new.self c.answer_opened_goal-answer.result c.or_undecided.result
     c.begin-around.ensures.began undone c.requires.opens c.answer_opened_goal-answer.ensures.by c.or_undecided.ensures.after
 
 pub returns-clause-applies : goal.returns-clause-applies

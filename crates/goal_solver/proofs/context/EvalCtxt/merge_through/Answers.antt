@@ -1,5 +1,5 @@
 use Rattle.std.proofs.Common.{subst}
-use Rattle.goal_solver.specs.Collecting.{kind_words}
+use Rattle.goal_solver.specs.Collecting.{kind_of}
 use Rattle.goal_solver.specs.OpenProjections.{ConsidersGroups}
 use Rattle.goal_solver.proofs.OpenedSelfLemmas.{left-or_opened-through}
 use Rattle.goal_solver.proofs.OpenProjectionLemmas.{through-groups}
@@ -7,11 +7,11 @@ use Rattle.goal_solver.proofs.context.EvalCtxt.merge_through.Goals as goal
 
 pub returns-in-Some-clause-merges : goal.returns-in-Some-clause-merges
 returns-in-Some-clause-merges g c =
-    through-groups (kind_words g.G.GoalKind.merging g.G.GoalKind.has_term g.G.GoalKind.self_type g.G.GoalKind.is_with_self g.G.PredicateTerms.has_fault g.G.GoalKind.trait_asked g.G.GoalKind.passes g.G.GoalKind.is_impl_for g.G.GoalKind.candidate_gives g.G.GoalKind.candidate_refuted g.G.GoalKind.is_for g.G.GoalKind.additional) c.args.asked.now c.args.class c.args.goal.now c.args.self.now c.considered_groups.new.self c.merge_groups.new.self c.merge_groups.result c.in_ok-considered_groups.field-0 c.in-Some.rules
+    through-groups (kind_of g.G.GoalKind.words g.G.PredicateTerms.has_fault) c.args.asked.now c.args.class c.args.goal.now c.args.self.now c.considered_groups.new.self c.merge_groups.new.self c.merge_groups.result c.in_ok-considered_groups.field-0 c.in-Some.rules
     c.in_ok-considered_groups.ensures.considers c.in-Some.is c.considered_groups.ensures.unchanged c.merge_groups.ensures.decides
 
 pub returns-in-None-clause-merges : goal.returns-in-None-clause-merges
 returns-in-None-clause-merges g c =
-    left-or_opened-through (kind_words g.G.GoalKind.merging g.G.GoalKind.has_term g.G.GoalKind.self_type g.G.GoalKind.is_with_self g.G.PredicateTerms.has_fault g.G.GoalKind.trait_asked g.G.GoalKind.passes g.G.GoalKind.is_impl_for g.G.GoalKind.candidate_gives g.G.GoalKind.candidate_refuted g.G.GoalKind.is_for g.G.GoalKind.additional) c.args.asked.now c.args.class c.args.goal.now c.args.self.now c.considered_groups.new.self c.merge_open_through.new.self c.merge_open_through.result
-    (subst (λ o. ConsidersGroups (kind_words g.G.GoalKind.merging g.G.GoalKind.has_term g.G.GoalKind.self_type g.G.GoalKind.is_with_self g.G.PredicateTerms.has_fault g.G.GoalKind.trait_asked g.G.GoalKind.passes g.G.GoalKind.is_impl_for g.G.GoalKind.candidate_gives g.G.GoalKind.candidate_refuted g.G.GoalKind.is_for g.G.GoalKind.additional) c.args.class c.args.goal.now c.args.self.now o c.considered_groups.new.self) c.in-None.is c.in_ok-considered_groups.ensures.considers) c.considered_groups.ensures.unchanged
+    left-or_opened-through (kind_of g.G.GoalKind.words g.G.PredicateTerms.has_fault) c.args.asked.now c.args.class c.args.goal.now c.args.self.now c.considered_groups.new.self c.merge_open_through.new.self c.merge_open_through.result
+    (subst (λ o. ConsidersGroups (kind_of g.G.GoalKind.words g.G.PredicateTerms.has_fault) c.args.class c.args.goal.now c.args.self.now o c.considered_groups.new.self) c.in-None.is c.in_ok-considered_groups.ensures.considers) c.considered_groups.ensures.unchanged
     c.merge_open_through.ensures.unchanged c.merge_open_through.ensures.undecided c.merge_open_through.ensures.opened

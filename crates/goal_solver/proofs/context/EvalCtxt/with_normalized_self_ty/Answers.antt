@@ -22,9 +22,9 @@ returns-in_err-copied_type-clause-goes_back g c = goes_back-same c.args.self.now
 
 pub returns-in_err-found-clause-formless : goal.returns-in_err-found-clause-formless
 returns-in_err-found-clause-formless g c =
-    handed-on c.from_residual-in_err-found.result c.in_err-found.field-0.0 (λ (r : Result (Option (Goal g.row.G.Denot)) Fault). IfErr r (λ f. f ≡ fault.NoSolution → IsFormless g.G.GoalKind.self_type c.args.goal.now c.args.self.now c.closed_form.new.self))
+    handed-on c.from_residual-in_err-found.result c.in_err-found.field-0.0 (λ (r : Result (Option (Goal g.row.G.Denot)) Fault). IfErr r (λ f. f ≡ fault.NoSolution → IsFormless g.G.GoalKind.words.self_type c.args.goal.now c.args.self.now c.closed_form.new.self))
     c.from_residual-in_err-found.ensures.1
-    (λ is. formless g.G.GoalKind.self_type c.args.goal.now c.in-Some.self_ty.now c.args.self.now c.closed_form.new.self c.closed_form.result c.in-Some.ensures
+    (λ is. formless g.G.GoalKind.words.self_type c.args.goal.now c.in-Some.self_ty.now c.args.self.now c.closed_form.new.self c.closed_form.result c.in-Some.ensures
     (asks-form c.deref.result.now c.args.goal.now.param_env.items (term.Ty c.in_ok-copied_type.field-0) (tree_of_ty c.in-Some.self_ty.now) c.args.self.now c.closed_form.new.self
     c.closed_form.result c.deref.ensures.value (tree_of_term-Ty c.in_ok-copied_type.field-0 ∙ c.in_ok-copied_type.ensures.same) c.closed_form.ensures.sound
     c.closed_form.ensures.decided c.closed_form.ensures.itself c.closed_form.ensures.unchanged)
@@ -32,7 +32,7 @@ returns-in_err-found-clause-formless g c =
 
 pub returns-in_default-form_to_consider-clause-forms : goal.returns-in_default-form_to_consider-clause-forms
 returns-in_default-form_to_consider-clause-forms g c =
-    no-form g.G.GoalKind.self_type g.G.GoalKind.is_with_self (has_kind_fault g.G.PredicateTerms.has_fault c.args.self.now.tables) c.args.goal.now c.in-Some.self_ty.now c.args.self.now
+    no-form g.G.GoalKind.words.self_type g.G.GoalKind.words.is_with_self (has_kind_fault g.G.PredicateTerms.has_fault c.args.self.now.tables) c.args.goal.now c.in-Some.self_ty.now c.args.self.now
     c.closed_form.new.self c.closed_form.result c.in_ok-found.found c.form_to_consider.result c.in-Some.ensures
     (asks-form c.deref.result.now c.args.goal.now.param_env.items (term.Ty c.in_ok-copied_type.field-0) (tree_of_ty c.in-Some.self_ty.now) c.args.self.now c.closed_form.new.self
     c.closed_form.result c.deref.ensures.value (tree_of_term-Ty c.in_ok-copied_type.field-0 ∙ c.in_ok-copied_type.ensures.same) c.closed_form.ensures.sound
@@ -42,7 +42,7 @@ returns-in_default-form_to_consider-clause-forms g c =
 pub returns-then-has_kind_fault-clause-forms : goal.returns-then-has_kind_fault-clause-forms
 returns-then-has_kind_fault-clause-forms g c = inr (inr (
   c.in_ok-replaced.replaced,
-  (considers g.G.GoalKind.self_type g.G.GoalKind.is_with_self c.args.goal.now c.in_ok-replaced.replaced c.in-Some.self_ty.now c.args.self.now c.closed_form.new.self
+  (considers g.G.GoalKind.words.self_type g.G.GoalKind.words.is_with_self c.args.goal.now c.in_ok-replaced.replaced c.in-Some.self_ty.now c.args.self.now c.closed_form.new.self
       c.closed_form.result c.in_ok-found.found c.in-Some-form_to_consider.form c.in-Some.ensures
       (asks-form c.deref.result.now c.args.goal.now.param_env.items (term.Ty c.in_ok-copied_type.field-0) (tree_of_ty c.in-Some.self_ty.now) c.args.self.now c.closed_form.new.self
       c.closed_form.result c.deref.ensures.value (tree_of_term-Ty c.in_ok-copied_type.field-0 ∙ c.in_ok-copied_type.ensures.same) c.closed_form.ensures.sound
@@ -53,7 +53,7 @@ returns-then-has_kind_fault-clause-forms g c = inr (inr (
 
 pub returns-clause-forms : goal.returns-clause-forms
 returns-clause-forms g c = (
-  (considers g.G.GoalKind.self_type g.G.GoalKind.is_with_self c.args.goal.now c.in_ok-replaced.replaced c.in-Some.self_ty.now c.args.self.now c.closed_form.new.self
+  (considers g.G.GoalKind.words.self_type g.G.GoalKind.words.is_with_self c.args.goal.now c.in_ok-replaced.replaced c.in-Some.self_ty.now c.args.self.now c.closed_form.new.self
       c.closed_form.result c.in_ok-found.found c.in-Some-form_to_consider.form c.in-Some.ensures
       (asks-form c.deref.result.now c.args.goal.now.param_env.items (term.Ty c.in_ok-copied_type.field-0) (tree_of_ty c.in-Some.self_ty.now) c.args.self.now c.closed_form.new.self
       c.closed_form.result c.deref.ensures.value (tree_of_term-Ty c.in_ok-copied_type.field-0 ∙ c.in_ok-copied_type.ensures.same) c.closed_form.ensures.sound

@@ -5,7 +5,7 @@ use Rattle.goal_solver.proofs.trait_goals.open.classes_for_form.Goals as goal
 
 pub returns-in_ok-rules_by_class-in-Some-clause-rules : goal.returns-in_ok-rules_by_class-in-Some-clause-rules
 returns-in_ok-rules_by_class-in-Some-clause-rules g c =
-    let h = subst (λ o. IfSome o (λ h. TakesSelf g.G.GoalKind.is_with_self c.args.goal.now h c.args.found × (has_kind_fault g.G.PredicateTerms.has_fault c.args.tables.now h ≡ false))) c.in-Some.is c.in_ok-considered_for.ensures.takes in
+    let h = subst (λ o. IfSome o (λ h. TakesSelf g.G.GoalKind.words.is_with_self c.args.goal.now h c.args.found × (has_kind_fault g.G.PredicateTerms.has_fault c.args.tables.now h ≡ false))) c.in-Some.is c.in_ok-considered_for.ensures.takes in
     record {
       considered = c.in-Some.considered;
       takes = h.0;
