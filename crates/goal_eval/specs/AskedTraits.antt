@@ -4,7 +4,7 @@ use Rattle.goal_terms.specs.Tree.{Tree}
 use Rattle.goal_terms.specs.declared.answers.TraitGoalProvenVia.{TraitGoalProvenVia}
 use Rattle.goal_terms.specs.declared.ids.TraitId.{TraitId}
 use Rattle.goal_terms.specs.declared.predicates.BoundConstness.{BoundConstness}
-use Rattle.goal_kinds.specs.Candidates.{Candidate, environment, second_group}
+use Rattle.goal_kinds.specs.Candidates.{Candidate, class_of, environment, second_group}
 use Rattle.goal_kinds.specs.ConstGoals.{ConstCandidateHolds, ConstCandidateRefuted}
 use Rattle.goal_kinds.specs.EffectLists.{effect_list}
 use Rattle.goal_kinds.specs.Entries.{Entry}
@@ -54,6 +54,10 @@ GroupsRefuted S L o i args s v = Each (AskedRuledOut S L o i args) (environment 
 -- the terms of what is asked are in the table
 abbrev pub AskedIn : List Tree → AskedTrait → Type 0
 AskedIn T asked = IsIn T asked.self_ty × AreIn T asked.args.now
+
+-- the candidates of a class for what is asked
+abbrev pub asked_class : Setting → List Tree → AskedTrait → TraitGoalProvenVia → List Candidate
+asked_class S T asked c = class_of S asked.trait_id (erased_at T asked.self_ty) c
 
 -- the list of a candidate for what is asked
 abbrev pub candidate_list : Setting → List Tree → AskedTrait → Candidate → Option (List Entry)

@@ -27,6 +27,14 @@ kept e d a false = record { decided = e.decided; undecided = d }
 abbrev pub Enters : {A S : Type 0} → HashMap ℕ (CacheEntry A) S → HashMap ℕ (CacheEntry A) S → ℕ → CacheEntry A → Type 0
 Enters before after k e = (n : ℕ) → (get ◌==◌ after n ≡ get ◌==◌ before n) ⊎ ((n ≡ k) × (get ◌==◌ after n ≡ Some e))
 
+-- at most the entry of one goal changes, in this way
+abbrev pub EntersBy : {A S : Type 0} → HashMap ℕ (CacheEntry A) S → HashMap ℕ (CacheEntry A) S → ℕ → (CacheEntry A → CacheEntry A) → Type 0
+EntersBy before after k f = Enters before after k (f (entry_of (get ◌==◌ before k)))
+
+-- what is kept of a goal says what it comes to at a depth
+abbrev pub IsKeptAt : {A S : Type 0} → HashMap ℕ (CacheEntry A) S → ℕ → ℕ → A → A → Type 0
+IsKeptAt {A} entries k d u o = (e : CacheEntry A) × (get ◌==◌ entries k ≡ Some e) × IsKnownAt e d u o
+
 -- an outcome decides its goal
 abbrev pub trait_decided : TraitOutcome → Bool
 trait_decided (trait_outcome.Holds c) = true

@@ -1,12 +1,13 @@
 -- Where the parameters of a header stand in given terms, and where a header may clash with them.
-use Rattle.std.specs.Prelude.{◌≡◌, ◌&&◌, ℕ, suc, Bool, true, false, List, [], ◌∷◌, map, slice_get, Option, Some, None, is_some}
+use Rattle.std.specs.Prelude.{◌≡◌, ◌&&◌, ◌⊎◌, ◌↔◌, ℕ, suc, Bool, true, false, List, [], ◌∷◌, map, slice_get, Option, Some, None, Vec, is_some}
+use Rattle.std.specs.Global.{Global}
 use Rattle.std.specs.List.{All, AllZip}
 use Rattle.std.specs.Option.{option_map}
 use Rattle.goal_terms.specs.Erased.{erased}
 use Rattle.goal_terms.specs.Sorts.{IsArgument}
 use Rattle.goal_terms.specs.TableMeaning.{tree_at}
 use Rattle.goal_terms.specs.Tree.{Tree, node_of, parts_of}
-use Rattle.goal_terms.specs.View.{tree_of_ref}
+use Rattle.goal_terms.specs.View.{tree_of_ref, trees_seen}
 use Rattle.goal_terms.specs.declared.answers.ParamKind.{ParamKind}
 use Rattle.goal_terms.specs.declared.answers.ParamKind.TheVariants as kind
 use Rattle.goal_terms.specs.declared.heads.Head.{Head}
@@ -14,11 +15,14 @@ use Rattle.goal_terms.specs.declared.heads.Node.{Node}
 use Rattle.goal_terms.specs.declared.heads.Node.TheVariants as nodes
 use Rattle.goal_terms.specs.declared.term_nodes.TermId.{TermId}
 use Rattle.goal_terms.specs.declared.terms.AliasTermKind.{AliasTermKind}
+use Rattle.goal_terms.specs.declared.view.Parts.{Parts}
 use Rattle.goal_terms.specs.declared.view.TermRef.{TermRef}
-use Rattle.goal_kinds.specs.Headers.{is_number, parameter_of, no_lifetime, PartAmong}
+use Rattle.goal_kinds.specs.Headers.{is_number, parameter_of, no_lifetime, under, PartAmong}
 use Rattle.goal_kinds.specs.Interned.{erased_at, IsIn}
 use Rattle.goal_kinds.specs.Level.{Level}
-use Rattle.goal_kinds.specs.Words.{SomePair}
+use Rattle.goal_kinds.specs.Levels.{level}
+use Rattle.goal_kinds.specs.Settings.{Setting}
+use Rattle.goal_kinds.specs.Words.{Exists, Pairs, SomePair}
 use Rattle.goal_terms.specs.declared.modes.TypingMode.{TypingMode}
 use Rattle.goal_eval.specs.Outcomes.{RunsFor, level_in, SaysMatch}
 use Rattle.goal_eval.specs.declared.eval.outcomes.Setting as over
@@ -33,6 +37,14 @@ use Rattle.goal_eval.specs.declared.relate.header_questions.Meeting.TheVariants 
 -- a part of a row, without lifetimes
 abbrev pub erased_ref : TermRef → Tree
 erased_ref r = erased (tree_of_ref r)
+
+-- the parts of a row's term, without lifetimes
+abbrev pub erased_refs : Parts → List Tree
+erased_refs ps = map erased (trees_seen ps)
+
+-- the terms of some numbers, and these without lifetimes
+abbrev pub erased_trees : List Tree → List TermId → List Tree
+erased_trees T ids = map erased (map (tree_at T) ids)
 
 -- a term may stand for a part of a header: it is an argument if that is one
 abbrev pub MayStand : Tree → Tree → Type 0
@@ -73,6 +85,10 @@ GivesPart L n T (place.Is id) p = p ≡ erased_at T id
 GivesPart L n T place.Missing p = ⊥
 GivesPart L n T (place.Behind h g) p = L.part n (erased_ref h) (erased_at T g) p
 
+-- the part that is found at a place is the one that a relation gives, at each level
+abbrev pub FindsPart : ℕ → List Tree → Place → (Level → Tree → Type 0) → Type 0
+FindsPart n T r P = (S : Setting) (k : ℕ) (p : Tree) → P (level S k) p ↔ GivesPart (level S k) n T r p
+
 -- the terms of a place are in the table
 abbrev pub PlaceIn : List Tree → ℕ → Place → Type 0
 PlaceIn T n (place.Is id) = IsIn T id
@@ -98,6 +114,22 @@ abbrev pub ClashAt : Level → List (Option Tree) → List Tree → Question →
 ClashAt L ks T question.Differs = Unit {0}
 ClashAt L ks T (question.Instance h g) = L.clash (IsKnown ks) (erased_ref h) (erased_at T g)
 ClashAt L ks T (question.Behind h g) = L.clash (IsKnown ks) (erased_ref h) (erased_at T g)
+
+-- a claim holds at each level, whatever is known of the parameters
+abbrev pub ForEachKnown : (Level → List (Option Tree) → Type 0) → Type 0
+ForEachKnown P = (S : Setting) (k : ℕ) (ks : List (Option Tree)) → P (level S k) ks
+
+-- terms of a header and given terms differ in number, or two of them clash
+abbrev pub SomeClash : Level → List (Option Tree) → List Tree → List Tree → Type 0
+SomeClash L ks hs gs = SomePair (L.clash (IsKnown ks)) hs gs
+
+-- one of some questions is answered by a clash just where a claim holds
+abbrev pub AsksClash : List Tree → Vec Question Global → (Level → List (Option Tree) → Type 0) → Type 0
+AsksClash T qs P = ForEachKnown (λ L ks. Exists (ClashAt L ks T) qs.items ↔ P L ks)
+
+-- questions were added: one of them is answered by a clash where one was before, or where a claim holds
+abbrev pub AddsClash : List Tree → Vec Question Global → Vec Question Global → (Level → List (Option Tree) → Type 0) → Type 0
+AddsClash T old new P = ForEachKnown (λ L ks. Exists (ClashAt L ks T) new.items ↔ (Exists (ClashAt L ks T) old.items ⊎ P L ks))
 
 -- the terms of a question are in the table
 abbrev pub QuestionIn : List Tree → Question → Type 0
@@ -166,6 +198,10 @@ is_complete [] os = true
 is_complete (k ∷ ks) [] = false
 is_complete (k ∷ ks) (o ∷ os) = is_settled k o && is_complete ks os
 
+-- the instance of a header under a substitution is equal to given terms
+abbrev pub EqualUnder : Level → List Tree → List Tree → List Tree → Type 0
+EqualUnder L s hs gs = Pairs L.equal (map (under s) hs) gs
+
 -- what is known of a part: its term, or that there is none
 abbrev pub SaysPart : (Tree → Type 0) → Option Tree → Type 0
 SaysPart P None = (p : Tree) → P p → ⊥
@@ -191,6 +227,10 @@ Fills known args = (n : ℕ) (id : TermId) → slice_get known n ≡ Some (Some 
 -- what is found of a part, in each mode for which a run stands
 abbrev pub PartOutcome : over.Setting → ℕ → (Level → Tree → Type 0) → List Tree → Option TermId → Type 0
 PartOutcome c d P T o = (m : TypingMode) → RunsFor c m → SaysPart (P (level_in c m d)) (option_map (erased_at T) o)
+
+-- what is said of a term that may be known, in each of them
+abbrev pub TermOutcome : over.Setting → ℕ → (Level → Option Tree → Type 0) → List Tree → Option TermId → Type 0
+TermOutcome c d P T = λ o. (m : TypingMode) → RunsFor c m → P (level_in c m d) (option_map (erased_at T) o)
 
 -- what a test says of a claim in each of them
 abbrev pub TestOutcome : over.Setting → ℕ → (Level → Type 0) → Bool → Type 0

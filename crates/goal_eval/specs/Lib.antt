@@ -12,3 +12,4 @@ pub mod HeaderWords
 pub mod Lists
 pub mod SpecialImpls
 pub mod AskedTraits
+pub mod ProjectionTerms

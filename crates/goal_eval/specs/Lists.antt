@@ -10,7 +10,7 @@ use Rattle.goal_terms.specs.declared.modes.TypingMode.TheVariants as mode
 use Rattle.goal_terms.specs.declared.term_nodes.TermId.{TermId}
 use Rattle.goal_kinds.specs.Entries.{Arguments, ExpectedTerm, Entry, Named, NamedKnown, NamesNothing, TermIs, NoTerm, EntriesHold, EntriesRefuted, ListHolds, ListGives, ListRefuted, ListHoldsWith, AsksNoTerm, ListAsksNoTerm}
 use Rattle.goal_kinds.specs.Interned.{IsIn, AreIn, erased_at, erased_all}
-use Rattle.goal_kinds.specs.InternedEntries.{header_trees, entry_at}
+use Rattle.goal_kinds.specs.InternedEntries.{header_trees, entry_at, entries_at, list_at}
 use Rattle.goal_kinds.specs.Level.{Level}
 use Rattle.goal_kinds.specs.ListModes.{StandsIn, ListStandsIn}
 use Rattle.goal_kinds.specs.Premises.{Premise, PremisesHold, PremisesRefuted, clauses_under, traits_under, conditions_as}
@@ -49,7 +49,19 @@ list_mode c = mode_of_lists c.on_access c.typing_mode.now
 abbrev pub IsListFor : TypingMode → Option (List Entry) → Option (List Entry) → Type 0
 IsListFor run o q = (q ≡ o) ⊎ ((is_headline run ≡ false) × ListStandsIn o q)
 
--- the same of their entries
+-- each list that a run's list stands for has a property
+abbrev pub ForEachList : over.Setting → Option (List Entry) → (Option (List Entry) → Type 0) → Type 0
+ForEachList c o P = (q : Option (List Entry)) → IsListFor c.typing_mode.now o q → P q
+
+-- a list over numbers is one by which a run goes for this list
+abbrev pub GoesBy : over.Setting → List Tree → Option (List Entry) → Option (Vec InternedEntry Global) → Type 0
+GoesBy c T q = λ o. IsListFor c.typing_mode.now (list_at T o) q
+
+-- entries over numbers are such a list
+abbrev pub AreEntriesOf : over.Setting → List Tree → List Entry → Vec InternedEntry Global → Type 0
+AreEntriesOf c T fs = λ es. IsListFor c.typing_mode.now (Some (entries_at T es.items)) (Some fs)
+
+-- a run's entries are those of a headline mode's list, in the same way
 abbrev pub AreEntriesFor : TypingMode → List Entry → List Entry → Type 0
 AreEntriesFor run es fs = (fs ≡ es) ⊎ ((is_headline run ≡ false) × StandsIn es fs)
 

@@ -3,7 +3,7 @@ use Rattle.goal_terms.specs.PredicateTrees.{PredicateTree}
 use Rattle.goal_terms.specs.declared.terms.AliasTermKind.{AliasTermKind}
 use Rattle.goal_terms.specs.declared.predicates.BoundConstness.{BoundConstness}
 use Rattle.goal_terms.specs.declared.ids.TraitId.{TraitId}
-use Rattle.goal_kinds.specs.Premises.{ClauseHolds, ClauseRefuted}
+use Rattle.goal_kinds.specs.Premises.{Premise, ClauseHolds, ClauseRefuted, PremiseHolds, PremiseRefuted, PremisesHold, PremisesRefuted}
 use Rattle.std.specs.Prelude.{◌≡◌, ◌⊎◌, ℕ, true, false, List, map}
 use Rattle.goal_terms.specs.Erased.{erased}
 use Rattle.goal_terms.specs.Tree.{Tree}
@@ -15,12 +15,14 @@ use Rattle.goal_terms.specs.declared.terms.GenericArg.{GenericArg}
 use Rattle.goal_tables.specs.Faults.{IsChecked}
 use Rattle.goal_tables.specs.declared.rows.Tables.{Tables}
 use Rattle.goal_kinds.specs.Answers.{setting_of}
+use Rattle.goal_kinds.specs.Equality.{SameForm, OtherForm}
 use Rattle.goal_kinds.specs.Headers.{AllKnown, Fits, Clashes}
 use Rattle.goal_kinds.specs.ImplTerms as terms
 use Rattle.goal_kinds.specs.Interned.{erased_at, erased_all, IsIn, AreIn}
 use Rattle.goal_kinds.specs.Level.{Level, HasHeadForm, HeadFormRefuted}
 use Rattle.goal_kinds.specs.Levels.{level}
 use Rattle.goal_kinds.specs.Settings.{Setting, is_headline}
+use Rattle.goal_kinds.specs.Words.{Pairs, SomePair}
 use Rattle.goal_eval.specs.declared.eval.outcomes.OnAccess.{OnAccess}
 use Rattle.goal_eval.specs.declared.eval.outcomes.OnAccess.TheVariants as on_access
 use Rattle.goal_eval.specs.declared.eval.outcomes.Setting as over
@@ -103,6 +105,26 @@ SaysForm L t = SaysWhich (HasHeadForm L t) (HeadFormRefuted L t)
 -- whether two terms are equal
 abbrev pub SaysEqual : Level → Tree → Tree → outcomes.Outcome → Type 0
 SaysEqual L t u = Says (L.equal t u) (L.unequal t u)
+
+-- whether two lists of terms are equal in pairs
+abbrev pub SaysAllEqual : Level → List Tree → List Tree → outcomes.Outcome → Type 0
+SaysAllEqual L ts us = Says (Pairs L.equal ts us) (SomePair L.unequal ts us)
+
+-- whether two head forms are the same
+abbrev pub SaysSameForm : Level → Tree → Tree → outcomes.Outcome → Type 0
+SaysSameForm L f g = Says (SameForm L f g) (OtherForm L f g)
+
+-- whether the goal that an alias and a term are equal holds
+abbrev pub SaysEquation : Level → Tree → Tree → outcomes.Outcome → Type 0
+SaysEquation L a t = Says (L.equation_holds a t) (L.equation_refuted a t)
+
+-- whether a premise holds
+abbrev pub SaysPremise : Level → Premise → outcomes.Outcome → Type 0
+SaysPremise L p = Says (PremiseHolds L p) (PremiseRefuted L p)
+
+-- whether all of some premises hold
+abbrev pub SaysPremises : Level → List Premise → outcomes.Outcome → Type 0
+SaysPremises L ps = Says (PremisesHold L ps) (PremisesRefuted L ps)
 
 -- whether a clause holds
 abbrev pub SaysHolds : Level → PredicateTree → outcomes.Outcome → Type 0

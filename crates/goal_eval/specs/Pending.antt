@@ -109,6 +109,10 @@ AllEqual L T o ps = Stands o × Each (Relates L.equal T) ps
 abbrev pub SomeUnequal : Level → List Tree → Outcome → List TermPair → Type 0
 SomeUnequal L T o ps = Fails o ⊎ Exists (Relates L.unequal T) ps
 
+-- whether all that is left of a comparison holds
+abbrev pub SaysPending : Level → List Tree → Pending → Outcome → Type 0
+SaysPending L T p = Says (AllEqual L T p.outcome p.pairs.items) (SomeUnequal L T p.outcome p.pairs.items)
+
 -- a question was added: what is left now holds where what was left and the question hold, and is refuted where one of them is
 abbrev pub Adds : List Tree → Pending → Pending → (Level → Type 0) → (Level → Type 0) → Type 0
 Adds T old new P R =

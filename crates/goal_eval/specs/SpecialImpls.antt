@@ -1,17 +1,19 @@
 -- Impls that are more special than a candidate: what is said of them, and of what the candidate gives beside them.
-use Rattle.std.specs.Prelude.{◌≡◌, Bool, true, false, List, Some}
+use Rattle.std.specs.Prelude.{◌≡◌, Bool, true, false, List, Option, Some}
 use Rattle.goal_terms.specs.Tree.{Tree}
 use Rattle.goal_tables.specs.Faults.{IsChecked}
 use Rattle.goal_tables.specs.Rows.{impl_of}
 use Rattle.goal_tables.specs.declared.rows.ImplRow.{ImplRow}
 use Rattle.goal_tables.specs.declared.rows.Tables.{Tables}
-use Rattle.goal_kinds.specs.Candidates.{Candidate}
+use Rattle.goal_kinds.specs.Candidates.{Candidate, by_impl}
+use Rattle.goal_kinds.specs.Entries.{Entry}
 use Rattle.goal_kinds.specs.ImplTerms.{Projection, trait_args}
 use Rattle.goal_kinds.specs.Level.{Level}
 use Rattle.goal_kinds.specs.NamedRows.{CandidateIsOf}
 use Rattle.goal_kinds.specs.Projections.{CandidateGives, TermDecides, TermRuledOut}
 use Rattle.goal_kinds.specs.Settings.{Setting}
-use Rattle.goal_kinds.specs.TraitGoals.{PassedOver, Decides}
+use Rattle.goal_kinds.specs.TraitGoals.{ImplHolds, ImplRefuted, PassedOver, Decides}
+use Rattle.goal_kinds.specs.TraitLists.{trait_list}
 use Rattle.goal_kinds.specs.declared.candidates.interned.InternedCandidate.{InternedCandidate}
 use Rattle.goal_eval.specs.Outcomes.{Says, SaysWhich}
 use Rattle.goal_eval.specs.declared.eval.outcomes.Found.{Found}
@@ -31,6 +33,14 @@ IsOfRows t c = IsChecked t → CandidateIsOf t c
 -- what an outcome says of the impls that are more special than a candidate: one of them holds, or each is refuted
 abbrev pub SaysMoreSpecial : Setting → Level → List Tree → Candidate → Outcome → Type 0
 SaysMoreSpecial S L args x o = Says (PassedOver S L args x) (Decides S L args x) o
+
+-- whether an impl holds for arguments of its trait
+abbrev pub SaysImpl : Level → List Tree → ImplRow → Outcome → Type 0
+SaysImpl L args r = Says (ImplHolds L args r) (ImplRefuted L args r)
+
+-- the list of an impl for arguments of its trait
+abbrev pub list_of_impl : Setting → List Tree → ImplRow → Option (List Entry)
+list_of_impl S args r = trait_list S r.trait_id args (by_impl r)
 
 -- a candidate gives a term, and isn't passed over
 abbrev pub GivesUnpassed : Setting → Level → Projection → Tree → Tree → Candidate → Type 0

@@ -46,3 +46,8 @@ pub mod NamedRows
 pub mod EffectKind
 pub mod KindWords
 pub mod Joined
+pub mod BuiltinWords
+pub mod CandidateWords
+pub mod ListWords
+pub mod RuleClauses
+pub mod LawWords

@@ -14,7 +14,9 @@ use Rattle.goal_terms.specs.declared.terms.AliasTerm.{AliasTerm}
 use Rattle.goal_terms.specs.declared.terms.AliasTermKind.{AliasTermKind}
 use Rattle.goal_terms.specs.declared.terms.AliasTermKind.TheVariants.{OpaqueTy}
 use Rattle.goal_terms.specs.declared.terms.Term.{Term}
-use Rattle.goal_tables.specs.Rows.{impl_of, item_of}
+use Rattle.goal_tables.specs.Rows.{impl_of, item_of, definition_of}
+use Rattle.goal_tables.specs.declared.rows.DefRow.{DefRow}
+use Rattle.goal_tables.specs.declared.rows.ImplRow.{ImplRow}
 use Rattle.goal_tables.specs.declared.rows.Tables.{Tables}
 use Rattle.goal_kinds.specs.CandidateRules.{after}
 use Rattle.goal_kinds.specs.Candidates.{Candidate, assumption}
@@ -110,6 +112,18 @@ CandidateIsOf t _ = Unit {0}
 -- the item of a projection is the one that the tables have under its id
 abbrev pub ProjectionIsOf : Tables → AskedProjection → Type 0
 ProjectionIsOf t p = item_of t p.item.now.id ≡ Some p.item.now
+
+-- so it is with the row of an impl
+abbrev pub ImplIsOf : Tables → ImplRow → Type 0
+ImplIsOf t r = impl_of t r.id ≡ Some r
+
+-- and with that of a definition
+abbrev pub DefinitionIsOf : Tables → DefRow → Type 0
+DefinitionIsOf t d = definition_of t d.id ≡ Some d
+
+-- what each of some entries borrows is what the tables have under the id beside it
+abbrev pub EntriesNameRows : Tables → Vec InternedEntry Global → Type 0
+EntriesNameRows t = λ es. All (NamesItsRows t) es.items
 
 -- an entry for a hidden type is of the type and the arguments of another one over numbers, lifetimes included
 abbrev pub KeepsKey : List Tree → InternedEntry → RuleEntry → Type 0

@@ -1,13 +1,10 @@
 //! The laws of the definitions, each the contract of a function that does nothing: they speak of all
 //! settings, goals and heights.
-ghost use Rattle.std.specs.Prelude.{◌≡◌, ◌≤◌, true, false, ℕ, List, [], map};
+ghost use Rattle.std.specs.Prelude.{◌≡◌, ◌≤◌, true, ℕ, List, map};
 ghost use Rattle.std.specs.Prelude.{Vec};
 ghost use Rattle.std.specs.Global.{Global};
-ghost use Rattle.goal_terms.specs.Tree.{Tree, alias, forest, node_of};
-ghost use Rattle.goal_terms.specs.TreeOf.{tree_of_arg, tree_of_alias};
-ghost use Rattle.goal_terms.specs.Sorts.{sort_of};
+ghost use Rattle.goal_terms.specs.Tree.{Tree};
 ghost use Rattle.goal_terms.specs.Erased.{erased};
-ghost use Rattle.goal_terms.specs.NodeTests.{some_node, is_any_infer};
 ghost use Rattle.goal_terms.specs.PredicateTrees.{PredicateTree};
 ghost use Rattle.goal_terms.specs.declared.answers.ParamKind.{ParamKind};
 ghost use Rattle.goal_terms.specs.declared.answers.TraitGoalProvenVia.{TraitGoalProvenVia};
@@ -17,18 +14,13 @@ ghost use Rattle.goal_terms.specs.declared.modes.TypingMode.{TypingMode};
 ghost use Rattle.goal_terms.specs.declared.predicates.BoundConstness.{BoundConstness};
 ghost use Rattle.goal_terms.specs.declared.predicates.BoundConstness.TheVariants.{Const, Maybe};
 ghost use Rattle.goal_terms.specs.declared.predicates.Clause.{Clause};
-ghost use Rattle.goal_terms.specs.declared.terms.AliasTerm.{AliasTerm};
-ghost use Rattle.goal_terms.specs.declared.terms.AliasTermKind.{AliasTermKind};
-ghost use Rattle.goal_tables.specs.Faults.{IsChecked};
-ghost use Rattle.goal_tables.specs.Predicates.{some_in_env};
 ghost use Rattle.goal_tables.specs.declared.rows.ImplRow.{ImplRow};
 ghost use Rattle.goal_tables.specs.declared.rows.Tables.{Tables};
-ghost use Rattle.goal_kinds.specs.Answers.{Question, Answer, IsAnswer, decides, setting_of};
+ghost use Rattle.goal_kinds.specs.Answers.{Question, Answer, IsAnswer, decides};
 ghost use Rattle.goal_kinds.specs.Headers.{Fits, Clashes};
-ghost use Rattle.goal_kinds.specs.KindedTerms.{NoKindFault, NoKindFaultInEnv};
-ghost use Rattle.goal_kinds.specs.Laws.{HaveSameImpls, ReadsNoMode};
+ghost use Rattle.goal_kinds.specs.LawWords.{NoFitClashes, HoldsThroughSome, OrderSaysNothing, HeadlinesAgree, AliasesStayClosed, AliasesKeepSorts};
 ghost use Rattle.goal_kinds.specs.Levels.{level};
-ghost use Rattle.goal_kinds.specs.Settings.{Setting, is_headline};
+ghost use Rattle.goal_kinds.specs.Settings.{Setting};
 
 pub mod fast_reject;
 pub mod list_examples;
@@ -56,7 +48,7 @@ pub fn no_two_proofs_disagree()
     ensures classes { (S : Setting) (n m : ℕ) (c d : TraitGoalProvenVia) (i : TraitId) (ts : List Tree) → (level S n).through c i ts → (level S m).through d i ts → c ≡ d }
     ensures terms { (S : Setting) (n m : ℕ) (t u : Tree) → (level S n).equal t u → (level S m).unequal t u → ⊥ }
     ensures substitutions { (S : Setting) (n m : ℕ) (params : List ParamKind) (hs gs s z : List Tree) → Fits (level S n) params hs gs s → Fits (level S m) params hs gs z → s ≡ z }
-    ensures headers { (S : Setting) (n m : ℕ) (params : List ParamKind) (ts gs s : List Tree) → Fits (level S n) params (map erased ts) gs s → Clashes (level S m) params (map erased ts) gs → ⊥ }
+    ensures headers { (S : Setting) (n m : ℕ) (params : List ParamKind) (ts : List Tree) → NoFitClashes (level S n) (level S m) params (map erased ts) }
 {}
 
 /// What holds as `const` at some height is refuted as `[const]` at none.
@@ -66,26 +58,26 @@ pub fn const_is_stronger()
 
 /// Where a trait holds as a const trait, its plain goal holds.
 pub fn const_implies_plain()
-    ensures plain_goal_holds { (S : Setting) (n : ℕ) (c : BoundConstness) (i : TraitId) (ts : List Tree) → (level S n).const_holds c i ts → (v : TraitGoalProvenVia) × (level S n).through v i ts }
+    ensures plain_goal_holds { (S : Setting) (n : ℕ) (c : BoundConstness) (i : TraitId) (ts : List Tree) → (level S n).const_holds c i ts → HoldsThroughSome (level S n) i ts }
 {}
 
 /// Accepted tables whose impls stand in another order give the same answers.
 pub fn order_of_impls_says_nothing()
-    ensures same_answers { (t : Tables) (v : Vec ImplRow Global) (m : TypingMode) (env : List PredicateTree) (n : ℕ) (q : Question) (a : Answer) → IsChecked t → IsChecked (record t { impls = v }) → HaveSameImpls t.impls.items v.items → IsAnswer (level (record { tables = t; mode = m; env = env }) n) q a → IsAnswer (level (record { tables = record t { impls = v }; mode = m; env = env }) n) q a }
+    ensures same_answers { (t : Tables) (v : Vec ImplRow Global) (m : TypingMode) (env : List PredicateTree) → OrderSaysNothing t v m env }
 {}
 
 /// Over tables without opaque types and default sources each headline mode gives the same answers.
 pub fn headline_modes_agree()
-    ensures same_answers { (t : Tables) (m k : TypingMode) (env : List PredicateTree) (n : ℕ) (q : Question) (a : Answer) → ReadsNoMode t → is_headline m ≡ true → is_headline k ≡ true → IsAnswer (level (record { tables = t; mode = m; env = env }) n) q a → IsAnswer (level (record { tables = t; mode = k; env = env }) n) q a }
+    ensures same_answers { (t : Tables) (m k : TypingMode) (env : List PredicateTree) → HeadlinesAgree t m k env }
 {}
 
 /// Over accepted tables, what an alias without inference variables stands for holds none, if the environment holds none.
 pub fn closed_aliases_have_closed_terms()
-    ensures closed { (t : Tables) (m : TypingMode) (clauses : List Clause) (n : ℕ) (k : AliasTermKind) (ts : List Tree) (u : Tree) → IsChecked t → some_in_env is_any_infer clauses ≡ false → some_node is_any_infer (alias k (forest ts)) ≡ false → (level (setting_of t m clauses) n).gives k ts u → some_node is_any_infer u ≡ false }
+    ensures closed { (t : Tables) (m : TypingMode) (clauses : List Clause) → AliasesStayClosed t m clauses }
 {}
 
 /// Over accepted tables the term of an alias of a type is a type, and that of an alias of a constant a
 /// constant, if no unknown item, wrong number of arguments or wrong kind lies in the alias and the environment.
 pub fn aliases_keep_kinds()
-    ensures kinds { (t : Tables) (m : TypingMode) (clauses : List Clause) (n : ℕ) (a : AliasTerm) (u : Tree) → IsChecked t → NoKindFault t [] (tree_of_alias a) → NoKindFaultInEnv t clauses → (level (setting_of t m clauses) n).gives a.kind (map erased (map tree_of_arg a.args.items)) u → sort_of (node_of u) ≡ sort_of (nodes.Alias a.kind) }
+    ensures kinds { (t : Tables) (m : TypingMode) (clauses : List Clause) → AliasesKeepSorts t m clauses }
 {}

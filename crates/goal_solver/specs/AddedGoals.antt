@@ -1,5 +1,5 @@
 -- What evaluating the goals that were added says.
-use Rattle.std.specs.Prelude.{◌≡◌, ◌<◌, ◌⊎◌, ℕ, ◌+◌, zero, suc, List, [], ◌∷◌, ◌++◌, Some, Result, Ok, Err, slice_get}
+use Rattle.std.specs.Prelude.{◌≡◌, ◌<◌, ◌⊎◌, ℕ, ◌+◌, zero, suc, List, [], ◌∷◌, ◌++◌, Some, Result, Ok, Err, slice_get, IfOk, ◌||◌, false}
 use Rattle.std.specs.List.{Contains}
 use Rattle.goal_terms.specs.Erased.{erased}
 use Rattle.goal_terms.specs.PredicateTrees.{holds, equals, holds_const}
@@ -24,6 +24,9 @@ use Rattle.goal_kinds.specs.declared.faults.Fault.TheVariants as fault
 use Rattle.goal_kinds.specs.declared.outcomes.Outcome.{Outcome}
 use Rattle.goal_kinds.specs.declared.outcomes.Outcome.TheVariants as outcome
 use Rattle.goal_eval.specs.declared.eval.outcomes.Stop.{Stop}
+use Rattle.goal_terms.specs.NodeTests.{is_any_infer}
+use Rattle.goal_tables.specs.Predicates.{some_in_predicate, some_in_env}
+use Rattle.goal_eval.specs.Outcomes.{Says}
 
 -- a goal's predicate holds, by the goals of a level; one that is ambiguous doesn't
 abbrev pub GoalHolds : Level → Predicate → Type 0
@@ -162,3 +165,11 @@ IsAnswerAt s m goals places (Ok certainty.Yes) = AllHoldAt s m goals places
 IsAnswerAt s m goals places (Ok certainty.Maybe) = (AllHoldAt s m goals places → ⊥) × (SomeRefutedAt s m goals places → ⊥)
 IsAnswerAt s m goals places (Err fault.NoSolution) = SomeRefutedAt s m goals places
 IsAnswerAt s m goals places (Err f) = Unit {0}
+
+-- whether a goal holds, at a level
+abbrev pub SaysGoalAt : Level → Predicate → Result Outcome Stop → Type 0
+SaysGoalAt L p r = IfOk r (Says (GoalHolds L p) (GoalRefuted L p))
+
+-- no inference variable stands in a goal or in its environment
+abbrev pub HoldsNoVariable : Goal Predicate → Type 0
+HoldsNoVariable g = (some_in_predicate is_any_infer g.predicate || some_in_env is_any_infer g.param_env.items) ≡ false

@@ -87,3 +87,7 @@ AreComparable a b m g n k = MayRun a m g n × MayRun b m g k
 -- tables that differ in the order of their impls alone
 abbrev pub DifferInOrder : Tables → Tables → Type 0
 DifferInOrder a b = (b ≡ record a { impls = b.impls }) × HaveSameImpls a.impls.items b.impls.items
+
+-- so it is of a goal that a headline mode answers: one without inference variables, but for the one that takes an alias's term
+abbrev pub WhereAsked : State → Goal Predicate → Type 0 → Type 0
+WhereAsked s g P = is_headline s.typing_mode ≡ true → IsClosedQuestion g.predicate g.param_env.items → P

@@ -1,5 +1,5 @@
 -- What is answered for the head form of a term in a context.
-use Rattle.std.specs.Prelude.{◌≡◌, Bool, false, ◌||◌, ◌&&◌, Option, Some, None, Result, Ok, Err, List}
+use Rattle.std.specs.Prelude.{◌≡◌, Bool, false, ◌||◌, ◌&&◌, Option, Some, None, Result, Ok, Err, List, IfOk, true}
 use Rattle.goal_terms.specs.Erased.{erased}
 use Rattle.goal_terms.specs.NodeTests.{is_any_infer, some_node}
 use Rattle.goal_terms.specs.Sorts.{IsTerm}
@@ -23,6 +23,7 @@ use Rattle.goal_eval.specs.declared.eval.outcomes.Found.{Found}
 use Rattle.goal_eval.specs.declared.eval.outcomes.Found.TheVariants as found
 use Rattle.goal_eval.specs.declared.eval.outcomes.Stop.{Stop}
 use Rattle.goal_eval.specs.declared.eval.outcomes.Stop.TheVariants as stop
+use Rattle.goal_eval.specs.Outcomes.{SaysWhich}
 
 -- a term with the bindings of a context followed, lifetimes aside
 abbrev pub bound_term : State → Term → Tree
@@ -87,3 +88,15 @@ IsLeftUndecided (Err s) = s ≡ stop.OutOfMemory
 -- where the head form of a closed term is left undecided there is none, nor is it refuted
 abbrev pub LeavesFormOpen : State → TypingMode → List Clause → Term → Result (Option Term) Fault → Type 0
 LeavesFormOpen s m env e answer = IsClosedForm (bound_term s e) env → answer ≡ Ok None → IsFormOpen (level_over s m env) (bound_term s e)
+
+-- such an alias, with the bindings of a context followed
+abbrev pub IsOpenForm : State → List Clause → Term → Type 0
+IsOpenForm s env e = is_open_form (bound_term s e) env ≡ true
+
+-- where nothing is found for a term, with its bindings followed, there is nothing
+abbrev pub IsUnfoundFor : Level → State → Term → Found → Type 0
+IsUnfoundFor L s e = IsFormUnfound L (bound_term s e)
+
+-- which head form a tree has
+abbrev pub SaysForm : Level → Tree → List Tree → Result Found Stop → Type 0
+SaysForm L t T r = IfOk r (SaysWhich (HasHeadForm L t) (HeadFormRefuted L t) T)

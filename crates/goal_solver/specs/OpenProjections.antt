@@ -280,3 +280,10 @@ abbrev pub answers_term : Goal NormalizesTo → State → Result Response Fault 
 answers_term g s r u =
     (u ≡ restored (with_taking g.predicate.alias.kind s) u)
     × ((n : ℕ) → s.remaining_depth ≡ suc n → MergesProjection g (at_depth n (with_taking g.predicate.alias.kind s)) r (at_depth n u))
+
+-- what the rules of the groups of an alias's candidates make of its goal
+abbrev pub ByGroupsOf : TraitGoalProvenVia → GroupRules → NormalizesTo → State → Result Response Fault → State → Type 0
+ByGroupsOf c w p s r u = ByGroups c w.param_env.items w.environment.items w.later.items (own_args s.tables p.alias) p s r u
+
+abbrev pub ByLaterOf : TraitGoalProvenVia → GroupRules → NormalizesTo → State → Result Response Fault → State → Type 0
+ByLaterOf c w p s r u = ByLater c w.param_env.items w.later.items (own_args s.tables p.alias) p s r u

@@ -1,5 +1,5 @@
 -- What running a list of entries with inference variables does: one step for each entry, in order, and a closing evaluation.
-use Rattle.std.specs.Prelude.{◌≡◌, ◌⊎◌, true, false, List, [], ◌∷◌, ◌++◌, length, map, Option, Some, None, option_map, slice_get, Ok, Vec}
+use Rattle.std.specs.Prelude.{◌≡◌, ◌⊎◌, true, false, List, [], ◌∷◌, ◌++◌, length, map, Option, Some, None, option_map, slice_get, Ok, Vec, ℕ}
 use Rattle.std.specs.Global.{Global}
 use Rattle.std.specs.List.{AllZip}
 use Rattle.goal_terms.specs.Folding.{instance, instantiating}
@@ -57,6 +57,9 @@ use Rattle.goal_solver.specs.Responses.{ListsSinceMark, both_certain}
 use Rattle.goal_solver.specs.State.{State, kinds_of}
 use Rattle.goal_solver.specs.Variables.{with_variables, kind_for, fresh_args}
 use Rattle.goal_solver.specs.declared.eval.run_rule.open_arguments.OpenRun.{OpenRun}
+use Rattle.goal_terms.specs.declared.answers.ParamKind.{ParamKind}
+use Rattle.goal_terms.specs.declared.ids.ImplId.{ImplId}
+use Rattle.goal_solver.specs.declared.eval.run_rule.open_arguments.NamedArgs.{NamedArgs}
 
 -- how far such a list was run: the arguments that were named, and how sure all entries so far are
 pub record OpenProgress : Type 0 where
@@ -268,3 +271,33 @@ pub record RunsOpen (env : List Clause) (es : List RuleEntry) (old new : State) 
   pub closed : State
   pub closes : Closes progress.certainty last closed r
   pub back : new ≡ restored old closed
+
+-- the arguments that were named first, second, and so on
+abbrev pub args_at : List (Vec GenericArg Global) → ℕ → Option (List Tree)
+args_at named n = slice_get (named_trees named) n
+
+-- a row's where clauses of a constness are added so
+abbrev pub AddsRowConditions : BoundConstness → List Clause → Option (List TraitRef) → Option (List Tree) → State → Certainty → State → Type 0
+AddsRowConditions k env rows args s c u = AddsRow (conditions_with k) source.ImplWhereBound env rows args s c u
+
+-- a header as it is given
+abbrev pub header_with : List ParamKind → List GenericArg → MatchedHeader
+header_with ps args = record { params = ps; terms = trees_of args }
+
+-- the header of an impl, and that of another impl under arguments that were named
+abbrev pub impl_header : Tables → ImplId → Option MatchedHeader
+impl_header t i = open_header t (header.Impl i)
+
+abbrev pub given_header : Tables → ImplId → List (Vec GenericArg Global) → ℕ → Option (List Tree)
+given_header t i named n = other_header (impl_of t i) (slice_get (named_trees named) n)
+
+-- the arguments that are named when a header is matched
+abbrev pub Names : List Clause → MatchedHeader → List Tree → State → NamedArgs → State → Type 0
+Names env h given s n u = Matches env h given s (trees_of n.args.items) n.certainty u
+
+abbrev pub NamesIf : List Clause → Option MatchedHeader → Option (List Tree) → State → NamedArgs → State → Type 0
+NamesIf env h given s n u = MatchesIf env h given s (trees_of n.args.items) n.certainty u
+
+-- the hidden type of an opaque type is taken from what defines it first
+abbrev pub TakesFirstOf : List Clause → Term → FirstUse → OpaqueTypeKey → State → Certainty → State → Type 0
+TakesFirstOf env e f key s c u = TakesFirst env (tree_of_term e) f (checked_in s.tables key.def_id) (trees_of key.args.items) s c u

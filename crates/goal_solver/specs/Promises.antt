@@ -35,7 +35,7 @@ use Rattle.goal_kinds.specs.declared.goal_kind.MergeRule.TheVariants as merge
 use Rattle.goal_kinds.specs.declared.rules.FirstUse.{FirstUse}
 use Rattle.goal_kinds.specs.declared.rules.RuleEntry.{RuleEntry}
 use Rattle.goal_eval.specs.ErasedArgs.{erased_args}
-use Rattle.goal_solver.specs.Answers.{IsOwed, level_over, AreClosed, is_closed_alias, IsClosedEquation, IsMaybe, IsAliasOpen, IsQuiet, IsQuietAside, expected_variable}
+use Rattle.goal_solver.specs.Answers.{IsOwed, level_over, AreClosed, is_closed_alias, IsClosedEquation, IsMaybe, IsAliasOpen, IsQuiet, IsQuietAside, expected_variable, IsTraitAnswer, IsAliasAnswer, IsOpen}
 use Rattle.goal_solver.specs.Assembled.{level_above, level_through, HoldsThrough}
 use Rattle.goal_solver.specs.Binding.{IsApplicable}
 use Rattle.goal_solver.specs.Goals.{IsAcceptedNormalization}
@@ -305,3 +305,46 @@ pub record AppliesProven (before after : State) (env : List Clause) (a : Through
 abbrev pub AppliesGiven : State → State → List Clause → Option Through → Result Response Fault → Type 0
 AppliesGiven before after env None r = IfOk r (IsApplicable after)
 AppliesGiven before after env (Some a) r = AppliesProven before after env a r
+
+-- what is answered to a goal at a level
+abbrev pub IsAnswerToTrait : Level → TraitPredicate → Result Response Fault → Type 0
+IsAnswerToTrait L p r = IsTraitAnswer L p.trait_ref.def_id (erased_args p.trait_ref.args.items) r
+
+abbrev pub IsTermAnswer : Level → NormalizesTo → Result Response Fault → Type 0
+IsTermAnswer L p r = IsAliasAnswer L p.alias.kind (erased_args p.alias.args.items) p.term r
+
+-- the trait goal holds through no class, and isn't refuted
+abbrev pub IsTraitOpen : Level → TraitPredicate → Type 0
+IsTraitOpen L p = IsOpen L p.trait_ref.def_id (erased_args p.trait_ref.args.items)
+
+-- the alias of a closed goal that is left undecided has no term, and isn't refuted
+abbrev pub LeavesTermOpen : State → State → Goal NormalizesTo → Result Response Fault → Type 0
+LeavesTermOpen before after g r =
+    (m : TypingMode) (n : ℕ) → IsOwed after m → IsClosedNormalization g → expected_variable g.predicate.term ≡ Some n → IsMaybe r →
+    IsAliasOpen (level_over before m g.param_env.items) g.predicate.alias.kind (erased_args g.predicate.alias.args.items)
+
+-- undecided is the right answer to such a goal, if it is accepted
+abbrev pub LeavesTermMaybe : State → State → Goal NormalizesTo → Result Response Fault → Type 0
+LeavesTermMaybe before after g r =
+    (m : TypingMode) (n : ℕ) → IsOwed after m → IsAcceptedNormalization before g.predicate g.param_env.items → IsClosedNormalization g → expected_variable g.predicate.term ≡ Some n → IsMaybe r →
+    IsAnswer (level_over before m g.param_env.items) (term_asked g.predicate) maybe
+
+-- one with other inference variables than the expected one is answered by its candidates or its list
+abbrev pub MergesWhereOpen : State → State → Goal NormalizesTo → Result Response Fault → Type 0
+MergesWhereOpen before after g r =
+    (n k : ℕ) → is_closed_alias g.predicate.alias g.param_env.items ≡ false → expected_variable g.predicate.term ≡ Some k → before.remaining_depth ≡ suc n →
+    WhenAnswered r (MergesProjection g (at_depth n before) r (at_depth n after))
+
+-- a trait goal is answered by its candidates at a depth
+abbrev pub MergesTraitAt : ℕ → State → Goal TraitPredicate → Result Response Fault → State → Type 0
+MergesTraitAt n before g r after = WhenAnswered r (MergesTrait g (at_depth n before) r (at_depth n after))
+
+-- how the mode uses the opaque type of a goal that it defines
+abbrev pub IsFirstUse : State → Goal NormalizesTo → FirstUse → Type 0
+IsFirstUse s g f = first_use_of s.tables s.typing_mode g.predicate.alias.kind ≡ Some f
+
+-- the list of such a type is run at one less of the depth
+abbrev pub RunsWhereDefined : State → State → Goal NormalizesTo → Result Response Fault → Type 0
+RunsWhereDefined before after g r =
+    (n : ℕ) (f : FirstUse) → first_use_of before.tables before.typing_mode g.predicate.alias.kind ≡ Some f → before.remaining_depth ≡ suc n →
+    WhenAnswered r (RunsHidden g f (at_depth n before) r (at_depth n after))

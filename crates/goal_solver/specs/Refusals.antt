@@ -161,3 +161,7 @@ pub record IsRefusedOpen (env : List Clause) (es : List RuleEntry) (old new : St
   pub stopped : State
   pub stops : StopsSomewhere env es (begun old) stopped
   pub back : new ≡ restored old stopped
+
+-- so it is of the hidden type of an opaque type
+abbrev pub RefusesFirstOf : List Clause → Term → FirstUse → OpaqueTypeKey → State → State → Type 0
+RefusesFirstOf env e f key old new = RefusesFirst env (tree_of_term e) f (checked_in old.tables key.def_id) (trees_of key.args.items) old new

@@ -1,5 +1,5 @@
 -- What equating terms says, and what it does to a context.
-use Rattle.std.specs.Prelude.{◌≡◌, ◌≢◌, ◌⊎◌, ◌<◌, ℕ, true, false, List, ◌∷◌, length, map, Result, Ok, Err}
+use Rattle.std.specs.Prelude.{◌≡◌, ◌≢◌, ◌⊎◌, ◌<◌, ℕ, true, false, List, ◌∷◌, length, map, Result, Ok, Err, OnOk}
 use Rattle.std.specs.List.{list_any}
 use Rattle.goal_terms.specs.NodeTests.{is_any_infer, some_node}
 use Rattle.goal_terms.specs.Erased.{erased}
@@ -29,6 +29,9 @@ use Rattle.goal_kinds.specs.declared.faults.Fault.{Fault}
 use Rattle.goal_kinds.specs.declared.faults.Fault.TheVariants as fault
 use Rattle.goal_kinds.specs.declared.outcomes.Outcome.{Outcome}
 use Rattle.goal_kinds.specs.declared.outcomes.Outcome.TheVariants as outcome
+use Rattle.goal_terms.specs.declared.term_nodes.TermId.{TermId}
+use Rattle.goal_kinds.specs.Interned.{erased_at, erased_all}
+use Rattle.goal_terms.specs.TableMeaning.{tree_at}
 
 -- a replacement of the variables of a context by trees agrees with what they are bound to
 abbrev pub AgreesWith : State → (Variable → Tree) → Type 0
@@ -126,3 +129,16 @@ all_equated ts us s = s
 -- two lists of terms are the same, lifetimes aside
 abbrev pub AreIdentical : List Tree → List Tree → Type 0
 AreIdentical ts us = map erased ts ≡ map erased us
+
+-- where two lists of terms are the same, lifetimes aside, the equations of their lifetimes are added
+abbrev pub EquatesIdentical : {A E : Type 0} → State → List Tree → List Tree → Result A E → State → Type 0
+EquatesIdentical old ts us r new = AreIdentical ts us → OnOk r (new.inference ≡ all_equated ts us old.inference)
+
+-- so it is of two terms
+abbrev pub EquatesPair : {A E : Type 0} → State → TermId → TermId → Result A E → State → Type 0
+EquatesPair old left right r new =
+    erased_at old.terms left ≡ erased_at old.terms right → OnOk r (new.inference ≡ equated (tree_at old.terms left) (tree_at old.terms right) old.inference)
+
+-- the terms of numbers, with the bindings of a context followed
+abbrev pub bound_at : State → List TermId → List Tree
+bound_at s ids = all_bound s (erased_all s.terms ids)

@@ -9,7 +9,7 @@ use Rattle.goal_solver.specs.Answers.{IsOwed, level_over, IsMaybe, AnswersQuietl
 use Rattle.goal_solver.specs.Binding.{IsApplicable, CanBeListed}
 use Rattle.goal_solver.specs.OpenRuns.{RunsOpen}
 use Rattle.goal_solver.specs.Refusals.{WhenRefused, IsRefusedOpen}
-use Rattle.goal_solver.specs.RunRules.{setting_over, asked_of, IsAskedOnce, IsRuleAnswer, IsRuleOpen}
+use Rattle.goal_solver.specs.RunRules.{setting_over, asked_of, IsAskedOnce, IsRuleAnswer, IsRuleOpen, IsClosedRule}
 use Rattle.goal_solver.specs.State.{State, kinds_of}
 
 -- a closed list: what derivations no higher than the remaining depth decide of it; a term that it gives is listed and can be applied where it can be given
@@ -24,3 +24,18 @@ pub record RunsInTrial (env : List Clause) (rule : Rule) (old new : State) (r : 
   pub chain : IfOk r (RunsOpen env rule.entries.items old new)
   pub refused : WhenRefused r (IsRefusedOpen env rule.entries.items old new)
   pub applies : IfOk r (IsApplicable new)
+
+-- a rule over an environment without inference variables, and one that asks for a term at most once, for a variable
+abbrev pub IsClosedRun : List Clause → Rule → Type 0
+IsClosedRun env rule = IsClosedRule rule.entries.items env
+
+abbrev pub AsksOnce : Rule → Type 0
+AsksOnce rule = IsAskedOnce (asked_of rule.entries.items)
+
+-- what is answered to a rule in a context
+abbrev pub IsRuleAnswerIn : State → TypingMode → List Clause → Rule → Result Response Fault → Type 0
+IsRuleAnswerIn s m env rule r = IsRuleAnswer (setting_over s m env) (level_over s m env) rule r
+
+-- and what is so where it is left undecided
+abbrev pub IsOpenIn : State → TypingMode → List Clause → Rule → Type 0
+IsOpenIn s m env rule = IsRuleOpen (setting_over s m env) (level_over s m env) rule

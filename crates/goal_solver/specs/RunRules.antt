@@ -15,8 +15,8 @@ use Rattle.goal_terms.specs.declared.predicates.Clause.{Clause}
 use Rattle.goal_tables.specs.Predicates.{some_in_args, some_in_clause_kind, some_in_env}
 use Rattle.goal_tables.specs.declared.rows.Tables.{Tables}
 use Rattle.goal_kinds.specs.Causes.{IsFaultCaused}
-use Rattle.goal_kinds.specs.Answers.{setting_of}
-use Rattle.goal_kinds.specs.Entries.{Arguments, of_header, Entry}
+use Rattle.goal_kinds.specs.Answers.{setting_of, erased_predicate}
+use Rattle.goal_kinds.specs.Entries.{Arguments, of_header, Entry, ExpectedTerm, chosen_by}
 use Rattle.goal_kinds.specs.InternedEntries.{header_trees}
 use Rattle.goal_kinds.specs.Level.{Level}
 use Rattle.goal_kinds.specs.RuleLists.{names_arguments, entry_of, before}
@@ -44,6 +44,10 @@ use Rattle.goal_solver.specs.declared.eval.run_rule.asked.Asked.{Asked}
 use Rattle.goal_solver.specs.declared.eval.run_rule.asked.Asked.TheVariants as asked
 use Rattle.goal_solver.specs.declared.eval.run_rule.recorded.ToRecord.{ToRecord}
 use Rattle.goal_solver.specs.declared.eval.run_rule.recorded.ToRecord.TheVariants as recorded
+use Rattle.goal_terms.specs.declared.predicates.ClauseKind.{ClauseKind}
+use Rattle.goal_terms.specs.declared.terms.Term.{Term}
+use Rattle.goal_terms.specs.PredicateTrees.{tree_of_kind}
+use Rattle.goal_terms.specs.Erased.{erased}
 
 -- whether something in the arguments that an entry names passes a test
 abbrev pub some_in_arguments : (Node → Bool) → RuleArguments → Bool
@@ -206,3 +210,7 @@ asked_next a _ = a
 -- a list of entries that holds records all that it says to
 abbrev pub AreRecordedWhere : State → List RuleEntry → ListOutcome → Type 0
 AreRecordedWhere s es o = list_held o ≡ outcome.Holds → AreRecorded s es
+
+-- the first of two terms where a clause holds, the second where it is refuted
+abbrev pub chosen_term : ClauseKind → Term → Term → ExpectedTerm
+chosen_term k first second = chosen_by (erased_predicate (tree_of_kind k)) (erased (tree_of_term first)) (erased (tree_of_term second))

@@ -46,3 +46,7 @@ abbrev pub AppliesThrough : State → State → TraitGoalProvenVia → Normalize
 AppliesThrough a z c q env r =
     (m : TypingMode) → StandsFor a.typing_mode m → IsAcceptedNormalization a q env →
     HoldsThrough (setting_of a.tables m env) (level_over a m env) c q.alias.kind (erased_args q.alias.args.items) → IfOk r (IsApplicable z)
+
+-- in each mode that the context's own stands for
+abbrev pub SaysWhereStands : State → State → List Clause → TraitGoalProvenVia → AliasTerm → Result Found Stop → Type 0
+SaysWhereStands before after env c a r = (m : TypingMode) → StandsFor before.typing_mode m → SaysClassTerm before after m env c a r

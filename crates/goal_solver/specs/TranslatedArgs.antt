@@ -1,5 +1,5 @@
 -- The arguments that a definition of a goal's item takes.
-use Rattle.std.specs.Prelude.{◌≡◌, ◌==◌, ◌||◌, ◌⊎◌, ℕ, false, IfOk, Some, List, ◌++◌, length, map, drop, Result, Ok, Err, Vec, if◌then◌else◌}
+use Rattle.std.specs.Prelude.{◌≡◌, ◌==◌, ◌||◌, ◌⊎◌, ℕ, false, IfOk, Some, List, ◌++◌, length, map, drop, Result, Ok, Err, Vec, if◌then◌else◌, []}
 use Rattle.std.specs.Global.{Global}
 use Rattle.std.specs.List.{AllZip, list_any}
 use Rattle.goal_terms.specs.Erased.{erased}
@@ -45,6 +45,8 @@ use Rattle.goal_solver.specs.State.{State, kinds_of}
 use Rattle.goal_eval.specs.declared.eval.outcomes.HeaderMatch.{HeaderMatch}
 use Rattle.goal_eval.specs.declared.eval.outcomes.HeaderMatch.TheVariants as match
 use Rattle.goal_solver.specs.Variables.{with_variables, kind_for, fresh_args}
+use Rattle.goal_eval.specs.Outcomes.{SaysMatch}
+use Rattle.goal_eval.specs.declared.eval.outcomes.Stop.{Stop}
 
 -- whose arguments a definition takes that an impl uses, by where it stands
 abbrev pub taken_by : State → ImplId → Container → Taken
@@ -182,9 +184,69 @@ pub record OtherAsked : Type 0 where
 abbrev pub asked_of : TraitRef → Goal NormalizesTo → ImplRow → OtherAsked
 asked_of r g q = record { row = q; environment = g.param_env.items; trait_ref = r; own = own_after r g }
 
+-- its row, over an environment, for a trait reference, without own arguments behind them
+abbrev pub asked_for : ImplRow → List Clause → TraitRef → OtherAsked
+asked_for q env r = record { row = q; environment = env; trait_ref = r; own = [] }
+
 -- neither the trait reference, bindings followed, nor the environment hold an inference variable
 abbrev pub IsClosedFor : State → OtherAsked → Type 0
 IsClosedFor s o = AreClosedIn o.environment (bound_ref s o.trait_ref)
+
+-- what is answered where neither hold one: a yes says that the header fits under the arguments, and a refusal that it clashes
+abbrev pub ReadsSoundly : State → State → OtherAsked → Result (Vec GenericArg Global × Certainty) Fault → Type 0
+ReadsSoundly old new o r = (m : TypingMode) → IsOwed new m → IsClosedFor old o → IsTranslation (level_over old m o.environment) o.row (bound_ref old o.trait_ref) (map erased o.own) r
+
+-- where it stays open, the header neither fits nor clashes
+abbrev pub LeavesHeaderOpen : State → State → OtherAsked → Result (Vec GenericArg Global × Certainty) Fault → Type 0
+LeavesHeaderOpen old new o r = (m : TypingMode) → IsOwed new m → IsClosedFor old o → LeavesOpen (certainty_in r) → IsHeaderOpen (level_over old m o.environment) o.row (bound_ref old o.trait_ref)
+
+-- not all of the header's parameters are known
+abbrev pub IsNotKnown : Level → ImplRow → List Tree → Type 0
+IsNotKnown L q gs = (s : List Tree) → AllKnown L q.params.items (header_of q) gs s → ⊥
+
+-- fresh variables are answered before the own arguments
+abbrev pub AnswersFresh : State → State → ImplRow → List Tree → Result (Vec GenericArg Global × Certainty) Fault → Type 0
+AnswersFresh old new q own r = IfOk r (λ x. IsFresh old new q own (trees_of x.0.items))
+
+abbrev pub FreshIfUnknown : Level → State → State → ImplRow → List Tree → Result (Vec GenericArg Global × Certainty) Fault → Type 0
+FreshIfUnknown L old new q gs r = IsNotKnown L q gs → AnswersFresh old new q [] r
+
+-- they are where not all are known
+abbrev pub MakesFresh : State → State → OtherAsked → Result (Vec GenericArg Global × Certainty) Fault → Type 0
+MakesFresh old new o r = (m : TypingMode) → IsOwed new m → IsClosedFor old o → IsNotKnown (level_over old m o.environment) o.row (bound_ref old o.trait_ref) → AnswersFresh old new o.row o.own r
+
+-- no variable is bound
+abbrev pub BindsNone : State → State → OtherAsked → Result (Vec GenericArg Global × Certainty) Fault → Type 0
+BindsNone old new o r = IsClosedFor old o → IfOk r (λ x. BindsNothing old new o.row o.own (trees_of x.0.items))
+
+-- where they hold one, the header under fresh variables is made equal to the trait reference
+abbrev pub EquatesHeader : State → State → OtherAsked → Result (Vec GenericArg Global × Certainty) Fault → Type 0
+EquatesHeader old new o r = (IsClosedFor old o → ⊥) → IsMadeEqual old new o.environment o.row (trees_of o.trait_ref.args.items) o.own r
+
+-- at a yes they are equal with whatever is put for the variables that are left
+abbrev pub EqualsWhereYes : Level → State → ImplRow → List Tree → Result (Vec GenericArg Global × Certainty) Fault → Type 0
+EqualsWhereYes L new q gs r = SaysYes (certainty_in r) → (ρ : Variable → Tree) → AgreesWith new ρ → IsEqualUnder L q ρ gs [] r
+
+abbrev pub IsHeaderEqual : State → State → OtherAsked → Result (Vec GenericArg Global × Certainty) Fault → Type 0
+IsHeaderEqual old new o r =
+    (m : TypingMode) → IsOwed new m → (IsClosedFor old o → ⊥) → SaysYes (certainty_in r) → (ρ : Variable → Tree) → AgreesWith new ρ →
+    IsEqualUnder (level_over old m o.environment) o.row ρ (erased_args o.trait_ref.args.items) o.own r
+
+-- a refusal says that nothing makes them equal
+abbrev pub NeverEquals : State → ImplRow → List Tree → Result (Vec GenericArg Global × Certainty) Fault → Type 0
+NeverEquals old q gs r =
+    Refuses (certainty_in r) → (ρ : Variable → Tree) → OfKinds ρ → AgreesWith old ρ → Identifies ρ gs (map (under (fresh_args q.params.items (length (kinds_of old)))) (header_of q)) → ⊥
+
+abbrev pub IsNeverEqual : State → OtherAsked → Result (Vec GenericArg Global × Certainty) Fault → Type 0
+IsNeverEqual old o r = (IsClosedFor old o → ⊥) → NeverEquals old o.row (erased_args o.trait_ref.args.items) r
+
+-- the impl's where clauses under the arguments are added as goals
+abbrev pub AddsItsGoals : State → State → OtherAsked → Result (Vec GenericArg Global × Certainty) Fault → Type 0
+AddsItsGoals old new o r = IfOk r (λ x. IsAdded old new o.row o.environment o.own (trees_of x.0.items))
+
+-- what an impl's header comes to for given terms
+abbrev pub SaysHeader : Level → ImplRow → List Tree → List Tree → Result HeaderMatch Stop → Type 0
+SaysHeader L q gs T r = IfOk r (SaysMatch L q.params.items (header_of q) gs T)
 
 -- then the arguments are read off where the header's parameters stand, and no variable is bound
 pub record ReadsOff (old new : State) (o : OtherAsked) (r : Result (Vec GenericArg Global × Certainty) Fault) : Type 0 where

@@ -6,7 +6,7 @@ ghost use Rattle.goal_tables.specs.Predicates.{normalization_of};
 ghost use Rattle.goal_kinds.specs.Answers.{decides, yes_with};
 ghost use Rattle.goal_kinds.specs.Interned.{erased_at};
 ghost use Rattle.goal_kinds.specs.Settings.{is_headline};
-ghost use Rattle.goal_solver.specs.Comparisons.{AreComparable, DifferInOrder, IsAcceptedOver, IsAnswerHere, IsAnswerIn, IsClosedQuestion, IsCompared, IsComparison, MayRun, answer_of};
+ghost use Rattle.goal_solver.specs.Comparisons.{AreComparable, DifferInOrder, IsAcceptedOver, IsAnswerHere, IsAnswerIn, IsCompared, IsComparison, MayRun, answer_of, WhereAsked};
 
 use crate::context::{EvalCtxt, GREATEST_LIMIT};
 use crate::faults::Fault;
@@ -89,7 +89,7 @@ fn run(
 impl EvalCtxt<'_> {
     /// What is answered to a goal at the remaining depth. Only memory is refused.
     fn run(&mut self, goal: &Goal<Predicate>) -> Result<RunAnswer, Fault>
-        ensures right { is_headline self.old.typing_mode ≡ true → IsClosedQuestion goal.now.predicate goal.now.param_env.items → IsAcceptedOver self.old.tables goal.now → IfOk result (λ x. IsAnswerHere self.old goal.now (answer_of x)) }
+        ensures right { WhereAsked self.old goal.now (IsAcceptedOver self.old.tables goal.now → IfOk result (λ x. IsAnswerHere self.old goal.now (answer_of x))) }
         ensures only_memory { is_headline self.old.typing_mode ≡ true → IsOkUnless result Fault.OutOfMemory }
     {
         match goal.predicate.normalizes_to() {
@@ -101,7 +101,7 @@ impl EvalCtxt<'_> {
     /// Whether a goal's predicate holds.
     fn run_predicate(&mut self, goal: &Goal<Predicate>) -> Result<RunAnswer, Fault>
         requires { normalization_of goal.now.predicate ≡ None }
-        ensures right { is_headline self.old.typing_mode ≡ true → IsClosedQuestion goal.now.predicate goal.now.param_env.items → IfOk result (λ x. IsAnswerHere self.old goal.now (answer_of x)) }
+        ensures right { WhereAsked self.old goal.now (IfOk result (λ x. IsAnswerHere self.old goal.now (answer_of x))) }
         ensures only_memory { is_headline self.old.typing_mode ≡ true → IsOkUnless result Fault.OutOfMemory }
     {
         match self.evaluate_goal(goal) {

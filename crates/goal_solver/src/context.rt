@@ -18,6 +18,7 @@ pub(crate) mod respond;
 pub mod storage;
 pub mod variables;
 
+use crate::eval::open_asked::OpenAsked;
 use crate::faults::DepthTooLarge;
 use goal_eval::eval::effects::Effects;
 use goal_eval::eval::region_constraints::RegionConstraints;
@@ -56,6 +57,8 @@ pub struct EvalCtxt<'t> {
     pub(crate) accesses: Vec<OpaqueAccess>,
     pub(crate) delayed_faults: Vec<DelayedFault>,
     pub(crate) mark: Mark,
+    /// The goals with inference variables that are being answered, and what others were answered.
+    pub(crate) asked: OpenAsked,
 }
 
 impl Drop for EvalCtxt<'_> {
@@ -74,6 +77,7 @@ impl Drop for EvalCtxt<'_> {
             accesses: _,
             delayed_faults: _,
             mark: _,
+            asked: _,
         } = self;
     }
 }
@@ -153,6 +157,7 @@ impl<'t> EvalCtxt<'t> {
             accesses: Vec::new(alloc),
             delayed_faults: Vec::new(alloc),
             mark,
+            asked: OpenAsked::new(alloc),
         })
     }
 

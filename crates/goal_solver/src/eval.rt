@@ -6,6 +6,7 @@ pub(crate) mod evaluations;
 pub(crate) mod free_variables;
 pub(crate) mod goal_outcomes;
 pub mod goals;
+pub(crate) mod open_asked;
 pub(crate) mod open_forms;
 pub(crate) mod open_terms;
 pub mod predicate_views;

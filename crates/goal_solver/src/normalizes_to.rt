@@ -1,20 +1,16 @@
 //! Normalization of aliases.
-ghost use Rattle.std.specs.Prelude.{◌≡◌, ◌⊎◌, ◌∷◌, ℕ, suc, true, false, [], length, Some, None, IfOk, IsOkUnless};
+ghost use Rattle.std.specs.Prelude.{◌≡◌, ◌⊎◌, ◌∷◌, true, false, [], length, Some, None, IfOk, IsOkUnless};
 ghost use Rattle.goal_terms.specs.TableMeaning.{HasTerm};
 ghost use Rattle.goal_terms.specs.declared.answers.Certainty.TheVariants as certainty;
-ghost use Rattle.goal_terms.specs.declared.modes.TypingMode.{TypingMode};
 ghost use Rattle.goal_terms.specs.declared.terms.Term.{Term as term};
-ghost use Rattle.goal_kinds.specs.Answers.{IsAnswer, maybe};
+ghost use Rattle.goal_kinds.specs.Answers.{maybe};
 ghost use Rattle.goal_kinds.specs.Interned.{erased_at};
 ghost use Rattle.goal_solver.specs.Accesses.{RecordsCaused, RecordsCausedFaults};
-ghost use Rattle.goal_eval.specs.ErasedArgs.{erased_args};
-ghost use Rattle.goal_solver.specs.Answers.{IsOwed, level_over, is_closed_alias, IsAliasAnswer, IsAliasOpen, GivesTo, expected_variable, IsMaybe, AnswersAside, AnswersQuietly, IsFaultOf};
+ghost use Rattle.goal_solver.specs.Answers.{is_closed_alias, GivesTo, expected_variable, AnswersAside, AnswersQuietly, IsFaultOf};
 ghost use Rattle.goal_solver.specs.Binding.{IsApplicable};
 ghost use Rattle.goal_solver.specs.Goals.{IsAcceptedNormalization};
 ghost use Rattle.goal_solver.specs.GoingBack.{GoesBack, restored};
-ghost use Rattle.goal_solver.specs.OpenGoals.{WhenAnswered, at_depth};
-ghost use Rattle.goal_solver.specs.OpenProjections.{MergesProjection};
-ghost use Rattle.goal_solver.specs.Promises.{AnswersAlias, DefinesAlias, IsClosedNormalization, LeavesUndecided, ListsTerm, MergesOpenProjection, NoTwoDisagree, is_defined, term_asked};
+ghost use Rattle.goal_solver.specs.Promises.{AnswersAlias, DefinesAlias, IsClosedNormalization, LeavesUndecided, ListsTerm, MergesOpenProjection, NoTwoDisagree, is_defined, term_asked, WhereOwed, IsTermAnswer, LeavesTermOpen, LeavesTermMaybe, MergesWhereOpen};
 ghost use Rattle.goal_solver.specs.Recording.{is_ambiguous};
 ghost use Rattle.goal_solver.specs.State.{kinds_of};
 
@@ -90,22 +86,22 @@ impl EvalCtxt<'_> {
 
     /// What `compute_normalizes_to_goal` answers, clause by clause.
     fn normalizes_to_response(&mut self, goal: &Goal<NormalizesTo>) -> Result<Response, Fault>
-        ensures sound { (m : TypingMode) → IsOwed self.new m → is_closed_alias goal.now.predicate.alias goal.now.param_env.items ≡ true → IsAliasAnswer (level_over self.old m goal.now.param_env.items) goal.now.predicate.alias.kind (erased_args goal.now.predicate.alias.args.items) goal.now.predicate.term result }
-        ensures decided { (m : TypingMode) (n : ℕ) → IsOwed self.new m → is_closed_alias goal.now.predicate.alias goal.now.param_env.items ≡ true → expected_variable goal.now.predicate.term ≡ Some n → IsMaybe result → IsAliasOpen (level_over self.old m goal.now.param_env.items) goal.now.predicate.alias.kind (erased_args goal.now.predicate.alias.args.items) }
+        ensures sound { WhereOwed self.old self.new goal.now.param_env.items (λ L. IsClosedNormalization goal.now → IsTermAnswer L goal.now.predicate result) }
+        ensures decided { LeavesTermOpen self.old self.new goal.now result }
         ensures unchanged { self.new ≡ restored self.old self.new }
         ensures goes_back { GoesBack self.old self.new }
         ensures fault { IsFaultOf self.old self.new result }
-        ensures caused { is_closed_alias goal.now.predicate.alias goal.now.param_env.items ≡ true → RecordsCaused self.old self.new }
-        ensures faults { is_closed_alias goal.now.predicate.alias goal.now.param_env.items ≡ true → RecordsCausedFaults self.old self.new }
-        ensures quiet { is_closed_alias goal.now.predicate.alias goal.now.param_env.items ≡ true → AnswersAside (length (kinds_of self.old)) result }
-        ensures lists { is_closed_alias goal.now.predicate.alias goal.now.param_env.items ≡ true → IfOk result (λ r. r.certainty ≡ certainty.Maybe → r.var_values.items ≡ []) }
-        ensures gives { is_closed_alias goal.now.predicate.alias goal.now.param_env.items ≡ true → IfOk result (λ r. r.certainty ≡ certainty.Yes → ListsTerm goal.now.predicate.term certainty.Yes r.var_values.items) }
-        ensures no_class { is_closed_alias goal.now.predicate.alias goal.now.param_env.items ≡ true → IfOk result (λ r. r.proven_via ≡ None) }
-        ensures ambiguous { is_closed_alias goal.now.predicate.alias goal.now.param_env.items ≡ true → is_ambiguous self.old.typing_mode goal.now.predicate.alias.kind ≡ true → LeavesUndecided self.old result }
+        ensures caused { IsClosedNormalization goal.now → RecordsCaused self.old self.new }
+        ensures faults { IsClosedNormalization goal.now → RecordsCausedFaults self.old self.new }
+        ensures quiet { IsClosedNormalization goal.now → AnswersAside (length (kinds_of self.old)) result }
+        ensures lists { IsClosedNormalization goal.now → IfOk result (λ r. r.certainty ≡ certainty.Maybe → r.var_values.items ≡ []) }
+        ensures gives { IsClosedNormalization goal.now → IfOk result (λ r. r.certainty ≡ certainty.Yes → ListsTerm goal.now.predicate.term certainty.Yes r.var_values.items) }
+        ensures no_class { IsClosedNormalization goal.now → IfOk result (λ r. r.proven_via ≡ None) }
+        ensures ambiguous { IsClosedNormalization goal.now → is_ambiguous self.old.typing_mode goal.now.predicate.alias.kind ≡ true → LeavesUndecided self.old result }
         ensures at_once { (self.old.remaining_depth ≡ 0) ⊎ (expected_variable goal.now.predicate.term ≡ None) → LeavesUndecided self.old result }
-        ensures whole { (m : TypingMode) (n : ℕ) → IsOwed self.new m → IsAcceptedNormalization self.old goal.now.predicate goal.now.param_env.items → is_closed_alias goal.now.predicate.alias goal.now.param_env.items ≡ true → expected_variable goal.now.predicate.term ≡ Some n → IsMaybe result → IsAnswer (level_over self.old m goal.now.param_env.items) (term_asked goal.now.predicate) maybe }
+        ensures whole { LeavesTermMaybe self.old self.new goal.now result }
         ensures applies { IsAcceptedNormalization self.old goal.now.predicate goal.now.param_env.items → IfOk result (IsApplicable self.new) }
-        ensures merged { (n k : ℕ) → is_closed_alias goal.now.predicate.alias goal.now.param_env.items ≡ false → expected_variable goal.now.predicate.term ≡ Some k → self.old.remaining_depth ≡ suc n → WhenAnswered result (MergesProjection goal.now (at_depth n self.old) result (at_depth n self.new)) }
+        ensures merged { MergesWhereOpen self.old self.new goal.now result }
     {
         self.is_well_formed();
         let Some(expected) = general_variable(goal.predicate.term.view().node()) else {

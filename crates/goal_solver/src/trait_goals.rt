@@ -6,11 +6,10 @@ ghost use Rattle.goal_kinds.specs.Answers.{setting_of};
 ghost use Rattle.goal_kinds.specs.Levels.{level};
 ghost use Rattle.goal_solver.specs.Accesses.{RecordsCaused, RecordsCausedFaults};
 ghost use Rattle.goal_eval.specs.ErasedArgs.{erased_args};
-ghost use Rattle.goal_solver.specs.Answers.{IsOwed, level_over, AreClosed, IsTraitAnswer, IsOpen, IsMaybe, AnswersAside, IsFaultOf};
+ghost use Rattle.goal_solver.specs.Answers.{IsOwed, IsTraitAnswer, IsOpen, IsMaybe, AnswersAside, IsFaultOf};
 ghost use Rattle.goal_solver.specs.Binding.{IsApplicable};
 ghost use Rattle.goal_solver.specs.GoingBack.{GoesBack, restored};
-ghost use Rattle.goal_solver.specs.OpenGoals.{MergesTrait, WhenAnswered, at_depth};
-ghost use Rattle.goal_solver.specs.Promises.{AnswersTrait, IsClosedTrait, LeavesUndecided, MergesOpenTrait, NoTwoDisagree, trait_asked, trait_question};
+ghost use Rattle.goal_solver.specs.Promises.{AnswersTrait, IsClosedTrait, LeavesUndecided, MergesOpenTrait, NoTwoDisagree, trait_asked, trait_question, WhereOwed, IsAnswerToTrait, IsTraitOpen, MergesTraitAt};
 ghost use Rattle.goal_solver.specs.State.{kinds_of};
 
 pub(crate) mod open;
@@ -66,18 +65,18 @@ impl EvalCtxt<'_> {
         &mut self,
         goal: &Goal<TraitPredicate>,
     ) -> Result<Response, Fault>
-        ensures sound { (m : TypingMode) → IsOwed self.new m → AreClosed goal.now.predicate.trait_ref.args.items goal.now.param_env.items → IsTraitAnswer (level_over self.old m goal.now.param_env.items) goal.now.predicate.trait_ref.def_id (erased_args goal.now.predicate.trait_ref.args.items) result }
-        ensures decided { (m : TypingMode) → IsOwed self.new m → AreClosed goal.now.predicate.trait_ref.args.items goal.now.param_env.items → IsMaybe result → IsOpen (level_over self.old m goal.now.param_env.items) goal.now.predicate.trait_ref.def_id (erased_args goal.now.predicate.trait_ref.args.items) }
+        ensures sound { WhereOwed self.old self.new goal.now.param_env.items (λ L. IsClosedTrait goal.now → IsAnswerToTrait L goal.now.predicate result) }
+        ensures decided { WhereOwed self.old self.new goal.now.param_env.items (λ L. IsClosedTrait goal.now → IsMaybe result → IsTraitOpen L goal.now.predicate) }
         ensures unchanged { self.new ≡ restored self.old self.new }
         ensures goes_back { GoesBack self.old self.new }
         ensures fault { IsFaultOf self.old self.new result }
-        ensures caused { AreClosed goal.now.predicate.trait_ref.args.items goal.now.param_env.items → RecordsCaused self.old self.new }
-        ensures faults { AreClosed goal.now.predicate.trait_ref.args.items goal.now.param_env.items → RecordsCausedFaults self.old self.new }
-        ensures quiet { AreClosed goal.now.predicate.trait_ref.args.items goal.now.param_env.items → AnswersAside (length (kinds_of self.old)) result }
-        ensures lists { AreClosed goal.now.predicate.trait_ref.args.items goal.now.param_env.items → IfOk result (λ r. r.var_values.items ≡ []) }
-        ensures class { AreClosed goal.now.predicate.trait_ref.args.items goal.now.param_env.items → IfOk result (λ r. r.certainty ≡ certainty.Maybe → r.proven_via ≡ None) }
+        ensures caused { IsClosedTrait goal.now → RecordsCaused self.old self.new }
+        ensures faults { IsClosedTrait goal.now → RecordsCausedFaults self.old self.new }
+        ensures quiet { IsClosedTrait goal.now → AnswersAside (length (kinds_of self.old)) result }
+        ensures lists { IsClosedTrait goal.now → IfOk result (λ r. r.var_values.items ≡ []) }
+        ensures class { IsClosedTrait goal.now → IfOk result (λ r. r.certainty ≡ certainty.Maybe → r.proven_via ≡ None) }
         ensures at_once { self.old.remaining_depth ≡ 0 → LeavesUndecided self.old result }
-        ensures merged { (n : ℕ) → (AreClosed goal.now.predicate.trait_ref.args.items goal.now.param_env.items → ⊥) → self.old.remaining_depth ≡ suc n → WhenAnswered result (MergesTrait goal.now (at_depth n self.old) result (at_depth n self.new)) }
+        ensures merged { (n : ℕ) → (IsClosedTrait goal.now → ⊥) → self.old.remaining_depth ≡ suc n → MergesTraitAt n self.old goal.now result self.new }
         ensures applies { IfOk result (IsApplicable self.new) }
     {
         self.is_well_formed();

@@ -2,14 +2,12 @@
 ghost use Rattle.std.specs.Prelude.{IfErr, IfOk, map};
 ghost use Rattle.std.specs.List.{All};
 ghost use Rattle.goal_terms.specs.TableMeaning.{Keeps};
-ghost use Rattle.goal_terms.specs.declared.modes.TypingMode.{TypingMode};
-ghost use Rattle.goal_kinds.specs.Candidates.{class_of};
 ghost use Rattle.goal_kinds.specs.Causes.{IsCausedList};
-ghost use Rattle.goal_kinds.specs.Interned.{CandidateIn, erased_at, candidate_at};
-ghost use Rattle.goal_kinds.specs.InternedEntries.{ListIn, list_at};
-ghost use Rattle.goal_eval.specs.AskedTraits.{AskedIn, candidate_list, SaysListed, SaysCandidate, SaysCandidates};
+ghost use Rattle.goal_kinds.specs.Interned.{CandidateIn, candidate_at};
+ghost use Rattle.goal_kinds.specs.InternedEntries.{ListIn};
+ghost use Rattle.goal_eval.specs.AskedTraits.{AskedIn, candidate_list, SaysListed, SaysCandidate, SaysCandidates, asked_class};
 ghost use Rattle.goal_eval.specs.SpecialImpls.{IsOfRows};
-ghost use Rattle.goal_eval.specs.Lists.{IsListFor};
+ghost use Rattle.goal_eval.specs.Lists.{GoesBy};
 ghost use Rattle.goal_eval.specs.Outcomes.{ForEachMode, ForEachSetting};
 ghost use Rattle.goal_eval.specs.Effects.{AreSound, IsStop};
 
@@ -53,7 +51,7 @@ fn candidate_list<'e>(
     ensures kept { Keeps terms.old terms.new }
     ensures within { IfOk result (ListIn terms.new) }
     ensures caused { IfOk result (IsCausedList setting.now.rows.now) }
-    ensures list { ForEachSetting setting.now (λ S. IfOk result (λ o. IsListFor setting.now.typing_mode.now (list_at terms.new o) (candidate_list S terms.old asked.now (candidate_at terms.old candidate.now)))) }
+    ensures list { ForEachSetting setting.now (λ S. IfOk result (GoesBy setting.now terms.new (candidate_list S terms.old asked.now (candidate_at terms.old candidate.now)))) }
 {
     let erased = TypingMode::ErasedNotCoherence;
     let lists = setting.of_lists(&erased);
@@ -173,7 +171,7 @@ pub(crate) fn class_outcome(
     ensures effects { AreSound setting.now terms.new effects.new }
     ensures kept { Keeps terms.old terms.new }
     ensures stops { IfErr result (IsStop setting.now) }
-    ensures says { ForEachMode setting.now depth (λ S L. IfOk result (SaysCandidates S L terms.old asked.now (class_of S asked.now.trait_id (erased_at terms.old asked.now.self_ty) class))) }
+    ensures says { ForEachMode setting.now depth (λ S L. IfOk result (SaysCandidates S L terms.old asked.now (asked_class S terms.old asked.now class))) }
 {
     let sought = Sought {
         trait_id: asked.trait_id,

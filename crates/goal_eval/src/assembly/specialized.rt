@@ -1,17 +1,13 @@
 //! Impls that are more special than another: whether this is passed over, or decides where it holds.
 ghost use Rattle.std.specs.Prelude.{IfErr, IfOk};
 ghost use Rattle.goal_terms.specs.TableMeaning.{Keeps};
-ghost use Rattle.goal_terms.specs.declared.modes.TypingMode.{TypingMode as modes};
-ghost use Rattle.goal_tables.specs.Rows.{impl_of};
 ghost use Rattle.goal_kinds.specs.Causes.{IsCausedList};
 ghost use Rattle.goal_kinds.specs.Candidates.{by_impl};
 ghost use Rattle.goal_kinds.specs.Interned.{AreIn, erased_all, candidate_at};
-ghost use Rattle.goal_kinds.specs.InternedEntries.{ListIn, list_at};
-ghost use Rattle.goal_kinds.specs.TraitGoals.{ImplHolds, ImplRefuted};
-ghost use Rattle.goal_kinds.specs.TraitLists.{trait_list};
-ghost use Rattle.goal_eval.specs.Lists.{IsListFor};
-ghost use Rattle.goal_eval.specs.Outcomes.{RunsFor, setting_in, level_in, Says, ForEachMode};
-ghost use Rattle.goal_eval.specs.SpecialImpls.{IsOfRows, IsOwnRow, SaysMoreSpecial};
+ghost use Rattle.goal_kinds.specs.InternedEntries.{ListIn};
+ghost use Rattle.goal_eval.specs.Lists.{GoesBy};
+ghost use Rattle.goal_eval.specs.Outcomes.{ForEachMode, ForEachSetting};
+ghost use Rattle.goal_eval.specs.SpecialImpls.{IsOfRows, IsOwnRow, SaysMoreSpecial, SaysImpl, list_of_impl};
 ghost use Rattle.goal_eval.specs.Effects.{AreSound, IsStop};
 
 use crate::eval::effects::Effects;
@@ -101,7 +97,7 @@ fn impl_outcome(
     ensures effects { AreSound setting.now terms.new effects.new }
     ensures kept { Keeps terms.old terms.new }
     ensures stops { IfErr result (IsStop setting.now) }
-    ensures says { ForEachMode setting.now depth (λ _ L. IfOk result (Says (ImplHolds L (erased_all terms.old args.now) row.now) (ImplRefuted L (erased_all terms.old args.now) row.now))) }
+    ensures says { ForEachMode setting.now depth (λ _ L. IfOk result (SaysImpl L (erased_all terms.old args.now) row.now)) }
 {
     let list = impl_list(&*setting, terms, args, &*row)?;
     let found = run_list(setting, terms, effects, &list, depth)?;
@@ -120,7 +116,7 @@ fn impl_list<'e>(
     ensures kept { Keeps terms.old terms.new }
     ensures within { IfOk result (ListIn terms.new) }
     ensures caused { IfOk result (IsCausedList setting.now.rows.now) }
-    ensures list { (m : modes) → RunsFor setting.now m → IfOk result (λ o. IsListFor setting.now.typing_mode.now (list_at terms.new o) (trait_list (setting_in setting.now m) row.now.trait_id (erased_all terms.old args.now) (by_impl row.now))) }
+    ensures list { ForEachSetting setting.now (λ S. IfOk result (GoesBy setting.now terms.new (list_of_impl S (erased_all terms.old args.now) row.now))) }
 {
     let erased = TypingMode::ErasedNotCoherence;
     let candidate = InternedCandidate::Impl(row);

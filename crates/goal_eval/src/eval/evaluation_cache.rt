@@ -1,10 +1,9 @@
 //! What an evaluation keeps of the goals that it has answered, so that it evaluates none twice.
-ghost use Rattle.std.specs.Prelude.{◌≡◌, ◌==◌, [], IfSome, Some};
+ghost use Rattle.std.specs.Prelude.{◌≡◌, ◌==◌, [], IfSome};
 ghost use Rattle.indexmap.specs.IndexMap.{get};
-ghost use Rattle.goal_eval.specs.CacheEntries.{IsKnownAt, entry_of, kept, Enters, trait_decided, outcome_decided, found_decided};
+ghost use Rattle.goal_eval.specs.CacheEntries.{IsKnownAt, entry_of, kept, trait_decided, outcome_decided, found_decided, EntersBy, IsKeptAt};
 ghost use Rattle.goal_eval.specs.EvaluationCache.{IsEmptyCache, consts_of, KeepsButConsts};
 ghost use Rattle.goal_kinds.specs.declared.outcomes.Outcome.{Outcome as outcomes};
-ghost use Rattle.goal_eval.specs.declared.eval.evaluation_cache.CacheEntry.{CacheEntry as Entry};
 
 use crate::eval::outcomes::Found;
 use goal_kinds::outcomes::{Outcome, TraitOutcome};
@@ -74,7 +73,7 @@ impl<A: Copy> Answered<A> {
 
     /// What a goal comes to at a depth, if that is known.
     pub fn get(&self, goal: TermId, depth: u32, undecided: A) -> Option<A>
-        ensures { IfSome result (λ o. (e : Entry A) × (get ◌==◌ self.now.entries goal.0 ≡ Some e) × IsKnownAt e depth undecided o) }
+        ensures { IfSome result (λ o. IsKeptAt self.now.entries goal.0 depth undecided o) }
     {
         match self.entries.get(&goal.0) {
             Some(entry) => entry.at(depth, undecided),
@@ -97,7 +96,7 @@ impl<A: Copy> Answered<A> {
 
     /// Keeps what a goal came to at a depth. Where memory is refused it isn't kept.
     pub(crate) fn keep(&mut self, goal: TermId, depth: u32, answer: A, is_decided: bool)
-        ensures { Enters self.old.entries self.new.entries goal.0 (kept (entry_of (get ◌==◌ self.old.entries goal.0)) depth answer is_decided) }
+        ensures { EntersBy self.old.entries self.new.entries goal.0 (λ e. kept e depth answer is_decided) }
     {
         let entry = self.entry(goal).with(depth, answer, is_decided);
         let _unless_refused = self.entries.insert(goal.0, entry);
@@ -129,7 +128,7 @@ impl EvaluationCache {
 
     /// Keeps what a trait goal came to at a depth.
     pub(crate) fn keep_trait(&mut self, goal: TermId, depth: u32, outcome: TraitOutcome)
-        ensures entered { Enters self.old.traits.entries self.new.traits.entries goal.0 (kept (entry_of (get ◌==◌ self.old.traits.entries goal.0)) depth outcome (trait_decided outcome)) }
+        ensures entered { EntersBy self.old.traits.entries self.new.traits.entries goal.0 (λ e. kept e depth outcome (trait_decided outcome)) }
         ensures unchanged { self.new ≡ record self.old { traits = self.new.traits } }
     {
         let is_decided = match outcome {
@@ -146,7 +145,7 @@ impl EvaluationCache {
         goal: TermId,
         depth: u32,
     ) -> Option<Outcome>
-        ensures { IfSome result (λ o. (e : Entry outcomes) × (get ◌==◌ (consts_of self.now constness).entries goal.0 ≡ Some e) × IsKnownAt e depth outcomes.Undecided o) }
+        ensures { IfSome result (λ o. IsKeptAt (consts_of self.now constness).entries goal.0 depth outcomes.Undecided o) }
     {
         match constness {
             BoundConstness::Const => self.consts.get(goal, depth, Outcome::Undecided),
@@ -162,7 +161,7 @@ impl EvaluationCache {
         depth: u32,
         outcome: Outcome,
     )
-        ensures entered { Enters (consts_of self.old constness).entries (consts_of self.new constness).entries goal.0 (kept (entry_of (get ◌==◌ (consts_of self.old constness).entries goal.0)) depth outcome (outcome_decided outcome)) }
+        ensures entered { EntersBy (consts_of self.old constness).entries (consts_of self.new constness).entries goal.0 (λ e. kept e depth outcome (outcome_decided outcome)) }
         ensures unchanged { KeepsButConsts constness self.old self.new }
     {
         let is_decided = match outcome {
@@ -177,7 +176,7 @@ impl EvaluationCache {
 
     /// Keeps what was found for an alias at a depth.
     pub(crate) fn keep_alias(&mut self, alias: TermId, depth: u32, found: Found)
-        ensures entered { Enters self.old.aliases.entries self.new.aliases.entries alias.0 (kept (entry_of (get ◌==◌ self.old.aliases.entries alias.0)) depth found (found_decided found)) }
+        ensures entered { EntersBy self.old.aliases.entries self.new.aliases.entries alias.0 (λ e. kept e depth found (found_decided found)) }
         ensures unchanged { self.new ≡ record self.old { aliases = self.new.aliases } }
     {
         let is_decided = match found {

@@ -1,12 +1,11 @@
 //! Running a list of entries.
-ghost use Rattle.std.specs.Prelude.{◌≡◌, List, Option, IfErr, IfOk};
+ghost use Rattle.std.specs.Prelude.{◌≡◌, IfErr, IfOk};
 ghost use Rattle.std.specs.List.{All};
 ghost use Rattle.goal_terms.specs.TableMeaning.{Keeps};
 ghost use Rattle.goal_terms.specs.declared.modes.TypingMode.{TypingMode};
 ghost use Rattle.goal_kinds.specs.Causes.{IsCausedEntry, IsCausedList};
-ghost use Rattle.goal_kinds.specs.Entries.{Entry};
 ghost use Rattle.goal_kinds.specs.InternedEntries.{EntriesIn, entries_at, ListIn, list_at};
-ghost use Rattle.goal_eval.specs.Lists.{list_mode, IsListFor, SaysList, SaysEntries, AtEachLevel, ListTermIn, list_held, list_term};
+ghost use Rattle.goal_eval.specs.Lists.{list_mode, SaysList, SaysEntries, AtEachLevel, ListTermIn, list_held, list_term, ForEachList};
 ghost use Rattle.goal_eval.specs.Outcomes.{ForEachMode};
 ghost use Rattle.goal_eval.specs.Effects.{AreSound, IsStop};
 
@@ -93,7 +92,7 @@ pub(crate) fn run_list(
     ensures kept { Keeps terms.old terms.new }
     ensures within { IfOk result (ListTermIn terms.new) }
     ensures stops { IfErr result (IsStop setting.now) }
-    ensures says { ForEachMode setting.now depth (λ _ L. (q : Option (List Entry)) → IsListFor setting.now.typing_mode.now (list_at terms.old list.now) q → IfOk result (SaysList L q terms.new)) }
+    ensures says { ForEachMode setting.now depth (λ _ L. ForEachList setting.now (list_at terms.old list.now) (λ q. IfOk result (SaysList L q terms.new))) }
 {
     match list {
         None => Ok(ListOutcome::Refuted),

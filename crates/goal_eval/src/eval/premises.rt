@@ -3,8 +3,8 @@ ghost use Rattle.std.specs.Prelude.{IfErr, IfOk, map};
 ghost use Rattle.std.specs.List.{All};
 ghost use Rattle.goal_terms.specs.TableMeaning.{Keeps};
 ghost use Rattle.goal_kinds.specs.Interned.{IsIn, AreIn, TraitIn, PredicateIn, PremiseIn, erased_at, erased_all, trait_at, predicate_at, premise_at};
-ghost use Rattle.goal_kinds.specs.Premises.{PremiseHolds, PremiseRefuted, PremisesHold, PremisesRefuted, clauses_under, conditions_as};
-ghost use Rattle.goal_eval.specs.Outcomes.{Says, ForEachMode, SaysHolds};
+ghost use Rattle.goal_kinds.specs.Premises.{clauses_under, conditions_as};
+ghost use Rattle.goal_eval.specs.Outcomes.{ForEachMode, SaysHolds, SaysEquation, SaysPremise, SaysPremises};
 ghost use Rattle.goal_eval.specs.Effects.{AreSound, IsStop};
 
 use crate::effect_goals::evaluation::evaluate_host_effect_goal;
@@ -33,7 +33,7 @@ pub(crate) fn premise_outcome(
     ensures effects { AreSound setting.now terms.new effects.new }
     ensures kept { Keeps terms.old terms.new }
     ensures stops { IfErr result (IsStop setting.now) }
-    ensures says { ForEachMode setting.now depth (λ _ L. IfOk result (Says (PremiseHolds L (premise_at terms.old premise.now)) (PremiseRefuted L (premise_at terms.old premise.now)))) }
+    ensures says { ForEachMode setting.now depth (λ _ L. IfOk result (SaysPremise L (premise_at terms.old premise.now))) }
 {
     match premise {
         InternedPremise::Predicate(predicate) => {
@@ -106,7 +106,7 @@ fn equation_outcome(
     ensures effects { AreSound setting.now terms.new effects.new }
     ensures kept { Keeps terms.old terms.new }
     ensures stops { IfErr result (IsStop setting.now) }
-    ensures says { ForEachMode setting.now depth (λ _ L. IfOk result (Says (L.equation_holds (erased_at terms.old alias) (erased_at terms.old term)) (L.equation_refuted (erased_at terms.old alias) (erased_at terms.old term)))) }
+    ensures says { ForEachMode setting.now depth (λ _ L. IfOk result (SaysEquation L (erased_at terms.old alias) (erased_at terms.old term))) }
 {
     if depth == 0 {
         return Ok(Outcome::Undecided);
@@ -128,7 +128,7 @@ pub(crate) fn premises_outcome(
     ensures effects { AreSound setting.now terms.new effects.new }
     ensures kept { Keeps terms.old terms.new }
     ensures stops { IfErr result (IsStop setting.now) }
-    ensures says { ForEachMode setting.now depth (λ _ L. IfOk result (Says (PremisesHold L (map (premise_at terms.old) premises.now)) (PremisesRefuted L (map (premise_at terms.old) premises.now)))) }
+    ensures says { ForEachMode setting.now depth (λ _ L. IfOk result (SaysPremises L (map (premise_at terms.old) premises.now))) }
 {
     let mut found = Outcome::Holds;
     for premise in premises {
@@ -157,7 +157,7 @@ pub(crate) fn clauses_outcome(
     ensures effects { AreSound setting.now terms.new effects.new }
     ensures kept { Keeps terms.old terms.new }
     ensures stops { IfErr result (IsStop setting.now) }
-    ensures says { ForEachMode setting.now depth (λ _ L. IfOk result (Says (PremisesHold L (clauses_under (erased_all terms.old args.now) clauses.now)) (PremisesRefuted L (clauses_under (erased_all terms.old args.now) clauses.now)))) }
+    ensures says { ForEachMode setting.now depth (λ _ L. IfOk result (SaysPremises L (clauses_under (erased_all terms.old args.now) clauses.now))) }
 {
     let premises = clauses_under(terms, clauses, args)?;
     premises_outcome(setting, terms, effects, &premises, depth)
@@ -178,7 +178,7 @@ pub(crate) fn conditions_outcome(
     ensures effects { AreSound setting.now terms.new effects.new }
     ensures kept { Keeps terms.old terms.new }
     ensures stops { IfErr result (IsStop setting.now) }
-    ensures says { ForEachMode setting.now depth (λ _ L. IfOk result (Says (PremisesHold L (conditions_as constness (map (trait_at terms.old) conditions.now))) (PremisesRefuted L (conditions_as constness (map (trait_at terms.old) conditions.now))))) }
+    ensures says { ForEachMode setting.now depth (λ _ L. IfOk result (SaysPremises L (conditions_as constness (map (trait_at terms.old) conditions.now)))) }
 {
     let mut found = Outcome::Holds;
     for condition in conditions {

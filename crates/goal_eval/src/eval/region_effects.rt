@@ -1,11 +1,9 @@
 //! What an evaluation does with lifetimes; its other effects stay as they are.
-ghost use Rattle.std.specs.Prelude.{◌≡◌, ◌==◌, ◌<◌, Some, IfOk, IfSome, length};
-ghost use Rattle.indexmap.specs.IndexMap.{get};
+ghost use Rattle.std.specs.Prelude.{◌<◌, IfOk, IfSome, length};
 ghost use Rattle.goal_terms.specs.TableMeaning.{AreBelow};
-ghost use Rattle.goal_eval.specs.CacheEntries.{IsKnownAt};
+ghost use Rattle.goal_eval.specs.CacheEntries.{IsKeptAt};
 ghost use Rattle.goal_eval.specs.Effects.{KeepsButRegions};
 ghost use Rattle.goal_eval.specs.EvaluationCache.{consts_of};
-ghost use Rattle.goal_eval.specs.declared.eval.evaluation_cache.CacheEntry.{CacheEntry as Entry};
 ghost use Rattle.goal_eval.specs.declared.eval.outcomes.Found.{Found as founds};
 ghost use Rattle.goal_kinds.specs.declared.outcomes.Outcome.{Outcome as outcomes};
 ghost use Rattle.goal_kinds.specs.declared.outcomes.TraitOutcome.{TraitOutcome as trait_outcomes};
@@ -147,7 +145,7 @@ impl Effects {
         goal: TermId,
         depth: u32,
     ) -> Result<Option<TraitOutcome>, OutOfMemory>
-        ensures known { IfOk result (λ o. IfSome o (λ x. (e : Entry trait_outcomes) × (get ◌==◌ self.old.cache.traits.entries goal.0 ≡ Some e) × IsKnownAt e depth trait_outcomes.Undecided x)) }
+        ensures known { IfOk result (λ o. IfSome o (λ x. IsKeptAt self.old.cache.traits.entries goal.0 depth trait_outcomes.Undecided x)) }
         ensures aside { KeepsButRegions self.old self.new }
     {
         let undecided = TraitOutcome::Undecided;
@@ -167,7 +165,7 @@ impl Effects {
         goal: TermId,
         depth: u32,
     ) -> Result<Option<Outcome>, OutOfMemory>
-        ensures known { IfOk result (λ o. IfSome o (λ x. (e : Entry outcomes) × (get ◌==◌ (consts_of self.old.cache constness).entries goal.0 ≡ Some e) × IsKnownAt e depth outcomes.Undecided x)) }
+        ensures known { IfOk result (λ o. IfSome o (λ x. IsKeptAt (consts_of self.old.cache constness).entries goal.0 depth outcomes.Undecided x)) }
         ensures aside { KeepsButRegions self.old self.new }
     {
         let Some(known) = self.cache.const_outcome(constness, goal, depth) else {
@@ -185,7 +183,7 @@ impl Effects {
         alias: TermId,
         depth: u32,
     ) -> Result<Option<Found>, OutOfMemory>
-        ensures known { IfOk result (λ o. IfSome o (λ x. (e : Entry founds) × (get ◌==◌ self.old.cache.aliases.entries alias.0 ≡ Some e) × IsKnownAt e depth founds.Undecided x)) }
+        ensures known { IfOk result (λ o. IfSome o (λ x. IsKeptAt self.old.cache.aliases.entries alias.0 depth founds.Undecided x)) }
         ensures aside { KeepsButRegions self.old self.new }
     {
         let Some(known) = self.cache.aliases.get(alias, depth, Found::Undecided) else {

@@ -1,12 +1,12 @@
 //! The terms that aliases stand for, by their lists.
-ghost use Rattle.std.specs.Prelude.{◌≢◌, Some, IfErr, IfOk};
+ghost use Rattle.std.specs.Prelude.{◌≢◌, IfErr, IfOk};
 ghost use Rattle.std.specs.List.{All};
 ghost use Rattle.goal_terms.specs.TableMeaning.{Keeps};
 ghost use Rattle.goal_kinds.specs.AliasLists.{alias_list};
 ghost use Rattle.goal_kinds.specs.Causes.{IsCausedEntry};
 ghost use Rattle.goal_kinds.specs.Interned.{AreIn, erased_all};
-ghost use Rattle.goal_kinds.specs.InternedEntries.{EntriesIn, entries_at};
-ghost use Rattle.goal_eval.specs.Lists.{IsListFor};
+ghost use Rattle.goal_kinds.specs.InternedEntries.{EntriesIn};
+ghost use Rattle.goal_eval.specs.Lists.{AreEntriesOf};
 ghost use Rattle.goal_eval.specs.Outcomes.{FoundIn, ForEachMode, SaysAlias, ForEachSetting};
 ghost use Rattle.goal_eval.specs.Effects.{AreSound, IsStop};
 
@@ -101,7 +101,7 @@ fn list_of_alias<'t>(
     ensures kept { Keeps terms.old terms.new }
     ensures within { IfOk result (λ es. EntriesIn terms.new es.items) }
     ensures caused { IfOk result (λ es. All (IsCausedEntry setting.now.rows.now) es.items) }
-    ensures list { ForEachSetting setting.now (λ S. IfOk result (λ es. IsListFor setting.now.typing_mode.now (Some (entries_at terms.new es.items)) (Some (alias_list S kind (erased_all terms.old args.now))))) }
+    ensures list { ForEachSetting setting.now (λ S. IfOk result (AreEntriesOf setting.now terms.new (alias_list S kind (erased_all terms.old args.now)))) }
 {
     let alloc = setting.allocator();
     let rigid_alias = intern_alias(alloc, terms, kind, args)?;

@@ -2,13 +2,12 @@
 ghost use Rattle.std.specs.Prelude.{◌≡◌, IfErr, IfOk};
 ghost use Rattle.goal_terms.specs.TableMeaning.{Keeps};
 ghost use Rattle.goal_kinds.specs.Causes.{IsCausedList};
-ghost use Rattle.goal_kinds.specs.Interned.{CandidateIn, erased_at, candidate_at};
-ghost use Rattle.goal_kinds.specs.InternedEntries.{ListIn, list_at};
-ghost use Rattle.goal_kinds.specs.ProjectionLists.{projection_list};
-ghost use Rattle.goal_kinds.specs.Projections.{CandidateGives, TermRefuted};
-ghost use Rattle.goal_eval.specs.Lists.{IsListFor};
-ghost use Rattle.goal_eval.specs.Outcomes.{RunsFor, setting_in, level_in, SaysWhich, FoundIn, ProjectionIn, projection_at, ForEachMode, ForEachSetting};
-ghost use Rattle.goal_eval.specs.SpecialImpls.{IsOfRows, SaysGiven, is_term, given_beside};
+ghost use Rattle.goal_kinds.specs.Interned.{CandidateIn, candidate_at};
+ghost use Rattle.goal_kinds.specs.InternedEntries.{ListIn};
+ghost use Rattle.goal_eval.specs.Lists.{GoesBy};
+ghost use Rattle.goal_eval.specs.Outcomes.{FoundIn, ProjectionIn, ForEachMode, ForEachSetting};
+ghost use Rattle.goal_eval.specs.SpecialImpls.{IsOfRows, is_term, given_beside};
+ghost use Rattle.goal_eval.specs.ProjectionTerms.{SaysConsidered, SaysGivenBy, term_list};
 ghost use Rattle.goal_eval.specs.Effects.{AreSound, IsStop};
 
 use crate::assembly::specialized::more_special_outcome;
@@ -49,7 +48,7 @@ pub(crate) fn candidate_term(
     ensures kept { Keeps terms.old terms.new }
     ensures within { IfOk result (FoundIn terms.new) }
     ensures stops { IfErr result (IsStop setting.now) }
-    ensures says { ForEachMode setting.now depth (λ S L. IfOk result (SaysWhich (λ u. CandidateGives S L (projection_at terms.old projection.now) (erased_at terms.old projection.now.rigid_alias) u (candidate_at terms.old candidate.now)) (TermRefuted S L (projection_at terms.old projection.now) (candidate_at terms.old candidate.now)) terms.new)) }
+    ensures says { ForEachMode setting.now depth (λ S L. IfOk result (SaysGivenBy S L terms.old projection.now (candidate_at terms.old candidate.now) terms.new)) }
 {
     let list = candidate_list(&*setting, terms, &*projection, &*candidate)?;
     let outcome = run_list(setting, terms, effects, &list, depth)?;
@@ -76,7 +75,7 @@ pub(crate) fn consider_term(
     ensures kept { Keeps terms.old terms.new }
     ensures within { IfOk result (λ g. FoundIn terms.new g.found) }
     ensures stops { IfErr result (IsStop setting.now) }
-    ensures says { ForEachMode setting.now depth (λ S L. IfOk result (SaysGiven S L (projection_at terms.old projection.now) (erased_at terms.old projection.now.rigid_alias) (candidate_at terms.old candidate.now) terms.new)) }
+    ensures says { ForEachMode setting.now depth (λ S L. IfOk result (SaysConsidered S L terms.old projection.now (candidate_at terms.old candidate.now) terms.new)) }
 {
     let before = effects.regions.mark();
     let found = candidate_term(setting, terms, effects, projection, candidate, depth)?;
@@ -137,7 +136,7 @@ fn candidate_list<'t>(
     ensures kept { Keeps terms.old terms.new }
     ensures within { IfOk result (ListIn terms.new) }
     ensures caused { IfOk result (IsCausedList setting.now.rows.now) }
-    ensures list { ForEachSetting setting.now (λ S. IfOk result (λ o. IsListFor setting.now.typing_mode.now (list_at terms.new o) (projection_list S (projection_at terms.old projection.now) (erased_at terms.old projection.now.rigid_alias) (candidate_at terms.old candidate.now)))) }
+    ensures list { ForEachSetting setting.now (λ S. IfOk result (GoesBy setting.now terms.new (term_list S terms.old projection.now (candidate_at terms.old candidate.now)))) }
 {
     let asked = AskedProjection {
         item: projection.item,

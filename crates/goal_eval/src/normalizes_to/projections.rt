@@ -2,12 +2,12 @@
 ghost use Rattle.std.specs.Prelude.{◌≡◌, IfErr, IfOk, map};
 ghost use Rattle.std.specs.List.{All};
 ghost use Rattle.goal_terms.specs.TableMeaning.{Keeps};
-ghost use Rattle.goal_kinds.specs.Candidates.{environment, second_group};
-ghost use Rattle.goal_kinds.specs.Interned.{IsIn, AreIn, CandidateIn, erased_at, erased_all, candidate_at};
-ghost use Rattle.goal_kinds.specs.Projections.{GroupGives, GroupRefuted, GroupsGive, GroupsRefuted, OwnUnformed, ItemGives, ItemRefuted, ProjectionGives, ProjectionRefuted};
-ghost use Rattle.goal_eval.specs.Outcomes.{Says, SaysWhich, FoundIn, ProjectionIn, projection_at, ForEachMode};
-ghost use Rattle.goal_eval.specs.ProjectionParts.{HaveHeadForms, SomeUnformed, FormedGives, LaterGives, LaterRefuted, ReplacedGives, ReplacedRefuted, ThroughGives, ThroughRefuted};
+ghost use Rattle.goal_kinds.specs.Candidates.{environment};
+ghost use Rattle.goal_kinds.specs.Interned.{IsIn, AreIn, CandidateIn, erased_all, candidate_at};
+ghost use Rattle.goal_eval.specs.Outcomes.{Says, FoundIn, ProjectionIn, ForEachMode};
+ghost use Rattle.goal_eval.specs.ProjectionParts.{HaveHeadForms, SomeUnformed};
 ghost use Rattle.goal_eval.specs.SpecialImpls.{IsOfRows, if_decided};
+ghost use Rattle.goal_eval.specs.ProjectionTerms.{SaysBothGroups, SaysGroup, SaysItem, SaysLaterGroup, SaysOwnFormed, SaysProjection, SaysProven, SaysReplaced, second_at};
 ghost use Rattle.goal_eval.specs.Effects.{AreSound, IsStop};
 
 use crate::assembly::merging::merge_terms;
@@ -55,7 +55,7 @@ pub(crate) fn projection_term(
     ensures kept { Keeps terms.old terms.new }
     ensures within { IfOk result (FoundIn terms.new) }
     ensures stops { IfErr result (IsStop setting.now) }
-    ensures says { ForEachMode setting.now depth (λ S L. IfOk result (SaysWhich (ProjectionGives S L kind item (erased_all terms.old args.now)) (ProjectionRefuted S L kind item (erased_all terms.old args.now)) terms.new)) }
+    ensures says { ForEachMode setting.now depth (λ S L. IfOk result (SaysProjection S L kind item (erased_all terms.old args.now) terms.new)) }
 {
     let Some(row) = setting.rows.item_row(item) else {
         return Ok(Found::Undecided);
@@ -85,7 +85,7 @@ fn item_term(
     ensures kept { Keeps terms.old terms.new }
     ensures within { IfOk result (FoundIn terms.new) }
     ensures stops { IfErr result (IsStop setting.now) }
-    ensures says { ForEachMode setting.now depth (λ S L. IfOk result (SaysWhich (λ u. ItemGives S L kind (erased_all terms.old args.now) u item.now trait_row.now) (ItemRefuted S L kind (erased_all terms.old args.now) item.now trait_row.now) terms.new)) }
+    ensures says { ForEachMode setting.now depth (λ S L. IfOk result (SaysItem S L kind (erased_all terms.old args.now) item.now trait_row.now terms.new)) }
 {
     if args.is_empty() {
         return Ok(Found::Undecided);
@@ -126,7 +126,7 @@ pub fn term_proven_via(
     ensures kept { Keeps terms.old terms.new }
     ensures within { IfOk result (FoundIn terms.new) }
     ensures stops { IfErr result (IsStop setting.now) }
-    ensures says { ForEachMode setting.now depth (λ S L. IfOk result (SaysWhich (ThroughGives S L given.now.kind given.now.item.now given.now.trait_params given.now.class (erased_all terms.old given.now.args.now)) (ThroughRefuted S L given.now.kind given.now.item.now given.now.trait_params given.now.class (erased_all terms.old given.now.args.now)) terms.new)) }
+    ensures says { ForEachMode setting.now depth (λ S L. IfOk result (SaysProven S L terms.old given.now terms.new)) }
 {
     let args = given.args;
     if args.is_empty() {
@@ -157,7 +157,7 @@ fn replaced_term(
     ensures kept { Keeps terms.old terms.new }
     ensures within { IfOk result (FoundIn terms.new) }
     ensures stops { IfErr result (IsStop setting.now) }
-    ensures says { ForEachMode setting.now depth (λ S L. IfOk result (SaysWhich (ReplacedGives S L given.now.kind given.now.item.now given.now.trait_params given.now.class (erased_all terms.old given.now.args.now) (erased_at terms.old self_ty)) (ReplacedRefuted S L given.now.kind given.now.item.now given.now.trait_params given.now.class (erased_all terms.old given.now.args.now) (erased_at terms.old self_ty)) terms.new)) }
+    ensures says { ForEachMode setting.now depth (λ S L. IfOk result (SaysReplaced S L terms.old given.now self_ty terms.new)) }
 {
     let alias = intern_alias(setting.allocator(), terms, given.kind, given.args)?;
     let args = with_self(setting.allocator(), self_ty, given.args)?;
@@ -200,7 +200,7 @@ fn groups_term(
     ensures kept { Keeps terms.old terms.new }
     ensures within { IfOk result (FoundIn terms.new) }
     ensures stops { IfErr result (IsStop setting.now) }
-    ensures says { ForEachMode setting.now depth (λ S L. IfOk result (SaysWhich (GroupsGive S L class (projection_at terms.old projection.now) (erased_at terms.old projection.now.rigid_alias) (erased_at terms.old given) (second_group S projection.now.item.now.trait_id (erased_at terms.old self_ty) class)) (GroupsRefuted S L class (projection_at terms.old projection.now) (erased_at terms.old projection.now.rigid_alias) (second_group S projection.now.item.now.trait_id (erased_at terms.old self_ty) class)) terms.new)) }
+    ensures says { ForEachMode setting.now depth (λ S L. IfOk result (SaysBothGroups S L terms.old projection.now self_ty given class terms.new)) }
 {
     match environment_term(setting, terms, effects, projection, self_ty, depth)? {
         Found::Undecided => Ok(Found::Undecided),
@@ -231,7 +231,7 @@ fn later_term(
     ensures kept { Keeps terms.old terms.new }
     ensures within { IfOk result (FoundIn terms.new) }
     ensures stops { IfErr result (IsStop setting.now) }
-    ensures says { ForEachMode setting.now depth (λ S L. IfOk result (SaysWhich (LaterGives S L class (projection_at terms.old projection.now) (erased_at terms.old projection.now.rigid_alias) (erased_at terms.old given) (second_group S projection.now.item.now.trait_id (erased_at terms.old self_ty) class)) (LaterRefuted S L class (projection_at terms.old projection.now) (erased_at terms.old projection.now.rigid_alias) (second_group S projection.now.item.now.trait_id (erased_at terms.old self_ty) class)) terms.new)) }
+    ensures says { ForEachMode setting.now depth (λ S L. IfOk result (SaysLaterGroup S L terms.old projection.now self_ty given class terms.new)) }
 {
     match second_term(setting, terms, effects, projection, self_ty, class, depth)? {
         Found::Undecided => Ok(Found::Undecided),
@@ -264,7 +264,7 @@ fn environment_term(
     ensures kept { Keeps terms.old terms.new }
     ensures within { IfOk result (FoundIn terms.new) }
     ensures stops { IfErr result (IsStop setting.now) }
-    ensures says { ForEachMode setting.now depth (λ S L. IfOk result (SaysWhich (GroupGives S L (projection_at terms.old projection.now) (erased_at terms.old projection.now.rigid_alias) (environment S)) (GroupRefuted S L (projection_at terms.old projection.now) (environment S)) terms.new)) }
+    ensures says { ForEachMode setting.now depth (λ S L. IfOk result (SaysGroup S L terms.old projection.now (environment S) terms.new)) }
 {
     let sought = Sought {
         trait_id: projection.item.trait_id,
@@ -303,7 +303,7 @@ fn second_term(
     ensures kept { Keeps terms.old terms.new }
     ensures within { IfOk result (FoundIn terms.new) }
     ensures stops { IfErr result (IsStop setting.now) }
-    ensures says { ForEachMode setting.now depth (λ S L. IfOk result (SaysWhich (GroupGives S L (projection_at terms.old projection.now) (erased_at terms.old projection.now.rigid_alias) (second_group S projection.now.item.now.trait_id (erased_at terms.old self_ty) class)) (GroupRefuted S L (projection_at terms.old projection.now) (second_group S projection.now.item.now.trait_id (erased_at terms.old self_ty) class)) terms.new)) }
+    ensures says { ForEachMode setting.now depth (λ S L. IfOk result (SaysGroup S L terms.old projection.now (second_at S terms.old projection.now self_ty class) terms.new)) }
 {
     let sought = Sought {
         trait_id: projection.item.trait_id,
@@ -338,7 +338,7 @@ fn own_args_normalized(
     ensures kept { Keeps terms.old terms.new }
     ensures within { IfOk result (FoundIn terms.new) }
     ensures stops { IfErr result (IsStop setting.now) }
-    ensures says { ForEachMode setting.now depth (λ _ L. IfOk result (SaysWhich (FormedGives L (projection_at terms.old projection.now) (erased_at terms.old term)) (OwnUnformed L (projection_at terms.old projection.now)) terms.new)) }
+    ensures says { ForEachMode setting.now depth (λ _ L. IfOk result (SaysOwnFormed L terms.old projection.now term terms.new)) }
 {
     let own = later_args(projection.args, projection.trait_params);
     match head_forms_outcome(setting, terms, effects, own, depth)? {
@@ -395,7 +395,7 @@ fn group_term(
     ensures kept { Keeps terms.old terms.new }
     ensures within { IfOk result (FoundIn terms.new) }
     ensures stops { IfErr result (IsStop setting.now) }
-    ensures says { ForEachMode setting.now depth (λ S L. IfOk result (SaysWhich (GroupGives S L (projection_at terms.old projection.now) (erased_at terms.old projection.now.rigid_alias) (map (candidate_at terms.old) candidates.now)) (GroupRefuted S L (projection_at terms.old projection.now) (map (candidate_at terms.old) candidates.now)) terms.new)) }
+    ensures says { ForEachMode setting.now depth (λ S L. IfOk result (SaysGroup S L terms.old projection.now (map (candidate_at terms.old) candidates.now) terms.new)) }
 {
     let mut found = Found::Refuted;
     let mut decided = false;

@@ -3,10 +3,8 @@ ghost use Rattle.std.specs.Prelude.{IfErr, IfOk};
 ghost use Rattle.std.specs.List.{All};
 ghost use Rattle.goal_terms.specs.TableMeaning.{Keeps};
 ghost use Rattle.goal_kinds.specs.Interned.{IsIn, AreIn, erased_at, erased_all};
-ghost use Rattle.goal_kinds.specs.Words.{Pairs, SomePair};
-ghost use Rattle.goal_kinds.specs.Equality.{SameForm, OtherForm};
-ghost use Rattle.goal_eval.specs.Outcomes.{Says, ForEachMode, SaysEqual};
-ghost use Rattle.goal_eval.specs.Pending.{IsOpen, Relates, AllEqual, SomeUnequal};
+ghost use Rattle.goal_eval.specs.Outcomes.{Says, ForEachMode, SaysEqual, SaysAllEqual, SaysSameForm};
+ghost use Rattle.goal_eval.specs.Pending.{IsOpen, Relates, SaysPending};
 ghost use Rattle.goal_eval.specs.Effects.{AreSound, IsStop};
 
 use crate::eval::effects::Effects;
@@ -60,7 +58,7 @@ pub(crate) fn compare_lists(
     ensures effects { AreSound setting.now terms.new effects.new }
     ensures kept { Keeps terms.old terms.new }
     ensures stops { IfErr result (IsStop setting.now) }
-    ensures says { ForEachMode setting.now depth (λ _ L. IfOk result (Says (Pairs L.equal (erased_all terms.old left.now) (erased_all terms.old right.now)) (SomePair L.unequal (erased_all terms.old left.now) (erased_all terms.old right.now)))) }
+    ensures says { ForEachMode setting.now depth (λ _ L. IfOk result (SaysAllEqual L (erased_all terms.old left.now) (erased_all terms.old right.now))) }
 {
     effects.equate_lists(terms, left, right)?;
     let mut pending = Pending::new(setting.rows);
@@ -82,7 +80,7 @@ fn compare_pending(
     ensures effects { AreSound setting.now terms.new effects.new }
     ensures kept { Keeps terms.old terms.new }
     ensures stops { IfErr result (IsStop setting.now) }
-    ensures says { ForEachMode setting.now depth (λ _ L. IfOk result (Says (AllEqual L terms.old pending.now.outcome pending.now.pairs.items) (SomeUnequal L terms.old pending.now.outcome pending.now.pairs.items))) }
+    ensures says { ForEachMode setting.now depth (λ _ L. IfOk result (SaysPending L terms.old pending.now)) }
 {
     let mut outcome = pending.outcome;
     for pair in &pending.pairs {
@@ -140,7 +138,7 @@ fn compare_forms(
     ensures effects { AreSound setting.now terms.new effects.new }
     ensures kept { Keeps terms.old terms.new }
     ensures stops { IfErr result (IsStop setting.now) }
-    ensures says { ForEachMode setting.now depth (λ _ L. IfOk result (Says (SameForm L (erased_at terms.old form) (erased_at terms.old other)) (OtherForm L (erased_at terms.old form) (erased_at terms.old other)))) }
+    ensures says { ForEachMode setting.now depth (λ _ L. IfOk result (SaysSameForm L (erased_at terms.old form) (erased_at terms.old other))) }
 {
     effects.equate_forms(terms, form, other)?;
     if terms.same_erased(form, other) {

@@ -3,9 +3,9 @@ ghost use Rattle.std.specs.Prelude.{IfErr, IfOk};
 ghost use Rattle.std.specs.List.{All};
 ghost use Rattle.goal_terms.specs.TableMeaning.{Keeps};
 ghost use Rattle.goal_kinds.specs.Interned.{IsIn, AreIn, erased_at, erased_all};
-ghost use Rattle.goal_kinds.specs.Words.{Exists, SomePair};
+ghost use Rattle.goal_kinds.specs.Words.{Exists};
 ghost use Rattle.goal_eval.specs.Outcomes.{header_terms};
-ghost use Rattle.goal_eval.specs.HeaderWords.{is_any, erased_ref, IsBehind, KnownIn, IsKnown, known_trees, ClashAt, QuestionIn, Fills, TestOutcome};
+ghost use Rattle.goal_eval.specs.HeaderWords.{is_any, erased_ref, IsBehind, KnownIn, IsKnown, known_trees, ClashAt, QuestionIn, Fills, TestOutcome, SomeClash};
 ghost use Rattle.goal_eval.specs.Effects.{AreSound, IsStop};
 
 use crate::eval::effects::Effects;
@@ -209,7 +209,7 @@ pub(crate) fn header_clashes(
     ensures effects { AreSound setting.now terms.new effects.new }
     ensures kept { Keeps terms.old terms.new }
     ensures stops { IfErr result (IsStop setting.now) }
-    ensures says { IfOk result (TestOutcome setting.now depth (λ L. SomePair (L.clash (IsKnown (known_trees terms.old known.now))) (header_terms header.now) (erased_all terms.old given.now))) }
+    ensures says { IfOk result (TestOutcome setting.now depth (λ L. SomeClash L (known_trees terms.old known.now) (header_terms header.now) (erased_all terms.old given.now))) }
 {
     let questions = questions_of_args(setting.allocator(), terms, header, given)?;
     any_clash(setting, terms, effects, known, args, &questions, depth)

@@ -1,12 +1,10 @@
 //! The terms of a header's parameters, as given arguments have them.
 ghost use Rattle.std.specs.Prelude.{IfErr, ◌≡◌, length, IfOk};
-ghost use Rattle.std.specs.Option.{option_map};
 ghost use Rattle.goal_terms.specs.TableMeaning.{Keeps};
-ghost use Rattle.goal_terms.specs.declared.modes.TypingMode.{TypingMode};
 ghost use Rattle.goal_kinds.specs.Headers.{PartAmong};
 ghost use Rattle.goal_kinds.specs.Interned.{AreIn, erased_at, erased_all};
-ghost use Rattle.goal_eval.specs.Outcomes.{RunsFor, level_in, header_terms};
-ghost use Rattle.goal_eval.specs.HeaderWords.{is_this, erased_ref, IsBehind, GivesPart, PlaceIn, OptionIn, KnownIn, known_trees, SaysKnown, PartOutcome, KnownOutcome};
+ghost use Rattle.goal_eval.specs.Outcomes.{header_terms};
+ghost use Rattle.goal_eval.specs.HeaderWords.{is_this, erased_ref, IsBehind, GivesPart, PlaceIn, OptionIn, KnownIn, known_trees, SaysKnown, PartOutcome, KnownOutcome, TermOutcome};
 ghost use Rattle.goal_eval.specs.Effects.{AreSound, IsStop};
 
 use crate::eval::effects::Effects;
@@ -124,7 +122,7 @@ fn known_arg(
     ensures kept { Keeps terms.old terms.new }
     ensures within { IfOk result (OptionIn terms.new) }
     ensures stops { IfErr result (IsStop setting.now) }
-    ensures says { IfOk result (λ o. (m : TypingMode) → RunsFor setting.now m → SaysKnown (level_in setting.now m depth) (header_terms header.now) (erased_all terms.old given.now) kind number (option_map (erased_at terms.new) o)) }
+    ensures says { IfOk result (TermOutcome setting.now depth (λ L. SaysKnown L (header_terms header.now) (erased_all terms.old given.now) kind number) terms.new) }
 {
     match kind {
         ParamKind::Lifetime => Ok(None),

@@ -1,14 +1,10 @@
 //! Where the first place of a header's parameter leads to in given terms.
-ghost use Rattle.std.specs.Prelude.{◌≡◌, ◌<◌, ◌↔◌, ℕ, length, map};
-ghost use Rattle.goal_terms.specs.Erased.{erased};
+ghost use Rattle.std.specs.Prelude.{◌≡◌, ◌<◌, length, map};
 ghost use Rattle.goal_terms.specs.TableMeaning.{tree_at, AreBelow};
-ghost use Rattle.goal_terms.specs.Tree.{Tree};
 ghost use Rattle.goal_terms.specs.View.{tree_of_ref, trees_seen};
 ghost use Rattle.goal_kinds.specs.Headers.{is_number, has_place, PartAmong};
 ghost use Rattle.goal_kinds.specs.Interned.{erased_at};
-ghost use Rattle.goal_kinds.specs.Levels.{level};
-ghost use Rattle.goal_kinds.specs.Settings.{Setting};
-ghost use Rattle.goal_eval.specs.HeaderWords.{parameter_at, erased_ref, MayStand, MayAllStand, GivesPart, PlaceIn};
+ghost use Rattle.goal_eval.specs.HeaderWords.{parameter_at, erased_ref, MayStand, MayAllStand, PlaceIn, FindsPart, erased_refs, erased_trees};
 
 use goal_terms::compare::Regions;
 use goal_terms::heads::{Head, Node};
@@ -77,7 +73,7 @@ pub(crate) fn find_place<'a>(
     requires within { given.0 < length terms.now }
     requires stands { MayStand (tree_of_ref header) (tree_at terms.now given) }
     ensures within { PlaceIn terms.now number result }
-    ensures says { (S : Setting) (k : ℕ) (p : Tree) → (level S k).part number (erased_ref header.entry) (erased_at terms.now given) p ↔ GivesPart (level S k) number terms.now result p }
+    ensures says { FindsPart number terms.now result (λ L. L.part number (erased_ref header.entry) (erased_at terms.now given)) }
 {
     let node = header.node();
     let Node::Head(_) = node else {
@@ -111,7 +107,7 @@ pub(crate) fn find_among<'a>(
     requires within { AreBelow (length terms.now) given.now }
     requires stand { MayAllStand (trees_seen parts) (map (tree_at terms.now) given.now) }
     ensures within { PlaceIn terms.now number result }
-    ensures says { (S : Setting) (k : ℕ) (p : Tree) → PartAmong (level S k) number (map erased (trees_seen parts.entry)) (map erased (map (tree_at terms.now) given.now)) p ↔ GivesPart (level S k) number terms.now result p }
+    ensures says { FindsPart number terms.now result (λ L. PartAmong L number (erased_refs parts.entry) (erased_trees terms.now given.now)) }
 {
     for i in 0..parts.len() {
         if i >= given.len() {

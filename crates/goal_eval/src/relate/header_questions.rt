@@ -1,16 +1,11 @@
 //! What has to be asked to find out whether a header clashes with given terms.
-ghost use Rattle.std.specs.Prelude.{◌≡◌, ◌⊎◌, ◌<◌, ◌↔◌, ℕ, List, Option, length, map, IfOk};
+ghost use Rattle.std.specs.Prelude.{◌≡◌, ◌<◌, ◌↔◌, length, map, IfOk};
 ghost use Rattle.std.specs.List.{All};
-ghost use Rattle.goal_terms.specs.Erased.{erased};
 ghost use Rattle.goal_terms.specs.TableMeaning.{tree_at, AreBelow};
-ghost use Rattle.goal_terms.specs.Tree.{Tree};
 ghost use Rattle.goal_terms.specs.View.{tree_of_ref, trees_seen};
 ghost use Rattle.goal_kinds.specs.Interned.{erased_at, erased_all, AreIn};
-ghost use Rattle.goal_kinds.specs.Levels.{level};
-ghost use Rattle.goal_kinds.specs.Settings.{Setting};
-ghost use Rattle.goal_kinds.specs.Words.{Exists, SomePair};
 ghost use Rattle.goal_eval.specs.Outcomes.{header_terms};
-ghost use Rattle.goal_eval.specs.HeaderWords.{erased_ref, is_whole, IsKnown, MayStand, MayAllStand, ClashAt, QuestionIn, MeetingClashes, MeetingIn};
+ghost use Rattle.goal_eval.specs.HeaderWords.{erased_ref, is_whole, IsKnown, MayStand, MayAllStand, QuestionIn, MeetingClashes, MeetingIn, AddsClash, AsksClash, ForEachKnown, SomeClash, erased_refs, erased_trees};
 
 use crate::relate::header_places::parameter_at;
 use goal_terms::compare::Regions;
@@ -56,7 +51,7 @@ fn meet<'a>(terms: &TermTable, header: TermRef<'a>, given: TermId) -> Meeting<'a
     requires within { given.0 < length terms.now }
     requires stands { MayStand (tree_of_ref header) (tree_at terms.now given) }
     ensures within { MeetingIn terms.now header.entry given result }
-    ensures says { (S : Setting) (k : ℕ) (ks : List (Option Tree)) → (level S k).clash (IsKnown ks) (erased_ref header.entry) (erased_at terms.now given) ↔ MeetingClashes (level S k) ks terms.now header.entry given result }
+    ensures says { ForEachKnown (λ L ks. L.clash (IsKnown ks) (erased_ref header.entry) (erased_at terms.now given) ↔ MeetingClashes L ks terms.now header.entry given result) }
 {
     let node = header.node();
     if is_whole(node) {
@@ -91,7 +86,7 @@ pub(crate) fn ask<'a>(
     requires stands { MayStand (tree_of_ref header) (tree_at terms.now given) }
     requires asked { All (QuestionIn terms.now) questions.old.items }
     ensures asked { IfOk result (λ d. All (QuestionIn terms.now) questions.new.items) }
-    ensures says { IfOk result (λ d. (S : Setting) (k : ℕ) (ks : List (Option Tree)) → Exists (ClashAt (level S k) ks terms.now) questions.new.items ↔ (Exists (ClashAt (level S k) ks terms.now) questions.old.items ⊎ (level S k).clash (IsKnown ks) (erased_ref header.entry) (erased_at terms.now given))) }
+    ensures says { IfOk result (λ d. AddsClash terms.now questions.old questions.new (λ L ks. L.clash (IsKnown ks) (erased_ref header.entry) (erased_at terms.now given))) }
 {
     match meet(terms, header, given) {
         Meeting::Nothing => Ok(()),
@@ -115,7 +110,7 @@ pub(crate) fn ask_parts<'a>(
     requires stand { MayAllStand (trees_seen parts) (map (tree_at terms.now) given.now) }
     requires asked { All (QuestionIn terms.now) questions.old.items }
     ensures asked { IfOk result (λ d. All (QuestionIn terms.now) questions.new.items) }
-    ensures says { IfOk result (λ d. (S : Setting) (k : ℕ) (ks : List (Option Tree)) → Exists (ClashAt (level S k) ks terms.now) questions.new.items ↔ (Exists (ClashAt (level S k) ks terms.now) questions.old.items ⊎ SomePair ((level S k).clash (IsKnown ks)) (map erased (trees_seen parts.entry)) (map erased (map (tree_at terms.now) given.now)))) }
+    ensures says { IfOk result (λ d. AddsClash terms.now questions.old questions.new (λ L ks. SomeClash L ks (erased_refs parts.entry) (erased_trees terms.now given.now))) }
 {
     if parts.len() != given.len() {
         questions.push(Question::Differs)?;
@@ -137,7 +132,7 @@ pub(crate) fn questions_of<'a>(
     requires within { given.0 < length terms.now }
     requires stands { MayStand (tree_of_ref header) (tree_at terms.now given) }
     ensures asked { IfOk result (λ questions. All (QuestionIn terms.now) questions.items) }
-    ensures says { IfOk result (λ questions. (S : Setting) (k : ℕ) (ks : List (Option Tree)) → Exists (ClashAt (level S k) ks terms.now) questions.items ↔ (level S k).clash (IsKnown ks) (erased_ref header.entry) (erased_at terms.now given)) }
+    ensures says { IfOk result (λ questions. AsksClash terms.now questions (λ L ks. L.clash (IsKnown ks) (erased_ref header.entry) (erased_at terms.now given))) }
 {
     let mut questions = Vec::new(alloc);
     ask(terms, header, given, &mut questions)?;
@@ -153,7 +148,7 @@ pub(crate) fn questions_of_args<'a>(
 ) -> Result<Vec<Question<'a>>, OutOfMemory>
     requires { AreIn terms.now given.now }
     ensures asked { IfOk result (λ questions. All (QuestionIn terms.now) questions.items) }
-    ensures says { IfOk result (λ questions. (S : Setting) (k : ℕ) (ks : List (Option Tree)) → Exists (ClashAt (level S k) ks terms.now) questions.items ↔ SomePair ((level S k).clash (IsKnown ks)) (header_terms header.now) (erased_all terms.now given.now)) }
+    ensures says { IfOk result (λ questions. AsksClash terms.now questions (λ L ks. SomeClash L ks (header_terms header.now) (erased_all terms.now given.now))) }
 {
     let mut questions = Vec::new(alloc);
     ask_parts(terms, Parts::Args(header), given, &mut questions)?;

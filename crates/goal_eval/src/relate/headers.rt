@@ -1,11 +1,9 @@
 //! Whether a header fits given arguments.
-ghost use Rattle.std.specs.Prelude.{IfErr, ◌≡◌, true, false, length, map, IfOk};
+ghost use Rattle.std.specs.Prelude.{IfErr, ◌≡◌, true, false, length, IfOk};
 ghost use Rattle.goal_terms.specs.TableMeaning.{Keeps};
-ghost use Rattle.goal_kinds.specs.Headers.{under};
 ghost use Rattle.goal_kinds.specs.Interned.{AreIn, erased_all};
-ghost use Rattle.goal_kinds.specs.Words.{Pairs};
 ghost use Rattle.goal_eval.specs.Outcomes.{header_terms, SaysMatch, MatchIn, ForEachMode};
-ghost use Rattle.goal_eval.specs.HeaderWords.{KnownIn, known_trees, AreFilled, is_complete, TestOutcome, KnownOutcome, MatchOutcome};
+ghost use Rattle.goal_eval.specs.HeaderWords.{KnownIn, known_trees, AreFilled, is_complete, TestOutcome, KnownOutcome, MatchOutcome, EqualUnder};
 ghost use Rattle.goal_eval.specs.Effects.{AreSound, IsStop};
 
 use crate::eval::effects::Effects;
@@ -38,7 +36,7 @@ fn instances_fit(
     ensures effects { AreSound setting.now terms.new effects.new }
     ensures kept { Keeps terms.old terms.new }
     ensures stops { IfErr result (IsStop setting.now) }
-    ensures says { IfOk result (TestOutcome setting.now depth (λ L. Pairs L.equal (map (under (erased_all terms.old args.now)) (header_terms header.now)) (erased_all terms.old given.now))) }
+    ensures says { IfOk result (TestOutcome setting.now depth (λ L. EqualUnder L (erased_all terms.old args.now) (header_terms header.now) (erased_all terms.old given.now))) }
 {
     let ids = instances(setting.allocator(), terms, header, args)?;
     match compare_lists(setting, terms, effects, &ids, given, depth)? {

@@ -1,10 +1,10 @@
 //! Trait goals: by which class of candidates they hold.
 ghost use Rattle.std.specs.Prelude.{IfErr, ◌≡◌, ◌≢◌, None, IfOk};
 ghost use Rattle.goal_terms.specs.TableMeaning.{Keeps};
-ghost use Rattle.goal_kinds.specs.Interned.{AreIn, erased_at, erased_all};
+ghost use Rattle.goal_kinds.specs.Interned.{AreIn, erased_all};
 ghost use Rattle.goal_eval.specs.AskedTraits.{AskedIn};
 ghost use Rattle.goal_eval.specs.Outcomes.{ForEachMode, SaysTrait};
-ghost use Rattle.goal_eval.specs.TraitOutcomes.{SaysClasses};
+ghost use Rattle.goal_eval.specs.TraitOutcomes.{SaysAskedClasses};
 ghost use Rattle.goal_eval.specs.Effects.{AreSound, IsStop};
 
 use crate::assembly::candidates::{AskedTrait, class_outcome};
@@ -106,7 +106,7 @@ fn decide_trait(
     ensures effects { AreSound setting.now terms.new effects.new }
     ensures kept { Keeps terms.old terms.new }
     ensures stops { IfErr result (IsStop setting.now) }
-    ensures says { ForEachMode setting.now depth (λ S L. IfOk result (SaysClasses S L asked.now.trait_id (erased_at terms.old asked.now.self_ty) (erased_all terms.old asked.now.args.now))) }
+    ensures says { ForEachMode setting.now depth (λ S L. IfOk result (SaysAskedClasses S L terms.old asked.now)) }
 {
     let class = TraitGoalProvenVia::ParamEnv;
     let environment = class_outcome(setting, terms, effects, asked, class, depth)?;

@@ -6,8 +6,9 @@ ghost use Rattle.goal_terms.specs.Sorts.{IsSort};
 ghost use Rattle.goal_terms.specs.TableMeaning.{tree_at, Keeps};
 ghost use Rattle.goal_terms.specs.Tree.{parts_of};
 ghost use Rattle.goal_terms.specs.declared.sorts.Sort.TheVariants as sorts;
+ghost use Rattle.goal_kinds.specs.BuiltinWords.{ArePremises, rule_at};
 ghost use Rattle.goal_kinds.specs.Builtins.{is_fn_ptr, inputs_of, output_of, call_premises, call_rule};
-ghost use Rattle.goal_kinds.specs.Interned.{IsIn, AreIn, PremiseIn, erased_at, erased_all, premise_at};
+ghost use Rattle.goal_kinds.specs.Interned.{IsIn, AreIn, PremiseIn, erased_at, erased_all};
 
 use crate::builtin::calls::signature_of;
 use crate::builtin::constituents::type_is;
@@ -75,7 +76,7 @@ pub(crate) fn call_premises(
     requires output { IsIn terms.old output }
     ensures kept { Keeps terms.old terms.new }
     ensures within { IfOk result (λ ps. All (PremiseIn terms.new) ps.items) }
-    ensures premises { IfOk result (λ ps. map (premise_at terms.new) ps.items ≡ call_premises sized (erased_at terms.old sig) (erased_all terms.old args.now) (erased_at terms.old output)) }
+    ensures premises { IfOk result (ArePremises terms.new (call_premises sized (erased_at terms.old sig) (erased_all terms.old args.now) (erased_at terms.old output))) }
 {
     let [given, ..] = args else {
         return Ok(Vec::new(alloc));
@@ -115,7 +116,7 @@ pub(crate) fn call_rule(
     requires args { AreIn terms.old args.now }
     ensures kept { Keeps terms.old terms.new }
     ensures within { IfOk result (λ o. IfSome o (λ ps. All (PremiseIn terms.new) ps.items)) }
-    ensures premises { IfOk result (λ o. option_map (λ ps. map (premise_at terms.new) ps.items) o ≡ call_rule rows.now by (erased_at terms.old self_ty) (erased_all terms.old args.now)) }
+    ensures premises { IfOk result (λ o. rule_at terms.new o ≡ call_rule rows.now by (erased_at terms.old self_ty) (erased_all terms.old args.now)) }
 {
     let Some(sig) = signature_of(rows, terms, by, self_ty)? else {
         return Ok(None);

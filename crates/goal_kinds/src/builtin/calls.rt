@@ -8,6 +8,7 @@ ghost use Rattle.goal_terms.specs.Sorts.{IsArgument, HeadFits};
 ghost use Rattle.goal_terms.specs.TableMeaning.{tree_at, Keeps};
 ghost use Rattle.goal_terms.specs.Tree.{node_of, parts_of};
 ghost use Rattle.goal_terms.specs.TreeOf.{tree_of_sig};
+ghost use Rattle.goal_kinds.specs.BuiltinWords.{parts_at, function_sig};
 ghost use Rattle.goal_kinds.specs.Builtins.{callable_sig, is_callable_by, closure_sig, is_fn_ptr, signature_of_head, signature_of};
 ghost use Rattle.goal_kinds.specs.Headers.{under};
 ghost use Rattle.goal_kinds.specs.Interned.{IsIn, AreIn, erased_at, erased_all};
@@ -99,7 +100,7 @@ fn signature_of_function(
     ensures kept { Keeps terms.old terms.new }
     ensures within { IfOk result (λ o. IfSome o (IsIn terms.new)) }
     ensures pointer { IfOk result (λ o. IfSome o (λ s. is_fn_ptr (erased_at terms.new s) ≡ true)) }
-    ensures signature { IfOk result (λ o. option_map (erased_at terms.new) o ≡ option_and_then (λ r. callable_sig (under (parts_of (erased_at terms.old self_ty)) (tree_of_sig r.sig))) (function_of rows.now function)) }
+    ensures signature { IfOk result (λ o. option_map (erased_at terms.new) o ≡ option_and_then (function_sig (parts_at terms.old self_ty)) (function_of rows.now function)) }
 {
     let Some(row) = rows.function_row(function) else {
         return Ok(None);
@@ -121,7 +122,7 @@ fn signature_of_closure(
     ensures kept { Keeps terms.old terms.new }
     ensures within { IfOk result (λ o. IfSome o (IsIn terms.new)) }
     ensures pointer { IfOk result (λ o. IfSome o (λ s. is_fn_ptr (erased_at terms.new s) ≡ true)) }
-    ensures signature { IfOk result (λ o. option_map (erased_at terms.new) o ≡ option_and_then (closure_sig by (parts_of (erased_at terms.old self_ty))) (closure_of rows.now closure)) }
+    ensures signature { IfOk result (λ o. option_map (erased_at terms.new) o ≡ option_and_then (closure_sig by (parts_at terms.old self_ty)) (closure_of rows.now closure)) }
 {
     let Some(row) = rows.closure_row(closure) else {
         return Ok(None);
@@ -145,7 +146,7 @@ fn signature_of_head(
     ensures kept { Keeps terms.old terms.new }
     ensures within { IfOk result (λ o. IfSome o (IsIn terms.new)) }
     ensures pointer { IfOk result (λ o. IfSome o (λ s. is_fn_ptr (erased_at terms.new s) ≡ true)) }
-    ensures signature { IfOk result (λ o. option_map (erased_at terms.new) o ≡ signature_of_head rows.now by (erased_head head) (parts_of (erased_at terms.old self_ty))) }
+    ensures signature { IfOk result (λ o. option_map (erased_at terms.new) o ≡ signature_of_head rows.now by (erased_head head) (parts_at terms.old self_ty)) }
 {
     match head {
         Head::FnDef(function, _) => signature_of_function(rows, terms, function, self_ty),

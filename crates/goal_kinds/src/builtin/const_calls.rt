@@ -1,15 +1,14 @@
 //! The rules of `Fn`, `FnMut` and `FnOnce` as const traits.
 ghost use Rattle.std.specs.Prelude.{◌≡◌, true, map, IfOk, IfSome};
 ghost use Rattle.std.specs.List.{All};
-ghost use Rattle.std.specs.Option.{option_map, option_and_then};
-ghost use Rattle.goal_tables.specs.Rows.{function_of, closure_of};
 ghost use Rattle.goal_terms.specs.Erased.{erased_head};
 ghost use Rattle.goal_terms.specs.Sorts.{IsArgument, HeadFits};
 ghost use Rattle.goal_terms.specs.TableMeaning.{tree_at, Keeps};
 ghost use Rattle.goal_terms.specs.Tree.{parts_of};
+ghost use Rattle.goal_kinds.specs.BuiltinWords.{parts_at, GivesConstRule, const_function_rule, const_closure_rule};
 ghost use Rattle.goal_kinds.specs.Builtins.{is_fn_ptr};
 ghost use Rattle.goal_kinds.specs.ConstRules.{const_call, const_function, const_closure, const_call_of_head, const_call_rule};
-ghost use Rattle.goal_kinds.specs.Interned.{IsIn, AreIn, TraitIn, ConstRuleIn, erased_at, erased_all, trait_at, const_rule_at};
+ghost use Rattle.goal_kinds.specs.Interned.{IsIn, AreIn, TraitIn, ConstRuleIn, erased_at, erased_all, trait_at};
 
 use crate::builtin::call_premises::{call_premises, output_of};
 use crate::builtin::calls::{closure_sig, function_sig};
@@ -39,7 +38,7 @@ fn const_call(
     requires pointer { is_fn_ptr (erased_at terms.old sig) ≡ true }
     ensures kept { Keeps terms.old terms.new }
     ensures within { IfOk result (λ o. IfSome o (ConstRuleIn terms.new)) }
-    ensures rule { IfOk result (λ o. option_map (const_rule_at terms.new) o ≡ const_call rows.now (erased_all terms.old args.now) (map (trait_at terms.old) conditions.items) (erased_at terms.old sig)) }
+    ensures rule { GivesConstRule terms.new result (const_call rows.now (erased_all terms.old args.now) (map (trait_at terms.old) conditions.items) (erased_at terms.old sig)) }
 {
     let Some(output) = output_of(terms, sig) else {
         return Ok(None);
@@ -67,7 +66,7 @@ fn const_function(
     requires args { AreIn terms.old args.now }
     ensures kept { Keeps terms.old terms.new }
     ensures within { IfOk result (λ o. IfSome o (ConstRuleIn terms.new)) }
-    ensures rule { IfOk result (λ o. option_map (const_rule_at terms.new) o ≡ const_function rows.now (erased_all terms.old own.now) (erased_all terms.old args.now) row.now) }
+    ensures rule { GivesConstRule terms.new result (const_function rows.now (erased_all terms.old own.now) (erased_all terms.old args.now) row.now) }
 {
     if !row.is_const {
         return Ok(None);
@@ -93,7 +92,7 @@ fn const_closure(
     requires args { AreIn terms.old args.now }
     ensures kept { Keeps terms.old terms.new }
     ensures within { IfOk result (λ o. IfSome o (ConstRuleIn terms.new)) }
-    ensures rule { IfOk result (λ o. option_map (const_rule_at terms.new) o ≡ const_closure rows.now by (erased_all terms.old own.now) (erased_all terms.old args.now) row.now) }
+    ensures rule { GivesConstRule terms.new result (const_closure rows.now by (erased_all terms.old own.now) (erased_all terms.old args.now) row.now) }
 {
     if !row.is_const {
         return Ok(None);
@@ -118,7 +117,7 @@ fn const_call_of_function(
     requires args { AreIn terms.old args.now }
     ensures kept { Keeps terms.old terms.new }
     ensures within { IfOk result (λ o. IfSome o (ConstRuleIn terms.new)) }
-    ensures rule { IfOk result (λ o. option_map (const_rule_at terms.new) o ≡ option_and_then (const_function rows.now (parts_of (erased_at terms.old self_ty)) (erased_all terms.old args.now)) (function_of rows.now function)) }
+    ensures rule { GivesConstRule terms.new result (const_function_rule rows.now function (parts_at terms.old self_ty) (erased_all terms.old args.now)) }
 {
     let Some(row) = rows.function_row(function) else {
         return Ok(None);
@@ -141,7 +140,7 @@ fn const_call_of_closure(
     requires args { AreIn terms.old args.now }
     ensures kept { Keeps terms.old terms.new }
     ensures within { IfOk result (λ o. IfSome o (ConstRuleIn terms.new)) }
-    ensures rule { IfOk result (λ o. option_map (const_rule_at terms.new) o ≡ option_and_then (const_closure rows.now by (parts_of (erased_at terms.old self_ty)) (erased_all terms.old args.now)) (closure_of rows.now closure)) }
+    ensures rule { GivesConstRule terms.new result (const_closure_rule rows.now by closure (parts_at terms.old self_ty) (erased_all terms.old args.now)) }
 {
     let Some(row) = rows.closure_row(closure) else {
         return Ok(None);
@@ -165,7 +164,7 @@ fn const_call_of_head(
     requires args { AreIn terms.old args.now }
     ensures kept { Keeps terms.old terms.new }
     ensures within { IfOk result (λ o. IfSome o (ConstRuleIn terms.new)) }
-    ensures rule { IfOk result (λ o. option_map (const_rule_at terms.new) o ≡ const_call_of_head rows.now by (erased_head head) (parts_of (erased_at terms.old self_ty)) (erased_all terms.old args.now)) }
+    ensures rule { GivesConstRule terms.new result (const_call_of_head rows.now by (erased_head head) (parts_at terms.old self_ty) (erased_all terms.old args.now)) }
 {
     match head {
         Head::FnDef(function, _) => const_call_of_function(rows, terms, function, self_ty, args),
@@ -189,7 +188,7 @@ pub(crate) fn const_call_rule(
     requires args { AreIn terms.old args.now }
     ensures kept { Keeps terms.old terms.new }
     ensures within { IfOk result (λ o. IfSome o (ConstRuleIn terms.new)) }
-    ensures rule { IfOk result (λ o. option_map (const_rule_at terms.new) o ≡ const_call_rule rows.now by (erased_at terms.old self_ty) (erased_all terms.old args.now)) }
+    ensures rule { GivesConstRule terms.new result (const_call_rule rows.now by (erased_at terms.old self_ty) (erased_all terms.old args.now)) }
 {
     match terms.node(self_ty) {
         Node::Head(head) => const_call_of_head(rows, terms, by, head, self_ty, args),

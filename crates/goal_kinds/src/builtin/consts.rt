@@ -1,10 +1,9 @@
 //! The meaning of trait aliases as const traits, and the built-in rules of const traits.
 ghost use Rattle.std.specs.Prelude.{◌≡◌, IfOk, IfSome};
-ghost use Rattle.std.specs.Option.{option_map};
 ghost use Rattle.goal_terms.specs.TableMeaning.{Keeps};
+ghost use Rattle.goal_kinds.specs.BuiltinWords.{GivesConstRule, alias_const_rule};
 ghost use Rattle.goal_kinds.specs.ConstRules.{lang_const_rule, const_rule};
 ghost use Rattle.goal_kinds.specs.Interned.{IsIn, AreIn, ConstRuleIn, erased_at, erased_all, const_rule_at};
-ghost use Rattle.goal_kinds.specs.Premises.{clauses_under, traits_under};
 
 use crate::builtin::const_calls::const_call_rule;
 use crate::builtin::copy_clone::const_copy_rule;
@@ -32,7 +31,7 @@ fn lang_const_rule(
     requires args { AreIn terms.old args.now }
     ensures kept { Keeps terms.old terms.new }
     ensures within { IfOk result (λ o. IfSome o (ConstRuleIn terms.new)) }
-    ensures rule { IfOk result (λ o. option_map (const_rule_at terms.new) o ≡ lang_const_rule rows.now trait_id lang (erased_at terms.old self_ty) (erased_all terms.old args.now)) }
+    ensures rule { GivesConstRule terms.new result (lang_const_rule rows.now trait_id lang (erased_at terms.old self_ty) (erased_all terms.old args.now)) }
 {
     match lang {
         LangItem::Copy | LangItem::Clone => const_copy_rule(rows, terms, trait_id, self_ty),
@@ -65,7 +64,7 @@ fn alias_const_rule(
     requires { AreIn terms.old args.now }
     ensures kept { Keeps terms.old terms.new }
     ensures within { IfOk result (ConstRuleIn terms.new) }
-    ensures rule { IfOk result (λ r. const_rule_at terms.new r ≡ record { premises = clauses_under (erased_all terms.old args.now) row.now.predicates.items; conditions = traits_under (erased_all terms.old args.now) row.now.const_conditions.items }) }
+    ensures rule { IfOk result (λ r. const_rule_at terms.new r ≡ alias_const_rule (erased_all terms.old args.now) row.now) }
 {
     let premises = clauses_under(terms, row.predicates.as_slice(), args)?;
     let conditions = traits_under(terms, row.const_conditions.as_slice(), args)?;
@@ -88,7 +87,7 @@ pub fn const_rule(
     requires { AreIn terms.old args.now }
     ensures kept { Keeps terms.old terms.new }
     ensures within { IfOk result (λ o. IfSome o (ConstRuleIn terms.new)) }
-    ensures rule { IfOk result (λ o. option_map (const_rule_at terms.new) o ≡ const_rule rows.now trait_id (erased_all terms.old args.now)) }
+    ensures rule { GivesConstRule terms.new result (const_rule rows.now trait_id (erased_all terms.old args.now)) }
 {
     let [self_ty, rest @ ..] = args else {
         return Ok(None);

@@ -1,5 +1,5 @@
 //! The rules of `Copy` and `Clone`.
-ghost use Rattle.std.specs.Prelude.{◌≡◌, map, IfOk, IfSome};
+ghost use Rattle.std.specs.Prelude.{◌≡◌, IfOk, IfSome};
 ghost use Rattle.std.specs.List.{All};
 ghost use Rattle.std.specs.Option.{option_map};
 ghost use Rattle.goal_tables.specs.Rows.{closure_of};
@@ -7,9 +7,10 @@ ghost use Rattle.goal_terms.specs.Erased.{erased_head};
 ghost use Rattle.goal_terms.specs.Sorts.{IsArgument, HeadFits};
 ghost use Rattle.goal_terms.specs.TableMeaning.{tree_at, Keeps};
 ghost use Rattle.goal_terms.specs.Tree.{parts_of};
+ghost use Rattle.goal_kinds.specs.BuiltinWords.{parts_at, rule_at, types_at, GivesConstRule};
 ghost use Rattle.goal_kinds.specs.Builtins.{each_is, upvars_of, copied_parts_of_head, copied_parts};
 ghost use Rattle.goal_kinds.specs.ConstRules.{each_const};
-ghost use Rattle.goal_kinds.specs.Interned.{IsIn, AreIn, PremiseIn, ConstRuleIn, erased_at, erased_all, premise_at, const_rule_at};
+ghost use Rattle.goal_kinds.specs.Interned.{IsIn, AreIn, PremiseIn, ConstRuleIn, erased_at};
 
 use crate::builtin::constituents::{each_const, each_is};
 use crate::candidates::interned::{InternedConstRule, InternedPremise};
@@ -32,7 +33,7 @@ pub(crate) fn upvars_of(
     requires arguments { All IsArgument (parts_of (tree_at terms.old self_ty)) }
     ensures kept { Keeps terms.old terms.new }
     ensures within { IfOk result (λ o. IfSome o (λ ids. AreIn terms.new ids.items)) }
-    ensures types { IfOk result (λ o. option_map (λ ids. erased_all terms.new ids.items) o ≡ option_map (upvars_of (parts_of (erased_at terms.old self_ty))) (closure_of rows.now closure)) }
+    ensures types { IfOk result (λ o. types_at terms.new o ≡ option_map (upvars_of (parts_at terms.old self_ty)) (closure_of rows.now closure)) }
 {
     let alloc = allocator_of(rows);
     let Some(row) = rows.closure_row(closure) else {
@@ -55,7 +56,7 @@ fn copied_parts_of_head(
     requires fits { HeadFits head (parts_of (tree_at terms.old self_ty)) }
     ensures kept { Keeps terms.old terms.new }
     ensures within { IfOk result (λ o. IfSome o (λ ids. AreIn terms.new ids.items)) }
-    ensures types { IfOk result (λ o. option_map (λ ids. erased_all terms.new ids.items) o ≡ copied_parts_of_head rows.now (erased_head head) (parts_of (erased_at terms.old self_ty))) }
+    ensures types { IfOk result (λ o. types_at terms.new o ≡ copied_parts_of_head rows.now (erased_head head) (parts_at terms.old self_ty)) }
 {
     let alloc = allocator_of(rows);
     match head {
@@ -79,7 +80,7 @@ pub(crate) fn copied_parts(
     requires { IsIn terms.old self_ty }
     ensures kept { Keeps terms.old terms.new }
     ensures within { IfOk result (λ o. IfSome o (λ ids. AreIn terms.new ids.items)) }
-    ensures types { IfOk result (λ o. option_map (λ ids. erased_all terms.new ids.items) o ≡ copied_parts rows.now (erased_at terms.old self_ty)) }
+    ensures types { IfOk result (λ o. types_at terms.new o ≡ copied_parts rows.now (erased_at terms.old self_ty)) }
 {
     match terms.node(self_ty) {
         Node::Head(head) => copied_parts_of_head(rows, terms, head, self_ty),
@@ -99,7 +100,7 @@ pub(crate) fn copy_rule(
     requires { IsIn terms.old self_ty }
     ensures kept { Keeps terms.old terms.new }
     ensures within { IfOk result (λ o. IfSome o (λ ps. All (PremiseIn terms.new) ps.items)) }
-    ensures premises { IfOk result (λ o. option_map (λ ps. map (premise_at terms.new) ps.items) o ≡ option_map (each_is trait_id) (copied_parts rows.now (erased_at terms.old self_ty))) }
+    ensures premises { IfOk result (λ o. rule_at terms.new o ≡ option_map (each_is trait_id) (copied_parts rows.now (erased_at terms.old self_ty))) }
 {
     let Some(tys) = copied_parts(rows, terms, self_ty)? else {
         return Ok(None);
@@ -119,7 +120,7 @@ pub(crate) fn const_copy_rule(
     requires { IsIn terms.old self_ty }
     ensures kept { Keeps terms.old terms.new }
     ensures within { IfOk result (λ o. IfSome o (ConstRuleIn terms.new)) }
-    ensures rule { IfOk result (λ o. option_map (const_rule_at terms.new) o ≡ option_map (each_const trait_id) (copied_parts rows.now (erased_at terms.old self_ty))) }
+    ensures rule { GivesConstRule terms.new result (option_map (each_const trait_id) (copied_parts rows.now (erased_at terms.old self_ty))) }
 {
     let Some(tys) = copied_parts(rows, terms, self_ty)? else {
         return Ok(None);

@@ -7,10 +7,10 @@ ghost use Rattle.goal_terms.specs.Erased.{erased_head};
 ghost use Rattle.goal_terms.specs.Sorts.{IsArgument, HeadFits};
 ghost use Rattle.goal_terms.specs.TableMeaning.{tree_at, Keeps};
 ghost use Rattle.goal_terms.specs.Tree.{Tree, parts_of};
+ghost use Rattle.goal_kinds.specs.BuiltinWords.{parts_at, GivesConstRule, destruct_row};
 ghost use Rattle.goal_kinds.specs.Builtins.{upvars_of};
-ghost use Rattle.goal_kinds.specs.ConstRules.{each_const, first_part, destruct_adt, destruct_of_head, destruct_rule};
+ghost use Rattle.goal_kinds.specs.ConstRules.{each_const, first_part, destruct_of_head, destruct_rule};
 ghost use Rattle.goal_kinds.specs.Interned.{IsIn, ConstRuleIn, erased_at, const_rule_at};
-ghost use Rattle.goal_kinds.specs.Premises.{traits_under};
 
 use crate::builtin::constituents::each_const;
 use crate::builtin::copy_clone::upvars_of;
@@ -34,7 +34,7 @@ fn destruct_parts(
     requires within { IsIn terms.now self_ty }
     requires arguments { All IsArgument (parts_of (tree_at terms.now self_ty)) }
     ensures within { IfOk result (λ o. IfSome o (ConstRuleIn terms.now)) }
-    ensures rule { IfOk result (λ o. option_map (const_rule_at terms.now) o ≡ Some (each_const trait_id (parts_of (erased_at terms.now self_ty)))) }
+    ensures rule { GivesConstRule terms.now result (Some (each_const trait_id (parts_at terms.now self_ty))) }
 {
     let parts = arguments_of(alloc, terms, self_ty)?;
     let rule = each_const(alloc, trait_id, parts.as_slice())?;
@@ -51,7 +51,7 @@ fn destruct_first(
     requires within { IsIn terms.now self_ty }
     requires arguments { All IsArgument (parts_of (tree_at terms.now self_ty)) }
     ensures within { IfOk result (λ o. IfSome o (ConstRuleIn terms.now)) }
-    ensures rule { IfOk result (λ o. option_map (const_rule_at terms.now) o ≡ Some (each_const trait_id (first_part (parts_of (erased_at terms.now self_ty))))) }
+    ensures rule { GivesConstRule terms.now result (Some (each_const trait_id (first_part (parts_at terms.now self_ty)))) }
 {
     let mut parts = arguments_of(alloc, terms, self_ty)?;
     parts.truncate(1);
@@ -71,7 +71,7 @@ fn destruct_closure(
     requires arguments { All IsArgument (parts_of (tree_at terms.old self_ty)) }
     ensures kept { Keeps terms.old terms.new }
     ensures within { IfOk result (λ o. IfSome o (ConstRuleIn terms.new)) }
-    ensures rule { IfOk result (λ o. option_map (const_rule_at terms.new) o ≡ option_map (λ r. each_const trait_id (upvars_of (parts_of (erased_at terms.old self_ty)) r)) (closure_of rows.now closure)) }
+    ensures rule { GivesConstRule terms.new result (option_map (λ r. each_const trait_id (upvars_of (parts_at terms.old self_ty) r)) (closure_of rows.now closure)) }
 {
     let Some(tys) = upvars_of(rows, terms, closure, self_ty)? else {
         return Ok(None);
@@ -91,7 +91,7 @@ fn destruct_adt(
     requires arguments { All IsArgument (parts_of (tree_at terms.old self_ty)) }
     ensures kept { Keeps terms.old terms.new }
     ensures within { IfOk result (λ o. IfSome o (ConstRuleIn terms.new)) }
-    ensures rule { IfOk result (λ o. option_map (const_rule_at terms.new) o ≡ option_map (λ r. destruct_adt (parts_of (erased_at terms.old self_ty)) (traits_under (parts_of (erased_at terms.old self_ty)) r.destruct_conditions.items)) (adt_of rows.now adt)) }
+    ensures rule { GivesConstRule terms.new result (option_map (destruct_row (parts_at terms.old self_ty)) (adt_of rows.now adt)) }
 {
     let alloc = allocator_of(rows);
     let Some(row) = rows.adt_row(adt) else {
@@ -130,7 +130,7 @@ fn destruct_of_head(
     requires fits { HeadFits head (parts_of (tree_at terms.old self_ty)) }
     ensures kept { Keeps terms.old terms.new }
     ensures within { IfOk result (λ o. IfSome o (ConstRuleIn terms.new)) }
-    ensures rule { IfOk result (λ o. option_map (const_rule_at terms.new) o ≡ destruct_of_head rows.now trait_id (erased_head head) (parts_of (erased_at terms.old self_ty))) }
+    ensures rule { GivesConstRule terms.new result (destruct_of_head rows.now trait_id (erased_head head) (parts_at terms.old self_ty)) }
 {
     let alloc = allocator_of(rows);
     match head {
@@ -157,7 +157,7 @@ pub(crate) fn destruct_rule(
     requires { IsIn terms.old self_ty }
     ensures kept { Keeps terms.old terms.new }
     ensures within { IfOk result (λ o. IfSome o (ConstRuleIn terms.new)) }
-    ensures rule { IfOk result (λ o. option_map (const_rule_at terms.new) o ≡ destruct_rule rows.now trait_id (erased_at terms.old self_ty)) }
+    ensures rule { GivesConstRule terms.new result (destruct_rule rows.now trait_id (erased_at terms.old self_ty)) }
 {
     match terms.node(self_ty) {
         Node::Head(head) => destruct_of_head(rows, terms, trait_id, head, self_ty),

@@ -10,6 +10,7 @@ ghost use Rattle.goal_terms.specs.TreeOf.{leaf, tree_of_ty};
 ghost use Rattle.goal_terms.specs.declared.heads.Node.TheVariants as nodes;
 ghost use Rattle.goal_tables.specs.Rows.{adt_of, lang_trait_of, lang_adt_of};
 ghost use Rattle.goal_tables.specs.declared.lang.LangItem.TheVariants as lang;
+ghost use Rattle.goal_kinds.specs.BuiltinWords.{parts_at, discriminant_under, said_of_field};
 ghost use Rattle.goal_kinds.specs.Builtins.{listed, listed_term, listed_by_size_of, unit_ty, metadata_of, adt_metadata, dyn_metadata, metadata_rule, discriminant_rule, field_of, field_base, field_ty};
 ghost use Rattle.goal_kinds.specs.Candidates.{last_of};
 ghost use Rattle.goal_kinds.specs.Headers.{under};
@@ -123,7 +124,7 @@ fn adt_metadata(
     requires arguments { All IsArgument (parts_of (tree_at terms.old self_ty)) }
     ensures kept { Keeps terms.old terms.new }
     ensures within { IfOk result (ListedIn terms.new) }
-    ensures listed { IfOk result (λ l. listed_at terms.new l ≡ listed_term (option_map (λ r. adt_metadata item (parts_of (erased_at terms.old self_ty)) r.kind r) (adt_of rows.now adt))) }
+    ensures listed { IfOk result (λ l. listed_at terms.new l ≡ listed_term (option_map (λ r. adt_metadata item (parts_at terms.old self_ty) r.kind r) (adt_of rows.now adt))) }
 {
     let alloc = *rows.tables().adts.allocator();
     let Some(row) = rows.adt_row(adt) else {
@@ -166,7 +167,7 @@ fn tuple_metadata(
     requires arguments { All IsArgument (parts_of (tree_at terms.old self_ty)) }
     ensures kept { Keeps terms.old terms.new }
     ensures within { IfOk result (ListedIn terms.new) }
-    ensures listed { IfOk result (λ l. listed_at terms.new l ≡ listed [] (metadata_of item (last_of (parts_of (erased_at terms.old self_ty))))) }
+    ensures listed { IfOk result (λ l. listed_at terms.new l ≡ listed [] (metadata_of item (last_of (parts_at terms.old self_ty)))) }
 {
     let last = last_part(terms, self_ty);
     let metadata = metadata_of(alloc, terms, item, last)?;
@@ -233,7 +234,7 @@ fn adt_discriminant(
     requires arguments { All IsArgument (parts_of (tree_at terms.old self_ty)) }
     ensures kept { Keeps terms.old terms.new }
     ensures within { IfOk result (ListedIn terms.new) }
-    ensures listed { IfOk result (λ l. listed_at terms.new l ≡ listed_term (option_map (λ r. under (parts_of (erased_at terms.old self_ty)) (tree_of_ty r.discriminant)) (adt_of rows.now adt))) }
+    ensures listed { IfOk result (λ l. listed_at terms.new l ≡ listed_term (option_map (discriminant_under (parts_at terms.old self_ty)) (adt_of rows.now adt))) }
 {
     let alloc = *rows.tables().adts.allocator();
     let Some(row) = rows.adt_row(adt) else {
@@ -305,7 +306,7 @@ fn field_info<'t>(
     self_ty: TermId,
 ) -> Option<&'t FieldInfo>
     requires { IsIn terms.now self_ty }
-    ensures info { (g : List Tree → FieldInfo → Tree) → option_and_then (λ p. option_map (g p.0) p.1.field_info) (field_of rows.now (erased_at terms.now self_ty)) ≡ option_map (λ f. g (parts_of (erased_at terms.now self_ty)) f.now) result }
+    ensures info { (g : List Tree → FieldInfo → Tree) → said_of_field rows.now g (erased_at terms.now self_ty) ≡ option_map (λ f. g (parts_at terms.now self_ty) f.now) result }
     ensures arguments { IfSome result (λ f. All IsArgument (parts_of (tree_at terms.now self_ty))) }
 {
     let adt = adt_at(terms.node(self_ty))?;

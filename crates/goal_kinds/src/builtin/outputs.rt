@@ -2,7 +2,7 @@
 ghost use Rattle.std.specs.Prelude.{◌≡◌, IfOk};
 ghost use Rattle.goal_terms.specs.TableMeaning.{Keeps};
 ghost use Rattle.goal_tables.specs.declared.lang.LangItem.TheVariants as lang;
-ghost use Rattle.goal_kinds.specs.Builtins.{signature_of, output_rule};
+ghost use Rattle.goal_kinds.specs.BuiltinWords.{call_output};
 ghost use Rattle.goal_kinds.specs.Interned.{IsIn, AreIn, ListedIn, erased_at, erased_all, listed_at};
 
 use crate::builtin::call_premises::{call_premises, output_of};
@@ -26,7 +26,7 @@ pub(crate) fn output_rule(
     requires args_in { AreIn terms.old args.now }
     ensures kept { Keeps terms.old terms.new }
     ensures within { IfOk result (ListedIn terms.new) }
-    ensures listed { IfOk result (λ l. listed_at terms.new l ≡ output_rule rows.now (erased_all terms.old args.now) (signature_of rows.now lang.FnOnce (erased_at terms.old self_ty))) }
+    ensures listed { IfOk result (λ l. listed_at terms.new l ≡ call_output rows.now (erased_all terms.old args.now) (erased_at terms.old self_ty)) }
 {
     let Some(sig) = signature_of(rows, terms, LangItem::FnOnce, self_ty)? else {
         return Ok(ListedTerm::Nothing);

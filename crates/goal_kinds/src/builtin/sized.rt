@@ -7,6 +7,7 @@ ghost use Rattle.goal_terms.specs.Erased.{erased_head};
 ghost use Rattle.goal_terms.specs.Sorts.{IsArgument, HeadFits};
 ghost use Rattle.goal_terms.specs.TableMeaning.{tree_at, Keeps};
 ghost use Rattle.goal_terms.specs.Tree.{Tree, parts_of};
+ghost use Rattle.goal_kinds.specs.BuiltinWords.{parts_at, ArePremises, rule_at};
 ghost use Rattle.goal_kinds.specs.Builtins.{last_is, constraint_is, sized_of_head, sized_rule};
 ghost use Rattle.goal_kinds.specs.Candidates.{last_of};
 ghost use Rattle.goal_kinds.specs.Interned.{IsIn, AreIn, PremiseIn, erased_at, erased_all, premise_at};
@@ -49,7 +50,7 @@ fn constraint_is(
     requires { AreIn terms.old args.now }
     ensures kept { Keeps terms.old terms.new }
     ensures within { IfOk result (λ ps. All (PremiseIn terms.new) ps.items) }
-    ensures premises { IfOk result (λ ps. map (premise_at terms.new) ps.items ≡ constraint_is trait_id (erased_all terms.old args.now) row.now) }
+    ensures premises { IfOk result (ArePremises terms.new (constraint_is trait_id (erased_all terms.old args.now) row.now)) }
 {
     let ty = option_under(terms, &row.sized_constraint, args)?;
     last_is(alloc, trait_id, ty)
@@ -67,7 +68,7 @@ fn sized_adt(
     requires arguments { All IsArgument (parts_of (tree_at terms.old self_ty)) }
     ensures kept { Keeps terms.old terms.new }
     ensures within { IfOk result (λ o. IfSome o (λ ps. All (PremiseIn terms.new) ps.items)) }
-    ensures premises { IfOk result (λ o. option_map (λ ps. map (premise_at terms.new) ps.items) o ≡ option_map (constraint_is trait_id (parts_of (erased_at terms.old self_ty))) (adt_of rows.now adt)) }
+    ensures premises { IfOk result (λ o. rule_at terms.new o ≡ option_map (constraint_is trait_id (parts_at terms.old self_ty)) (adt_of rows.now adt)) }
 {
     let alloc = allocator_of(rows);
     let Some(row) = rows.adt_row(adt) else {
@@ -88,7 +89,7 @@ fn sized_tuple(
     requires within { IsIn terms.now self_ty }
     requires arguments { All IsArgument (parts_of (tree_at terms.now self_ty)) }
     ensures within { IfOk result (λ o. IfSome o (λ ps. All (PremiseIn terms.now) ps.items)) }
-    ensures premises { IfOk result (λ o. option_map (λ ps. map (premise_at terms.now) ps.items) o ≡ Some (last_is trait_id (last_of (parts_of (erased_at terms.now self_ty))))) }
+    ensures premises { IfOk result (λ o. rule_at terms.now o ≡ Some (last_is trait_id (last_of (parts_at terms.now self_ty)))) }
 {
     let ty = last_part(terms, self_ty);
     let premises = last_is(alloc, trait_id, ty)?;
@@ -108,7 +109,7 @@ fn sized_of_head(
     requires fits { HeadFits head (parts_of (tree_at terms.old self_ty)) }
     ensures kept { Keeps terms.old terms.new }
     ensures within { IfOk result (λ o. IfSome o (λ ps. All (PremiseIn terms.new) ps.items)) }
-    ensures premises { IfOk result (λ o. option_map (λ ps. map (premise_at terms.new) ps.items) o ≡ sized_of_head rows.now trait_id (erased_head head) (parts_of (erased_at terms.old self_ty))) }
+    ensures premises { IfOk result (λ o. rule_at terms.new o ≡ sized_of_head rows.now trait_id (erased_head head) (parts_at terms.old self_ty)) }
 {
     match head {
         Head::Str
@@ -134,7 +135,7 @@ pub(crate) fn sized_rule(
     requires { IsIn terms.old self_ty }
     ensures kept { Keeps terms.old terms.new }
     ensures within { IfOk result (λ o. IfSome o (λ ps. All (PremiseIn terms.new) ps.items)) }
-    ensures premises { IfOk result (λ o. option_map (λ ps. map (premise_at terms.new) ps.items) o ≡ sized_rule rows.now trait_id (erased_at terms.old self_ty)) }
+    ensures premises { IfOk result (λ o. rule_at terms.new o ≡ sized_rule rows.now trait_id (erased_at terms.old self_ty)) }
 {
     match terms.node(self_ty) {
         Node::Head(head) => sized_of_head(rows, terms, trait_id, head, self_ty),

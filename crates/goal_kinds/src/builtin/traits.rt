@@ -1,10 +1,10 @@
 //! The meaning of trait aliases, and the built-in rules of traits.
-ghost use Rattle.std.specs.Prelude.{◌≡◌, map, IfOk, IfSome};
+ghost use Rattle.std.specs.Prelude.{◌≡◌, IfOk, IfSome};
 ghost use Rattle.std.specs.List.{All};
-ghost use Rattle.std.specs.Option.{option_map};
 ghost use Rattle.goal_terms.specs.TableMeaning.{Keeps};
+ghost use Rattle.goal_kinds.specs.BuiltinWords.{rule_at};
 ghost use Rattle.goal_kinds.specs.Builtins.{lang_rule, trait_rule};
-ghost use Rattle.goal_kinds.specs.Interned.{IsIn, AreIn, PremiseIn, erased_at, erased_all, premise_at};
+ghost use Rattle.goal_kinds.specs.Interned.{IsIn, AreIn, PremiseIn, erased_at, erased_all};
 
 use crate::builtin::call_premises::call_rule;
 use crate::builtin::copy_clone::copy_rule;
@@ -33,7 +33,7 @@ fn lang_rule(
     requires args { AreIn terms.old args.now }
     ensures kept { Keeps terms.old terms.new }
     ensures within { IfOk result (λ o. IfSome o (λ ps. All (PremiseIn terms.new) ps.items)) }
-    ensures premises { IfOk result (λ o. option_map (λ ps. map (premise_at terms.new) ps.items) o ≡ lang_rule rows.now trait_id lang (erased_at terms.old self_ty) (erased_all terms.old args.now)) }
+    ensures premises { IfOk result (λ o. rule_at terms.new o ≡ lang_rule rows.now trait_id lang (erased_at terms.old self_ty) (erased_all terms.old args.now)) }
 {
     let alloc = allocator_of(rows);
     match lang {
@@ -70,7 +70,7 @@ pub fn trait_rule(
     requires { AreIn terms.old args.now }
     ensures kept { Keeps terms.old terms.new }
     ensures within { IfOk result (λ o. IfSome o (λ ps. All (PremiseIn terms.new) ps.items)) }
-    ensures premises { IfOk result (λ o. option_map (λ ps. map (premise_at terms.new) ps.items) o ≡ trait_rule rows.now trait_id (erased_all terms.old args.now)) }
+    ensures premises { IfOk result (λ o. rule_at terms.new o ≡ trait_rule rows.now trait_id (erased_all terms.old args.now)) }
 {
     let [self_ty, rest @ ..] = args else {
         return Ok(None);

@@ -6,8 +6,9 @@ ghost use Rattle.goal_terms.specs.Sorts.{IsArgument};
 ghost use Rattle.goal_terms.specs.TableMeaning.{Keeps, tree_at};
 ghost use Rattle.goal_terms.specs.Tree.{parts_of};
 ghost use Rattle.goal_tables.specs.Rows.{item_of, opaque_of};
+ghost use Rattle.goal_kinds.specs.CandidateWords.{AddsCandidates, row_bounds};
 ghost use Rattle.goal_kinds.specs.Candidates.{bounds_under, const_bounds_under, item_bounds, opaque_bounds, bounds_of};
-ghost use Rattle.goal_kinds.specs.Interned.{IsIn, AreIn, CandidateIn, erased_at, erased_all, candidate_at};
+ghost use Rattle.goal_kinds.specs.Interned.{IsIn, AreIn, CandidateIn, erased_at, erased_all};
 
 use crate::candidates::interned::InternedCandidate;
 use crate::candidates::premises::{predicate_under, trait_under, traits_under};
@@ -31,7 +32,7 @@ fn push_bounds<'t>(
     requires within { All (CandidateIn terms.old) found.old.items }
     ensures kept { Keeps terms.old terms.new }
     ensures within { IfOk result (λ _. All (CandidateIn terms.new) found.new.items) }
-    ensures pushed { IfOk result (λ _. map (candidate_at terms.new) found.new.items ≡ map (candidate_at terms.old) found.old.items ++ bounds_under (erased_all terms.old args.now) bounds.now) }
+    ensures pushed { IfOk result (λ _. AddsCandidates terms.old terms.new found.old found.new (bounds_under (erased_all terms.old args.now) bounds.now)) }
 {
     for i in 0..bounds.len() {
         let predicate = predicate_under(terms, &bounds[i].kind, args)?;
@@ -52,7 +53,7 @@ fn push_const_bounds<'t>(
     requires within { All (CandidateIn terms.old) found.old.items }
     ensures kept { Keeps terms.old terms.new }
     ensures within { IfOk result (λ _. All (CandidateIn terms.new) found.new.items) }
-    ensures pushed { IfOk result (λ _. map (candidate_at terms.new) found.new.items ≡ map (candidate_at terms.old) found.old.items ++ const_bounds_under (erased_all terms.old args.now) (Some bounds.now)) }
+    ensures pushed { IfOk result (λ _. AddsCandidates terms.old terms.new found.old found.new (const_bounds_under (erased_all terms.old args.now) (Some bounds.now))) }
 {
     let implied = bounds.implied.as_slice();
     let conditions = bounds.conditions.as_slice();
@@ -77,7 +78,7 @@ fn push_row_bounds<'t>(
     requires within { All (CandidateIn terms.old) found.old.items }
     ensures kept { Keeps terms.old terms.new }
     ensures within { IfOk result (λ _. All (CandidateIn terms.new) found.new.items) }
-    ensures pushed { IfOk result (λ _. map (candidate_at terms.new) found.new.items ≡ map (candidate_at terms.old) found.old.items ++ (bounds_under (erased_all terms.old args.now) bounds.now ++ const_bounds_under (erased_all terms.old args.now) const_bounds.now)) }
+    ensures pushed { IfOk result (λ _. AddsCandidates terms.old terms.new found.old found.new (row_bounds (erased_all terms.old args.now) bounds.now const_bounds.now)) }
 {
     push_bounds(terms, found, bounds, args)?;
     match const_bounds {
@@ -99,7 +100,7 @@ fn push_item_bounds<'t>(
     requires within { All (CandidateIn terms.old) found.old.items }
     ensures kept { Keeps terms.old terms.new }
     ensures within { IfOk result (λ _. All (CandidateIn terms.new) found.new.items) }
-    ensures pushed { IfOk result (λ _. map (candidate_at terms.new) found.new.items ≡ map (candidate_at terms.old) found.old.items ++ item_bounds (erased_all terms.old args.now) (item_of rows.now item)) }
+    ensures pushed { IfOk result (λ _. AddsCandidates terms.old terms.new found.old found.new (item_bounds (erased_all terms.old args.now) (item_of rows.now item))) }
 {
     match rows.item_row(item) {
         None => Ok(()),
@@ -122,7 +123,7 @@ fn push_opaque_bounds<'t>(
     requires within { All (CandidateIn terms.old) found.old.items }
     ensures kept { Keeps terms.old terms.new }
     ensures within { IfOk result (λ _. All (CandidateIn terms.new) found.new.items) }
-    ensures pushed { IfOk result (λ _. map (candidate_at terms.new) found.new.items ≡ map (candidate_at terms.old) found.old.items ++ opaque_bounds (erased_all terms.old args.now) (opaque_of rows.now opaque)) }
+    ensures pushed { IfOk result (λ _. AddsCandidates terms.old terms.new found.old found.new (opaque_bounds (erased_all terms.old args.now) (opaque_of rows.now opaque))) }
 {
     match rows.opaque_row(opaque) {
         None => Ok(()),
@@ -157,7 +158,7 @@ pub fn push_alias_bounds<'t>(
     requires within { All (CandidateIn terms.old) found.old.items }
     ensures kept { Keeps terms.old terms.new }
     ensures within { IfOk result (λ _. All (CandidateIn terms.new) found.new.items) }
-    ensures pushed { IfOk result (λ _. map (candidate_at terms.new) found.new.items ≡ map (candidate_at terms.old) found.old.items ++ bounds_of rows.now (erased_at terms.old self_ty)) }
+    ensures pushed { IfOk result (λ _. AddsCandidates terms.old terms.new found.old found.new (bounds_of rows.now (erased_at terms.old self_ty))) }
 {
     let node = terms.node(self_ty);
     if let Some(item) = projected_item(node) {

@@ -1,13 +1,14 @@
 //! The clauses of an environment, as candidates.
-ghost use Rattle.std.specs.Prelude.{◌≡◌, ◌++◌, map, IfOk};
+ghost use Rattle.std.specs.Prelude.{◌≡◌, map, IfOk};
 ghost use Rattle.std.specs.List.{All};
 ghost use Rattle.goal_terms.specs.Erased.{erased};
 ghost use Rattle.goal_terms.specs.PredicateTrees.{tree_of_kind};
 ghost use Rattle.goal_terms.specs.TableMeaning.{Keeps};
 ghost use Rattle.goal_terms.specs.TreeOf.{trees_of};
 ghost use Rattle.goal_kinds.specs.Answers.{erased_predicate, environment_of};
+ghost use Rattle.goal_kinds.specs.CandidateWords.{AddsCandidates};
 ghost use Rattle.goal_kinds.specs.Candidates.{assumption};
-ghost use Rattle.goal_kinds.specs.Interned.{AreIn, PredicateIn, CandidateIn, erased_all, predicate_at, candidate_at};
+ghost use Rattle.goal_kinds.specs.Interned.{AreIn, PredicateIn, CandidateIn, erased_all, predicate_at};
 
 use crate::candidates::interned::{InternedCandidate, InternedPredicate, InternedTrait};
 use goal_terms::predicates::{Clause, ClauseKind};
@@ -73,7 +74,7 @@ pub fn push_environment<'t>(
     requires { All (CandidateIn terms.old) found.old.items }
     ensures kept { Keeps terms.old terms.new }
     ensures within { IfOk result (λ _. All (CandidateIn terms.new) found.new.items) }
-    ensures pushed { IfOk result (λ _. map (candidate_at terms.new) found.new.items ≡ map (candidate_at terms.old) found.old.items ++ map assumption (environment_of environment.now)) }
+    ensures pushed { IfOk result (λ _. AddsCandidates terms.old terms.new found.old found.new (map assumption (environment_of environment.now))) }
 {
     for i in 0..environment.len() {
         let predicate = predicate_given(terms, &environment[i].kind)?;

@@ -1,14 +1,14 @@
 //! The candidates for a goal of a trait, whose self type is a head form.
-ghost use Rattle.std.specs.Prelude.{◌≡◌, ◌++◌, ◌∷◌, ◌<◌, [], List, Some, length, map, slice_get, IfOk};
+ghost use Rattle.std.specs.Prelude.{◌≡◌, ◌∷◌, ◌<◌, [], List, length, IfOk};
 ghost use Rattle.std.specs.List.{All};
 ghost use Rattle.goal_terms.specs.TableMeaning.{Keeps};
 ghost use Rattle.goal_terms.specs.Tree.{Tree};
 ghost use Rattle.goal_terms.specs.declared.modes.TypingMode.{TypingMode};
-ghost use Rattle.goal_tables.specs.declared.rows.ImplRow.{ImplRow as impl_row};
 ghost use Rattle.goal_kinds.specs.Answers.{setting_of};
+ghost use Rattle.goal_kinds.specs.CandidateWords.{AddsCandidates, AddsImpls, GivesCandidates, fitting_for, ForImplsAt, ForEachSetting};
 ghost use Rattle.goal_kinds.specs.Candidates.{by_impl, impls_for, rest, class_of, second_group};
 ghost use Rattle.goal_kinds.specs.Fitting.{trees_at, first_constructor, fitting};
-ghost use Rattle.goal_kinds.specs.Interned.{IsIn, AreIn, CandidateIn, erased_at, candidate_at};
+ghost use Rattle.goal_kinds.specs.Interned.{IsIn, AreIn, CandidateIn};
 
 use crate::candidates::bounds::push_alias_bounds;
 use crate::candidates::environment::push_environment;
@@ -41,7 +41,7 @@ fn push_impl<'t>(
 ) -> Result<(), OutOfMemory>
     requires known { AreIn terms.now args.now }
     ensures within { (T : List Tree) → All (CandidateIn T) found.old.items → IfOk result (λ _. All (CandidateIn T) found.new.items) }
-    ensures pushed { (T : List Tree) → IfOk result (λ _. map (candidate_at T) found.new.items ≡ map (candidate_at T) found.old.items ++ fitting (trees_at terms.now args.now) (by_impl row.now ∷ [])) }
+    ensures pushed { (T : List Tree) → IfOk result (λ _. AddsCandidates T T found.old found.new (fitting (trees_at terms.now args.now) (by_impl row.now ∷ []))) }
 {
     if may_fit(terms, args, row) {
         found.push(InternedCandidate::Impl(row))?;
@@ -77,7 +77,7 @@ fn push_places<'t>(
     requires known { AreIn terms.now args.now }
     requires places { All (λ p. p < length rows.now.impls.items) places.now }
     ensures within { (T : List Tree) → All (CandidateIn T) found.old.items → IfOk result (λ _. All (CandidateIn T) found.new.items) }
-    ensures pushed { (T : List Tree) (impls : List impl_row) → map (slice_get rows.now.impls.items) places.now ≡ map Some impls → IfOk result (λ _. map (candidate_at T) found.new.items ≡ map (candidate_at T) found.old.items ++ fitting (trees_at terms.now args.now) (map by_impl impls)) }
+    ensures pushed { (T : List Tree) → ForImplsAt rows.now places.now (λ impls. IfOk result (λ _. AddsImpls T found.old found.new (trees_at terms.now args.now) impls)) }
 {
     for i in 0..places.len() {
         push_impl(terms, found, args, rows.impl_at(places[i]))?;
@@ -96,7 +96,7 @@ fn push_impls<'t>(
 ) -> Result<(), OutOfMemory>
     requires known { AreIn terms.now args.now }
     ensures within { (T : List Tree) → All (CandidateIn T) found.old.items → IfOk result (λ _. All (CandidateIn T) found.new.items) }
-    ensures pushed { (T : List Tree) → IfOk result (λ _. map (candidate_at T) found.new.items ≡ map (candidate_at T) found.old.items ++ fitting (trees_at terms.now args.now) (map by_impl (impls_for rows.now trait_id))) }
+    ensures pushed { (T : List Tree) → IfOk result (λ _. AddsImpls T found.old found.new (trees_at terms.now args.now) (impls_for rows.now trait_id)) }
 {
     let Some(head) = first_constructor(terms, args) else {
         return push_places(rows, terms, found, rows.impls_of_trait(trait_id), args);
@@ -118,7 +118,7 @@ fn push_rest<'t>(
     requires within { All (CandidateIn terms.old) found.old.items }
     ensures kept { Keeps terms.old terms.new }
     ensures within { IfOk result (λ _. All (CandidateIn terms.new) found.new.items) }
-    ensures pushed { (m : TypingMode) (env : List Clause) → IfOk result (λ _. map (candidate_at terms.new) found.new.items ≡ map (candidate_at terms.old) found.old.items ++ fitting (trees_at terms.old sought.now.args.now) (rest (setting_of rows.now m env) sought.now.trait_id (erased_at terms.old sought.now.self_ty))) }
+    ensures pushed { ForEachSetting rows.now (λ S. IfOk result (λ _. AddsCandidates terms.old terms.new found.old found.new (fitting_for terms.old sought.now (rest S)))) }
 {
     push_impls(rows, terms, found, sought.trait_id, sought.args)?;
     found.push(InternedCandidate::BuiltIn)?;
@@ -141,7 +141,7 @@ pub fn candidates_of_class<'t>(
     requires args { AreIn terms.old sought.now.args.now }
     ensures kept { Keeps terms.old terms.new }
     ensures within { IfOk result (λ cs. All (CandidateIn terms.new) cs.items) }
-    ensures candidates { (m : TypingMode) → IfOk result (λ cs. map (candidate_at terms.new) cs.items ≡ fitting (trees_at terms.old sought.now.args.now) (class_of (setting_of rows.now m environment.now) sought.now.trait_id (erased_at terms.old sought.now.self_ty) class)) }
+    ensures candidates { (m : TypingMode) → GivesCandidates terms.new result (fitting_for terms.old sought.now (λ i t. class_of (setting_of rows.now m environment.now) i t class)) }
 {
     let mut found = Vec::new(terms.allocator());
     match class {
@@ -166,7 +166,7 @@ pub fn second_group<'t>(
     requires args { AreIn terms.old sought.now.args.now }
     ensures kept { Keeps terms.old terms.new }
     ensures within { IfOk result (λ cs. All (CandidateIn terms.new) cs.items) }
-    ensures candidates { (m : TypingMode) (env : List Clause) → IfOk result (λ cs. map (candidate_at terms.new) cs.items ≡ fitting (trees_at terms.old sought.now.args.now) (second_group (setting_of rows.now m env) sought.now.trait_id (erased_at terms.old sought.now.self_ty) proven_via)) }
+    ensures candidates { ForEachSetting rows.now (λ S. GivesCandidates terms.new result (fitting_for terms.old sought.now (λ i t. second_group S i t proven_via))) }
 {
     let mut found = Vec::new(terms.allocator());
     push_alias_bounds(rows, terms, &mut found, sought.self_ty)?;

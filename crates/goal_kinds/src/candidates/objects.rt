@@ -1,13 +1,14 @@
 //! What the clauses of a `dyn` self type say, as candidates.
-ghost use Rattle.std.specs.Prelude.{◌≡◌, ◌<◌, ◌≤◌, ◌++◌, ◌∷◌, length, map, take, Some, IfOk};
+ghost use Rattle.std.specs.Prelude.{◌≡◌, ◌<◌, ◌≤◌, ◌∷◌, length, map, take, Some, IfOk};
 ghost use Rattle.std.specs.List.{All};
 ghost use Rattle.goal_terms.specs.Erased.{erased};
 ghost use Rattle.goal_terms.specs.Sorts.{IsArgument, Fits};
 ghost use Rattle.goal_terms.specs.TableMeaning.{Keeps, tree_at};
 ghost use Rattle.goal_terms.specs.Tree.{node_of, parts_of};
+ghost use Rattle.goal_kinds.specs.CandidateWords.{AddsCandidates};
 ghost use Rattle.goal_kinds.specs.Candidates.{object_bound, object_bounds};
 ghost use Rattle.goal_kinds.specs.CandidateTops.{clause_trait, clause_item};
-ghost use Rattle.goal_kinds.specs.Interned.{IsIn, AreIn, CandidateIn, erased_at, erased_all, candidate_at};
+ghost use Rattle.goal_kinds.specs.Interned.{IsIn, AreIn, CandidateIn, erased_at, erased_all};
 
 use crate::candidates::interned::{InternedCandidate, InternedPredicate, InternedTrait};
 use crate::candidates::tops::{clause_item, clause_trait, is_object};
@@ -52,7 +53,7 @@ fn push_trait_clause<'t>(
     requires fits { Fits (node_of (tree_at terms.now clause)) (parts_of (tree_at terms.now clause)) }
     requires within { All (CandidateIn terms.now) found.old.items }
     ensures within { IfOk result (λ _. All (CandidateIn terms.now) found.new.items) }
-    ensures pushed { IfOk result (λ _. map (candidate_at terms.now) found.new.items ≡ map (candidate_at terms.now) found.old.items ++ object_bound (erased_at terms.now self_ty) (erased_at terms.now clause)) }
+    ensures pushed { IfOk result (λ _. AddsCandidates terms.now terms.now found.old found.new (object_bound (erased_at terms.now self_ty) (erased_at terms.now clause))) }
 {
     let (def_id, count) = top;
     let args = self_and_first(terms, self_ty, clause, count)?;
@@ -77,7 +78,7 @@ fn push_item_clause<'t>(
     requires within { All (CandidateIn terms.old) found.old.items }
     ensures kept { Keeps terms.old terms.new }
     ensures within { IfOk result (λ _. All (CandidateIn terms.new) found.new.items) }
-    ensures pushed { IfOk result (λ _. map (candidate_at terms.new) found.new.items ≡ map (candidate_at terms.old) found.old.items ++ object_bound (erased_at terms.old self_ty) (erased_at terms.old clause)) }
+    ensures pushed { IfOk result (λ _. AddsCandidates terms.old terms.new found.old found.new (object_bound (erased_at terms.old self_ty) (erased_at terms.old clause))) }
 {
     let (item, count) = top;
     let term = terms.part(clause, count);
@@ -100,7 +101,7 @@ fn push_object_bound<'t>(
     requires within { All (CandidateIn terms.old) found.old.items }
     ensures kept { Keeps terms.old terms.new }
     ensures within { IfOk result (λ _. All (CandidateIn terms.new) found.new.items) }
-    ensures pushed { IfOk result (λ _. map (candidate_at terms.new) found.new.items ≡ map (candidate_at terms.old) found.old.items ++ object_bound (erased_at terms.old self_ty) (erased_at terms.old clause)) }
+    ensures pushed { IfOk result (λ _. AddsCandidates terms.old terms.new found.old found.new (object_bound (erased_at terms.old self_ty) (erased_at terms.old clause))) }
 {
     let node = terms.node(clause);
     if let Some(top) = clause_trait(node) {
@@ -123,7 +124,7 @@ pub fn push_object_bounds<'t>(
     requires within { All (CandidateIn terms.old) found.old.items }
     ensures kept { Keeps terms.old terms.new }
     ensures within { IfOk result (λ _. All (CandidateIn terms.new) found.new.items) }
-    ensures pushed { IfOk result (λ _. map (candidate_at terms.new) found.new.items ≡ map (candidate_at terms.old) found.old.items ++ object_bounds (erased_at terms.old self_ty)) }
+    ensures pushed { IfOk result (λ _. AddsCandidates terms.old terms.new found.old found.new (object_bounds (erased_at terms.old self_ty))) }
 {
     if !is_object(terms.node(self_ty)) {
         return Ok(());

@@ -2,16 +2,17 @@
 ghost use Rattle.std.specs.Prelude.{◌≡◌, List, Some, IfOk};
 ghost use Rattle.std.specs.List.{All};
 ghost use Rattle.std.specs.Option.{option_map};
-ghost use Rattle.goal_terms.specs.Tree.{Tree, alias, forest};
+ghost use Rattle.goal_terms.specs.Tree.{Tree, alias};
 ghost use Rattle.goal_terms.specs.TreeOf.{tree_of_term};
-ghost use Rattle.goal_terms.specs.declared.predicates.Clause.{Clause};
+ghost use Rattle.goal_terms.specs.declared.terms.AliasTermKind.TheVariants.{OpaqueTy};
 ghost use Rattle.goal_tables.specs.Rows.{free_of, inherent_of, inherent_impl_of, opaque_of};
 ghost use Rattle.goal_tables.specs.declared.rows.Tables.{Tables};
-ghost use Rattle.goal_kinds.specs.AliasLists.{row_value, entries_of_row, free_list, inherent_list, inherent_alias_list, hidden_list, defined_list, opaque_list, opaque_alias_list, alias_list};
+ghost use Rattle.goal_kinds.specs.AliasLists.{row_value, entries_of_row, free_list, inherent_list, inherent_alias_list, hidden_list, defined_list, opaque_alias_list, alias_list};
 ghost use Rattle.goal_kinds.specs.Interned.{IsIn, AreIn, erased_at, erased_all};
-ghost use Rattle.goal_kinds.specs.InternedEntries.{EntryIn, EntriesIn, entry_at, entries_at, setting_at};
+ghost use Rattle.goal_kinds.specs.InternedEntries.{EntryIn, EntriesIn, entry_at, entries_at};
+ghost use Rattle.goal_kinds.specs.ListWords.{GivesEntries, ForAliasAt, opaque_entries, GivesOfOpaque};
 ghost use Rattle.goal_kinds.specs.NamedRows.{NamesItsRows, IsDefined, DefinesKind};
-ghost use Rattle.goal_kinds.specs.ProjectionLists.{standing, equation_list};
+ghost use Rattle.goal_kinds.specs.ProjectionLists.{equation_list};
 ghost use Rattle.goal_kinds.specs.RuleModes.{first_use, first_use_of};
 ghost use Rattle.goal_kinds.specs.Rules.{value_in};
 
@@ -98,7 +99,7 @@ fn inherent_alias_list<'t>(
     args: &[TermId],
 ) -> Result<Vec<InternedEntry<'t>>, OutOfMemory>
     ensures within { (T : List Tree) → AreIn T args.now → IfOk result (λ es. EntriesIn T es.items) }
-    ensures entries { (T : List Tree) (env : List Clause) → IfOk result (λ es. entries_at T es.items ≡ inherent_alias_list (setting_at setting.entry env) (inherent_of setting.entry.rows.now id) (erased_all T args.now)) }
+    ensures entries { (T : List Tree) → GivesEntries T setting.entry result (λ S. inherent_alias_list S (inherent_of setting.entry.rows.now id) (erased_all T args.now)) }
     ensures named { IfOk result (λ es. All (NamesItsRows setting.entry.rows.now) es.items) }
 {
     let Some((self_ty, own)) = split_self(args) else {
@@ -175,7 +176,7 @@ fn opaque_list<'t>(
     row: &'t OpaqueRow,
 ) -> Result<Vec<InternedEntry<'t>>, OutOfMemory>
     ensures within { (T : List Tree) → AreIn T args.now → IsIn T rigid_alias → IfOk result (λ es. EntriesIn T es.items) }
-    ensures entries { (T : List Tree) → IfOk result (λ es. entries_at T es.items ≡ opaque_list mode.now row.now (defined_list id (erased_all T args.now)) (hidden_list (erased_all T args.now) row.now) (standing (erased_at T rigid_alias))) }
+    ensures entries { (T : List Tree) → IfOk result (λ es. entries_at T es.items ≡ opaque_entries mode.now row.now id (erased_all T args.now) (erased_at T rigid_alias)) }
     ensures named { (t : Tables) → opaque_of t row.now.id ≡ Some row.now → IfOk result (λ es. All (NamesItsRows t) es.items) }
     ensures defined { (f : FirstUse) → first_use mode.now row.now ≡ Some f → IfOk result (λ es. IsDefined id args.now f es.items) }
 {
@@ -203,9 +204,9 @@ fn opaque_alias_list<'t>(
     rigid_alias: TermId,
 ) -> Result<Vec<InternedEntry<'t>>, OutOfMemory>
     ensures within { (T : List Tree) → AreIn T args.now → IsIn T rigid_alias → IfOk result (λ es. EntriesIn T es.items) }
-    ensures entries { (T : List Tree) (env : List Clause) → erased_at T rigid_alias ≡ alias (AliasTermKind.OpaqueTy id) (forest (erased_all T args.now)) → IfOk result (λ es. entries_at T es.items ≡ entries_of_row (opaque_of setting.entry.rows.now id) (opaque_alias_list (setting_at setting.entry env) id (erased_all T args.now))) }
+    ensures entries { ForAliasAt setting.entry rigid_alias (OpaqueTy id) args.now (λ T S ts. GivesOfOpaque T setting.entry id result (opaque_alias_list S id ts)) }
     ensures named { IfOk result (λ es. All (NamesItsRows setting.entry.rows.now) es.items) }
-    ensures defined { (f : FirstUse) → first_use_of setting.entry.rows.now setting.entry.mode.now (AliasTermKind.OpaqueTy id) ≡ Some f → IfOk result (λ es. IsDefined id args.now f es.items) }
+    ensures defined { (f : FirstUse) → first_use_of setting.entry.rows.now setting.entry.mode.now (OpaqueTy id) ≡ Some f → IfOk result (λ es. IsDefined id args.now f es.items) }
 {
     let Some(row) = setting.rows.opaque_row(id) else {
         return undecided(alloc);
@@ -223,7 +224,7 @@ pub fn alias_list<'t>(
     rigid_alias: TermId,
 ) -> Result<Vec<InternedEntry<'t>>, OutOfMemory>
     ensures within { (T : List Tree) → AreIn T args.now → IsIn T rigid_alias → IfOk result (λ es. EntriesIn T es.items) }
-    ensures entries { (T : List Tree) (env : List Clause) → erased_at T rigid_alias ≡ alias kind (forest (erased_all T args.now)) → IfOk result (λ es. entries_at T es.items ≡ alias_list (setting_at setting.entry env) kind (erased_all T args.now)) }
+    ensures entries { ForAliasAt setting.entry rigid_alias kind args.now (λ T S ts. IfOk result (λ es. entries_at T es.items ≡ alias_list S kind ts)) }
     ensures named { IfOk result (λ es. All (NamesItsRows setting.entry.rows.now) es.items) }
     ensures defined { (f : FirstUse) → first_use_of setting.entry.rows.now setting.entry.mode.now kind ≡ Some f → IfOk result (λ es. DefinesKind kind args.now f es.items) }
 {

@@ -1,16 +1,16 @@
 //! The lists of the candidates for host effect goals, over numbers of a term table.
-ghost use Rattle.std.specs.Prelude.{◌≡◌, List, Some, map, IfOk};
+ghost use Rattle.std.specs.Prelude.{◌≡◌, List, Some, IfOk};
 ghost use Rattle.std.specs.List.{All};
 ghost use Rattle.goal_terms.specs.TableMeaning.{Keeps};
 ghost use Rattle.goal_terms.specs.Tree.{Tree};
-ghost use Rattle.goal_terms.specs.declared.predicates.Clause.{Clause};
 ghost use Rattle.goal_tables.specs.Rows.{impl_of, trait_of};
 ghost use Rattle.goal_tables.specs.declared.rows.Tables.{Tables};
 ghost use Rattle.goal_kinds.specs.Builtins.{lang_of_trait};
 ghost use Rattle.goal_kinds.specs.ConstGoals.{satisfies};
 ghost use Rattle.goal_kinds.specs.EffectLists.{effect_assumption_list, implied_list, effect_impl_list, source_of_lang, source_of_const_rule, const_rule_entries, effect_rule_list, effect_list};
 ghost use Rattle.goal_kinds.specs.Interned.{AreIn, PredicateIn, TraitIn, ConstRuleIn, CandidateIn, erased_all, predicate_at, trait_at, const_rule_at, candidate_at};
-ghost use Rattle.goal_kinds.specs.InternedEntries.{EntriesIn, ListIn, entries_at, list_at, setting_at};
+ghost use Rattle.goal_kinds.specs.InternedEntries.{EntriesIn, ListIn, entries_at, list_at};
+ghost use Rattle.goal_kinds.specs.ListWords.{GivesList, traits_at};
 ghost use Rattle.goal_kinds.specs.NamedRows.{CandidateIsOf, ListNamesItsRows, NamesItsRows};
 
 use crate::builtin::consts::const_rule;
@@ -83,7 +83,7 @@ fn implied_list<'t>(
     conditions: &[InternedTrait],
 ) -> Result<Option<Vec<InternedEntry<'t>>>, OutOfMemory>
     ensures within { (T : List Tree) → AreIn T args.now → TraitIn T bound.now → All (TraitIn T) conditions.now → IfOk result (ListIn T) }
-    ensures list { (T : List Tree) → IfOk result (λ o. list_at T o ≡ implied_list constness trait_id (erased_all T args.now) (trait_at T bound.now) (map (trait_at T) conditions.now)) }
+    ensures list { (T : List Tree) → IfOk result (λ o. list_at T o ≡ implied_list constness trait_id (erased_all T args.now) (trait_at T bound.now) (traits_at T conditions.now)) }
     ensures named { (t : Tables) → IfOk result (ListNamesItsRows t) }
 {
     if bound.def_id.0 != trait_id.0 {
@@ -205,7 +205,7 @@ pub fn effect_list<'t>(
     requires candidate { CandidateIn terms.old candidate.now }
     ensures kept { Keeps terms.old terms.new }
     ensures within { IfOk result (ListIn terms.new) }
-    ensures list { (env : List Clause) → IfOk result (λ o. list_at terms.new o ≡ effect_list (setting_at setting.entry env) constness trait_id (erased_all terms.old args.now) (candidate_at terms.old candidate.now)) }
+    ensures list { GivesList terms.new setting.entry result (λ S. effect_list S constness trait_id (erased_all terms.old args.now) (candidate_at terms.old candidate.now)) }
     ensures named { (t : Tables) → CandidateIsOf t candidate.now → IfOk result (ListNamesItsRows t) }
 {
     let alloc = terms.allocator();

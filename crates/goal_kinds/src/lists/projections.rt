@@ -1,18 +1,15 @@
 //! The lists of the candidates for the terms of projections, over numbers of a term table.
-ghost use Rattle.std.specs.Prelude.{◌≡◌, ◌∷◌, List, Some, drop, take, IfOk};
+ghost use Rattle.std.specs.Prelude.{◌≡◌, List, drop, take, IfOk};
 ghost use Rattle.std.specs.List.{All};
 ghost use Rattle.goal_terms.specs.TableMeaning.{Keeps};
 ghost use Rattle.goal_terms.specs.Tree.{Tree};
-ghost use Rattle.goal_terms.specs.declared.predicates.Clause.{Clause};
-ghost use Rattle.goal_kinds.specs.Builtins.{term_rule};
-ghost use Rattle.goal_kinds.specs.Entries.{arguments, given_arguments, row_clauses, evaluation};
-ghost use Rattle.goal_kinds.specs.ImplTerms.{error_term, taken, trait_args};
-ghost use Rattle.goal_kinds.specs.Interned.{IsIn, AreIn, PredicateIn, CandidateIn, ListedIn, erased_at, erased_all, predicate_at, candidate_at, listed_at};
-ghost use Rattle.goal_kinds.specs.InternedEntries.{EntryIn, EntriesIn, ListIn, entry_at, entries_at, list_at, setting_at, projection_at, ProjectionIn};
-ghost use Rattle.goal_kinds.specs.NamedRows.{CandidateIsOf, ListNamesItsRows, NamesItsRows, ProjectionIsOf};
-ghost use Rattle.goal_kinds.specs.ProjectionLists.{definition_value, other_impl_entries, taken_entries, rigid_entries, standing, missing_entries, value_entries, default_entries, definition_entries, source_entries, said_entries, projection_impl_list, projection_assumption_list, equation_clause_list, listed_list, projection_list};
-ghost use Rattle.goal_kinds.specs.TraitLists.{impl_match};
-ghost use Rattle.goal_tables.specs.Rows.{definition_of, impl_of};
+ghost use Rattle.goal_kinds.specs.ImplTerms.{error_term, taken};
+ghost use Rattle.goal_kinds.specs.Interned.{IsIn, AreIn, PredicateIn, CandidateIn, ListedIn, erased_at, predicate_at, candidate_at, listed_at};
+ghost use Rattle.goal_kinds.specs.InternedEntries.{EntryIn, EntriesIn, ListIn, entry_at, entries_at, list_at, projection_at, ProjectionIn};
+ghost use Rattle.goal_kinds.specs.ListWords.{GivesEntries, GivesList, asked_at, asked_term_rule, asked_impl_entries, default_of, definition_taken};
+ghost use Rattle.goal_kinds.specs.NamedRows.{CandidateIsOf, ListNamesItsRows, NamesItsRows, ProjectionIsOf, ImplIsOf, DefinitionIsOf, EntriesNameRows};
+ghost use Rattle.goal_kinds.specs.ProjectionLists.{definition_value, other_impl_entries, taken_entries, rigid_entries, standing, missing_entries, value_entries, definition_entries, source_entries, said_entries, projection_impl_list, projection_assumption_list, equation_clause_list, listed_list, projection_list};
+ghost use Rattle.goal_tables.specs.Rows.{definition_of};
 ghost use Rattle.goal_tables.specs.declared.rows.Tables.{Tables};
 
 use crate::builtin::made_terms::intern_leaf;
@@ -64,7 +61,7 @@ fn behind(ids: &[TermId], count: usize) -> &[TermId]
 fn definition_value<'t>(definition: &'t DefRow, number: usize) -> InternedEntry<'t>
     ensures within { (T : List Tree) → EntryIn T result }
     ensures entry { (T : List Tree) → entry_at T result ≡ definition_value definition.now.value number }
-    ensures named { (t : Tables) → definition_of t definition.now.id ≡ Some definition.now → NamesItsRows t result }
+    ensures named { (t : Tables) → DefinitionIsOf t definition.now → NamesItsRows t result }
 {
     match &definition.value {
         DefValue::Missing => InternedEntry::Undecided,
@@ -88,7 +85,7 @@ fn other_impl_entries<'t>(
 ) -> Result<Vec<InternedEntry<'t>>, OutOfMemory>
     ensures within { (T : List Tree) → ProjectionIn T asked.now → IfOk result (λ es. EntriesIn T es.items) }
     ensures entries { (T : List Tree) → IfOk result (λ es. entries_at T es.items ≡ other_impl_entries row.now (projection_at T asked.now) definition.now.value other.now) }
-    ensures named { (t : Tables) → impl_of t row.now.id ≡ Some row.now → impl_of t other.now.id ≡ Some other.now → definition_of t definition.now.id ≡ Some definition.now → IfOk result (λ es. All (NamesItsRows t) es.items) }
+    ensures named { (t : Tables) → ImplIsOf t row.now → ImplIsOf t other.now → DefinitionIsOf t definition.now → IfOk result (EntriesNameRows t) }
 {
     let header = RowHeader {
         params: other.params.as_slice(),
@@ -114,8 +111,8 @@ fn taken_entries<'t>(
     definition: &'t DefRow,
 ) -> Result<Vec<InternedEntry<'t>>, OutOfMemory>
     ensures within { (T : List Tree) → ProjectionIn T asked.now → IfOk result (λ es. EntriesIn T es.items) }
-    ensures entries { (T : List Tree) (env : List Clause) → IfOk result (λ es. entries_at T es.items ≡ taken_entries row.now (projection_at T asked.now) definition.now.value (taken (setting_at setting.entry env) row.now definition.now.container)) }
-    ensures named { impl_of setting.entry.rows.now row.now.id ≡ Some row.now → definition_of setting.entry.rows.now definition.now.id ≡ Some definition.now → IfOk result (λ es. All (NamesItsRows setting.entry.rows.now) es.items) }
+    ensures entries { (T : List Tree) → GivesEntries T setting.entry result (λ S. definition_taken S row.now (projection_at T asked.now) definition.now) }
+    ensures named { ImplIsOf setting.entry.rows.now row.now → DefinitionIsOf setting.entry.rows.now definition.now → IfOk result (EntriesNameRows setting.entry.rows.now) }
 {
     match definition.container {
         Container::Trait(_) => Ok(vec![in alloc; definition_value(definition, 1)]?),
@@ -141,7 +138,7 @@ fn rigid_entries<'t>(
 ) -> Result<Vec<InternedEntry<'t>>, OutOfMemory>
     ensures within { (T : List Tree) → IsIn T rigid_alias → IfOk result (λ es. EntriesIn T es.items) }
     ensures entries { (T : List Tree) → IfOk result (λ es. entries_at T es.items ≡ rigid_entries mode.now (erased_at T rigid_alias)) }
-    ensures named { (t : Tables) → IfOk result (λ es. All (NamesItsRows t) es.items) }
+    ensures named { (t : Tables) → IfOk result (EntriesNameRows t) }
 {
     match mode {
         TypingMode::Coherence => Ok(vec![in alloc; InternedEntry::Ambiguous]?),
@@ -176,8 +173,8 @@ fn missing_entries<'t>(
     requires { ProjectionIn terms.old asked.now }
     ensures kept { Keeps terms.old terms.new }
     ensures within { IfOk result (λ es. EntriesIn terms.new es.items) }
-    ensures entries { IfOk result (λ es. entries_at terms.new es.items ≡ missing_entries mode.now row.now (projection_at terms.old asked.now) (erased_at terms.old asked.now.rigid_alias) definition.now) }
-    ensures named { (t : Tables) → IfOk result (λ es. All (NamesItsRows t) es.items) }
+    ensures entries { IfOk result (λ es. entries_at terms.new es.items ≡ asked_at terms.old asked.now (missing_entries mode.now row.now) definition.now) }
+    ensures named { (t : Tables) → IfOk result (EntriesNameRows t) }
 {
     let alloc = terms.allocator();
     if row.guaranteed_unsized {
@@ -201,8 +198,8 @@ fn value_entries<'t>(
     requires { ProjectionIn terms.old asked.now }
     ensures kept { Keeps terms.old terms.new }
     ensures within { IfOk result (λ es. EntriesIn terms.new es.items) }
-    ensures entries { (env : List Clause) → IfOk result (λ es. entries_at terms.new es.items ≡ value_entries (setting_at setting.entry env) row.now (projection_at terms.old asked.now) (erased_at terms.old asked.now.rigid_alias) definition.now definition.now.value) }
-    ensures named { impl_of setting.entry.rows.now row.now.id ≡ Some row.now → definition_of setting.entry.rows.now definition.now.id ≡ Some definition.now → IfOk result (λ es. All (NamesItsRows setting.entry.rows.now) es.items) }
+    ensures entries { GivesEntries terms.new setting.entry result (λ S. asked_at terms.old asked.now (value_entries S row.now) definition.now definition.now.value) }
+    ensures named { ImplIsOf setting.entry.rows.now row.now → DefinitionIsOf setting.entry.rows.now definition.now → IfOk result (EntriesNameRows setting.entry.rows.now) }
 {
     match &definition.value {
         DefValue::Missing => missing_entries(setting.mode, terms, row, asked, definition),
@@ -223,8 +220,8 @@ fn definition_entries<'t>(
     requires { ProjectionIn terms.old asked.now }
     ensures kept { Keeps terms.old terms.new }
     ensures within { IfOk result (λ es. EntriesIn terms.new es.items) }
-    ensures entries { (env : List Clause) → IfOk result (λ es. entries_at terms.new es.items ≡ definition_entries (setting_at setting.entry env) row.now (projection_at terms.old asked.now) (erased_at terms.old asked.now.rigid_alias) (definition_of setting.entry.rows.now id)) }
-    ensures named { impl_of setting.entry.rows.now row.now.id ≡ Some row.now → IfOk result (λ es. All (NamesItsRows setting.entry.rows.now) es.items) }
+    ensures entries { GivesEntries terms.new setting.entry result (λ S. asked_at terms.old asked.now (definition_entries S row.now) (definition_of setting.entry.rows.now id)) }
+    ensures named { ImplIsOf setting.entry.rows.now row.now → IfOk result (EntriesNameRows setting.entry.rows.now) }
 {
     let Some(definition) = setting.rows.definition_row(id) else {
         return undecided(terms.allocator());
@@ -245,8 +242,8 @@ fn default_entries<'t>(
     requires { ProjectionIn terms.old asked.now }
     ensures kept { Keeps terms.old terms.new }
     ensures within { IfOk result (λ es. EntriesIn terms.new es.items) }
-    ensures entries { (env : List Clause) → IfOk result (λ es. entries_at terms.new es.items ≡ default_entries setting.entry.mode.now (definition_entries (setting_at setting.entry env) row.now (projection_at terms.old asked.now) (erased_at terms.old asked.now.rigid_alias) (definition_of setting.entry.rows.now id)) (erased_at terms.old asked.now.rigid_alias)) }
-    ensures named { impl_of setting.entry.rows.now row.now.id ≡ Some row.now → IfOk result (λ es. All (NamesItsRows setting.entry.rows.now) es.items) }
+    ensures entries { GivesEntries terms.new setting.entry result (λ S. asked_at terms.old asked.now (λ p t. default_of setting.entry id (definition_entries S row.now p t) t)) }
+    ensures named { ImplIsOf setting.entry.rows.now row.now → IfOk result (EntriesNameRows setting.entry.rows.now) }
 {
     let alloc = terms.allocator();
     match setting.mode {
@@ -271,8 +268,8 @@ fn source_entries<'t>(
     requires { ProjectionIn terms.old asked.now }
     ensures kept { Keeps terms.old terms.new }
     ensures within { IfOk result (λ es. EntriesIn terms.new es.items) }
-    ensures entries { (env : List Clause) → IfOk result (λ es. entries_at terms.new es.items ≡ source_entries (setting_at setting.entry env) row.now (projection_at terms.old asked.now) (erased_at terms.old asked.now.rigid_alias) source) }
-    ensures named { impl_of setting.entry.rows.now row.now.id ≡ Some row.now → IfOk result (λ es. All (NamesItsRows setting.entry.rows.now) es.items) }
+    ensures entries { GivesEntries terms.new setting.entry result (λ S. asked_at terms.old asked.now (source_entries S row.now) source) }
+    ensures named { ImplIsOf setting.entry.rows.now row.now → IfOk result (EntriesNameRows setting.entry.rows.now) }
 {
     match source {
         Source::Broken(number) => {
@@ -301,8 +298,8 @@ fn said_entries<'t>(
     requires { ProjectionIn terms.old asked.now }
     ensures kept { Keeps terms.old terms.new }
     ensures within { IfOk result (λ es. EntriesIn terms.new es.items) }
-    ensures entries { (env : List Clause) → IfOk result (λ es. entries_at terms.new es.items ≡ said_entries (setting_at setting.entry env) row.now (projection_at terms.old asked.now) (erased_at terms.old asked.now.rigid_alias)) }
-    ensures named { impl_of setting.entry.rows.now row.now.id ≡ Some row.now → IfOk result (λ es. All (NamesItsRows setting.entry.rows.now) es.items) }
+    ensures entries { GivesEntries terms.new setting.entry result (λ S. asked_at terms.old asked.now (said_entries S row.now)) }
+    ensures named { ImplIsOf setting.entry.rows.now row.now → IfOk result (EntriesNameRows setting.entry.rows.now) }
 {
     let Some(found) = setting.rows.source_row(row.id, asked.item.id) else {
         return undecided(terms.allocator());
@@ -319,8 +316,8 @@ fn impl_entries<'t>(
     mut said: Vec<InternedEntry<'t>>,
 ) -> Result<Vec<InternedEntry<'t>>, OutOfMemory>
     ensures within { (T : List Tree) → ProjectionIn T asked.now → EntriesIn T said.entry.items → IfOk result (λ es. EntriesIn T es.items) }
-    ensures entries { (T : List Tree) → IfOk result (λ es. entries_at T es.items ≡ impl_match row.now (trait_args (projection_at T asked.now)) (evaluation ∷ arguments (given_arguments (erased_all T asked.now.args.now)) ∷ row_clauses asked.now.item.now.own_predicates.items 1 ∷ entries_at T said.entry.items)) }
-    ensures named { (t : Tables) → impl_of t row.now.id ≡ Some row.now → ProjectionIsOf t asked.now → All (NamesItsRows t) said.entry.items → IfOk result (λ es. All (NamesItsRows t) es.items) }
+    ensures entries { (T : List Tree) → IfOk result (λ es. entries_at T es.items ≡ asked_impl_entries T row.now asked.now (entries_at T said.entry.items)) }
+    ensures named { (t : Tables) → ImplIsOf t row.now → ProjectionIsOf t asked.now → All (NamesItsRows t) said.entry.items → IfOk result (EntriesNameRows t) }
 {
     let mut entries = impl_match(alloc, row, first_of(asked.args, asked.trait_params))?;
     let named = given_arguments(alloc, asked.args)?;
@@ -344,8 +341,8 @@ fn impl_list<'t>(
     requires { ProjectionIn terms.old asked.now }
     ensures kept { Keeps terms.old terms.new }
     ensures within { IfOk result (ListIn terms.new) }
-    ensures list { (env : List Clause) → IfOk result (λ o. list_at terms.new o ≡ projection_impl_list (setting_at setting.entry env) (projection_at terms.old asked.now) (erased_at terms.old asked.now.rigid_alias) row.now) }
-    ensures named { impl_of setting.entry.rows.now row.now.id ≡ Some row.now → ProjectionIsOf setting.entry.rows.now asked.now → IfOk result (ListNamesItsRows setting.entry.rows.now) }
+    ensures list { GivesList terms.new setting.entry result (λ S. asked_at terms.old asked.now (projection_impl_list S) row.now) }
+    ensures named { ImplIsOf setting.entry.rows.now row.now → ProjectionIsOf setting.entry.rows.now asked.now → IfOk result (ListNamesItsRows setting.entry.rows.now) }
 {
     let alloc = terms.allocator();
     let said = said_entries(setting, terms, row, asked)?;
@@ -416,7 +413,7 @@ fn listed_list<'t>(
     requires listed { ListedIn terms.old listed }
     ensures kept { Keeps terms.old terms.new }
     ensures within { IfOk result (ListIn terms.new) }
-    ensures list { IfOk result (λ o. list_at terms.new o ≡ listed_list (projection_at terms.old asked.now) (erased_at terms.old asked.now.rigid_alias) (listed_at terms.old listed)) }
+    ensures list { IfOk result (λ o. list_at terms.new o ≡ asked_at terms.old asked.now listed_list (listed_at terms.old listed)) }
     ensures named { (t : Tables) → IfOk result (ListNamesItsRows t) }
 {
     let alloc = terms.allocator();
@@ -458,7 +455,7 @@ fn rule_list<'t>(
     requires { ProjectionIn terms.old asked.now }
     ensures kept { Keeps terms.old terms.new }
     ensures within { IfOk result (ListIn terms.new) }
-    ensures list { IfOk result (λ o. list_at terms.new o ≡ listed_list (projection_at terms.old asked.now) (erased_at terms.old asked.now.rigid_alias) (term_rule setting.entry.rows.now asked.now.item.now.id (erased_all terms.old asked.now.args.now))) }
+    ensures list { IfOk result (λ o. list_at terms.new o ≡ asked_at terms.old asked.now listed_list (asked_term_rule terms.old setting.entry.rows.now asked.now)) }
     ensures named { (t : Tables) → IfOk result (ListNamesItsRows t) }
 {
     let listed = term_rule(setting.rows, terms, asked.item.id, asked.args)?;
@@ -478,7 +475,7 @@ pub fn projection_list<'t>(
     requires candidate { CandidateIn terms.old candidate.now }
     ensures kept { Keeps terms.old terms.new }
     ensures within { IfOk result (ListIn terms.new) }
-    ensures list { (env : List Clause) → IfOk result (λ o. list_at terms.new o ≡ projection_list (setting_at setting.entry env) (projection_at terms.old asked.now) (erased_at terms.old asked.now.rigid_alias) (candidate_at terms.old candidate.now)) }
+    ensures list { GivesList terms.new setting.entry result (λ S. asked_at terms.old asked.now (projection_list S) (candidate_at terms.old candidate.now)) }
     ensures named { CandidateIsOf setting.entry.rows.now candidate.now → ProjectionIsOf setting.entry.rows.now asked.now → IfOk result (ListNamesItsRows setting.entry.rows.now) }
 {
     match candidate {

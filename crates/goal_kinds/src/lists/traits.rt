@@ -2,11 +2,11 @@
 ghost use Rattle.std.specs.Prelude.{◌≡◌, List, Some, IfOk};
 ghost use Rattle.goal_terms.specs.TableMeaning.{Keeps};
 ghost use Rattle.goal_terms.specs.Tree.{Tree};
-ghost use Rattle.goal_terms.specs.declared.predicates.Clause.{Clause};
 ghost use Rattle.goal_tables.specs.Rows.{impl_of, trait_of};
 ghost use Rattle.goal_tables.specs.declared.rows.Tables.{Tables};
 ghost use Rattle.goal_kinds.specs.Interned.{AreIn, PredicateIn, CandidateIn, erased_all, predicate_at, candidate_at};
-ghost use Rattle.goal_kinds.specs.InternedEntries.{ListIn, list_at, setting_at};
+ghost use Rattle.goal_kinds.specs.InternedEntries.{ListIn, list_at};
+ghost use Rattle.goal_kinds.specs.ListWords.{GivesList};
 ghost use Rattle.goal_kinds.specs.NamedRows.{CandidateIsOf, ListNamesItsRows};
 ghost use Rattle.goal_kinds.specs.TraitLists.{trait_assumption_list, trait_impl_list, source_of_rule, trait_rule_list, trait_list};
 
@@ -118,7 +118,7 @@ pub fn trait_list<'t>(
     requires candidate { CandidateIn terms.old candidate.now }
     ensures kept { Keeps terms.old terms.new }
     ensures within { IfOk result (ListIn terms.new) }
-    ensures list { (env : List Clause) → IfOk result (λ o. list_at terms.new o ≡ trait_list (setting_at setting.entry env) trait_id (erased_all terms.old args.now) (candidate_at terms.old candidate.now)) }
+    ensures list { GivesList terms.new setting.entry result (λ S. trait_list S trait_id (erased_all terms.old args.now) (candidate_at terms.old candidate.now)) }
     ensures named { (t : Tables) → CandidateIsOf t candidate.now → IfOk result (ListNamesItsRows t) }
 {
     let alloc = terms.allocator();

@@ -1,5 +1,5 @@
 //! The rules of free, inherent and opaque aliases.
-ghost use Rattle.std.specs.Prelude.{◌≡◌, ◌==◌, ℕ, suc, List, IfOk, IfErr, None, Some, is_some, if◌then◌else◌};
+ghost use Rattle.std.specs.Prelude.{◌≡◌, ◌==◌, ℕ, List, IfOk, IfErr, None, Some, is_some, if◌then◌else◌};
 ghost use Rattle.std.specs.List.{All, list_any};
 ghost use Rattle.goal_terms.specs.TableMeaning.{tree_at};
 ghost use Rattle.goal_terms.specs.Tree.{Tree};
@@ -12,13 +12,13 @@ ghost use Rattle.goal_terms.specs.declared.terms.AliasTermKind.TheVariants.{Opaq
 ghost use Rattle.goal_kinds.specs.AliasLists.{alias_list};
 ghost use Rattle.goal_kinds.specs.Answers.{setting_of};
 ghost use Rattle.goal_kinds.specs.InternedEntries.{EntriesIn, entries_at, setting_at};
-ghost use Rattle.goal_kinds.specs.Levels.{level};
 ghost use Rattle.goal_kinds.specs.NamedRows.{NamesItsRows, Defines};
 ghost use Rattle.goal_kinds.specs.Projections.{projected_item};
+ghost use Rattle.goal_kinds.specs.RuleClauses.{asked_alias_list, MeansAlias, GivesNot, IsCoherence, DefinesAsked};
 ghost use Rattle.goal_kinds.specs.RuleLists.{IsListed};
-ghost use Rattle.goal_kinds.specs.Rules.{given, RuleGives};
+ghost use Rattle.goal_kinds.specs.Rules.{given};
 ghost use Rattle.goal_kinds.specs.RuleModes.{IsRuleIn, opaque_use, first_use_of, among, accesses_of, accesses_for};
-ghost use Rattle.goal_kinds.specs.RuleWords.{RuleMeans, TermsAreFor, DefinesHidden};
+ghost use Rattle.goal_kinds.specs.RuleWords.{TermsAreFor};
 ghost use Rattle.goal_kinds.specs.Settings.{Setting};
 
 use crate::faults::Fault;
@@ -66,12 +66,12 @@ pub fn alias_rule(
     mode: &TypingMode,
     goal: &Goal<NormalizesTo>,
 ) -> Result<Rule, Fault>
-    ensures list { (env : List clause) → IfOk result (λ rule. IsListed tables.now rule (Some (alias_list (setting_of tables.now mode.now env) goal.now.predicate.alias.kind (given goal.now.predicate.alias.args)))) }
-    ensures says { (S : Setting) (n : ℕ) → S.tables ≡ tables.now → IfOk result (λ rule. IsRuleIn mode.now rule S.mode → RuleMeans S (level S n) rule ((level S (suc n)).gives goal.now.predicate.alias.kind (given goal.now.predicate.alias.args)) ((level S (suc n)).gives_refuted goal.now.predicate.alias.kind (given goal.now.predicate.alias.args))) }
+    ensures list { (env : List clause) → IfOk result (λ rule. IsListed tables.now rule (asked_alias_list goal.now.predicate.alias (setting_of tables.now mode.now env))) }
+    ensures says { (S : Setting) (n : ℕ) → S.tables ≡ tables.now → IfOk result (λ rule. IsRuleIn mode.now rule S.mode → MeansAlias S n goal.now.predicate.alias rule) }
     ensures records { IfOk result (λ rule. accesses_of rule.entries.items ≡ accesses_for tables.now mode.now goal.now.predicate.alias.kind) }
-    ensures undecided { (S : Setting) (n : ℕ) (i : OpaqueId) (u : Tree) → mode.now ≡ TypingMode.Coherence → goal.now.predicate.alias.kind ≡ OpaqueTy i → IfOk result (λ rule. RuleGives S (level S n) rule u → ⊥) }
+    ensures undecided { (S : Setting) (n : ℕ) (i : OpaqueId) (u : Tree) → IsCoherence mode.now → goal.now.predicate.alias.kind ≡ OpaqueTy i → IfOk result (GivesNot S n u) }
     ensures expected { IfOk result (λ rule. TermsAreFor (λ t. t ≡ tree_of_term goal.now.predicate.term) rule.entries.items) }
-    ensures defines { (f : FirstUse) → first_use_of tables.now mode.now goal.now.predicate.alias.kind ≡ Some f → IfOk result (λ rule. DefinesHidden (tree_of_term goal.now.predicate.term) goal.now.predicate.alias f rule.entries.items) }
+    ensures defines { (f : FirstUse) → first_use_of tables.now mode.now goal.now.predicate.alias.kind ≡ Some f → IfOk result (DefinesAsked goal.now.predicate f) }
     ensures source { IfOk result (λ rule. rule.source ≡ built_in Misc) }
     ensures kinds { IfOk result (λ rule. projected_item goal.now.predicate.alias.kind ≡ None) }
     ensures faults { IfErr result (λ f. f ≡ (if is_some (projected_item goal.now.predicate.alias.kind) then Fault.NotForThisKind else Fault.OutOfMemory)) }

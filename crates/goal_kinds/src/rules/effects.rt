@@ -1,19 +1,17 @@
 //! The rules of candidates for host effect goals.
-ghost use Rattle.std.specs.Prelude.{◌≡◌, ◌∷◌, ◌++◌, [], List, None, Some, Err, true, false, IfOk, IfErr, IsOkUnless};
-ghost use Rattle.goal_terms.specs.Erased.{erased};
+ghost use Rattle.std.specs.Prelude.{◌≡◌, List, Err, true, false, IfOk, IsOkUnless};
 ghost use Rattle.goal_terms.specs.TableMeaning.{Keeps};
 ghost use Rattle.goal_terms.specs.Tree.{Tree as tree};
-ghost use Rattle.goal_terms.specs.TreeOf.{tree_of_alias};
 ghost use Rattle.goal_terms.specs.declared.predicates.Clause.{Clause as clause};
 ghost use Rattle.goal_tables.specs.Rows.{impl_of};
-ghost use Rattle.goal_tables.specs.declared.rows.ImplRow.{ImplRow as impl_row};
-ghost use Rattle.goal_kinds.specs.CandidateRules.{IsRefusal, only_given, said_by};
-ghost use Rattle.goal_kinds.specs.Candidates.{Candidate as candidates, by_impl, built_in, error, bounds_of};
-ghost use Rattle.goal_kinds.specs.EffectKind.{AreImplied, asked_effect_list, is_implied_for, is_of_effect, may_match_effect, refuses_effect_impl};
+ghost use Rattle.goal_kinds.specs.CandidateRules.{only_given, said_by};
+ghost use Rattle.goal_kinds.specs.Candidates.{built_in, error};
+ghost use Rattle.goal_kinds.specs.EffectKind.{asked_effect_list, is_implied_for, is_of_effect, may_match_effect, refuses_effect_impl};
 ghost use Rattle.goal_kinds.specs.Interned.{CandidateIn, candidate_at};
 ghost use Rattle.goal_kinds.specs.InternedEntries.{setting_at};
 ghost use Rattle.goal_kinds.specs.NamedRows.{CandidateIsOf};
-ghost use Rattle.goal_kinds.specs.RuleLists.{IsListed, list_then};
+ghost use Rattle.goal_kinds.specs.RuleClauses.{IsListedThen, IsImplListedThen, IsRefusedAs, AreImpliedIn, AreForOneMore, bounds_in};
+ghost use Rattle.goal_kinds.specs.RuleLists.{IsListed};
 ghost use Rattle.goal_kinds.specs.RuleWords.{TermsAreFor};
 
 use crate::candidates::bounds::push_alias_bounds;
@@ -78,8 +76,8 @@ fn candidate_rule(
     requires row { CandidateIsOf setting.rows.now candidate.now }
     ensures kept { Keeps terms.old terms.new }
     ensures source { IfOk result (λ r. r.source ≡ source) }
-    ensures listed { (env : List clause) → IfOk result (λ r. IsListed setting.entry.rows.now r (list_then then (asked_effect_list asked.now (setting_at setting.entry env) (candidate_at terms.old candidate.now)))) }
-    ensures refused { (env : List clause) → IfErr result (IsRefusal (asked_effect_list asked.now (setting_at setting.entry env) (candidate_at terms.old candidate.now) ≡ None)) }
+    ensures listed { IsListedThen setting.entry then result (λ S. asked_effect_list asked.now S (candidate_at terms.old candidate.now)) }
+    ensures refused { IsRefusedAs setting.entry result (λ S. asked_effect_list asked.now S (candidate_at terms.old candidate.now)) }
     ensures expected { IfOk result (λ r. TermsAreFor (λ t. ⊥) r.entries.items) }
 {
     let args = args_given(terms, asked.trait_ref.args.as_slice())?;
@@ -105,7 +103,7 @@ pub fn match_effect(
     then: Certainty,
 ) -> Result<Rule, Fault>
     ensures source { IfOk result (λ r. r.source ≡ source) }
-    ensures listed { (env : List clause) → IfOk result (λ r. IsListed setting.entry.rows.now r (list_then then (asked_effect_list asked.now (setting_at setting.entry env) (said_by assumption.now.kind)))) }
+    ensures listed { IsListedThen setting.entry then result (λ S. asked_effect_list asked.now S (said_by assumption.now.kind)) }
     ensures given { IfOk result (λ r. only_given r.entries.items ≡ true) }
     ensures expected { IfOk result (λ r. TermsAreFor (λ t. ⊥) r.entries.items) }
     ensures refused { is_of_effect asked.now assumption.now.kind ≡ false → result ≡ Err Fault.NoSolution }
@@ -131,7 +129,7 @@ pub fn const_impl_rule(
     then: Certainty,
 ) -> Result<Rule, Fault>
     ensures source { IfOk result (λ r. r.source ≡ CandidateSource.Impl id) }
-    ensures listed { (env : List clause) (row : impl_row) → impl_of setting.entry.rows.now id ≡ Some row → IfOk result (λ r. IsListed setting.entry.rows.now r (list_then then (asked_effect_list asked.now (setting_at setting.entry env) (by_impl row)))) }
+    ensures listed { IsImplListedThen setting.entry id then result (asked_effect_list asked.now) }
     ensures expected { IfOk result (λ r. TermsAreFor (λ t. ⊥) r.entries.items) }
     ensures refused { refuses_effect_impl setting.entry.mode.now asked.now (impl_of setting.entry.rows.now id) ≡ true → result ≡ Err Fault.NoSolution }
     ensures accepted { refuses_effect_impl setting.entry.mode.now asked.now (impl_of setting.entry.rows.now id) ≡ false → IsOkUnless result Fault.OutOfMemory }
@@ -162,7 +160,7 @@ pub fn const_built_in_rule(
 ) -> Result<Rule, Fault>
     ensures source { IfOk result (λ r. r.source ≡ CandidateSource.BuiltinImpl BuiltinImplSource.Misc) }
     ensures listed { (env : List clause) → IfOk result (λ r. IsListed setting.entry.rows.now r (asked_effect_list asked.now (setting_at setting.entry env) built_in)) }
-    ensures refused { (env : List clause) → IfErr result (IsRefusal (asked_effect_list asked.now (setting_at setting.entry env) built_in ≡ None)) }
+    ensures refused { IsRefusedAs setting.entry result (λ S. asked_effect_list asked.now S built_in) }
     ensures expected { IfOk result (λ r. TermsAreFor (λ t. ⊥) r.entries.items) }
 {
     let mut terms = TermTable::new(*asked.trait_ref.args.allocator());
@@ -185,7 +183,7 @@ pub fn const_error_rule(
 ) -> Result<Rule, Fault>
     ensures source { IfOk result (λ r. r.source ≡ CandidateSource.BuiltinImpl BuiltinImplSource.Misc) }
     ensures listed { (env : List clause) → IfOk result (λ r. IsListed setting.entry.rows.now r (asked_effect_list asked.now (setting_at setting.entry env) error)) }
-    ensures refused { (env : List clause) → IfErr result (IsRefusal (asked_effect_list asked.now (setting_at setting.entry env) error ≡ None)) }
+    ensures refused { IsRefusedAs setting.entry result (λ S. asked_effect_list asked.now S error) }
     ensures expected { IfOk result (λ r. TermsAreFor (λ t. ⊥) r.entries.items) }
 {
     let mut terms = TermTable::new(*asked.trait_ref.args.allocator());
@@ -222,7 +220,7 @@ pub fn implied_rules(
     asked: &HostEffectPredicate,
     alias: &AliasTerm,
 ) -> Result<Vec<Rule>, Fault>
-    ensures listed { (env : List clause) → IfOk result (λ rs. AreImplied setting.entry.rows.now asked.now (setting_at setting.entry env) (bounds_of setting.entry.rows.now (erased (tree_of_alias alias.now))) rs.items) }
+    ensures listed { (env : List clause) → IfOk result (λ rs. AreImpliedIn setting.entry asked.now env (bounds_in setting.entry alias.now) rs.items) }
     ensures only_memory { IsOkUnless result Fault.OutOfMemory }
 {
     let alloc = *asked.trait_ref.args.allocator();
@@ -249,7 +247,7 @@ fn push_implied_rule(
 ) -> Result<(), Fault>
     requires within { CandidateIn terms.old candidate.now }
     ensures kept { Keeps terms.old terms.new }
-    ensures added { (env : List clause) (cs : List candidates) → AreImplied setting.entry.rows.now asked.now (setting_at setting.entry env) cs rules.old.items → IfOk result (λ _. AreImplied setting.entry.rows.now asked.now (setting_at setting.entry env) (cs ++ candidate_at terms.old candidate.now ∷ []) rules.new.items) }
+    ensures added { (env : List clause) → AreForOneMore (AreImpliedIn setting.entry asked.now env) rules.old (candidate_at terms.old candidate.now) result rules.new }
     ensures only_memory { IsOkUnless result Fault.OutOfMemory }
 {
     if !is_implied_for(asked.trait_ref.def_id, candidate) {

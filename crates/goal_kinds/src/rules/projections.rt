@@ -1,22 +1,20 @@
 //! The rules of candidates for the terms of projections, and of projection goals.
-ghost use Rattle.std.specs.Prelude.{◌≡◌, ◌↔◌, ℕ, suc, List, None, Some, Err, true, false, IfOk, IfErr, IsOkUnless};
-ghost use Rattle.goal_terms.specs.Erased.{erased};
-ghost use Rattle.goal_terms.specs.TreeOf.{tree_of_alias, tree_of_term};
+ghost use Rattle.std.specs.Prelude.{◌≡◌, ◌↔◌, ℕ, suc, List, Err, true, false, IfOk, IsOkUnless};
+ghost use Rattle.goal_terms.specs.TreeOf.{tree_of_term};
 ghost use Rattle.goal_terms.specs.declared.predicates.Clause.{Clause as clause};
-ghost use Rattle.goal_tables.specs.Rows.{impl_of};
-ghost use Rattle.goal_tables.specs.declared.rows.ImplRow.{ImplRow as impl_row};
 ghost use Rattle.goal_tables.specs.declared.rows.Tables.{Tables};
-ghost use Rattle.goal_kinds.specs.CandidateRules.{IsRefusal, only_given, said_by};
-ghost use Rattle.goal_kinds.specs.Candidates.{by_impl, built_in};
+ghost use Rattle.goal_kinds.specs.CandidateRules.{only_given, said_by};
+ghost use Rattle.goal_kinds.specs.Candidates.{built_in};
 ghost use Rattle.goal_kinds.specs.Interned.{CandidateIn, candidate_at};
-ghost use Rattle.goal_kinds.specs.InternedEntries.{ListIn, list_at, setting_at};
+ghost use Rattle.goal_kinds.specs.InternedEntries.{ListIn, setting_at};
 ghost use Rattle.goal_kinds.specs.Levels.{level};
+ghost use Rattle.goal_kinds.specs.ListWords.{GivesList};
 ghost use Rattle.goal_kinds.specs.NamedRows.{CandidateIsOf, CandidateIsSorted, ListNamesItsRows};
-ghost use Rattle.goal_kinds.specs.ProjectionKind.{asked_projection_list, may_match_term, refuses_term};
-ghost use Rattle.goal_kinds.specs.ProjectionLists.{equation_list};
-ghost use Rattle.goal_kinds.specs.RuleLists.{IsListed, list_then};
+ghost use Rattle.goal_kinds.specs.ProjectionKind.{asked_projection_list, may_match_term};
+ghost use Rattle.goal_kinds.specs.RuleClauses.{IsListedThen, IsImplListedThen, IsRefusedAs, asked_equation_list, EquationHolds, EquationRefuted, refuses_asked_term};
+ghost use Rattle.goal_kinds.specs.RuleLists.{IsListed};
 ghost use Rattle.goal_kinds.specs.Rules.{RuleHolds, RuleRefuted};
-ghost use Rattle.goal_kinds.specs.RuleWords.{TermsAreFor, projection_in};
+ghost use Rattle.goal_kinds.specs.RuleWords.{TermsAreFor};
 ghost use Rattle.goal_kinds.specs.Settings.{Setting};
 
 use crate::candidates::environment::predicate_given;
@@ -46,9 +44,9 @@ pub fn projection_rule(
     _tables: &CheckedTables,
     goal: &Goal<ProjectionPredicate>,
 ) -> Result<Rule, Fault>
-    ensures list { (t : Tables) → IfOk result (λ r. IsListed t r (Some (equation_list (erased (tree_of_alias goal.now.predicate.projection_term)) (erased (tree_of_term goal.now.predicate.term))))) }
-    ensures holds { (S : Setting) (n : ℕ) → IfOk result (λ r. RuleHolds S (level S n) r ↔ (level S (suc n)).equation_holds (erased (tree_of_alias goal.now.predicate.projection_term)) (erased (tree_of_term goal.now.predicate.term))) }
-    ensures refuted { (S : Setting) (n : ℕ) → IfOk result (λ r. RuleRefuted S (level S n) r ↔ (level S (suc n)).equation_refuted (erased (tree_of_alias goal.now.predicate.projection_term)) (erased (tree_of_term goal.now.predicate.term))) }
+    ensures list { (t : Tables) → IfOk result (λ r. IsListed t r (asked_equation_list goal.now.predicate)) }
+    ensures holds { (S : Setting) (n : ℕ) → IfOk result (λ r. RuleHolds S (level S n) r ↔ EquationHolds (level S (suc n)) goal.now.predicate) }
+    ensures refuted { (S : Setting) (n : ℕ) → IfOk result (λ r. RuleRefuted S (level S n) r ↔ EquationRefuted (level S (suc n)) goal.now.predicate) }
     ensures expected { IfOk result (λ r. TermsAreFor (λ t. t ≡ tree_of_term goal.now.predicate.term) r.entries.items) }
     ensures source { IfOk result (λ r. r.source ≡ CandidateSource.BuiltinImpl BuiltinImplSource.Misc) }
     ensures memory { IsOkUnless result Fault.OutOfMemory }
@@ -87,7 +85,7 @@ fn asked_list<'t>(
 ) -> Result<Option<Vec<InternedEntry<'t>>>, OutOfMemory>
     requires { CandidateIn terms.old candidate.now }
     ensures within { IfOk result (ListIn terms.new) }
-    ensures list { (env : List clause) → IfOk result (λ o. list_at terms.new o ≡ asked_projection_list asked.now (setting_at setting.entry env) (candidate_at terms.old candidate.now)) }
+    ensures list { GivesList terms.new setting.entry result (λ S. asked_projection_list asked.now S (candidate_at terms.old candidate.now)) }
     ensures named { CandidateIsOf setting.entry.rows.now candidate.now → IfOk result (ListNamesItsRows setting.entry.rows.now) }
 {
     let Some(item) = asked_item(setting.rows, asked) else {
@@ -118,8 +116,8 @@ fn candidate_rule(
     requires row { CandidateIsOf setting.rows.now candidate.now }
     requires sorted { CandidateIsSorted (candidate_at terms.old candidate.now) }
     ensures source { IfOk result (λ r. r.source ≡ source) }
-    ensures listed { (env : List clause) → IfOk result (λ r. IsListed setting.entry.rows.now r (list_then then (asked_projection_list asked.now.alias (setting_at setting.entry env) (candidate_at terms.old candidate.now)))) }
-    ensures refused { (env : List clause) → IfErr result (IsRefusal (asked_projection_list asked.now.alias (setting_at setting.entry env) (candidate_at terms.old candidate.now) ≡ None)) }
+    ensures listed { IsListedThen setting.entry then result (λ S. asked_projection_list asked.now.alias S (candidate_at terms.old candidate.now)) }
+    ensures refused { IsRefusedAs setting.entry result (λ S. asked_projection_list asked.now.alias S (candidate_at terms.old candidate.now)) }
     ensures expected { IfOk result (λ r. TermsAreFor (λ t. t ≡ tree_of_term asked.now.term) r.entries.items) }
 {
     let list = asked_list(setting, terms, &asked.alias, candidate)?;
@@ -138,10 +136,10 @@ pub fn match_projection(
     then: Certainty,
 ) -> Result<Rule, Fault>
     ensures source { IfOk result (λ r. r.source ≡ source) }
-    ensures listed { (env : List clause) → IfOk result (λ r. IsListed setting.entry.rows.now r (list_then then (asked_projection_list asked.now.alias (setting_at setting.entry env) (said_by assumption.now.kind)))) }
+    ensures listed { IsListedThen setting.entry then result (λ S. asked_projection_list asked.now.alias S (said_by assumption.now.kind)) }
     ensures given { IfOk result (λ r. only_given r.entries.items ≡ true) }
     ensures expected { IfOk result (λ r. TermsAreFor (λ t. t ≡ tree_of_term asked.now.term) r.entries.items) }
-    ensures refused { (env : List clause) → IfErr result (IsRefusal (asked_projection_list asked.now.alias (setting_at setting.entry env) (said_by assumption.now.kind) ≡ None)) }
+    ensures refused { IsRefusedAs setting.entry result (λ S. asked_projection_list asked.now.alias S (said_by assumption.now.kind)) }
     ensures accepted { may_match_term asked.now.alias assumption.now.kind ≡ true → IsOkUnless result Fault.OutOfMemory }
 {
     let mut terms = TermTable::new(*asked.alias.args.allocator());
@@ -166,10 +164,10 @@ pub fn impl_term_rule(
     then: Certainty,
 ) -> Result<Rule, Fault>
     ensures source { IfOk result (λ r. r.source ≡ CandidateSource.Impl id) }
-    ensures listed { (env : List clause) (row : impl_row) → impl_of setting.entry.rows.now id ≡ Some row → IfOk result (λ r. IsListed setting.entry.rows.now r (list_then then (asked_projection_list asked.now.alias (setting_at setting.entry env) (by_impl row)))) }
+    ensures listed { IsImplListedThen setting.entry id then result (asked_projection_list asked.now.alias) }
     ensures expected { IfOk result (λ r. TermsAreFor (λ t. t ≡ tree_of_term asked.now.term) r.entries.items) }
-    ensures refused { refuses_term setting.entry.mode.now asked.now.alias (projection_in setting.entry.rows.now asked.now.alias) (impl_of setting.entry.rows.now id) ≡ true → result ≡ Err Fault.NoSolution }
-    ensures accepted { refuses_term setting.entry.mode.now asked.now.alias (projection_in setting.entry.rows.now asked.now.alias) (impl_of setting.entry.rows.now id) ≡ false → IsOkUnless result Fault.OutOfMemory }
+    ensures refused { refuses_asked_term setting.entry asked.now.alias id ≡ true → result ≡ Err Fault.NoSolution }
+    ensures accepted { refuses_asked_term setting.entry asked.now.alias id ≡ false → IsOkUnless result Fault.OutOfMemory }
 {
     let Some(row) = setting.rows.impl_row(id) else {
         return Err(Fault::NoSolution);
@@ -195,7 +193,7 @@ pub fn impl_term_rule(
 pub fn built_in_term_rule(setting: ListSetting<'_, '_>, asked: &NormalizesTo) -> Result<Rule, Fault>
     ensures source { IfOk result (λ r. r.source ≡ CandidateSource.BuiltinImpl BuiltinImplSource.Misc) }
     ensures listed { (env : List clause) → IfOk result (λ r. IsListed setting.entry.rows.now r (asked_projection_list asked.now.alias (setting_at setting.entry env) built_in)) }
-    ensures refused { (env : List clause) → IfErr result (IsRefusal (asked_projection_list asked.now.alias (setting_at setting.entry env) built_in ≡ None)) }
+    ensures refused { IsRefusedAs setting.entry result (λ S. asked_projection_list asked.now.alias S built_in) }
     ensures expected { IfOk result (λ r. TermsAreFor (λ t. t ≡ tree_of_term asked.now.term) r.entries.items) }
 {
     let mut terms = TermTable::new(*asked.alias.args.allocator());

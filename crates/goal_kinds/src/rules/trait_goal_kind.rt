@@ -6,9 +6,8 @@ ghost use Rattle.goal_tables.specs.Faults.{IsChecked};
 ghost use Rattle.goal_kinds.specs.CandidateRules.{IsRefusal, IsWithSelf as is_trait_with_self, first_type as first_of};
 ghost use Rattle.goal_kinds.specs.Candidates.{built_in};
 ghost use Rattle.goal_kinds.specs.InternedEntries.{setting_at};
+ghost use Rattle.goal_kinds.specs.RuleClauses.{asked_trait_list};
 ghost use Rattle.goal_kinds.specs.RuleLists.{IsListed};
-ghost use Rattle.goal_kinds.specs.Rules.{given};
-ghost use Rattle.goal_kinds.specs.TraitLists.{trait_list};
 
 use crate::faults::Fault;
 use crate::goal_kind::{GoalKind, MergeRule, TraitView};
@@ -70,8 +69,8 @@ pub(crate) fn setting_of<'t, 'm>(
 /// other traits, which takes no memory.
 fn named_rule(setting: ListSetting<'_, '_>, asked: &TraitRef, is_for: bool) -> Result<Rule, Fault>
     ensures other { is_for ≡ false → result ≡ Err Fault.NotForThisKind }
-    ensures listed { (env : List clause) → IfOk result (λ r. IsListed setting.entry.rows.now r (trait_list (setting_at setting.entry env) asked.now.def_id (given asked.now.args) built_in)) }
-    ensures refused { (env : List clause) → is_for ≡ true → IfErr result (IsRefusal (trait_list (setting_at setting.entry env) asked.now.def_id (given asked.now.args) built_in ≡ None)) }
+    ensures listed { (env : List clause) → IfOk result (λ r. IsListed setting.entry.rows.now r (asked_trait_list asked.now (setting_at setting.entry env) built_in)) }
+    ensures refused { (env : List clause) → is_for ≡ true → IfErr result (IsRefusal (asked_trait_list asked.now (setting_at setting.entry env) built_in ≡ None)) }
 {
     if is_for {
         built_in_rule(setting, asked)

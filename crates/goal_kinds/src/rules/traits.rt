@@ -1,17 +1,16 @@
 //! The rules of candidates for trait goals.
-ghost use Rattle.std.specs.Prelude.{◌≡◌, List, None, Some, Err, true, false, IfOk, IfErr, IsOkUnless};
+ghost use Rattle.std.specs.Prelude.{◌≡◌, List, Err, true, false, IfOk, IsOkUnless};
 ghost use Rattle.goal_terms.specs.declared.predicates.Clause.{Clause as clause};
 ghost use Rattle.goal_tables.specs.Rows.{impl_of};
-ghost use Rattle.goal_tables.specs.declared.rows.ImplRow.{ImplRow as impl_row};
-ghost use Rattle.goal_kinds.specs.CandidateRules.{IsRefusal, is_coherence, is_of_trait, may_match, only_bars, only_given, refuses_impl, said_by};
-ghost use Rattle.goal_kinds.specs.Candidates.{by_impl, built_in, error};
+ghost use Rattle.goal_kinds.specs.CandidateRules.{is_coherence, is_of_trait, may_match, only_bars, only_given, refuses_impl, said_by};
+ghost use Rattle.goal_kinds.specs.Candidates.{built_in, error};
 ghost use Rattle.goal_kinds.specs.Interned.{CandidateIn, candidate_at};
 ghost use Rattle.goal_kinds.specs.InternedEntries.{setting_at};
 ghost use Rattle.goal_kinds.specs.NamedRows.{CandidateIsOf};
-ghost use Rattle.goal_kinds.specs.RuleLists.{IsListed, list_then};
+ghost use Rattle.goal_kinds.specs.RuleClauses.{IsListedThen, IsImplListedThen, IsRefusedAs, asked_trait_list};
+ghost use Rattle.goal_kinds.specs.RuleLists.{IsListed};
 ghost use Rattle.goal_kinds.specs.RuleWords.{TermsAreFor};
 ghost use Rattle.goal_kinds.specs.Rules.{given};
-ghost use Rattle.goal_kinds.specs.TraitLists.{trait_list};
 
 use crate::candidates::environment::{args_given, predicate_given};
 use crate::candidates::interned::InternedCandidate;
@@ -56,8 +55,8 @@ fn candidate_rule(
     requires within { CandidateIn terms.old candidate.now }
     requires row { CandidateIsOf setting.rows.now candidate.now }
     ensures source { IfOk result (λ r. r.source ≡ source) }
-    ensures listed { (env : List clause) → IfOk result (λ r. IsListed setting.entry.rows.now r (list_then then (trait_list (setting_at setting.entry env) asked.now.def_id (given asked.now.args) (candidate_at terms.old candidate.now)))) }
-    ensures refused { (env : List clause) → IfErr result (IsRefusal (trait_list (setting_at setting.entry env) asked.now.def_id (given asked.now.args) (candidate_at terms.old candidate.now) ≡ None)) }
+    ensures listed { IsListedThen setting.entry then result (λ S. asked_trait_list asked.now S (candidate_at terms.old candidate.now)) }
+    ensures refused { IsRefusedAs setting.entry result (λ S. asked_trait_list asked.now S (candidate_at terms.old candidate.now)) }
     ensures expected { IfOk result (λ r. TermsAreFor (λ t. ⊥) r.entries.items) }
 {
     let args = args_given(terms, asked.args.as_slice())?;
@@ -75,7 +74,7 @@ pub fn match_trait(
     then: Certainty,
 ) -> Result<Rule, Fault>
     ensures source { IfOk result (λ r. r.source ≡ source) }
-    ensures listed { (env : List clause) → IfOk result (λ r. IsListed setting.entry.rows.now r (list_then then (trait_list (setting_at setting.entry env) asked.now.def_id (given asked.now.args) (said_by assumption.now.kind)))) }
+    ensures listed { IsListedThen setting.entry then result (λ S. asked_trait_list asked.now S (said_by assumption.now.kind)) }
     ensures given { IfOk result (λ r. only_given r.entries.items ≡ true) }
     ensures expected { IfOk result (λ r. TermsAreFor (λ t. ⊥) r.entries.items) }
     ensures refused { is_of_trait asked.now assumption.now.kind ≡ false → result ≡ Err Fault.NoSolution }
@@ -125,7 +124,7 @@ pub fn impl_rule(
     then: Certainty,
 ) -> Result<Rule, Fault>
     ensures source { IfOk result (λ r. r.source ≡ CandidateSource.Impl id) }
-    ensures listed { (env : List clause) (row : impl_row) → impl_of setting.entry.rows.now id ≡ Some row → IfOk result (λ r. IsListed setting.entry.rows.now r (list_then then (trait_list (setting_at setting.entry env) asked.now.def_id (given asked.now.args) (by_impl row)))) }
+    ensures listed { IsImplListedThen setting.entry id then result (asked_trait_list asked.now) }
     ensures expected { IfOk result (λ r. TermsAreFor (λ t. ⊥) r.entries.items) }
     ensures refused { refuses_impl setting.entry.mode.now asked.now (impl_of setting.entry.rows.now id) ≡ true → result ≡ Err Fault.NoSolution }
     ensures accepted { refuses_impl setting.entry.mode.now asked.now (impl_of setting.entry.rows.now id) ≡ false → IsOkUnless result Fault.OutOfMemory }
@@ -149,8 +148,8 @@ pub fn impl_rule(
 /// rule names is refused.
 pub fn built_in_rule(setting: ListSetting<'_, '_>, asked: &TraitRef) -> Result<Rule, Fault>
     ensures source { IfOk result (λ r. r.source ≡ CandidateSource.BuiltinImpl BuiltinImplSource.Misc) }
-    ensures listed { (env : List clause) → IfOk result (λ r. IsListed setting.entry.rows.now r (trait_list (setting_at setting.entry env) asked.now.def_id (given asked.now.args) built_in)) }
-    ensures refused { (env : List clause) → IfErr result (IsRefusal (trait_list (setting_at setting.entry env) asked.now.def_id (given asked.now.args) built_in ≡ None)) }
+    ensures listed { (env : List clause) → IfOk result (λ r. IsListed setting.entry.rows.now r (asked_trait_list asked.now (setting_at setting.entry env) built_in)) }
+    ensures refused { IsRefusedAs setting.entry result (λ S. asked_trait_list asked.now S built_in) }
     ensures expected { IfOk result (λ r. TermsAreFor (λ t. ⊥) r.entries.items) }
 {
     let mut terms = TermTable::new(*asked.args.allocator());
@@ -169,8 +168,8 @@ pub fn built_in_rule(setting: ListSetting<'_, '_>, asked: &TraitRef) -> Result<R
 /// The rule of an error in a trait goal: it asks for nothing. A goal without an error is refused.
 pub fn error_rule(setting: ListSetting<'_, '_>, asked: &TraitRef) -> Result<Rule, Fault>
     ensures source { IfOk result (λ r. r.source ≡ CandidateSource.BuiltinImpl BuiltinImplSource.Misc) }
-    ensures listed { (env : List clause) → IfOk result (λ r. IsListed setting.entry.rows.now r (trait_list (setting_at setting.entry env) asked.now.def_id (given asked.now.args) error)) }
-    ensures refused { (env : List clause) → IfErr result (IsRefusal (trait_list (setting_at setting.entry env) asked.now.def_id (given asked.now.args) error ≡ None)) }
+    ensures listed { (env : List clause) → IfOk result (λ r. IsListed setting.entry.rows.now r (asked_trait_list asked.now (setting_at setting.entry env) error)) }
+    ensures refused { IsRefusedAs setting.entry result (λ S. asked_trait_list asked.now S error) }
     ensures expected { IfOk result (λ r. TermsAreFor (λ t. ⊥) r.entries.items) }
 {
     let mut terms = TermTable::new(*asked.args.allocator());

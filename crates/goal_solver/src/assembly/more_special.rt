@@ -58,7 +58,7 @@ fn binds_older(response: &Response) -> bool
 }
 
 /// Whether a response binds no variable but its own, and no opaque type.
-fn binds_nothing(response: &Response) -> bool
+pub(crate) fn binds_nothing(response: &Response) -> bool
     ensures { result ≡ binds_nothing response.now }
 {
     !binds_older(response) && response.opaque_entries.is_empty()

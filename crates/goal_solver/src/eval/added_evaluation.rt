@@ -14,6 +14,7 @@ ghost use Rattle.goal_solver.specs.OpenForms.{is_sure};
 ghost use Rattle.goal_solver.specs.Refusals.{WhenRefused, RefusesGoal, RefusesListed, RefusesOne};
 ghost use Rattle.goal_solver.specs.Relating.{ChangesRecords, IsFaultFor, SaysYes, LeavesOpen};
 
+use crate::assembly::more_special::binds_nothing;
 use crate::context::{EvalCtxt, Snapshot};
 use crate::eval::goal_outcomes::OpenGoal;
 use crate::faults::Fault;
@@ -264,10 +265,28 @@ impl EvalCtxt<'_> {
         self.verdict(outcome)
     }
 
+    /// What a goal with inference variables comes to. One that is being answered already leads back to itself, and is
+    /// undecided: asking it again at less depth says nothing that this depth doesn't. One that was answered is answered
+    /// so again.
+    #[cycle(open)]
+    fn evaluate_open(&mut self, goal: &OpenGoal) -> Result<Certainty, Fault>
+        ensures alone { ChangesRecords self.old self.new }
+        ensures faults { RecordsCausedFaults self.old self.new }
+        ensures goes_back { GoesBack self.old self.new }
+        ensures fault { IsFaultFor self.old self.new result }
+    {
+        if let Some(certainty) = self.begin_open(goal)? {
+            return Ok(certainty);
+        }
+        let answered = self.evaluate_once(goal);
+        self.end_open(&answered);
+        answered
+    }
+
     /// What a goal with inference variables comes to: it is answered by its candidates, at one less of the depth, and
     /// an answer that is sure is applied. At depth 0 it is undecided.
     #[cycle(open)]
-    fn evaluate_open(&mut self, goal: &OpenGoal) -> Result<Certainty, Fault>
+    fn evaluate_once(&mut self, goal: &OpenGoal) -> Result<Certainty, Fault>
         ensures alone { ChangesRecords self.old self.new }
         ensures faults { RecordsCausedFaults self.old self.new }
         ensures goes_back { GoesBack self.old self.new }
@@ -282,7 +301,7 @@ impl EvalCtxt<'_> {
         answered
     }
 
-    /// Applies what a goal with inference variables is answered, if that is sure.
+    /// Applies what a goal with inference variables is answered, if that is sure and tells something.
     #[cycle(open)]
     fn apply_below(&mut self, goal: &OpenGoal) -> Result<Certainty, Fault>
         requires positive { 0 < self.old.remaining_depth }
@@ -291,6 +310,9 @@ impl EvalCtxt<'_> {
         ensures fault { IsFaultFor self.old self.new result }
     {
         let response = self.answer_below(goal)?;
+        if tells_nothing(&response) {
+            return Ok(response.certainty);
+        }
         self.apply_sure(&response)
     }
 
@@ -388,4 +410,9 @@ fn add_place(places: &mut Vec<usize>, place: usize) -> Result<(), Fault>
         return Err(Fault::OutOfMemory);
     }
     Ok(())
+}
+
+/// Whether a response says nothing of what was there before it: no variable but its own is bound, no lifetimes are equated.
+fn tells_nothing(response: &Response) -> bool {
+    binds_nothing(response) && response.region_equations.is_empty()
 }

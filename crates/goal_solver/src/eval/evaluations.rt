@@ -2,16 +2,15 @@
 ghost use Rattle.std.specs.Prelude.{◌≡◌, ◌⊎◌, IfOk, IfErr};
 ghost use Rattle.goal_terms.specs.TableMeaning.{Keeps};
 ghost use Rattle.goal_terms.specs.declared.modes.TypingMode.{TypingMode};
-ghost use Rattle.goal_kinds.specs.Answers.{setting_of};
-ghost use Rattle.goal_kinds.specs.Levels.{level};
 ghost use Rattle.goal_solver.specs.Accesses.{RecordsCaused, EndsFor, RecordsCausedFaults};
 ghost use Rattle.goal_eval.specs.ErasedArgs.{erased_args};
-ghost use Rattle.goal_solver.specs.Answers.{IsOwed, level_over};
+ghost use Rattle.goal_solver.specs.Answers.{IsOwed};
 ghost use Rattle.goal_kinds.specs.Interned.{AreIn, PredicateIn, erased_all, predicate_at};
-ghost use Rattle.goal_solver.specs.Evaluations.{RunSays, SaysOf, SaysTermAt, StopsForMemory, predicate_seen};
+ghost use Rattle.goal_solver.specs.Evaluations.{RunSays, SaysOf, SaysTermAt, StopsForMemory, predicate_seen, SaysTraitAt, level_at, SaysAliasTerm, WhereStands, WhereRun};
 ghost use Rattle.goal_solver.specs.GoingBack.{GoesBack, restored};
-ghost use Rattle.goal_solver.specs.Recording.{FitsKind};
-ghost use Rattle.goal_eval.specs.Outcomes.{RunsAs, StandsFor, SaysThrough, FoundIn};
+ghost use Rattle.goal_solver.specs.Recording.{FitsKind, IsFitting};
+ghost use Rattle.goal_eval.specs.Outcomes.{RunsAs, FoundIn};
+ghost use Rattle.goal_solver.specs.Promises.{WhereOwed};
 
 use crate::context::EvalCtxt;
 use crate::eval::predicate_views::{PredicateView, intern_predicate};
@@ -42,7 +41,7 @@ impl EvalCtxt<'_> {
         ensures kept { Keeps self.old.terms self.new.terms }
         ensures unchanged { self.new ≡ restored self.old self.new }
         ensures goes_back { GoesBack self.old self.new }
-        ensures says { (m : TypingMode) → IsOwed self.new m → IfOk result (SaysThrough (λ c. (level (setting_of self.old.tables m environment.now) depth).through c trait_id (erased_args args.now)) ((level (setting_of self.old.tables m environment.now) depth).trait_refuted trait_id (erased_args args.now))) }
+        ensures says { (m : TypingMode) → IsOwed self.new m → SaysTraitAt (level_at self.old m environment.now depth) trait_id (erased_args args.now) result }
         ensures caused { RecordsCaused self.old self.new }
         ensures faults { RecordsCausedFaults self.old self.new }
         ensures ends { IfErr result (EndsFor self.old) }
@@ -69,7 +68,7 @@ impl EvalCtxt<'_> {
         ensures kept { Keeps self.old.terms self.new.terms }
         ensures unchanged { self.new ≡ restored self.old self.new }
         ensures goes_back { GoesBack self.old self.new }
-        ensures says { (m : TypingMode) → RunsAs on_access self.old.typing_mode m → IfOk result (SaysThrough (λ c. (level (setting_of self.old.tables m environment.now) depth).through c trait_id (erased_args args.now)) ((level (setting_of self.old.tables m environment.now) depth).trait_refuted trait_id (erased_args args.now))) }
+        ensures says { (m : TypingMode) → RunsAs on_access self.old.typing_mode m → SaysTraitAt (level_at self.old m environment.now depth) trait_id (erased_args args.now) result }
         ensures caused { RecordsCaused self.old self.new }
         ensures faults { RecordsCausedFaults self.old self.new }
         ensures ends { IfErr result (EndsFor self.old) }
@@ -187,8 +186,8 @@ impl EvalCtxt<'_> {
         ensures unchanged { self.new ≡ restored self.old self.new }
         ensures goes_back { GoesBack self.old self.new }
         ensures within { IfOk result (FoundIn self.new.terms) }
-        ensures says { (m : TypingMode) → IsOwed self.new m → SaysTermAt (level_over self.old m environment.now) alias.now.kind (erased_args alias.now.args.items) self.new.terms result }
-        ensures fits { IfOk result (FitsKind alias.now.kind self.new.terms) ⊎ ((m : TypingMode) → StandsFor self.old.typing_mode m → SaysTermAt (level_over self.old m environment.now) alias.now.kind (erased_args alias.now.args.items) self.new.terms result) }
+        ensures says { WhereOwed self.old self.new environment.now (λ L. SaysAliasTerm L alias.now self.new.terms result) }
+        ensures fits { IsFitting alias.now.kind self.new.terms result ⊎ WhereStands self.old environment.now (λ L. SaysAliasTerm L alias.now self.new.terms result) }
         ensures caused { RecordsCaused self.old self.new }
         ensures faults { RecordsCausedFaults self.old self.new }
         ensures ends { IfErr result (EndsFor self.old) }
@@ -214,8 +213,8 @@ impl EvalCtxt<'_> {
         ensures faults { RecordsCausedFaults self.old self.new }
         ensures goes_back { GoesBack self.old self.new }
         ensures within { IfOk result (FoundIn self.new.terms) }
-        ensures says { (m : TypingMode) → IsOwed self.new m → SaysTermAt (level_over self.old m environment.now) kind (erased_all self.old.terms args.now) self.new.terms result }
-        ensures fits { IfOk result (FitsKind kind self.new.terms) ⊎ ((m : TypingMode) → StandsFor self.old.typing_mode m → SaysTermAt (level_over self.old m environment.now) kind (erased_all self.old.terms args.now) self.new.terms result) }
+        ensures says { WhereOwed self.old self.new environment.now (λ L. SaysTermAt L kind (erased_all self.old.terms args.now) self.new.terms result) }
+        ensures fits { IsFitting kind self.new.terms result ⊎ WhereStands self.old environment.now (λ L. SaysTermAt L kind (erased_all self.old.terms args.now) self.new.terms result) }
         ensures caused { RecordsCaused self.old self.new }
         ensures ends { IfErr result (EndsFor self.old) }
         ensures stops { StopsForMemory self.old result }
@@ -268,7 +267,7 @@ impl EvalCtxt<'_> {
         ensures faults { RecordsCausedFaults self.old self.new }
         ensures goes_back { GoesBack self.old self.new }
         ensures within { IfOk result (FoundIn self.new.terms) }
-        ensures says { (m : TypingMode) → RunsAs on_access self.old.typing_mode m → SaysTermAt (level_over self.old m environment.now) kind (erased_all self.old.terms args.now) self.new.terms result }
+        ensures says { WhereRun on_access self.old environment.now (λ L. SaysTermAt L kind (erased_all self.old.terms args.now) self.new.terms result) }
         ensures caused { RecordsCaused self.old self.new }
         ensures ends { IfErr result (EndsFor self.old) }
         ensures stops { StopsForMemory self.old result }

@@ -1,17 +1,13 @@
 //! Whether a goal that was added holds.
-ghost use Rattle.std.specs.Prelude.{◌≡◌, ◌<◌, ◌||◌, length, false, None, IfOk, IfErr, IsOkUnless};
-ghost use Rattle.goal_terms.specs.NodeTests.{is_any_infer};
+ghost use Rattle.std.specs.Prelude.{◌≡◌, ◌<◌, ◌||◌, length, None, IfOk, IfErr, IsOkUnless};
 ghost use Rattle.goal_terms.specs.TableMeaning.{Keeps};
-ghost use Rattle.goal_terms.specs.declared.modes.TypingMode.{TypingMode as modes};
-ghost use Rattle.goal_tables.specs.Predicates.{some_in_env as some_env, some_in_predicate};
 ghost use Rattle.goal_kinds.specs.Interned.{IsIn, AreIn, PredicateIn};
 ghost use Rattle.goal_solver.specs.Accesses.{RecordsCausedFaults};
-ghost use Rattle.goal_solver.specs.AddedGoals.{IsClosedGoal, GoalHolds, GoalRefuted};
-ghost use Rattle.goal_solver.specs.Answers.{IsOwed, level_over};
+ghost use Rattle.goal_solver.specs.AddedGoals.{IsClosedGoal, SaysGoalAt, HoldsNoVariable};
 ghost use Rattle.goal_solver.specs.Evaluations.{SaysOf, StopsForMemory, predicate_seen};
 ghost use Rattle.goal_solver.specs.GoingBack.{GoesBack};
-ghost use Rattle.goal_eval.specs.Outcomes.{Says};
 ghost use Rattle.goal_solver.specs.Relating.{ChangesRecords};
+ghost use Rattle.goal_solver.specs.Promises.{WhereOwed};
 
 use crate::context::EvalCtxt;
 use crate::context::rebuilding::rebuilt_args;
@@ -45,7 +41,7 @@ pub(crate) enum OpenGoal {
 impl EvalCtxt<'_> {
     /// Whether a goal holds at the remaining depth.
     pub(crate) fn goal_outcome(&mut self, goal: &Goal<Predicate>) -> Result<Outcome, Stop>
-        ensures says { (m : modes) → IsOwed self.new m → IsClosedGoal goal.now.predicate goal.now.param_env.items → IfOk result (Says (GoalHolds (level_over self.old m goal.now.param_env.items) goal.now.predicate) (GoalRefuted (level_over self.old m goal.now.param_env.items) goal.now.predicate)) }
+        ensures says { WhereOwed self.old self.new goal.now.param_env.items (λ L. IsClosedGoal goal.now.predicate goal.now.param_env.items → SaysGoalAt L goal.now.predicate result) }
         ensures closed { IsClosedGoal goal.now.predicate goal.now.param_env.items → self.new.inference ≡ self.old.inference }
         ensures alone { ChangesRecords self.old self.new }
         ensures faults { RecordsCausedFaults self.old self.new }
@@ -207,8 +203,8 @@ impl EvalCtxt<'_> {
         goal: &Goal<Predicate>,
         asked: PredicateView<'_>,
     ) -> Result<Outcome, Stop>
-        ensures says { (some_in_predicate is_any_infer goal.now.predicate || some_env is_any_infer goal.now.param_env.items) ≡ false → SaysOf self.old self.new goal.now.param_env.items (predicate_seen asked.entry) result }
-        ensures closed { (some_in_predicate is_any_infer goal.now.predicate || some_env is_any_infer goal.now.param_env.items) ≡ false → self.new.inference ≡ self.old.inference }
+        ensures says { HoldsNoVariable goal.now → SaysOf self.old self.new goal.now.param_env.items (predicate_seen asked.entry) result }
+        ensures closed { HoldsNoVariable goal.now → self.new.inference ≡ self.old.inference }
         ensures alone { ChangesRecords self.old self.new }
         ensures faults { RecordsCausedFaults self.old self.new }
         ensures goes_back { GoesBack self.old self.new }

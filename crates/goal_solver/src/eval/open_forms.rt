@@ -1,5 +1,5 @@
 //! The head forms of aliases that hold inference variables.
-ghost use Rattle.std.specs.Prelude.{◌≡◌, ◌<◌, ◌∷◌, [], false, true, is_some, None, length, IfOk, IfErr, IfSome, OnOk, OnErr, IsOkUnless};
+ghost use Rattle.std.specs.Prelude.{◌≡◌, ◌<◌, ◌∷◌, [], false, is_some, None, length, IfOk, IfErr, IfSome, OnOk, OnErr, IsOkUnless};
 ghost use Rattle.goal_terms.specs.Erased.{erased};
 ghost use Rattle.goal_terms.specs.Tree.{variable};
 ghost use Rattle.goal_terms.specs.TableMeaning.{Keeps};
@@ -7,7 +7,7 @@ ghost use Rattle.goal_terms.specs.TreeOf.{tree_of_alias, tree_of_term};
 ghost use Rattle.goal_kinds.specs.Interned.{IsIn, erased_at};
 ghost use Rattle.goal_solver.specs.Accesses.{RecordsCausedFaults};
 ghost use Rattle.goal_solver.specs.GoingBack.{GoesBack, restored};
-ghost use Rattle.goal_solver.specs.HeadForms.{bound_term, is_open_form};
+ghost use Rattle.goal_solver.specs.HeadForms.{bound_term, is_open_form, IsOpenForm};
 ghost use Rattle.goal_solver.specs.OpenForms.{OpensFrom, OpensForm, taking, kind_taking, gives_form};
 ghost use Rattle.goal_solver.specs.OpenProjections.{answers_term};
 ghost use Rattle.goal_solver.specs.Relating.{ChangesRecords, IsFaultFor};
@@ -34,7 +34,7 @@ impl EvalCtxt<'_> {
     ) -> Result<Option<Term>, Fault>
         ensures none { is_open_form (bound_term self.old term.now) environment.now ≡ false → IfOk result (λ o. o ≡ None) }
         ensures only_memory { is_open_form (bound_term self.old term.now) environment.now ≡ false → IfErr result (λ f. f ≡ Fault.OutOfMemory) }
-        ensures opens { is_open_form (bound_term self.old term.now) environment.now ≡ true → OpensForm answers_term environment.now (bound_term self.old term.now) self.old result self.new }
+        ensures opens { IsOpenForm self.old environment.now term.now → OpensForm answers_term environment.now (bound_term self.old term.now) self.old result self.new }
         ensures unchanged { gives_form result ≡ false → self.new ≡ restored self.old self.new }
         ensures alone { ChangesRecords self.old self.new }
         ensures faults { RecordsCausedFaults self.old self.new }

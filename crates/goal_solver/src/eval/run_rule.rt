@@ -6,17 +6,18 @@ ghost use Rattle.goal_terms.specs.declared.modes.TypingMode.{TypingMode};
 ghost use Rattle.goal_kinds.specs.RuleLists.{entries_of};
 ghost use Rattle.goal_kinds.specs.Settings.{is_headline as is_of_headline};
 ghost use Rattle.goal_solver.specs.Accesses.{RecordsCausedFaults};
-ghost use Rattle.goal_solver.specs.Answers.{IsOwed, level_over, IsMaybe, AnswersQuietly, IsFaultOf};
+ghost use Rattle.goal_solver.specs.Answers.{IsOwed, IsMaybe, AnswersQuietly, IsFaultOf};
 ghost use Rattle.goal_solver.specs.Binding.{IsApplicable};
 ghost use Rattle.goal_solver.specs.GoingBack.{GoesBack, restored};
 ghost use Rattle.goal_solver.specs.Added.{RecordsAccess};
 ghost use Rattle.goal_eval.specs.Lists.{ListTermIn, RunIn, SaysList};
 ghost use Rattle.goal_solver.specs.OpenRuns.{RunsOpen};
 ghost use Rattle.goal_solver.specs.Refusals.{WhenRefused, IsRefusedOpen};
-ghost use Rattle.goal_eval.specs.Outcomes.{RunsAs};
-ghost use Rattle.goal_solver.specs.RunAnswers.{RunsClosed, RunsInTrial};
-ghost use Rattle.goal_solver.specs.RunRules.{setting_over, asked_of, IsAskedOnce, IsClosedRule, IsRuleAnswer, IsRuleOpen, IsRecorded, IsKept, IsRecordedAnswer, AreRecordedWhere, AreListed, response_of, RuleRunsOn};
+ghost use Rattle.goal_solver.specs.RunAnswers.{RunsClosed, RunsInTrial, IsClosedRun, IsRuleAnswerIn, AsksOnce, IsOpenIn};
+ghost use Rattle.goal_solver.specs.RunRules.{IsClosedRule, IsRecorded, IsKept, IsRecordedAnswer, AreRecordedWhere, AreListed, response_of, RuleRunsOn};
 ghost use Rattle.goal_solver.specs.State.{kinds_of};
+ghost use Rattle.goal_solver.specs.Promises.{WhereOwed};
+ghost use Rattle.goal_solver.specs.Evaluations.{WhereRun};
 
 pub(crate) mod asked;
 pub(crate) mod hidden_types;
@@ -83,8 +84,8 @@ impl EvalCtxt<'_> {
 
     /// What a rule's list of entries is answered.
     fn rule_response(&mut self, environment: &[Clause], rule: &Rule) -> Result<Response, Fault>
-        ensures sound { (m : TypingMode) → IsOwed self.new m → IsClosedRule rule.now.entries.items environment.now → IsRuleAnswer (setting_over self.old m environment.now) (level_over self.old m environment.now) rule.now result }
-        ensures decided { (m : TypingMode) → IsOwed self.new m → IsClosedRule rule.now.entries.items environment.now → IsAskedOnce (asked_of rule.now.entries.items) → IsMaybe result → IsRuleOpen (setting_over self.old m environment.now) (level_over self.old m environment.now) rule.now }
+        ensures sound { (m : TypingMode) → IsOwed self.new m → IsClosedRun environment.now rule.now → IsRuleAnswerIn self.old m environment.now rule.now result }
+        ensures decided { (m : TypingMode) → IsOwed self.new m → IsClosedRun environment.now rule.now → AsksOnce rule.now → IsMaybe result → IsOpenIn self.old m environment.now rule.now }
         ensures recorded { IfOk result (IsRecordedAnswer self.new rule.now.entries.items) }
         ensures listed { AreListed rule.now.entries.items self.old self.new }
         ensures unchanged { self.new ≡ restored self.old self.new }
@@ -93,7 +94,7 @@ impl EvalCtxt<'_> {
         ensures quiet { IsClosedRule rule.now.entries.items environment.now → AnswersQuietly (length (kinds_of self.old)) result }
         ensures chain { (IsClosedRule rule.now.entries.items environment.now → ⊥) → IfOk result (RunsOpen environment.now rule.now.entries.items self.old self.new) }
         ensures applies { (IsClosedRule rule.now.entries.items environment.now → ⊥) → IfOk result (IsApplicable self.new) }
-        ensures refused { (IsClosedRule rule.now.entries.items environment.now → ⊥) → WhenRefused result (IsRefusedOpen environment.now rule.now.entries.items self.old self.new) }
+        ensures refused { (IsClosedRun environment.now rule.now → ⊥) → WhenRefused result (IsRefusedOpen environment.now rule.now.entries.items self.old self.new) }
     {
         if has_variable(&rule.entries, environment) {
             return self.run_open(environment, &rule.entries);
@@ -125,7 +126,7 @@ impl EvalCtxt<'_> {
         ensures unchanged { self.new ≡ restored self.old self.new }
         ensures goes_back { GoesBack self.old self.new }
         ensures stops { is_of_headline self.old.typing_mode ≡ true → IfErr result (λ s. s ≡ Stop.OutOfMemory) }
-        ensures says { (m : TypingMode) → IsOwed self.new m → IfOk result (SaysList (level_over self.old m environment.now) (Some (entries_of self.old.tables entries.now)) self.new.terms) }
+        ensures says { WhereOwed self.old self.new environment.now (λ L. IfOk result (SaysList L (Some (entries_of self.old.tables entries.now)) self.new.terms)) }
     {
         let on_access = self.first_access();
         let first = self.run_entries(on_access, environment, entries);
@@ -149,7 +150,7 @@ impl EvalCtxt<'_> {
         ensures unchanged { self.new ≡ restored self.old self.new }
         ensures goes_back { GoesBack self.old self.new }
         ensures stops { is_of_headline self.old.typing_mode ≡ true → IfErr result (λ s. s ≡ Stop.OutOfMemory) }
-        ensures says { (m : TypingMode) → RunsAs on_access self.old.typing_mode m → IfOk result (SaysList (level_over self.old m environment.now) (Some (entries_of self.old.tables entries.now)) self.new.terms) }
+        ensures says { WhereRun on_access self.old environment.now (λ L. IfOk result (SaysList L (Some (entries_of self.old.tables entries.now)) self.new.terms)) }
     {
         let mut run = ListRun::new(self.allocator());
         for entry in entries {
@@ -178,7 +179,7 @@ impl EvalCtxt<'_> {
         ensures goes_back { GoesBack self.old self.new }
         ensures within { IfOk result (λ _. RunIn self.new.terms run.new) }
         ensures stops { is_of_headline self.old.typing_mode ≡ true → IfErr result (λ s. s ≡ Stop.OutOfMemory) }
-        ensures says { (m : TypingMode) → RunsAs on_access self.old.typing_mode m → IfOk result (RuleRunsOn self.old.tables (level_over self.old m environment.now) self.old.terms run.old entry.now self.new.terms run.new) }
+        ensures says { WhereRun on_access self.old environment.now (λ L. IfOk result (RuleRunsOn self.old.tables L self.old.terms run.old entry.now self.new.terms run.new)) }
     {
         let mut effects = Effects::new(self.allocator());
         let setting = Setting {

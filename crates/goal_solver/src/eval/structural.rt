@@ -7,16 +7,17 @@ ghost use Rattle.goal_terms.specs.declared.modes.TypingMode.{TypingMode as modes
 ghost use Rattle.goal_tables.specs.Predicates.{some_in_env as some_env};
 ghost use Rattle.goal_infer.specs.Unification.{is_alias};
 ghost use Rattle.goal_kinds.specs.Interned.{IsIn, erased_at};
-ghost use Rattle.goal_kinds.specs.Level.{HasHeadForm, HeadFormRefuted};
 ghost use Rattle.goal_kinds.specs.Settings.{is_headline};
 ghost use Rattle.goal_solver.specs.Accesses.{RecordsCausedFaults};
 ghost use Rattle.goal_solver.specs.Answers.{IsOwed, level_over};
 ghost use Rattle.goal_solver.specs.GoingBack.{GoesBack, restored};
-ghost use Rattle.goal_solver.specs.HeadForms.{bound_term, IsClosedForm, IsFormAnswer, IsFormOpen, IsAnswered, IsFormFound, IsFormUnfound, IsFoundItself, LeavesFormOpen, AnswersForm, is_open_form, IsLeftOpen, IsLeftUndecided};
+ghost use Rattle.goal_solver.specs.HeadForms.{bound_term, IsClosedForm, IsFormAnswer, IsAnswered, IsFormFound, IsFoundItself, LeavesFormOpen, AnswersForm, is_open_form, IsLeftOpen, IsLeftUndecided, IsUnfoundFor, SaysForm};
 ghost use Rattle.goal_solver.specs.OpenForms.{OpensTerm, gives_form};
 ghost use Rattle.goal_solver.specs.OpenProjections.{answers_term};
-ghost use Rattle.goal_eval.specs.Outcomes.{RunsAs, SaysWhich, FoundIn};
+ghost use Rattle.goal_eval.specs.Outcomes.{FoundIn};
 ghost use Rattle.goal_solver.specs.Relating.{IsFaultFor};
+ghost use Rattle.goal_solver.specs.Promises.{WhereOwed};
+ghost use Rattle.goal_solver.specs.Evaluations.{WhereRun};
 
 use crate::context::EvalCtxt;
 use crate::faults::Fault;
@@ -105,7 +106,7 @@ impl EvalCtxt<'_> {
         ensures goes_back { GoesBack self.old self.new }
         ensures within { IfOk result (FoundIn self.new.terms) }
         ensures sound { (m : modes) → IsOwed self.new m → IfOk result (IsFormFound (level_over self.old m environment.now) (bound_term self.old term.now) self.new.terms) }
-        ensures decided { (m : modes) → IsOwed self.new m → IsClosedForm (bound_term self.old term.now) environment.now → IfOk result (IsFormUnfound (level_over self.old m environment.now) (bound_term self.old term.now)) }
+        ensures decided { WhereOwed self.old self.new environment.now (λ L. IsClosedForm (bound_term self.old term.now) environment.now → IfOk result (IsUnfoundFor L self.old term.now)) }
         ensures itself { is_alias (node_of (bound_term self.old term.now)) ≡ false → IfOk result (IsFoundItself (bound_term self.old term.now) self.new.terms) }
         ensures only_memory { is_alias (node_of (bound_term self.old term.now)) ≡ false → IfErr result (λ s. s ≡ Stop.OutOfMemory) }
         ensures left { is_open_form (bound_term self.old term.now) environment.now ≡ true → IsLeftUndecided result }
@@ -161,7 +162,7 @@ impl EvalCtxt<'_> {
         ensures faults { RecordsCausedFaults self.old self.new }
         ensures goes_back { GoesBack self.old self.new }
         ensures within { IfOk result (FoundIn self.new.terms) }
-        ensures says { (m : modes) → IsOwed self.new m → IfOk result (SaysWhich (HasHeadForm (level_over self.old m environment.now) (erased_at self.old.terms id)) (HeadFormRefuted (level_over self.old m environment.now) (erased_at self.old.terms id)) self.new.terms) }
+        ensures says { WhereOwed self.old self.new environment.now (λ L. SaysForm L (erased_at self.old.terms id) self.new.terms result) }
         ensures stops { is_headline self.old.typing_mode ≡ true → IfErr result (λ s. s ≡ Stop.OutOfMemory) }
     {
         let on_access = self.first_access();
@@ -185,7 +186,7 @@ impl EvalCtxt<'_> {
         ensures faults { RecordsCausedFaults self.old self.new }
         ensures goes_back { GoesBack self.old self.new }
         ensures within { IfOk result (FoundIn self.new.terms) }
-        ensures says { (m : modes) → RunsAs on_access self.old.typing_mode m → IfOk result (SaysWhich (HasHeadForm (level_over self.old m environment.now) (erased_at self.old.terms id)) (HeadFormRefuted (level_over self.old m environment.now) (erased_at self.old.terms id)) self.new.terms) }
+        ensures says { WhereRun on_access self.old environment.now (λ L. SaysForm L (erased_at self.old.terms id) self.new.terms result) }
         ensures stops { is_headline self.old.typing_mode ≡ true → IfErr result (λ s. s ≡ Stop.OutOfMemory) }
     {
         let mut effects = Effects::new(self.allocator());

@@ -1,11 +1,11 @@
 //! Goals of opaque types that are being defined.
-ghost use Rattle.std.specs.Prelude.{◌≡◌, ◌<◌, suc, ℕ, true, Some, IfOk};
+ghost use Rattle.std.specs.Prelude.{◌≡◌, ◌<◌, true, Some, IfOk};
 ghost use Rattle.goal_kinds.specs.RuleModes.{first_use_of};
 ghost use Rattle.goal_kinds.specs.declared.rules.FirstUse.{FirstUse};
 ghost use Rattle.goal_solver.specs.Binding.{IsApplicable};
 ghost use Rattle.goal_solver.specs.GoingBack.{GoesBack, restored};
-ghost use Rattle.goal_solver.specs.OpenGoals.{WhenAnswered, at_depth};
-ghost use Rattle.goal_solver.specs.Promises.{RunsHidden, is_defined};
+ghost use Rattle.goal_solver.specs.OpenGoals.{WhenAnswered};
+ghost use Rattle.goal_solver.specs.Promises.{RunsHidden, is_defined, IsFirstUse, RunsWhereDefined};
 ghost use Rattle.goal_solver.specs.Relating.{IsFaultFor};
 
 use crate::context::EvalCtxt;
@@ -33,7 +33,7 @@ impl EvalCtxt<'_> {
     /// before.
     pub(crate) fn define_below(&mut self, goal: &Goal<NormalizesTo>) -> Result<Response, Fault>
         requires defined { is_defined self.old goal.now ≡ true }
-        ensures runs { (n : ℕ) (f : FirstUse) → first_use_of self.old.tables self.old.typing_mode goal.now.predicate.alias.kind ≡ Some f → self.old.remaining_depth ≡ suc n → WhenAnswered result (RunsHidden goal.now f (at_depth n self.old) result (at_depth n self.new)) }
+        ensures runs { RunsWhereDefined self.old self.new goal.now result }
         ensures applies { IfOk result (IsApplicable self.new) }
         ensures unchanged { self.new ≡ restored self.old self.new }
         ensures goes_back { GoesBack self.old self.new }
@@ -50,7 +50,7 @@ impl EvalCtxt<'_> {
     /// Runs the list of an opaque type that the mode defines.
     fn run_definition(&mut self, goal: &Goal<NormalizesTo>) -> Result<Response, Fault>
         requires kind { (f : FirstUse) × (first_use_of self.old.tables self.old.typing_mode goal.now.predicate.alias.kind ≡ Some f) }
-        ensures runs { (f : FirstUse) → first_use_of self.old.tables self.old.typing_mode goal.now.predicate.alias.kind ≡ Some f → WhenAnswered result (RunsHidden goal.now f self.old result self.new) }
+        ensures runs { (f : FirstUse) → IsFirstUse self.old goal.now f → WhenAnswered result (RunsHidden goal.now f self.old result self.new) }
         ensures applies { IfOk result (IsApplicable self.new) }
         ensures unchanged { self.new ≡ restored self.old self.new }
         ensures goes_back { GoesBack self.old self.new }

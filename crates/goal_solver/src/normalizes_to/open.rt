@@ -9,7 +9,7 @@ ghost use Rattle.goal_solver.specs.Collecting.{kind_of};
 ghost use Rattle.goal_solver.specs.GoingBack.{GoesBack, restored};
 ghost use Rattle.goal_solver.specs.HiddenTypes.{tree_in};
 ghost use Rattle.goal_solver.specs.OpenGoals.{AsksOpenSelf, IsSelfAlias, IsListedIn, MergesOpened, WhenAnswered, WhenTried, IsFormless, at_depth, InTrial, OpensIfAsked};
-ghost use Rattle.goal_solver.specs.OpenProjections.{AsksItsTrait, proven_class, own_args, alias_kind, ByFormedGroups, ConsidersGroups, is_formed, Forms, FormsAll, RefusesForm, LacksForm, WithForms, IsRigidList, IsRigid, ByBounds, ByRest, ByLater, ByGroups, MergesThrough, MergesProjection, RunsAlias};
+ghost use Rattle.goal_solver.specs.OpenProjections.{AsksItsTrait, proven_class, own_args, alias_kind, ByFormedGroups, ConsidersGroups, is_formed, Forms, FormsAll, RefusesForm, LacksForm, WithForms, IsRigidList, IsRigid, ByBounds, ByRest, MergesThrough, MergesProjection, RunsAlias, ByGroupsOf, ByLaterOf};
 ghost use Rattle.goal_solver.specs.Refusals.{WhenRefused};
 ghost use Rattle.goal_solver.specs.Relating.{IsFaultFor};
 ghost use Rattle.goal_solver.specs.State.{State as state};
@@ -302,7 +302,7 @@ impl EvalCtxt<'_> {
         asked: &NormalizesTo,
         rules: &GroupRules,
     ) -> Result<Response, Fault>
-        ensures decides { WhenAnswered result (ByGroups class rules.now.param_env.items rules.now.environment.items rules.now.later.items (own_args self.old.tables asked.now.alias) asked.now self.old result self.new) }
+        ensures decides { WhenAnswered result (ByGroupsOf class rules.now asked.now self.old result self.new) }
         ensures applies { IfOk result (IsApplicable self.new) }
         ensures unchanged { self.new ≡ restored self.old self.new }
         ensures goes_back { GoesBack self.old self.new }
@@ -324,7 +324,7 @@ impl EvalCtxt<'_> {
         asked: &NormalizesTo,
         rules: &GroupRules,
     ) -> Result<Response, Fault>
-        ensures decides { WhenAnswered result (ByLater class rules.now.param_env.items rules.now.later.items (own_args self.old.tables asked.now.alias) asked.now self.old result self.new) }
+        ensures decides { WhenAnswered result (ByLaterOf class rules.now asked.now self.old result self.new) }
         ensures applies { IfOk result (IsApplicable self.new) }
         ensures unchanged { self.new ≡ restored self.old self.new }
         ensures goes_back { GoesBack self.old self.new }

@@ -7,11 +7,11 @@ ghost use Rattle.goal_kinds.specs.Projections.{projected_item};
 ghost use Rattle.goal_kinds.specs.Settings.{is_headline};
 ghost use Rattle.goal_solver.specs.Answers.{IsOwed, is_closed_alias, AnswersAside, IsFaultOf};
 ghost use Rattle.goal_solver.specs.GoingBack.{GoesBack, restored};
-ghost use Rattle.goal_solver.specs.Recording.{FitsKind};
-ghost use Rattle.goal_eval.specs.Outcomes.{RunsAs, RunsFor, StandsFor, setting_in, level_in, FoundIn};
+ghost use Rattle.goal_solver.specs.Recording.{FitsKind, IsFitting};
+ghost use Rattle.goal_eval.specs.Outcomes.{RunsAs, RunsFor, setting_in, level_in, FoundIn};
 ghost use Rattle.goal_solver.specs.Promises.{ListsTerm};
 ghost use Rattle.goal_solver.specs.State.{kinds_of};
-ghost use Rattle.goal_solver.specs.ThroughClasses.{SaysTermThrough, SaysClassTerm, SoundThrough, DecidesThrough, AppliesThrough};
+ghost use Rattle.goal_solver.specs.ThroughClasses.{SaysTermThrough, SaysClassTerm, SaysWhereStands, SoundThrough, DecidesThrough, AppliesThrough};
 ghost use Rattle.goal_eval.specs.Effects.{AreSound, IsStop};
 
 use crate::context::EvalCtxt;
@@ -93,7 +93,7 @@ impl EvalCtxt<'_> {
         ensures goes_back { GoesBack self.old self.new }
         ensures within { IfOk result (FoundIn self.new.terms) }
         ensures says { (m : TypingMode) → IsOwed self.new m → SaysClassTerm self.old self.new m environment.now class alias.now result }
-        ensures fits { IfOk result (FitsKind alias.now.kind self.new.terms) ⊎ ((m : TypingMode) → StandsFor self.old.typing_mode m → SaysClassTerm self.old self.new m environment.now class alias.now result) }
+        ensures fits { IsFitting alias.now.kind self.new.terms result ⊎ SaysWhereStands self.old self.new environment.now class alias.now result }
         ensures stops { is_headline self.old.typing_mode ≡ true → IfErr result (λ s. s ≡ Stop.OutOfMemory) }
     {
         if let OnAccess::Record = self.first_access() {

@@ -10,21 +10,21 @@ ghost use Rattle.goal_terms.specs.declared.heads.Variable.{Variable};
 ghost use Rattle.goal_terms.specs.declared.modes.TypingMode.{TypingMode as modes};
 ghost use Rattle.goal_tables.specs.Predicates.{some_in_env as some_env};
 ghost use Rattle.goal_tables.specs.Rows.{impl_of};
-ghost use Rattle.goal_infer.specs.Replacement.{OfKinds};
-ghost use Rattle.goal_kinds.specs.Headers.{under, AllKnown};
+ghost use Rattle.goal_kinds.specs.Headers.{under};
 ghost use Rattle.goal_kinds.specs.ImplTerms.{from_projection, from_impl, from_other};
 ghost use Rattle.goal_kinds.specs.Interned.{AreIn, erased_all};
 ghost use Rattle.goal_kinds.specs.Settings.{is_headline};
-ghost use Rattle.goal_kinds.specs.TraitGoals.{header_of};
 ghost use Rattle.goal_tables.specs.declared.rows.ImplRow.{ImplRow as impls};
 ghost use Rattle.goal_eval.specs.ErasedArgs.{erased_args};
-ghost use Rattle.goal_solver.specs.Answers.{IsOwed, level_over};
+ghost use Rattle.goal_solver.specs.Answers.{IsOwed};
 ghost use Rattle.goal_solver.specs.GoingBack.{GoesBack, restored};
-ghost use Rattle.goal_eval.specs.Outcomes.{RunsAs, SaysMatch, MatchIn};
-ghost use Rattle.goal_solver.specs.Relating.{AgreesWith, Identifies, SaysYes, Refuses, LeavesOpen, ChangesRecords, IsFaultFor, all_bound};
+ghost use Rattle.goal_eval.specs.Outcomes.{MatchIn};
+ghost use Rattle.goal_solver.specs.Relating.{AgreesWith, LeavesOpen, ChangesRecords, IsFaultFor, all_bound};
 ghost use Rattle.goal_solver.specs.State.{kinds_of};
-ghost use Rattle.goal_solver.specs.TranslatedArgs.{taken_by, own_after, bound_ref, AreClosedIn, certainty_in, AnswersJust, IsTranslation, IsHeaderOpen, IsFresh, BindsNothing, IsMadeEqual, IsEqualUnder, IsAdded, AddsClauses, MakesVariables, ChangesGoals, MatchCounts, Takes, args_asked, TranslatesOther};
+ghost use Rattle.goal_solver.specs.TranslatedArgs.{taken_by, own_after, certainty_in, AnswersJust, IsTranslation, IsHeaderOpen, IsFresh, BindsNothing, IsMadeEqual, IsAdded, AddsClauses, MakesVariables, ChangesGoals, MatchCounts, Takes, args_asked, TranslatesOther, asked_of, asked_for, ReadsSoundly, LeavesHeaderOpen, MakesFresh, BindsNone, EquatesHeader, IsHeaderEqual, IsNeverEqual, AddsItsGoals, FreshIfUnknown, EqualsWhereYes, NeverEquals, SaysHeader};
 ghost use Rattle.goal_solver.specs.Variables.{fresh_args};
+ghost use Rattle.goal_solver.specs.Promises.{WhereOwed};
+ghost use Rattle.goal_solver.specs.Evaluations.{WhereRun};
 
 use crate::context::EvalCtxt;
 use crate::context::rebuilding::rebuilt_args;
@@ -121,15 +121,15 @@ impl EvalCtxt<'_> {
         trait_ref: &TraitRef,
     ) -> Result<(Vec<GenericArg>, Certainty), Fault>
         ensures nowhere { impl_of self.old.tables id ≡ None → AnswersJust (own_after trait_ref.now goal.now) Certainty.Maybe result × (self.new ≡ self.old) }
-        ensures sound { (m : modes) → IsOwed self.new m → (q : impls) → impl_of self.old.tables id ≡ Some q → AreClosedIn goal.now.param_env.items (bound_ref self.old trait_ref.now) → IsTranslation (level_over self.old m goal.now.param_env.items) q (bound_ref self.old trait_ref.now) (map erased (own_after trait_ref.now goal.now)) result }
-        ensures decided { (m : modes) → IsOwed self.new m → (q : impls) → impl_of self.old.tables id ≡ Some q → AreClosedIn goal.now.param_env.items (bound_ref self.old trait_ref.now) → LeavesOpen (certainty_in result) → IsHeaderOpen (level_over self.old m goal.now.param_env.items) q (bound_ref self.old trait_ref.now) }
-        ensures fresh { (m : modes) → IsOwed self.new m → (q : impls) → impl_of self.old.tables id ≡ Some q → AreClosedIn goal.now.param_env.items (bound_ref self.old trait_ref.now) → ((s : List Tree) → AllKnown (level_over self.old m goal.now.param_env.items) q.params.items (header_of q) (bound_ref self.old trait_ref.now) s → ⊥) → IfOk result (λ r. IsFresh self.old self.new q (own_after trait_ref.now goal.now) (trees_of r.0.items)) }
-        ensures binds_nothing { (q : impls) → impl_of self.old.tables id ≡ Some q → AreClosedIn goal.now.param_env.items (bound_ref self.old trait_ref.now) → IfOk result (λ r. BindsNothing self.old self.new q (own_after trait_ref.now goal.now) (trees_of r.0.items)) }
-        ensures made_equal { (q : impls) → impl_of self.old.tables id ≡ Some q → (AreClosedIn goal.now.param_env.items (bound_ref self.old trait_ref.now) → ⊥) → IsMadeEqual self.old self.new goal.now.param_env.items q (trees_of trait_ref.now.args.items) (own_after trait_ref.now goal.now) result }
-        ensures equal { (m : modes) → IsOwed self.new m → (q : impls) → impl_of self.old.tables id ≡ Some q → (AreClosedIn goal.now.param_env.items (bound_ref self.old trait_ref.now) → ⊥) → SaysYes (certainty_in result) → (ρ : Variable → Tree) → AgreesWith self.new ρ → IsEqualUnder (level_over self.old m goal.now.param_env.items) q ρ (erased_args trait_ref.now.args.items) (own_after trait_ref.now goal.now) result }
-        ensures never { (q : impls) → impl_of self.old.tables id ≡ Some q → (AreClosedIn goal.now.param_env.items (bound_ref self.old trait_ref.now) → ⊥) → Refuses (certainty_in result) → (ρ : Variable → Tree) → OfKinds ρ → AgreesWith self.old ρ → Identifies ρ (erased_args trait_ref.now.args.items) (map (under (fresh_args q.params.items (length (kinds_of self.old)))) (header_of q)) → ⊥ }
+        ensures sound { (q : impls) → impl_of self.old.tables id ≡ Some q → ReadsSoundly self.old self.new (asked_of trait_ref.now goal.now q) result }
+        ensures decided { (q : impls) → impl_of self.old.tables id ≡ Some q → LeavesHeaderOpen self.old self.new (asked_of trait_ref.now goal.now q) result }
+        ensures fresh { (q : impls) → impl_of self.old.tables id ≡ Some q → MakesFresh self.old self.new (asked_of trait_ref.now goal.now q) result }
+        ensures binds_nothing { (q : impls) → impl_of self.old.tables id ≡ Some q → BindsNone self.old self.new (asked_of trait_ref.now goal.now q) result }
+        ensures made_equal { (q : impls) → impl_of self.old.tables id ≡ Some q → EquatesHeader self.old self.new (asked_of trait_ref.now goal.now q) result }
+        ensures equal { (q : impls) → impl_of self.old.tables id ≡ Some q → IsHeaderEqual self.old self.new (asked_of trait_ref.now goal.now q) result }
+        ensures never { (q : impls) → impl_of self.old.tables id ≡ Some q → IsNeverEqual self.old (asked_of trait_ref.now goal.now q) result }
         ensures agreed { (ρ : Variable → Tree) → AgreesWith self.new ρ → AgreesWith self.old ρ }
-        ensures added { (q : impls) → impl_of self.old.tables id ≡ Some q → IfOk result (λ r. IsAdded self.old self.new q goal.now.param_env.items (own_after trait_ref.now goal.now) (trees_of r.0.items)) }
+        ensures added { (q : impls) → impl_of self.old.tables id ≡ Some q → AddsItsGoals self.old self.new (asked_of trait_ref.now goal.now q) result }
         ensures alone { ChangesGoals self.old self.new }
         ensures unchanged { OnErr result (self.new ≡ restored self.old self.new) }
         ensures goes_back { GoesBack self.old self.new }
@@ -156,13 +156,13 @@ impl EvalCtxt<'_> {
         other: &ImplRow,
         trait_ref: &TraitRef,
     ) -> Result<(Vec<GenericArg>, Certainty), Fault>
-        ensures sound { (m : modes) → IsOwed self.new m → AreClosedIn goal.now.param_env.items (bound_ref self.old trait_ref.now) → IsTranslation (level_over self.old m goal.now.param_env.items) other.now (bound_ref self.old trait_ref.now) (map erased (own_after trait_ref.now goal.now)) result }
-        ensures decided { (m : modes) → IsOwed self.new m → AreClosedIn goal.now.param_env.items (bound_ref self.old trait_ref.now) → LeavesOpen (certainty_in result) → IsHeaderOpen (level_over self.old m goal.now.param_env.items) other.now (bound_ref self.old trait_ref.now) }
-        ensures fresh { (m : modes) → IsOwed self.new m → AreClosedIn goal.now.param_env.items (bound_ref self.old trait_ref.now) → ((s : List Tree) → AllKnown (level_over self.old m goal.now.param_env.items) other.now.params.items (header_of other.now) (bound_ref self.old trait_ref.now) s → ⊥) → IfOk result (λ r. IsFresh self.old self.new other.now (own_after trait_ref.now goal.now) (trees_of r.0.items)) }
-        ensures binds_nothing { AreClosedIn goal.now.param_env.items (bound_ref self.old trait_ref.now) → IfOk result (λ r. BindsNothing self.old self.new other.now (own_after trait_ref.now goal.now) (trees_of r.0.items)) }
-        ensures made_equal { (AreClosedIn goal.now.param_env.items (bound_ref self.old trait_ref.now) → ⊥) → IsMadeEqual self.old self.new goal.now.param_env.items other.now (trees_of trait_ref.now.args.items) (own_after trait_ref.now goal.now) result }
-        ensures equal { (m : modes) → IsOwed self.new m → (AreClosedIn goal.now.param_env.items (bound_ref self.old trait_ref.now) → ⊥) → SaysYes (certainty_in result) → (ρ : Variable → Tree) → AgreesWith self.new ρ → IsEqualUnder (level_over self.old m goal.now.param_env.items) other.now ρ (erased_args trait_ref.now.args.items) (own_after trait_ref.now goal.now) result }
-        ensures never { (AreClosedIn goal.now.param_env.items (bound_ref self.old trait_ref.now) → ⊥) → Refuses (certainty_in result) → (ρ : Variable → Tree) → OfKinds ρ → AgreesWith self.old ρ → Identifies ρ (erased_args trait_ref.now.args.items) (map (under (fresh_args other.now.params.items (length (kinds_of self.old)))) (header_of other.now)) → ⊥ }
+        ensures sound { ReadsSoundly self.old self.new (asked_of trait_ref.now goal.now other.now) result }
+        ensures decided { LeavesHeaderOpen self.old self.new (asked_of trait_ref.now goal.now other.now) result }
+        ensures fresh { MakesFresh self.old self.new (asked_of trait_ref.now goal.now other.now) result }
+        ensures binds_nothing { BindsNone self.old self.new (asked_of trait_ref.now goal.now other.now) result }
+        ensures made_equal { EquatesHeader self.old self.new (asked_of trait_ref.now goal.now other.now) result }
+        ensures equal { IsHeaderEqual self.old self.new (asked_of trait_ref.now goal.now other.now) result }
+        ensures never { IsNeverEqual self.old (asked_of trait_ref.now goal.now other.now) result }
         ensures added { IfOk result (λ r. IsAdded self.old self.new other.now goal.now.param_env.items (own_after trait_ref.now goal.now) (trees_of r.0.items)) }
         ensures alone { ChangesGoals self.old self.new }
         ensures goes_back { GoesBack self.old self.new }
@@ -202,13 +202,13 @@ impl EvalCtxt<'_> {
         other: &ImplRow,
         trait_ref: &TraitRef,
     ) -> Result<(Vec<GenericArg>, Certainty), Fault>
-        ensures sound { (m : modes) → IsOwed self.new m → AreClosedIn environment.now (bound_ref self.old trait_ref.now) → IsTranslation (level_over self.old m environment.now) other.now (bound_ref self.old trait_ref.now) [] result }
-        ensures decided { (m : modes) → IsOwed self.new m → AreClosedIn environment.now (bound_ref self.old trait_ref.now) → LeavesOpen (certainty_in result) → IsHeaderOpen (level_over self.old m environment.now) other.now (bound_ref self.old trait_ref.now) }
-        ensures fresh { (m : modes) → IsOwed self.new m → AreClosedIn environment.now (bound_ref self.old trait_ref.now) → ((s : List Tree) → AllKnown (level_over self.old m environment.now) other.now.params.items (header_of other.now) (bound_ref self.old trait_ref.now) s → ⊥) → IfOk result (λ r. IsFresh self.old self.new other.now [] (trees_of r.0.items)) }
-        ensures binds_nothing { AreClosedIn environment.now (bound_ref self.old trait_ref.now) → IfOk result (λ r. BindsNothing self.old self.new other.now [] (trees_of r.0.items)) }
-        ensures made_equal { (AreClosedIn environment.now (bound_ref self.old trait_ref.now) → ⊥) → IsMadeEqual self.old self.new environment.now other.now (trees_of trait_ref.now.args.items) [] result }
-        ensures equal { (m : modes) → IsOwed self.new m → (AreClosedIn environment.now (bound_ref self.old trait_ref.now) → ⊥) → SaysYes (certainty_in result) → (ρ : Variable → Tree) → AgreesWith self.new ρ → IsEqualUnder (level_over self.old m environment.now) other.now ρ (erased_args trait_ref.now.args.items) [] result }
-        ensures never { (AreClosedIn environment.now (bound_ref self.old trait_ref.now) → ⊥) → Refuses (certainty_in result) → (ρ : Variable → Tree) → OfKinds ρ → AgreesWith self.old ρ → Identifies ρ (erased_args trait_ref.now.args.items) (map (under (fresh_args other.now.params.items (length (kinds_of self.old)))) (header_of other.now)) → ⊥ }
+        ensures sound { ReadsSoundly self.old self.new (asked_for other.now environment.now trait_ref.now) result }
+        ensures decided { LeavesHeaderOpen self.old self.new (asked_for other.now environment.now trait_ref.now) result }
+        ensures fresh { MakesFresh self.old self.new (asked_for other.now environment.now trait_ref.now) result }
+        ensures binds_nothing { BindsNone self.old self.new (asked_for other.now environment.now trait_ref.now) result }
+        ensures made_equal { EquatesHeader self.old self.new (asked_for other.now environment.now trait_ref.now) result }
+        ensures equal { IsHeaderEqual self.old self.new (asked_for other.now environment.now trait_ref.now) result }
+        ensures never { IsNeverEqual self.old (asked_for other.now environment.now trait_ref.now) result }
         ensures count { IfOk result (λ r. length r.0.items ≡ length other.now.params.items) }
         ensures alone { ChangesRecords self.old self.new }
         ensures goes_back { GoesBack self.old self.new }
@@ -223,7 +223,7 @@ impl EvalCtxt<'_> {
     }
 
     /// The numbers of arguments with their bindings followed. Nothing changes but that there may be more terms.
-    fn bound_args(&mut self, args: &[GenericArg]) -> Result<Vec<TermId>, Fault>
+    pub(crate) fn bound_args(&mut self, args: &[GenericArg]) -> Result<Vec<TermId>, Fault>
         ensures kept { Keeps self.old.terms self.new.terms }
         ensures unchanged { self.new ≡ record self.old { terms = self.new.terms } }
         ensures within { IfOk result (λ ids. AreIn self.new.terms ids.items) }
@@ -257,9 +257,9 @@ impl EvalCtxt<'_> {
         given: &[TermId],
     ) -> Result<(Vec<GenericArg>, Certainty), Fault>
         requires { AreIn self.old.terms given.now }
-        ensures sound { (m : modes) → IsOwed self.new m → IsTranslation (level_over self.old m environment.now) other.now (erased_all self.old.terms given.now) [] result }
-        ensures decided { (m : modes) → IsOwed self.new m → LeavesOpen (certainty_in result) → IsHeaderOpen (level_over self.old m environment.now) other.now (erased_all self.old.terms given.now) }
-        ensures fresh { (m : modes) → IsOwed self.new m → ((s : List Tree) → AllKnown (level_over self.old m environment.now) other.now.params.items (header_of other.now) (erased_all self.old.terms given.now) s → ⊥) → IfOk result (λ r. IsFresh self.old self.new other.now [] (trees_of r.0.items)) }
+        ensures sound { WhereOwed self.old self.new environment.now (λ L. IsTranslation L other.now (erased_all self.old.terms given.now) [] result) }
+        ensures decided { WhereOwed self.old self.new environment.now (λ L. LeavesOpen (certainty_in result) → IsHeaderOpen L other.now (erased_all self.old.terms given.now)) }
+        ensures fresh { WhereOwed self.old self.new environment.now (λ L. FreshIfUnknown L self.old self.new other.now (erased_all self.old.terms given.now) result) }
         ensures binds_nothing { IfOk result (λ r. BindsNothing self.old self.new other.now [] (trees_of r.0.items)) }
         ensures count { IfOk result (λ r. length r.0.items ≡ length other.now.params.items) }
         ensures alone { ChangesRecords self.old self.new }
@@ -292,7 +292,7 @@ impl EvalCtxt<'_> {
         ensures goes_back { GoesBack self.old self.new }
         ensures count { IfOk result (MatchCounts (length other.now.params.items)) }
         ensures within { IfOk result (MatchIn self.new.terms) }
-        ensures says { (m : modes) → IsOwed self.new m → IfOk result (SaysMatch (level_over self.old m environment.now) other.now.params.items (header_of other.now) (erased_all self.old.terms given.now) self.new.terms) }
+        ensures says { WhereOwed self.old self.new environment.now (λ L. SaysHeader L other.now (erased_all self.old.terms given.now) self.new.terms result) }
         ensures stops { is_headline self.old.typing_mode ≡ true → IfErr result (λ s. s ≡ Stop.OutOfMemory) }
     {
         let on_access = self.first_access();
@@ -317,7 +317,7 @@ impl EvalCtxt<'_> {
         ensures goes_back { GoesBack self.old self.new }
         ensures count { IfOk result (MatchCounts (length other.now.params.items)) }
         ensures within { IfOk result (MatchIn self.new.terms) }
-        ensures says { (m : modes) → RunsAs on_access self.old.typing_mode m → IfOk result (SaysMatch (level_over self.old m environment.now) other.now.params.items (header_of other.now) (erased_all self.old.terms given.now) self.new.terms) }
+        ensures says { WhereRun on_access self.old environment.now (λ L. SaysHeader L other.now (erased_all self.old.terms given.now) self.new.terms result) }
         ensures stops { is_headline self.old.typing_mode ≡ true → IfErr result (λ s. s ≡ Stop.OutOfMemory) }
     {
         let mut effects = Effects::new(self.allocator());
@@ -391,8 +391,8 @@ impl EvalCtxt<'_> {
         other: &ImplRow,
         trait_ref: &TraitRef,
     ) -> Result<(Vec<GenericArg>, Certainty), Fault>
-        ensures equal { (m : modes) → IsOwed self.new m → SaysYes (certainty_in result) → (ρ : Variable → Tree) → AgreesWith self.new ρ → IsEqualUnder (level_over self.old m environment.now) other.now ρ (erased_args trait_ref.now.args.items) [] result }
-        ensures never { Refuses (certainty_in result) → (ρ : Variable → Tree) → OfKinds ρ → AgreesWith self.old ρ → Identifies ρ (erased_args trait_ref.now.args.items) (map (under (fresh_args other.now.params.items (length (kinds_of self.old)))) (header_of other.now)) → ⊥ }
+        ensures equal { WhereOwed self.old self.new environment.now (λ L. EqualsWhereYes L self.new other.now (erased_args trait_ref.now.args.items) result) }
+        ensures never { NeverEquals self.old other.now (erased_args trait_ref.now.args.items) result }
         ensures made_equal { IsMadeEqual self.old self.new environment.now other.now (trees_of trait_ref.now.args.items) [] result }
         ensures count { IfOk result (λ r. length r.0.items ≡ length other.now.params.items) }
         ensures alone { ChangesRecords self.old self.new }

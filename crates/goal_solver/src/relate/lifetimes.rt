@@ -7,7 +7,7 @@ ghost use Rattle.goal_infer.specs.RegionEquations.{AddsRegions, equated};
 ghost use Rattle.goal_infer.specs.Resolution.{IsSolved};
 ghost use Rattle.goal_kinds.specs.Interned.{erased_at};
 ghost use Rattle.goal_solver.specs.GoingBack.{GoesBack};
-ghost use Rattle.goal_solver.specs.Relating.{ChangesInference, all_equated, AreIdentical};
+ghost use Rattle.goal_solver.specs.Relating.{ChangesInference, EquatesIdentical, EquatesPair};
 ghost use Rattle.goal_solver.specs.State.{kinds_in};
 
 use crate::context::EvalCtxt;
@@ -32,7 +32,7 @@ impl EvalCtxt<'_> {
         ensures kept { Keeps self.old.terms self.new.terms }
         ensures alone { ChangesInference self.old self.new }
         ensures adds { AddsRegions self.old.inference self.new.inference }
-        ensures identical { AreIdentical (map (tree_at self.old.terms) left.now) (map (tree_at self.old.terms) right.now) → OnOk result (self.new.inference ≡ all_equated (map (tree_at self.old.terms) left.now) (map (tree_at self.old.terms) right.now) self.old.inference) }
+        ensures identical { EquatesIdentical self.old (map (tree_at self.old.terms) left.now) (map (tree_at self.old.terms) right.now) result self.new }
         ensures goes_back { GoesBack self.old self.new }
     {
         let count = left.len().min(right.len());
@@ -50,7 +50,7 @@ impl EvalCtxt<'_> {
         ensures kept { Keeps self.old.terms self.new.terms }
         ensures alone { ChangesInference self.old self.new }
         ensures adds { AddsRegions self.old.inference self.new.inference }
-        ensures identical { erased_at self.old.terms left ≡ erased_at self.old.terms right → OnOk result (self.new.inference ≡ equated (tree_at self.old.terms left) (tree_at self.old.terms right) self.old.inference) }
+        ensures identical { EquatesPair self.old left right result self.new }
     {
         if self.terms.same_erased(left, right) {
             return self.equate_identical(left, right);

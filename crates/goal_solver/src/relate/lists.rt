@@ -11,7 +11,7 @@ ghost use Rattle.goal_solver.specs.Accesses.{RecordsCausedFaults};
 ghost use Rattle.goal_solver.specs.Answers.{IsOwed};
 ghost use Rattle.goal_solver.specs.GoingBack.{GoesBack, restored};
 ghost use Rattle.goal_eval.specs.Outcomes.{RunsAs};
-ghost use Rattle.goal_solver.specs.Relating.{IsRelated, ChangesRecords, AgreesWith, all_bound};
+ghost use Rattle.goal_solver.specs.Relating.{IsRelated, ChangesRecords, AgreesWith, bound_at};
 ghost use Rattle.goal_solver.specs.Settled.{HoldsWithMemory, AreSettledIn, outcome_in, IsPlainOrSame};
 ghost use Rattle.goal_solver.specs.State.{kinds_of};
 
@@ -90,8 +90,8 @@ impl EvalCtxt<'_> {
         ensures alone { self.new ≡ restored self.old self.new }
         ensures faults { RecordsCausedFaults self.old self.new }
         ensures goes_back { GoesBack self.old self.new }
-        ensures settled { IfOk result (AreSettledIn self.old (IsOwed self.new) environment.now depth (all_bound self.old (erased_all self.old.terms left.now)) (all_bound self.old (erased_all self.old.terms right.now))) }
-        ensures same { all_bound self.old (erased_all self.old.terms left.now) ≡ all_bound self.old (erased_all self.old.terms right.now) → HoldsWithMemory result }
+        ensures settled { IfOk result (AreSettledIn self.old (IsOwed self.new) environment.now depth (bound_at self.old left.now) (bound_at self.old right.now)) }
+        ensures same { bound_at self.old left.now ≡ bound_at self.old right.now → HoldsWithMemory result }
         ensures stops { is_headline self.old.typing_mode ≡ true → IfErr result (λ s. s ≡ Stop.OutOfMemory) }
     {
         self.holds_together();
@@ -118,8 +118,8 @@ impl EvalCtxt<'_> {
         ensures alone { self.new ≡ restored self.old self.new }
         ensures faults { RecordsCausedFaults self.old self.new }
         ensures goes_back { GoesBack self.old self.new }
-        ensures settled { IfOk result (AreSettledIn self.old (RunsAs on_access self.old.typing_mode) environment.now depth (all_bound self.old (erased_all self.old.terms left.now)) (all_bound self.old (erased_all self.old.terms right.now))) }
-        ensures same { all_bound self.old (erased_all self.old.terms left.now) ≡ all_bound self.old (erased_all self.old.terms right.now) → HoldsWithMemory result }
+        ensures settled { IfOk result (AreSettledIn self.old (RunsAs on_access self.old.typing_mode) environment.now depth (bound_at self.old left.now) (bound_at self.old right.now)) }
+        ensures same { bound_at self.old left.now ≡ bound_at self.old right.now → HoldsWithMemory result }
         ensures stops { is_headline self.old.typing_mode ≡ true → IfErr result (λ s. s ≡ Stop.OutOfMemory) }
     {
         let mut effects = Effects::new(self.allocator());

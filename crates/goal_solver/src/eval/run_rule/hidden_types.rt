@@ -1,12 +1,12 @@
 //! The hidden types of opaque types that are being defined.
-ghost use Rattle.std.specs.Prelude.{◌≡◌, ◌∷◌, [], Some, IfOk, IfErr, IsOkUnless, option_map};
+ghost use Rattle.std.specs.Prelude.{◌≡◌, Some, IfOk, IfErr, IsOkUnless, option_map};
 ghost use Rattle.goal_terms.specs.Folding.{instance};
 ghost use Rattle.goal_terms.specs.TreeOf.{tree_of_arg, tree_of_term, tree_of_ty, trees_of};
 ghost use Rattle.goal_solver.specs.Accesses.{RecordsCausedFaults};
 ghost use Rattle.goal_solver.specs.GoingBack.{GoesBack};
 ghost use Rattle.goal_solver.specs.HiddenTypes.{NormalizesArg, NormalizesArgs, behind_all, RefusesArg, RefusesArgs, EntersHidden, checked_in};
-ghost use Rattle.goal_solver.specs.OpenRuns.{TakesFirst, MeetsHidden, DefinesUnder, Defines};
-ghost use Rattle.goal_solver.specs.Refusals.{WhenRefused, RefusesFirst, RefusesMeeting, RefusesUnder, RefusesHidden};
+ghost use Rattle.goal_solver.specs.OpenRuns.{TakesFirstOf, MeetsHidden, DefinesUnder, Defines};
+ghost use Rattle.goal_solver.specs.Refusals.{RefusesFirstOf, WhenRefused, RefusesMeeting, RefusesUnder, RefusesHidden};
 ghost use Rattle.goal_solver.specs.Relating.{IsFaultFor};
 
 use crate::context::EvalCtxt;
@@ -129,8 +129,8 @@ impl EvalCtxt<'_> {
         key: &OpaqueTypeKey,
         first: FirstUse,
     ) -> Result<Certainty, Fault>
-        ensures takes { IfOk result (λ c. TakesFirst environment.now (tree_of_term expected.now) first (checked_in self.old.tables key.now.def_id) (trees_of key.now.args.items) self.old c self.new) }
-        ensures refused { WhenRefused result (RefusesFirst environment.now (tree_of_term expected.now) first (checked_in self.old.tables key.now.def_id) (trees_of key.now.args.items) self.old self.new) }
+        ensures takes { IfOk result (λ c. TakesFirstOf environment.now expected.now first key.now self.old c self.new) }
+        ensures refused { WhenRefused result (RefusesFirstOf environment.now expected.now first key.now self.old self.new) }
         ensures faults { RecordsCausedFaults self.old self.new }
         ensures goes_back { GoesBack self.old self.new }
         ensures fault { IsFaultFor self.old self.new result }

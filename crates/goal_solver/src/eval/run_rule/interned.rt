@@ -1,7 +1,6 @@
 //! Entries of rules, with numbers for their terms and parts of rows for their ids.
 ghost use Rattle.std.specs.Prelude.{◌≡◌, List, IfOk, IfErr, IfSome};
 ghost use Rattle.std.specs.Option.{option_copied, option_map};
-ghost use Rattle.goal_terms.specs.Erased.{erased};
 ghost use Rattle.goal_terms.specs.PredicateTrees.{tree_of_kind};
 ghost use Rattle.goal_terms.specs.TableMeaning.{Keeps};
 ghost use Rattle.goal_terms.specs.Tree.{Tree};
@@ -15,7 +14,7 @@ ghost use Rattle.goal_kinds.specs.RuleLists.{header_arguments, other_arguments, 
 ghost use Rattle.goal_kinds.specs.Rules.{clauses_in, conditions_in, value_in, value_term};
 ghost use Rattle.goal_eval.specs.Lists.{AtEachLevel, RunIn};
 ghost use Rattle.goal_eval.specs.Outcomes.{header_terms};
-ghost use Rattle.goal_solver.specs.RunRules.{RuleRunsOn, header_at};
+ghost use Rattle.goal_solver.specs.RunRules.{RuleRunsOn, header_at, chosen_term};
 ghost use Rattle.goal_eval.specs.Effects.{AreSound, IsStop};
 
 use crate::eval::run_rule::recorded::{ToRecord, to_record};
@@ -328,7 +327,7 @@ fn chosen_by<'t>(
 ) -> Result<InternedTerm<'t>, OutOfMemory>
     ensures kept { Keeps terms.old terms.new }
     ensures within { IfOk result (TermIn terms.new) }
-    ensures term { IfOk result (λ e. term_at terms.new e ≡ chosen_by (erased_predicate (tree_of_kind clause.now)) (erased (tree_of_term first.now)) (erased (tree_of_term second.now))) }
+    ensures term { IfOk result (λ e. term_at terms.new e ≡ chosen_term clause.now first.now second.now) }
 {
     let asked = interned_clause(setting, terms, clause)?;
     let held = terms.intern(first)?;

@@ -1,12 +1,11 @@
 //! The arguments that the entries of a list with inference variables name.
 ghost use Rattle.std.specs.Prelude.{◌≡◌, ◌∷◌, [], Some, IfOk, IfErr, OnOk, IsOkUnless, slice_get};
 ghost use Rattle.std.specs.Option.{option_copied};
-ghost use Rattle.goal_tables.specs.Rows.{impl_of};
 ghost use Rattle.goal_terms.specs.TreeOf.{trees_of, tree_of_ty};
 ghost use Rattle.goal_kinds.specs.declared.rules.RuleHeader.TheVariants as of_header;
 ghost use Rattle.goal_solver.specs.Accesses.{RecordsCausedFaults};
 ghost use Rattle.goal_solver.specs.GoingBack.{GoesBack};
-ghost use Rattle.goal_solver.specs.OpenRuns.{open_progress, open_start, after_entry, after_naming, named_trees, open_header, other_header, Equates, Matches, MatchesIf, Follows, NamesOpen};
+ghost use Rattle.goal_solver.specs.OpenRuns.{open_progress, impl_header, open_start, after_entry, after_naming, named_trees, open_header, Equates, Matches, Follows, NamesOpen, NamesIf, given_header, Names, header_with};
 ghost use Rattle.goal_solver.specs.Refusals.{WhenRefused, RefusesEqual, RefusesMatch, RefusesMatchIf, RefusesNames};
 ghost use Rattle.goal_solver.specs.Relating.{IsFaultFor};
 
@@ -145,7 +144,7 @@ impl EvalCtxt<'_> {
         header: RuleHeader,
         given: &[GenericArg],
     ) -> Result<NamedArgs, Fault>
-        ensures names { IfOk result (λ n. MatchesIf environment.now (open_header self.old.tables header) (Some (trees_of given.now)) self.old (trees_of n.args.items) n.certainty self.new) }
+        ensures names { IfOk result (λ n. NamesIf environment.now (open_header self.old.tables header) (Some (trees_of given.now)) self.old n self.new) }
         ensures refused { WhenRefused result (RefusesMatchIf environment.now (open_header self.old.tables header) (Some (trees_of given.now)) self.old self.new) }
         ensures faults { RecordsCausedFaults self.old self.new }
         ensures goes_back { GoesBack self.old self.new }
@@ -164,7 +163,7 @@ impl EvalCtxt<'_> {
         id: ImplId,
         given: &[GenericArg],
     ) -> Result<NamedArgs, Fault>
-        ensures names { IfOk result (λ n. MatchesIf environment.now (open_header self.old.tables (of_header.Impl id)) (Some (trees_of given.now)) self.old (trees_of n.args.items) n.certainty self.new) }
+        ensures names { IfOk result (λ n. NamesIf environment.now (open_header self.old.tables (of_header.Impl id)) (Some (trees_of given.now)) self.old n self.new) }
         ensures refused { WhenRefused result (RefusesMatchIf environment.now (open_header self.old.tables (of_header.Impl id)) (Some (trees_of given.now)) self.old self.new) }
         ensures faults { RecordsCausedFaults self.old self.new }
         ensures goes_back { GoesBack self.old self.new }
@@ -184,7 +183,7 @@ impl EvalCtxt<'_> {
         id: InherentImplId,
         given: &[GenericArg],
     ) -> Result<NamedArgs, Fault>
-        ensures names { IfOk result (λ n. MatchesIf environment.now (open_header self.old.tables (of_header.InherentImpl id)) (Some (trees_of given.now)) self.old (trees_of n.args.items) n.certainty self.new) }
+        ensures names { IfOk result (λ n. NamesIf environment.now (open_header self.old.tables (of_header.InherentImpl id)) (Some (trees_of given.now)) self.old n self.new) }
         ensures refused { WhenRefused result (RefusesMatchIf environment.now (open_header self.old.tables (of_header.InherentImpl id)) (Some (trees_of given.now)) self.old self.new) }
         ensures faults { RecordsCausedFaults self.old self.new }
         ensures goes_back { GoesBack self.old self.new }
@@ -210,8 +209,8 @@ impl EvalCtxt<'_> {
         of: ImplId,
         number: u32,
     ) -> Result<NamedArgs, Fault>
-        ensures names { IfOk result (λ n. MatchesIf environment.now (open_header self.old.tables (of_header.Impl other)) (other_header (impl_of self.old.tables of) (slice_get (named_trees named.now) number)) self.old (trees_of n.args.items) n.certainty self.new) }
-        ensures refused { WhenRefused result (RefusesMatchIf environment.now (open_header self.old.tables (of_header.Impl other)) (other_header (impl_of self.old.tables of) (slice_get (named_trees named.now) number)) self.old self.new) }
+        ensures names { IfOk result (λ n. NamesIf environment.now (impl_header self.old.tables other) (given_header self.old.tables of named.now number) self.old n self.new) }
+        ensures refused { WhenRefused result (RefusesMatchIf environment.now (impl_header self.old.tables other) (given_header self.old.tables of named.now number) self.old self.new) }
         ensures faults { RecordsCausedFaults self.old self.new }
         ensures goes_back { GoesBack self.old self.new }
         ensures fault { IsFaultFor self.old self.new result }
@@ -259,8 +258,8 @@ impl EvalCtxt<'_> {
         header: &[GenericArg],
         given: &[GenericArg],
     ) -> Result<NamedArgs, Fault>
-        ensures matches { IfOk result (λ n. Matches environment.now (record { params = params.now; terms = trees_of header.now }) (trees_of given.now) self.old (trees_of n.args.items) n.certainty self.new) }
-        ensures refused { WhenRefused result (RefusesMatch environment.now (record { params = params.now; terms = trees_of header.now }) (trees_of given.now) self.old self.new) }
+        ensures matches { IfOk result (λ n. Names environment.now (header_with params.now header.now) (trees_of given.now) self.old n self.new) }
+        ensures refused { WhenRefused result (RefusesMatch environment.now (header_with params.now header.now) (trees_of given.now) self.old self.new) }
         ensures faults { RecordsCausedFaults self.old self.new }
         ensures goes_back { GoesBack self.old self.new }
         ensures fault { IsFaultFor self.old self.new result }

@@ -1,5 +1,5 @@
 //! The steps of a list of entries with inference variables.
-ghost use Rattle.std.specs.Prelude.{◌≡◌, ◌≢◌, ◌∷◌, [], IfOk, IfErr, OnOk, IsOkUnless, slice_get, option_map};
+ghost use Rattle.std.specs.Prelude.{◌≡◌, ◌≢◌, ◌∷◌, [], IfOk, IfErr, OnOk, IsOkUnless, option_map};
 ghost use Rattle.std.specs.Option.{option_copied};
 ghost use Rattle.goal_terms.specs.Folding.{instance};
 ghost use Rattle.goal_terms.specs.PredicateTrees.{tree_of_kind};
@@ -9,7 +9,7 @@ ghost use Rattle.goal_kinds.specs.declared.rules.RowValue.TheVariants as of_row;
 ghost use Rattle.goal_terms.specs.declared.answers.Certainty.{Certainty as certain};
 ghost use Rattle.goal_solver.specs.Accesses.{RecordsCausedFaults};
 ghost use Rattle.goal_solver.specs.GoingBack.{GoesBack};
-ghost use Rattle.goal_solver.specs.OpenRuns.{open_progress, named_trees, clauses_with, conditions_with, source_of, AddsGoals, AddsRow, Equates, Evaluates, GivesForm, GivesTerm, GivesValue, ReadsMode, Steps};
+ghost use Rattle.goal_solver.specs.OpenRuns.{open_progress, named_trees, clauses_with, conditions_with, source_of, AddsGoals, AddsRow, Equates, Evaluates, GivesForm, GivesTerm, GivesValue, ReadsMode, Steps, args_at, AddsRowConditions};
 ghost use Rattle.goal_solver.specs.Refusals.{WhenRefused, RefusesEqual, RefusesPending, RefusesForm, RefusesValue, RefusesTerm, StepRefused};
 ghost use Rattle.goal_solver.specs.Relating.{IsFaultFor};
 ghost use Rattle.goal_solver.specs.RunRules.{AreListed};
@@ -177,7 +177,7 @@ impl EvalCtxt<'_> {
         row: RowClauses,
         number: u32,
     ) -> Result<Certainty, Fault>
-        ensures added { IfOk result (λ c. AddsRow clauses_with (source_of row) environment.now (clauses_in self.old.tables row) (slice_get (named_trees named.now) number) self.old c self.new) }
+        ensures added { IfOk result (λ c. AddsRow clauses_with (source_of row) environment.now (clauses_in self.old.tables row) (args_at named.now number) self.old c self.new) }
         ensures faults { RecordsCausedFaults self.old self.new }
         ensures goes_back { GoesBack self.old self.new }
         ensures only_memory { IfErr result (λ f. f ≡ Fault.OutOfMemory) }
@@ -226,7 +226,7 @@ impl EvalCtxt<'_> {
         row: ImplId,
         number: u32,
     ) -> Result<Certainty, Fault>
-        ensures added { IfOk result (λ c. AddsRow (conditions_with constness) GoalSource.ImplWhereBound environment.now (conditions_in self.old.tables row) (slice_get (named_trees named.now) number) self.old c self.new) }
+        ensures added { IfOk result (λ c. AddsRowConditions constness environment.now (conditions_in self.old.tables row) (args_at named.now number) self.old c self.new) }
         ensures faults { RecordsCausedFaults self.old self.new }
         ensures goes_back { GoesBack self.old self.new }
         ensures only_memory { IfErr result (λ f. f ≡ Fault.OutOfMemory) }
@@ -303,8 +303,8 @@ impl EvalCtxt<'_> {
         value: RowValue,
         number: u32,
     ) -> Result<Certainty, Fault>
-        ensures gives { IfOk result (λ c. GivesValue environment.now (tree_of_term expected.now) (value_in self.old.tables value) (slice_get (named_trees named.now) number) self.old c self.new) }
-        ensures refused { WhenRefused result (RefusesValue environment.now (tree_of_term expected.now) (value_in self.old.tables value) (slice_get (named_trees named.now) number) self.old self.new) }
+        ensures gives { IfOk result (λ c. GivesValue environment.now (tree_of_term expected.now) (value_in self.old.tables value) (args_at named.now number) self.old c self.new) }
+        ensures refused { WhenRefused result (RefusesValue environment.now (tree_of_term expected.now) (value_in self.old.tables value) (args_at named.now number) self.old self.new) }
         ensures faults { RecordsCausedFaults self.old self.new }
         ensures goes_back { GoesBack self.old self.new }
         ensures fault { IsFaultFor self.old self.new result }

@@ -8,7 +8,7 @@ use Rattle.goal_terms.specs.declared.answers.Certainty.{Certainty}
 use Rattle.goal_kinds.specs.declared.faults.Fault.{Fault}
 use Rattle.goal_solver.specs.AddedGoals.{AreSplit, LeavesUndecided, IsRefusalAt, AreClosedAt, IsAnswerAt, IsClosedGoal}
 use Rattle.goal_solver.specs.GoingBack.{BeginsWith, GoesBack, restored, begun}
-use Rattle.goal_solver.specs.Relating.{IsFaultFor, SaysYes}
+use Rattle.goal_solver.specs.Relating.{IsFaultFor, SaysYes, ChangesRecords}
 use Rattle.goal_solver.proofs.AddedGoalLemmas.{round-begins, records-through, fault-before, restored-owed, restored-alone, restored-fault, restored-itself, answer-before, fault-later}
 use Rattle.goal_solver.proofs.GoingBackLemmas.{goes_back-same, goes_back-through, begins-through, goes_back-restored, goes_back-tried, valid-begun}
 use Rattle.goal_solver.proofs.RoundLemmas.{next-listed, next-within, next-fault, next-says, next-split, next-begins, ends-says, ends-split, handed-on, first-fault, first-done, first-open, left-none, left-some, same-lengths}
@@ -66,7 +66,7 @@ use Rattle.goal_solver.specs.OpenForms.{OpensFrom}
 use Rattle.goal_solver.proofs.OpenFormLemmas.{answers-err, answers-ok, asks-term, grown-left, known, made-records, opens-answered, opens-let_go, opens-refused, opens-undone, refuses-term, same-records, undone-fault, with-fresh, restored-grown, restored-twice}
 use Rattle.goal_terms.specs.declared.terms.AliasTerm.{AliasTerm}
 use Rattle.goal_solver.proofs.OpenedSelfLemmas.{left-or_opened, left-or_opened-const, left-or_opened-through, after-fault, classes-passed, classes-shown, form-passed, form-refused, groups-passed, groups-shown, merge-answered, merge-refused, opened-applies, opened-merges, opened-unsaid}
-use Rattle.goal_solver.specs.Accesses.{uncaused}
+use Rattle.goal_solver.specs.Accesses.{RecordsCausedFaults, uncaused}
 use Rattle.goal_terms.specs.declared.answers.TraitGoalProvenVia.TheVariants as class
 use Rattle.goal_kinds.specs.declared.faults.Fault.TheVariants as fault
 use Rattle.goal_solver.specs.declared.assembly.merged_rules.Merged.TheVariants as merged
@@ -986,28 +986,71 @@ pub evaluate_alias_or_other-returns-in-None-clause-fault : goal.evaluate_alias_o
 evaluate_alias_or_other-returns-in-None-clause-fault t c =
     fault-later c.args.self.now c.open_normalization.new.self c.evaluate_other.new.self c.evaluate_other.result (goes_back-grown c.args.self.now c.open_normalization.new.self c.open_normalization.ensures.unchanged c.open_normalization.ensures.kept) c.evaluate_other.ensures.fault
 
-pub evaluate_open-returns-then-self-eq0-clause-goes_back : goal.evaluate_open-returns-then-self-eq0-clause-goes_back
-evaluate_open-returns-then-self-eq0-clause-goes_back t c =
-    goes_back-same c.args.self.now
+pub evaluate_open-returns-in_err-certainty-clause-alone : goal.evaluate_open-returns-in_err-certainty-clause-alone
+evaluate_open-returns-in_err-certainty-clause-alone t c = grown-records c.args.self.now c.begin_open.new.self c.begin_open.ensures.unchanged
+
+pub evaluate_open-returns-in_err-certainty-clause-faults : goal.evaluate_open-returns-in_err-certainty-clause-faults
+evaluate_open-returns-in_err-certainty-clause-faults t c = grown-faults c.args.self.now c.begin_open.new.self c.begin_open.ensures.unchanged
+
+pub evaluate_open-returns-in_err-certainty-clause-goes_back : goal.evaluate_open-returns-in_err-certainty-clause-goes_back
+evaluate_open-returns-in_err-certainty-clause-goes_back t c = goes_back-grown c.args.self.now c.begin_open.new.self c.begin_open.ensures.unchanged c.begin_open.ensures.kept
+
+pub evaluate_open-returns-in-Some-clause-alone : goal.evaluate_open-returns-in-Some-clause-alone
+evaluate_open-returns-in-Some-clause-alone t c = grown-records c.args.self.now c.begin_open.new.self c.begin_open.ensures.unchanged
+
+pub evaluate_open-returns-in-Some-clause-faults : goal.evaluate_open-returns-in-Some-clause-faults
+evaluate_open-returns-in-Some-clause-faults t c = grown-faults c.args.self.now c.begin_open.new.self c.begin_open.ensures.unchanged
+
+pub evaluate_open-returns-in-Some-clause-goes_back : goal.evaluate_open-returns-in-Some-clause-goes_back
+evaluate_open-returns-in-Some-clause-goes_back t c = goes_back-grown c.args.self.now c.begin_open.new.self c.begin_open.ensures.unchanged c.begin_open.ensures.kept
 
 pub evaluate_open-returns-clause-alone : goal.evaluate_open-returns-clause-alone
 evaluate_open-returns-clause-alone t c =
-    let-go c.args.self.now c.apply_below-answered.new.self c.keep_caused_faults.new.self c.apply_below-answered.ensures.alone c.keep_caused_faults.ensures.unchanged
+    records-through c.args.self.now c.begin_open.new.self c.end_open.new.self (grown-records c.args.self.now c.begin_open.new.self c.begin_open.ensures.unchanged)
+    (subst (λ (s : State). ChangesRecords c.begin_open.new.self s) (sym c.end_open.ensures) c.evaluate_once-answered.ensures.alone)
 
 pub evaluate_open-returns-clause-faults : goal.evaluate_open-returns-clause-faults
 evaluate_open-returns-clause-faults t c =
-    let-go-caused c.args.self.now c.apply_below-answered.new.self c.keep_caused_faults.new.self c.len-known.result (c.len-known.ensures ∙ c.self.inside.delayed_faults.ok.0 ∙ ap (λ (s : State). length s.delayed_faults) c.self.view_is) c.apply_below-answered.ensures.goes_back c.keep_caused_faults.ensures.caused
+    subst (λ (s : State). RecordsCausedFaults c.args.self.now s) (sym c.end_open.ensures)
+    (c.evaluate_once-answered.ensures.faults ∙ grown-faults c.args.self.now c.begin_open.new.self c.begin_open.ensures.unchanged)
 
 pub evaluate_open-returns-clause-goes_back : goal.evaluate_open-returns-clause-goes_back
 evaluate_open-returns-clause-goes_back t c =
-    let-go-back c.args.self.now c.apply_below-answered.new.self c.keep_caused_faults.new.self c.len-known.result (c.len-known.ensures ∙ c.self.inside.delayed_faults.ok.0 ∙ ap (λ (s : State). length s.delayed_faults) c.self.view_is) c.apply_below-answered.ensures.goes_back c.keep_caused_faults.ensures.unchanged c.keep_caused_faults.ensures.kept
+    goes_back-through c.args.self.now c.begin_open.new.self c.end_open.new.self (goes_back-grown c.args.self.now c.begin_open.new.self c.begin_open.ensures.unchanged c.begin_open.ensures.kept)
+    (subst (λ (s : State). GoesBack c.begin_open.new.self s) (sym c.end_open.ensures) c.evaluate_once-answered.ensures.goes_back)
 
 pub evaluate_open-returns-clause-fault : goal.evaluate_open-returns-clause-fault
 evaluate_open-returns-clause-fault t c =
+    fault-later c.args.self.now c.begin_open.new.self c.end_open.new.self c.evaluate_once-answered.result
+    (goes_back-grown c.args.self.now c.begin_open.new.self c.begin_open.ensures.unchanged c.begin_open.ensures.kept)
+    (subst (λ (s : State). IsFaultFor c.begin_open.new.self s c.evaluate_once-answered.result) (sym c.end_open.ensures) c.evaluate_once-answered.ensures.fault)
+
+pub evaluate_once-returns-then-self-eq0-clause-goes_back : goal.evaluate_once-returns-then-self-eq0-clause-goes_back
+evaluate_once-returns-then-self-eq0-clause-goes_back t c =
+    goes_back-same c.args.self.now
+
+pub evaluate_once-returns-clause-alone : goal.evaluate_once-returns-clause-alone
+evaluate_once-returns-clause-alone t c =
+    let-go c.args.self.now c.apply_below-answered.new.self c.keep_caused_faults.new.self c.apply_below-answered.ensures.alone c.keep_caused_faults.ensures.unchanged
+
+pub evaluate_once-returns-clause-faults : goal.evaluate_once-returns-clause-faults
+evaluate_once-returns-clause-faults t c =
+    let-go-caused c.args.self.now c.apply_below-answered.new.self c.keep_caused_faults.new.self c.len-known.result (c.len-known.ensures ∙ c.self.inside.delayed_faults.ok.0 ∙ ap (λ (s : State). length s.delayed_faults) c.self.view_is) c.apply_below-answered.ensures.goes_back c.keep_caused_faults.ensures.caused
+
+pub evaluate_once-returns-clause-goes_back : goal.evaluate_once-returns-clause-goes_back
+evaluate_once-returns-clause-goes_back t c =
+    let-go-back c.args.self.now c.apply_below-answered.new.self c.keep_caused_faults.new.self c.len-known.result (c.len-known.ensures ∙ c.self.inside.delayed_faults.ok.0 ∙ ap (λ (s : State). length s.delayed_faults) c.self.view_is) c.apply_below-answered.ensures.goes_back c.keep_caused_faults.ensures.unchanged c.keep_caused_faults.ensures.kept
+
+pub evaluate_once-returns-clause-fault : goal.evaluate_once-returns-clause-fault
+evaluate_once-returns-clause-fault t c =
     let-go-fault Certainty c.args.self.now c.apply_below-answered.new.self c.keep_caused_faults.new.self c.apply_below-answered.result c.keep_caused_faults.ensures.unchanged c.apply_below-answered.ensures.fault
 
 pub apply_below-returns-in_err-response-clause-alone : goal.apply_below-returns-in_err-response-clause-alone
 apply_below-returns-in_err-response-clause-alone t c =
+    restored-records c.args.self.now c.answer_below.new.self c.answer_below.ensures.unchanged
+
+pub apply_below-returns-then-tells_nothing-clause-alone : goal.apply_below-returns-then-tells_nothing-clause-alone
+apply_below-returns-then-tells_nothing-clause-alone t c =
     restored-records c.args.self.now c.answer_below.new.self c.answer_below.ensures.unchanged
 
 pub apply_below-returns-clause-alone : goal.apply_below-returns-clause-alone

@@ -34,8 +34,11 @@ decreases-apply_below l = 40 * l.self.now.remaining_depth + 2
 abbrev pub decreases-found_form : goal.decreases-found_form
 decreases-found_form l = 40 * l.self.now.remaining_depth + 1
 
+abbrev pub decreases-evaluate_once : goal.decreases-evaluate_once
+decreases-evaluate_once l = 40 * l.self.now.remaining_depth + 3
+
 abbrev pub decreases-evaluate_open : goal.decreases-evaluate_open
-decreases-evaluate_open l = 40 * l.self.now.remaining_depth + 3
+decreases-evaluate_open l = 40 * l.self.now.remaining_depth + 4
 
 abbrev pub decreases-form_of_open : goal.decreases-form_of_open
 decreases-form_of_open l = 40 * l.self.now.remaining_depth + 2

@@ -9,3 +9,8 @@ pub returns-clause-goes_back : goal.returns-clause-goes_back
 returns-clause-goes_back c =
     let pushed : c.push.new.self.items ≡ c.self.inside.goals.items ++ (c.args.source, c.args.goal) ∷ [] = search rules in
     goes_back-when_goals c.args.self.now _ ((c.args.source, c.args.goal) ∷ []) (search (rules, pushed))
+
+pub returns-clause-added : goal.returns-clause-added
+returns-clause-added c =
+    let pushed : c.push.new.self.items ≡ c.self.inside.goals.items ++ (c.args.source, c.args.goal) ∷ [] = search rules in
+    search (rules, pushed)

@@ -53,3 +53,9 @@ invariant_of-self-else-same_erased-2 c = (
 
 pub returns-clause-adds : goal.returns-clause-adds
 returns-clause-adds c = adds-same c.args.self.now.inference c.self.inside.inference (ap (λ (s : State). s.inference) c.self.view_is)
+
+pub returns-in_err-first-clause-adds : goal.returns-in_err-first-clause-adds
+returns-in_err-first-clause-adds c = adds-same c.args.self.now.inference c.self.inside.inference (ap (λ (s : State). s.inference) c.self.view_is)
+
+pub returns-in_err-second-clause-adds : goal.returns-in_err-second-clause-adds
+returns-in_err-second-clause-adds c = adds-same c.args.self.now.inference c.self.inside.inference (ap (λ (s : State). s.inference) c.self.view_is)

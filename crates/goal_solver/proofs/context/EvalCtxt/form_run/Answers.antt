@@ -1,5 +1,5 @@
-use Rattle.std.proofs.Common.{refl, ap, ◌∙◌, sym, subst}
-use Rattle.std.specs.Prelude.{IfOk}
+use Rattle.std.proofs.Common.{refl, ap, ◌∙◌, sym, subst, ◌≡◌, Result, Ok, Err}
+use Rattle.std.specs.Prelude.{IfOk, IfErr, IsErrAnd}
 use Rattle.goal_kinds.specs.Interned.{erased_at}
 use Rattle.goal_kinds.specs.Level.{HasHeadForm, HeadFormRefuted}
 use Rattle.goal_kinds.specs.Levels.{level}
@@ -12,7 +12,14 @@ use Rattle.goal_solver.proofs.GoingBackLemmas.{solved-grown, goes_back-through}
 use Rattle.goal_eval.proofs.CacheLemmas.{sound-new, sound-parts}
 use Rattle.goal_solver.proofs.AccessLemmas.{ends-here}
 use Rattle.goal_solver.proofs.BindingLemmas.{goes_back-interned}
+use Rattle.goal_eval.specs.declared.eval.outcomes.Stop.{Stop}
+use Rattle.goal_eval.specs.declared.eval.outcomes.Stop.TheVariants as stop
 use Rattle.goal_solver.proofs.context.EvalCtxt.form_run.Goals as goal
+
+-- what was so of an end is so of the one that is handed on
+handed : {T : Type 0} (r : Result T Stop) (x : Stop) (P : Stop → Type 0) → IsErrAnd r (λ y. y ≡ x) → P x → IfErr r P
+handed (Ok o) x P h p = absurd h
+handed (Err y) x P h p = subst P (sym h) p
 
 pub invariant_of-self : goal.invariant_of-self
 invariant_of-self c = (
@@ -56,3 +63,13 @@ returns-clause-stops c =
     memory-ends c.args.self.now.tables c.args.self.now.typing_mode c.head_form-found.result
     (ends-here _ c.args.self.now.tables _ c.args.self.now.typing_mode c.head_form-found.result (c.rows.ensures.rows ∙ ap (λ (s : State). s.tables) c.self.view_is)
     (ap (λ (s : State). s.typing_mode) c.self.view_is) c.head_form-found.ensures.stops)
+
+pub returns-in_err-record_effects-clause-goes_back : goal.returns-in_err-record_effects-clause-goes_back
+returns-in_err-record_effects-clause-goes_back c =
+    goes_back-through c.args.self.now _ c.record_effects.new.self
+    (goes_back-interned _ c.args.self.now _ c.head_form-found.new.terms c.self.view_is refl c.head_form-found.ensures.kept)
+    c.record_effects.ensures.goes_back
+
+pub returns-in_err-record_effects-clause-stops : goal.returns-in_err-record_effects-clause-stops
+returns-in_err-record_effects-clause-stops c =
+    λ headline. handed c.from_residual.result c.in_err-record_effects.field-0.0 (λ y. y ≡ stop.OutOfMemory) c.from_residual.ensures.1 c.in_err-record_effects.ensures.only_memory

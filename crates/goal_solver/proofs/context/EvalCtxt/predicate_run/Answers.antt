@@ -63,3 +63,9 @@ returns-clause-stops c =
     memory-ends c.args.self.now.tables c.args.self.now.typing_mode c.predicate_outcome-outcome.result
     (ends-here _ c.args.self.now.tables _ c.args.self.now.typing_mode c.predicate_outcome-outcome.result (c.rows.ensures.rows ∙ ap (λ (s : State). s.tables) c.self.view_is)
     (ap (λ (s : State). s.typing_mode) c.self.view_is) c.predicate_outcome-outcome.ensures.stops)
+
+pub returns-in_err-record_listed-clause-goes_back : goal.returns-in_err-record_listed-clause-goes_back
+returns-in_err-record_listed-clause-goes_back c =
+    goes_back-through c.args.self.now _ c.record_listed.new.self
+    (goes_back-interned _ c.args.self.now _ c.predicate_outcome-outcome.new.terms c.self.view_is refl c.predicate_outcome-outcome.ensures.kept)
+    c.record_listed.ensures.goes_back

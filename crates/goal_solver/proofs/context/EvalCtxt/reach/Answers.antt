@@ -56,3 +56,9 @@ returns-clause-says c =
     _ _ _ _ _ c.args.self.now c.record_effects.new.self c.args.environment.now c.args.on_access c.run_rule_entry-reached.new.terms
     (subst IsChecked (sym c.rows.ensures.rows) c.rows.ensures.checked) c.self.view_is c.run_rule_entry-reached.ensures.says (c.rows.ensures.rows ∙ ap (λ (s : State). s.tables) c.self.view_is) (ap (λ (s : State). s.typing_mode) c.self.view_is) refl refl
     (ap (λ (s : State). s.terms) c.record_effects.ensures.unchanged)
+
+pub returns-in_err-record_effects-clause-goes_back : goal.returns-in_err-record_effects-clause-goes_back
+returns-in_err-record_effects-clause-goes_back c =
+    goes_back-through c.args.self.now _ c.record_effects.new.self
+    (goes_back-interned _ c.args.self.now _ c.run_rule_entry-reached.new.terms c.self.view_is refl c.run_rule_entry-reached.ensures.kept)
+    c.record_effects.ensures.goes_back

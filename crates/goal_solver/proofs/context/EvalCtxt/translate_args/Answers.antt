@@ -22,14 +22,14 @@ returns-else-id-impl_id-clause-other c = λ q taken.
     let at = taken-other c.args.self.now c.args.impl_id c.in-Impl.id c.args.container q c.in-Impl.is other taken in
     record {
       closed = λ closed. record {
-        sound = λ m owed. c.args_of_other.ensures.sound m owed q at closed;
-        decided = λ m owed. c.args_of_other.ensures.decided m owed q at closed;
-        fresh = λ m owed. c.args_of_other.ensures.fresh m owed q at closed;
+        sound = λ m owed. c.args_of_other.ensures.sound q at m owed closed;
+        decided = λ m owed. c.args_of_other.ensures.decided q at m owed closed;
+        fresh = λ m owed. c.args_of_other.ensures.fresh q at m owed closed;
         binds_nothing = c.args_of_other.ensures.binds_nothing q at closed;
       };
       variables = λ opened. record {
         made_equal = c.args_of_other.ensures.made_equal q at opened;
-        equal = λ m owed. c.args_of_other.ensures.equal m owed q at opened;
+        equal = λ m owed. c.args_of_other.ensures.equal q at m owed opened;
         never = c.args_of_other.ensures.never q at opened;
       };
       added = c.args_of_other.ensures.added q at;
