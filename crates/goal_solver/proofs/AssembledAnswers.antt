@@ -17,8 +17,8 @@ use Rattle.goal_solver.specs.Answers.{IsOwed, IsMaybe, IsOpen, IsTraitAnswer, An
 use Rattle.goal_solver.specs.Assembling.{MergesAsAlias}
 use Rattle.goal_solver.specs.Binding.{IsApplicable}
 use Rattle.goal_solver.specs.Collecting.{Kind}
+use Rattle.goal_solver.specs.OpenAnswers.{MergesThrough}
 use Rattle.goal_solver.specs.OpenGoals.{WhenAnswered}
-use Rattle.goal_solver.specs.OpenProjections.{MergesThrough}
 use Rattle.goal_solver.specs.Promises.{AnswersGiven, AnswersThrough, AnswersTraitAbove, AppliesGiven, AppliesProven, ListsTerm, NamesNoClass, Through, given_through, one_deeper, through_of}
 use Rattle.goal_solver.specs.State.{State, kinds_of}
 use Rattle.goal_solver.specs.ThroughClasses.{SoundThrough, DecidesThrough, AppliesThrough}

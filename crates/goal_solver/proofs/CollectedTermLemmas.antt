@@ -25,7 +25,7 @@ use Rattle.goal_tables.specs.declared.rows.Tables.{Tables}
 use Rattle.goal_terms.proofs.TreeLemmas.{tree_of_ty-Alias, tree_of_arg-Ty}
 use Rattle.goal_kinds.specs.Answers.{erased_predicate}
 use Rattle.goal_kinds.specs.CandidateRules.{GivesAs, RefutedAs, HoldsError, seen_trait, said_by}
-use Rattle.goal_kinds.specs.Candidates.{Candidate, assumption, implied_bound, by_impl, built_in, error, IsNoImpl}
+use Rattle.goal_kinds.specs.Candidates.{Candidate, assumption, implied_bound, by_impl, built_in, error}
 use Rattle.goal_kinds.specs.Headers.{under}
 use Rattle.goal_kinds.specs.Premises.{TraitTree, predicate_under}
 use Rattle.goal_kinds.specs.TraitGoals.{any_error}
@@ -33,7 +33,7 @@ use Rattle.goal_kinds.specs.declared.goal_kind.TraitView.{TraitView}
 use Rattle.goal_kinds.specs.declared.rules.Rule.{Rule}
 use Rattle.goal_kinds.proofs.InstanceLemmas.{instance-depth}
 use Rattle.goal_kinds.proofs.UnderLemmas.{under-erased_args}
-use Rattle.goal_kinds.specs.KindWords.{GoalWords}
+use Rattle.goal_kinds.specs.KindWords.{GoalWords, HasList}
 use Rattle.goal_solver.specs.Collecting.{bounds_of_kind, CollectsBounds, SaysTheSame, Speaks, Lacks, AreCollected, Collects}
 use Rattle.goal_solver.proofs.CollectingLemmas.{collected-append}
 use Rattle.goal_solver.proofs.TermErrorLemmas.{error-erased}
@@ -69,29 +69,29 @@ said-under s a b e = ap (λ (c : ClauseTree). assumption (erased_predicate c.kin
 pub itself-copied : (a b : AliasTerm) → tree_of_alias b ≡ tree_of_alias a → tree_of_arg (arg.Ty (types.Alias b)) ≡ tree_of_ty (types.Alias a)
 itself-copied a b e = tree_of_arg-Ty (types.Alias b) ∙ tree_of_ty-Alias b ∙ ap at_type e ∙ sym (tree_of_ty-Alias a)
 
--- a rule that says the same speaks for its candidate, if that is no impl
-pub speaks-same : (W : GoalWords) (r : Rule) (c : Candidate) → IsNoImpl c → SaysTheSame W r c → Speaks W r c
-speaks-same W r (assumption p) plain h = h
-speaks-same W r (implied_bound q cs) plain h = h
-speaks-same W r (by_impl i) plain h = absurd plain
-speaks-same W r built_in plain h = (λ n t g. ((h.0 n t).0 g).1, λ n g. (h.1 n).0 g)
-speaks-same W r error plain h = h
+-- a rule that has a candidate's list, and says the same, speaks for it
+pub speaks-same : (W : GoalWords) (r : Rule) (c : Candidate) → HasList W certainty.Yes c r → SaysTheSame W r c → Speaks W r c
+speaks-same W r (assumption p) l h = (l, h)
+speaks-same W r (implied_bound q cs) l h = (l, h)
+speaks-same W r (by_impl i) l h = (l, λ headline. h)
+speaks-same W r built_in l h = (l, (λ n t g. ((h.0 n t).0 g).1, λ n g. (h.1 n).0 g))
+speaks-same W r error l h = (l, h)
 
--- rules that say the same as some candidates, in pairs
+-- rules that have the lists of some candidates, and say the same, in pairs
 collected-pairs : (W : GoalWords) (rs : List Rule) (cs : List Candidate) →
-    AllZip (λ r c. GivesAs W.has_term W.setting certainty.Yes (λ n t. W.gives n c t) r) rs cs → AllZip (λ r c. RefutedAs W.setting (λ n. W.refuted n c) r) rs cs → AllZip (λ r c. IsNoImpl c) rs cs →
-    AreCollected (Speaks W) (Lacks W) rs cs
+    AllZip (λ r c. HasList W certainty.Yes c r) rs cs → AllZip (λ r c. GivesAs W.has_term W.setting certainty.Yes (λ n t. W.gives n c t) r) rs cs →
+    AllZip (λ r c. RefutedAs W.setting (λ n. W.refuted n c) r) rs cs → AreCollected (Speaks W) (Lacks W) rs cs
 unfolding AreCollected
-collected-pairs W [] [] g h k = refl
-collected-pairs W [] (c ∷ cs) g h k = absurd g
-collected-pairs W (r ∷ rs) [] g h k = absurd g
-collected-pairs W (r ∷ rs) (c ∷ cs) g h k = inr (r, rs, refl, speaks-same W r c k.0 (g.0, h.0), collected-pairs W rs cs g.1 h.1 k.1)
+collected-pairs W [] [] l g h = refl
+collected-pairs W [] (c ∷ cs) l g h = absurd g
+collected-pairs W (r ∷ rs) [] l g h = absurd g
+collected-pairs W (r ∷ rs) (c ∷ cs) l g h = inr (r, rs, refl, speaks-same W r c l.0 (g.0, h.0), collected-pairs W rs cs l.1 g.1 h.1)
 
 pub collects-pairs : (W : GoalWords) (rs : List Rule) (cs : List Candidate) (before after : List Rule) → after ≡ before ++ rs →
-    AllZip (λ r c. GivesAs W.has_term W.setting certainty.Yes (λ n t. W.gives n c t) r) rs cs → AllZip (λ r c. RefutedAs W.setting (λ n. W.refuted n c) r) rs cs → AllZip (λ r c. IsNoImpl c) rs cs →
-    Collects (Speaks W) (Lacks W) cs before after
-collects-pairs W rs cs before after e g h k es collected =
-    subst (λ xs. AreCollected (Speaks W) (Lacks W) xs (es ++ cs)) (sym e) (collected-append (Speaks W) (Lacks W) before rs es cs collected (collected-pairs W rs cs g h k))
+    AllZip (λ r c. HasList W certainty.Yes c r) rs cs → AllZip (λ r c. GivesAs W.has_term W.setting certainty.Yes (λ n t. W.gives n c t) r) rs cs →
+    AllZip (λ r c. RefutedAs W.setting (λ n. W.refuted n c) r) rs cs → Collects (Speaks W) (Lacks W) cs before after
+collects-pairs W rs cs before after e l g h es collected =
+    subst (λ xs. AreCollected (Speaks W) (Lacks W) xs (es ++ cs)) (sym e) (collected-append (Speaks W) (Lacks W) before rs es cs collected (collected-pairs W rs cs l g h))
 
 -- errors in arguments, lifetimes aside
 errors-in : (args : List GenericArg) → any_error (map erased (trees_of args)) ≡ list_any (λ a. has_error (tree_of_arg a)) args

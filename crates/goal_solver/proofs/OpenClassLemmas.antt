@@ -26,7 +26,6 @@ use Rattle.goal_kinds.specs.Answers.{setting_of}
 use Rattle.goal_kinds.specs.CandidateRules.{HasNoKindFault, IsAcceptedClause}
 use Rattle.goal_kinds.specs.Candidates.{rest}
 use Rattle.goal_kinds.specs.Premises.{TraitTree}
-use Rattle.goal_kinds.specs.Settings.{is_headline}
 use Rattle.goal_kinds.specs.declared.faults.Fault.{Fault}
 use Rattle.goal_kinds.specs.declared.faults.Fault.TheVariants as fault
 use Rattle.goal_kinds.specs.declared.rules.Rule.{Rule}
@@ -36,7 +35,8 @@ use Rattle.goal_solver.specs.Collecting.{Kind, Speaks, Lacks, AreCollected, Coll
 use Rattle.goal_solver.specs.GoingBack.{restored}
 use Rattle.goal_solver.specs.HeadForms.{IsClosedForm, IsFormAnswer, IsFormOpen, IsAnswered, bound_term}
 use Rattle.goal_solver.specs.HiddenTypes.{AsksForm}
-use Rattle.goal_solver.specs.OpenGoals.{IsNoForm, IsConsidered, Considers, fault_in, has_kind_fault, IsLeft, IsFormless, FormsGoal, IsClassAnswer, ClassAnswers, rules_of_class, AreOfClass, CollectsClasses, ConsidersRules, ByClasses, trait_classes, WhenAnswered, MergesGoal}
+use Rattle.goal_solver.specs.OpenAnswers.{MergesGoal}
+use Rattle.goal_solver.specs.OpenGoals.{IsNoForm, IsConsidered, Considers, fault_in, has_kind_fault, IsLeft, IsFormless, FormsGoal, IsClassAnswer, ClassAnswers, rules_of_class, AreOfClass, CollectsClasses, ConsidersRules, ByClasses, trait_classes, WhenAnswered}
 use Rattle.goal_solver.specs.MergedRules.{MergesRules}
 use Rattle.goal_eval.specs.Pending.{is_alias}
 use Rattle.goal_solver.specs.State.{State}
@@ -90,13 +90,13 @@ pub collects-for : {P : Type 0} (K : Kind P) (t : Tables) (g : Goal P) (m : Typi
     (c ≡ class.ParamEnv → All (λ x. IsAcceptedClause t x.kind) g.param_env.items → CollectsEnvironment (words_for K.words t g m) rs) →
     ((q : TraitTree) (s : Ty) → c ≡ class.AliasBound → K.words.asked g.predicate t ≡ Some q → K.words.self_type g.predicate ≡ Some s →
     CollectsBounds (words_for K.words t g m) (K.words.additional g.predicate (setting_of t m g.param_env.items)) s [] rs) →
-    ((q : TraitTree) (s : Ty) → c ≡ class.Misc → is_headline m ≡ true → K.words.asked g.predicate t ≡ Some q → K.words.self_type g.predicate ≡ Some s →
+    ((q : TraitTree) (s : Ty) → c ≡ class.Misc → K.words.asked g.predicate t ≡ Some q → K.words.self_type g.predicate ≡ Some s →
     ((r : ImplRow) → r.trait_id ≡ q.def_id → K.words.is_impl_for g.predicate t r) →
     AreCollected (Speaks (words_for K.words t g m)) (Lacks (words_for K.words t g m)) rs (rest (setting_of t m g.param_env.items) q.def_id (erased (tree_of_ty s)))) →
     CollectsFor K t g m c rs
 collects-for K t g m class.ParamEnv rs f env bounds others = env refl (accepted-clauses K.has_fault t g f)
 collects-for K t g m class.AliasBound rs f env bounds others = λ q s asked of. bounds q s refl asked of
-collects-for K t g m class.Misc rs f env bounds others = λ q s headline asked of own. others q s refl headline asked of own
+collects-for K t g m class.Misc rs f env bounds others = λ q s asked of own. others q s refl asked of own
 
 -- the head form of a term is asked for as that of its tree
 pub asks-form : (es env : List Clause) (x : Term) (t : Tree) (a b : State) (r : Result (Option Term) Fault) → es ≡ env → tree_of_term x ≡ t →

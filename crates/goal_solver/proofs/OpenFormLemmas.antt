@@ -1,5 +1,5 @@
 -- Head forms of aliases that hold inference variables.
-use Rattle.std.proofs.Common.{◌≡◌, ◌==◌, ◌<◌, ◌&&◌, ◌||◌, ℕ, suc, Bool, true, false, List, [], ◌∷◌, length, Option, Some, None, Result, Ok, Err, refl, sym, ap, subst, ◌∙◌}
+use Rattle.std.proofs.Common.{◌≡◌, ◌==◌, ◌<◌, ◌&&◌, ◌||◌, ℕ, zero, suc, Bool, true, false, List, [], ◌∷◌, length, Option, Some, None, Result, Ok, Err, refl, sym, ap, subst, ◌∙◌}
 use Rattle.std.proofs.lemmas.Bool.{false≢true}
 use Rattle.std.specs.Prelude.{IfOk, IfErr, IfSome, OnOk}
 use Rattle.goal_terms.specs.Erased.{erased}
@@ -29,9 +29,10 @@ use Rattle.goal_kinds.specs.declared.faults.Fault.TheVariants as fault
 use Rattle.goal_solver.specs.Binding.{Applies}
 use Rattle.goal_solver.specs.GoingBack.{GoesBack, restored}
 use Rattle.goal_solver.specs.HeadForms.{bound_term, is_open_form, IsFormAnswer, IsAnswered}
+use Rattle.goal_solver.specs.OpenAnswers.{answers_at, answers_term, less, merges_at, MergesProjection}
 use Rattle.goal_solver.specs.OpenForms.{AppliesSure, IsUnsure, taking, kind_taking, with_taking, AsksTerm, TakesForm, RefusesTerm, OpensFrom, OpensForm, gives_form}
 use Rattle.goal_solver.specs.OpenGoals.{WhenAnswered, at_depth}
-use Rattle.goal_solver.specs.OpenProjections.{MergesProjection, answers_term}
+use Rattle.goal_solver.specs.OpenProjections.{MergesProjectionWith}
 use Rattle.goal_solver.specs.Relating.{ChangesRecords, IsFaultFor}
 use Rattle.goal_solver.specs.State.{State, kinds_of}
 use Rattle.goal_solver.specs.TranslatedArgs.{IsSameEnvironment}
@@ -85,11 +86,20 @@ asks-term env a x b s g same is own kind fresh = record {
 pub with-fresh : (a : AliasTerm) (b : Bool) (g : Goal NormalizesTo) (s f : State) → g.predicate.alias ≡ a → b ≡ is_type_kind a.kind → f ≡ with_variables (kind_taking b ∷ []) s → f ≡ with_taking g.predicate.alias.kind s
 with-fresh a b g s f same kind made = made ∙ ap (λ (c : Bool). with_variables (kind_taking c ∷ []) s) (kind ∙ ap (λ (y : AliasTerm). is_type_kind y.kind) (sym same))
 
+-- what it is answered is that with any depth, by what it is where there is some
+merges-less : (d : ℕ) (g : Goal NormalizesTo) (s u : State) (r : Result Response Fault) →
+    ((n : ℕ) → d ≡ suc n → MergesProjectionWith (answers_at n) (answers_at (less n)) g (at_depth n (with_taking g.predicate.alias.kind s)) r (at_depth n u)) → merges_at d g s r u
+unfolding merges_at
+merges-less zero g s u r h = tt
+merges-less (suc zero) g s u r h = h zero refl
+merges-less (suc (suc n)) g s u r h = h (suc n) refl
+
 pub answers-ok : (g : Goal NormalizesTo) (s f u : State) (r : Result Response Fault) (q : Response) → f ≡ with_taking g.predicate.alias.kind s → r ≡ Ok q → u ≡ restored f u →
     ((n : ℕ) → f.remaining_depth ≡ suc n → WhenAnswered r (MergesProjection g (at_depth n f) r (at_depth n u))) → answers_term g s (Ok q) u
 answers-ok g s f u r q made is back h = (
   back ∙ ap (λ (x : State). restored x u) made,
-  (λ n depth.
+  merges-less s.remaining_depth g s u (Ok q)
+      (λ n depth.
       subst (λ (x : State). MergesProjection g (at_depth n x) (Ok q) (at_depth n u)) made
       (subst (λ x. WhenAnswered x (MergesProjection g (at_depth n f) x (at_depth n u))) is
       (h n (ap (λ (x : State). x.remaining_depth) made ∙ depth)))),
@@ -99,7 +109,8 @@ pub answers-err : (g : Goal NormalizesTo) (s f u : State) (r : Result Response F
     ((n : ℕ) → f.remaining_depth ≡ suc n → WhenAnswered r (MergesProjection g (at_depth n f) r (at_depth n u))) → e ≡ fault.NoSolution → answers_term g s (Err e) u
 answers-err g s f u r e made is back h refusal = (
   back ∙ ap (λ (x : State). restored x u) made,
-  (λ n depth.
+  merges-less s.remaining_depth g s u (Err e)
+      (λ n depth.
       let refused : r ≡ Err fault.NoSolution = is ∙ ap (λ (x : Fault). Err x) refusal in
       subst (λ x. MergesProjection g (at_depth n (with_taking g.predicate.alias.kind s)) (Err x) (at_depth n u)) (sym refusal)
       (subst (λ (x : State). MergesProjection g (at_depth n x) (Err fault.NoSolution) (at_depth n u)) made

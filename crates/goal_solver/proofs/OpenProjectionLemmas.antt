@@ -31,8 +31,9 @@ use Rattle.goal_solver.specs.GoingBack.{GoesBack, restored}
 use Rattle.goal_solver.specs.Collecting.{Kind, CollectsFor}
 use Rattle.goal_solver.specs.MergedRules.{MergesRules}
 use Rattle.goal_solver.specs.HiddenTypes.{AsksForm, tree_in}
-use Rattle.goal_solver.specs.OpenGoals.{FormsGoal, IsFormless, WhenAnswered, has_kind_fault}
-use Rattle.goal_solver.specs.OpenProjections.{CollectsAll, is_formed, Forms, FormsAll, RefusesForm, LacksForm, WithForms, IsRigidList, IsRigid, own_args, proven_class, classes_behind, CollectsGroups, ConsidersGroups, ByBounds, ByRest, ByLater, ByGroups, alias_kind, ByClass, MergesThrough, MergesProjection, IsAliasRule, RunsAlias, RunsEquation, AsksItsTrait, AnswersTrait}
+use Rattle.goal_solver.specs.OpenAnswers.{AnswersTrait, answers_at, less, MergesProjection, MergesThrough}
+use Rattle.goal_solver.specs.OpenGoals.{FormsGoal, IsFormless, MergesTraitWith, WhenAnswered, at_depth, has_kind_fault}
+use Rattle.goal_solver.specs.OpenProjections.{CollectsAll, is_formed, Forms, FormsAll, RefusesForm, LacksForm, WithForms, IsRigidList, IsRigid, own_args, proven_class, classes_behind, CollectsGroups, ConsidersGroups, ByBounds, ByRest, ByLater, ByGroups, alias_kind, AnswersTraitWith, ByClassWith, MergesThroughWith, IsAliasRule, RunsAlias, RunsEquation, AsksItsTrait}
 use Rattle.goal_solver.specs.OpenRuns.{RunsOpen}
 use Rattle.goal_solver.specs.Refusals.{WhenRefused, IsRefusedOpen}
 use Rattle.goal_solver.specs.Relating.{IsFaultFor}
@@ -297,16 +298,31 @@ equation-run g s u rule env es (Ok q) d e l h k = (rule, l, subst (λ xs. RunsOp
 equation-run g s u rule env es (Err f) d e l h k =
     when-refused (RunsEquation g s (Err f) u) f (λ is. (rule, l, subst (λ xs. IsRefusedOpen g.param_env.items xs s u) e (subst (λ xs. IsRefusedOpen xs es s u) d (k is))))
 
+-- a trait goal is answered with one less of the depth
+trait-with : (q : Goal TraitPredicate) (s z : State) (r : Result Response Fault) → AnswersTrait q s z r → AnswersTraitWith (answers_at (less s.remaining_depth)) q s z r
+trait-with q s z r h = record {
+  sound = h.sound;
+  decided = h.decided;
+  merges = λ n closed depth.
+      subst (λ k. WhenAnswered r (MergesTraitWith (answers_at k) q (at_depth n s) r (at_depth n z))) (sym (ap less depth)) (h.merges n closed depth);
+  back = h.back;
+}
+
+-- and what is merged behind it with the same
+through-with : (g : Goal NormalizesTo) (c : TraitGoalProvenVia) (s z u : State) (r : Result Response Fault) → z ≡ restored s z → MergesThrough alias_kind g.predicate c g z r u →
+    MergesThroughWith (answers_at s.remaining_depth) alias_kind g.predicate c g z r u
+through-with g c s z u r e m = subst (λ n. MergesThroughWith (answers_at n) alias_kind g.predicate c g z r u) (ap (λ (x : State). x.remaining_depth) e) m
+
 pub projects-refused : (g : Goal NormalizesTo) (q : Goal TraitPredicate) (s z : State) (f : Fault) → AsksItsTrait s.tables g q → (f ≡ fault.NoSolution → AnswersTrait q s z (Err f)) →
     WhenAnswered (Err f) (MergesProjection g s (Err f) z)
-projects-refused g q s z f asks h = when-refused (MergesProjection g s (Err f) z) f (λ e. inr (q, Err f, z, asks, h e, (refl, refl)))
+projects-refused g q s z f asks h = when-refused (MergesProjection g s (Err f) z) f (λ e. inr (q, Err f, z, asks, trait-with q s z (Err f) (h e), (refl, refl)))
 
 pub projects-unproven : (g : Goal NormalizesTo) (q : Goal TraitPredicate) (s z : State) (a r : Response) → AsksItsTrait s.tables g q → AnswersTrait q s z (Ok a) →
     None ≡ proven_class a → r.certainty ≡ certainty.Maybe → MergesProjection g s (Ok r) z
-projects-unproven g q s z a r asks h e maybe = inr (q, Ok a, z, asks, h, subst (λ o. ByClass o g z (Ok r) z) e (maybe, refl))
+projects-unproven g q s z a r asks h e maybe = inr (q, Ok a, z, asks, trait-with q s z (Ok a) h, subst (λ o. ByClassWith (answers_at s.remaining_depth) o g z (Ok r) z) e (maybe, refl))
 
 pub projects-through : (g : Goal NormalizesTo) (q : Goal TraitPredicate) (c : TraitGoalProvenVia) (s z u : State) (a : Response) (r : Result Response Fault) → AsksItsTrait s.tables g q → AnswersTrait q s z (Ok a) →
     Some c ≡ proven_class a → WhenAnswered r (MergesThrough alias_kind g.predicate c g z r u) → WhenAnswered r (MergesProjection g s r u)
 projects-through g q c s z u a r asks h e m =
     when-map (MergesThrough alias_kind g.predicate c g z r u) (MergesProjection g s r u) r
-    (λ k. inr (q, Ok a, z, asks, h, subst (λ o. ByClass o g z r u) e k)) m
+    (λ k. inr (q, Ok a, z, asks, trait-with q s z (Ok a) h, subst (λ o. ByClassWith (answers_at s.remaining_depth) o g z r u) e (through-with g c s z u r h.back k))) m

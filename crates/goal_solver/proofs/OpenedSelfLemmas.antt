@@ -22,10 +22,11 @@ use Rattle.goal_solver.specs.Binding.{IsApplicable, bound_term}
 use Rattle.goal_solver.specs.Collecting.{Kind}
 use Rattle.goal_solver.specs.GoingBack.{GoesBack, begun, restored}
 use Rattle.goal_solver.specs.HeadForms.{bound_term as form_bound, is_open_form}
-use Rattle.goal_solver.specs.OpenForms.{OpensFrom, answers_somehow}
-use Rattle.goal_solver.specs.OpenGoals.{AsksOpenSelf, IsSelfAlias, IsLeft, WhenAnswered, WhenTried, MergesOpened, PassesSelf, ClassesForSelf, ClassesForForm, MergesGoal, IsAfterTrial, IsListedIn, IsBeside, ByFormedClasses, has_kind_fault, FormedBy, InTrial}
+use Rattle.goal_solver.specs.OpenAnswers.{answers_at, answers_term, InTrial, MergesGoal, MergesOpened, MergesThrough}
+use Rattle.goal_solver.specs.OpenForms.{OpensFrom}
+use Rattle.goal_solver.specs.OpenGoals.{MergesOpenedWith, AsksOpenSelf, IsSelfAlias, IsLeft, WhenAnswered, WhenTried, PassesSelf, ClassesForSelf, ClassesForForm, IsAfterTrial, IsListedIn, IsBeside, ByFormedClasses, has_kind_fault, FormedBy}
 use Rattle.goal_solver.specs.OpenHostGoals.{ByFormedRuleGroups, MergesConst}
-use Rattle.goal_solver.specs.OpenProjections.{answers_term, ByFormedGroups, GroupsForForm, GroupsForSelf, MergesThrough}
+use Rattle.goal_solver.specs.OpenProjections.{ByFormedGroups, GroupsForForm, GroupsForSelf}
 use Rattle.goal_solver.specs.Relating.{ChangesRecords, IsFaultFor}
 use Rattle.goal_solver.specs.State.{State, kinds_of}
 use Rattle.goal_solver.specs.Stored.{HasOneTypeAKey}
@@ -96,17 +97,24 @@ left-opened self_of By g s z u r A back undecided opened left merged =
     (λ n. not-both A r (undecided n) (left n))
     (asks-open_self self_of g z)
 
+-- it is merged with the same depth in a context that has more terms and records
+opened-with : {P : Type 0} (self_of : P → Option Ty) (By : FormedBy) (g : Goal P) (s y u : State) (r : Result Response Fault) → y ≡ restored s y → MergesOpened self_of By g y r u →
+    MergesOpenedWith (answers_at s.remaining_depth) self_of By g y r u
+opened-with self_of By g s y u r e m = subst (λ n. MergesOpenedWith (answers_at n) self_of By g y r u) (ap (λ (x : State). x.remaining_depth) e) m
+
 pub left-or_opened : {P : Type 0} (K : Kind P) (g : Goal P) (s z u : State) (r : Result Response Fault) → IsLeft K.words.self_type K.words.is_with_self (has_kind_fault K.has_fault s.tables) g s z →
     z ≡ restored s z → u ≡ restored z u → ((AsksOpenSelf K.words.self_type g z → ⊥) → WhenAnswered r (IsMaybe r)) →
     (AsksOpenSelf K.words.self_type g z → (y : State) × (y ≡ restored z y) × WhenAnswered r (MergesOpened K.words.self_type (ByFormedClasses K g) g y r u)) → WhenAnswered r (MergesGoal K g s r u)
 left-or_opened K g s z u r left back undone undecided opened =
-    left-opened K.words.self_type (ByFormedClasses K g) g s z u r (MergesGoal K g s r u) back undecided opened (λ n m. inl (z, left, n, undone, m)) (λ y e m. inr (inr (inr (y, e, m))))
+    left-opened K.words.self_type (ByFormedClasses K g) g s z u r (MergesGoal K g s r u) back undecided opened (λ n m. inl (z, left, n, undone, m))
+    (λ y e m. inr (inr (inr (y, e, opened-with K.words.self_type (ByFormedClasses K g) g s y u r e m))))
 
 pub left-or_opened-through : {P : Type 0} (K : Kind P) (p : NormalizesTo) (c : TraitGoalProvenVia) (g : Goal P) (s z u : State) (r : Result Response Fault) →
     IsLeft K.words.self_type K.words.is_with_self (has_kind_fault K.has_fault s.tables) g s z → z ≡ restored s z → u ≡ restored z u → ((AsksOpenSelf K.words.self_type g z → ⊥) → WhenAnswered r (IsMaybe r)) →
     (AsksOpenSelf K.words.self_type g z → (y : State) × (y ≡ restored z y) × WhenAnswered r (MergesOpened K.words.self_type (ByFormedGroups K p c g) g y r u)) → WhenAnswered r (MergesThrough K p c g s r u)
 left-or_opened-through K p c g s z u r left back undone undecided opened =
-    left-opened K.words.self_type (ByFormedGroups K p c g) g s z u r (MergesThrough K p c g s r u) back undecided opened (λ n m. inl (z, left, n, undone, m)) (λ y e m. inr (inr (inr (y, e, m))))
+    left-opened K.words.self_type (ByFormedGroups K p c g) g s z u r (MergesThrough K p c g s r u) back undecided opened (λ n m. inl (z, left, n, undone, m))
+    (λ y e m. inr (inr (inr (y, e, opened-with K.words.self_type (ByFormedGroups K p c g) g s y u r e m))))
 
 pub left-or_opened-const : {P : Type 0} (K : Kind P) (c : TraitGoalProvenVia) (g : Goal P) (s z u : State) (r : Result Response Fault) →
     IsLeft K.words.self_type K.words.is_with_self (has_kind_fault K.has_fault s.tables) g s z → z ≡ restored s z → u ≡ restored z u → ((AsksOpenSelf K.words.self_type g z → ⊥) → WhenAnswered r (IsMaybe r)) →
@@ -123,25 +131,25 @@ opened-unsaid self_of By g s z r f grown is memory = (
   handed-on r f (λ x. WhenAnswered x (MergesOpened self_of By g z x z)) is (memory-unsaid (MergesOpened self_of By g z (Err f) z) f memory),
 )
 
--- how an alias's goal was answered isn't said any more
-pub opens-somehow : (env : List Clause) (t : Tree) (s z : State) (r : Result (Option Term) Fault) → OpensFrom answers_term env t s r z → OpensFrom answers_somehow env t s r z
-opens-somehow env t s z (Ok (Some x)) h = record {
+-- an alias's head form, by what is answered with the depth that is left
+pub opens-at : (env : List Clause) (t : Tree) (s z : State) (r : Result (Option Term) Fault) → OpensFrom answers_term env t s r z → OpensFrom (answers_at s.remaining_depth) env t s r z
+opens-at env t s z (Ok (Some x)) h = record {
   asked = h.asked;
   asks = h.asks;
   response = h.response;
   answered = h.answered;
-  answers = h.answers.0;
+  answers = h.answers;
   applied = h.applied;
   applies = h.applies;
   form = h.form;
   left = h.left;
 }
-opens-somehow env t s z (Ok None) h =
-    ⊎_elim (λ e. inl e) (λ k. inr (record { asked = k.asked; asks = k.asks; response = k.response; answered = k.answered; answers = k.answers.0; unsure = k.unsure })) h
-opens-somehow env t s z (Err fault.NoSolution) h = record { asked = h.asked; asks = h.asks; answered = h.answered; answers = h.answers.0 }
-opens-somehow env t s z (Err fault.RerunNonErased) h = tt
-opens-somehow env t s z (Err fault.OutOfMemory) h = tt
-opens-somehow env t s z (Err fault.NotForThisKind) h = tt
+opens-at env t s z (Ok None) h =
+    ⊎_elim (λ e. inl e) (λ k. inr (record { asked = k.asked; asks = k.asks; response = k.response; answered = k.answered; answers = k.answers; unsure = k.unsure })) h
+opens-at env t s z (Err fault.NoSolution) h = record { asked = h.asked; asks = h.asks; answered = h.answered; answers = h.answers }
+opens-at env t s z (Err fault.RerunNonErased) h = tt
+opens-at env t s z (Err fault.OutOfMemory) h = tt
+opens-at env t s z (Err fault.NotForThisKind) h = tt
 
 opened-by : {P : Type 0} (self_of : P → Option Ty) (By : FormedBy) (g : Goal P) (l : AliasTerm) (s b d u : State) (q : Result (Option Response) Fault) (r : Result Response Fault) → b ≡ begun s → u ≡ restored s d →
     IsSelfAlias self_of g s l → InTrial By g.param_env.items l b q d → IsAfterTrial q r → MergesOpened self_of By g s r u
@@ -152,7 +160,7 @@ opened-by self_of By g l s b d u q r began undone self tried after =
       formed = h.1;
       opens = record {
         self = self.self;
-        opens = (begun s, refl, subst (λ x. OpensFrom answers_somehow g.param_env.items x (begun s) h.0 h.1) self.same h.2);
+        opens = (begun s, refl, subst (λ x. OpensFrom (answers_at s.remaining_depth) g.param_env.items x (begun s) h.0 h.1) self.same h.2);
         alone = h.3;
       };
       answer = q;
@@ -236,12 +244,12 @@ trial-refused A fault.NotForThisKind h = tt
 pub form-refused : (By : FormedBy) (env : List Clause) (l : AliasTerm) (s z : State) (f : Fault) → OpensFrom answers_term env (erased (tree_of_alias l)) s (Err f) z → ChangesRecords s z → By (Err f) z (Err f) z →
     WhenTried (Err f) (InTrial By env l s (Err f) z)
 form-refused By env l s z f opens alone by =
-    trial-refused (InTrial By env l s (Err f) z) f (λ e. (Err f, z, opens-somehow env (erased (tree_of_alias l)) s z (Err f) opens, alone, by))
+    trial-refused (InTrial By env l s (Err f) z) f (λ e. (Err f, z, opens-at env (erased (tree_of_alias l)) s z (Err f) opens, alone, by))
 
 -- no candidates are considered
 pub form-passed : (By : FormedBy) (env : List Clause) (l : AliasTerm) (s z : State) (a : Option Term) → OpensFrom answers_term env (erased (tree_of_alias l)) s (Ok a) z → ChangesRecords s z → By (Ok a) z (Ok None) z →
     InTrial By env l s (Ok None) z
-form-passed By env l s z a opens alone by = (Ok a, z, opens-somehow env (erased (tree_of_alias l)) s z (Ok a) opens, alone, by)
+form-passed By env l s z a opens alone by = (Ok a, z, opens-at env (erased (tree_of_alias l)) s z (Ok a) opens, alone, by)
 
 -- the candidates' answer is a refusal
 pub merge-refused : (By : FormedBy) (Decides : Result Response Fault → Type 0) (env : List Clause) (l : AliasTerm) (s z u : State) (a : Option Term) (r : Result Response Fault) (f : Fault) → r ≡ Err f →
@@ -251,7 +259,7 @@ merge-refused By Decides env l s z u a r f is opens alone decides by =
     (λ e.
     let refused : r ≡ Err fault.NoSolution = is ∙ ap (λ (x : Fault). Err x) e in
     let here : Decides (Err fault.NoSolution) = subst (λ x. WhenAnswered x (Decides x)) refused decides in
-    (Ok a, z, opens-somehow env (erased (tree_of_alias l)) s z (Ok a) opens, alone, by (subst (λ x. Decides (Err x)) (sym e) here)))
+    (Ok a, z, opens-at env (erased (tree_of_alias l)) s z (Ok a) opens, alone, by (subst (λ x. Decides (Err x)) (sym e) here)))
 
 -- or a response, which stands beside what the head form bound
 abbrev pub IsBesideAll : State → Response → Result (Option Response) Fault → State → Type 0
@@ -261,7 +269,7 @@ pub merge-answered : (By : FormedBy) (Decides : Result Response Fault → Type 0
     k ≡ Ok q → OpensFrom answers_term env (erased (tree_of_alias l)) s (Ok a) z → ChangesRecords s z → WhenAnswered k (Decides k) → IsBesideAll y q r u → IsOkUnless r fault.OutOfMemory →
     ((x : Response) → IsBeside y q x u → Decides (Ok q) → By (Ok a) z (Ok (Some x)) u) → WhenTried r (InTrial By env l s r u)
 merge-answered By Decides env l s z y u a k q (Ok (Some x)) is opens alone decides beside memory by =
-    (Ok a, z, opens-somehow env (erased (tree_of_alias l)) s z (Ok a) opens, alone, by x beside.0 (subst (λ v. WhenAnswered v (Decides v)) is decides))
+    (Ok a, z, opens-at env (erased (tree_of_alias l)) s z (Ok a) opens, alone, by x beside.0 (subst (λ v. WhenAnswered v (Decides v)) is decides))
 merge-answered By Decides env l s z y u a k q (Ok None) is opens alone decides beside memory by = absurd (false≢true beside.1)
 merge-answered By Decides env l s z y u a k q (Err f) is opens alone decides beside memory by = trial-unsaid _ f memory
 

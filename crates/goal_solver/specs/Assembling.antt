@@ -10,9 +10,9 @@ use Rattle.goal_kinds.specs.declared.goal_kind.MergeRule.TheVariants as merge
 use Rattle.goal_solver.specs.Answers.{is_closed_alias, expected_variable}
 use Rattle.goal_solver.specs.Collecting.{Kind}
 use Rattle.goal_solver.specs.HostGoals.{AnswersHostGiven, host_through}
-use Rattle.goal_solver.specs.OpenGoals.{MergesGoal, WhenAnswered}
+use Rattle.goal_solver.specs.OpenAnswers.{MergesGoal, MergesThrough}
+use Rattle.goal_solver.specs.OpenGoals.{WhenAnswered}
 use Rattle.goal_solver.specs.OpenHostGoals.{MergesConst}
-use Rattle.goal_solver.specs.OpenProjections.{MergesThrough}
 use Rattle.goal_solver.specs.Promises.{AnswersGiven, AnswersTraitAbove, IsClosedGoal, Through}
 use Rattle.goal_solver.specs.State.{State}
 

@@ -30,7 +30,7 @@ use Rattle.goal_tables.specs.declared.sites.TermFault.{TermFault}
 use Rattle.goal_kinds.specs.Answers.{setting_of}
 use Rattle.goal_kinds.specs.CandidateRules.{RuleSays, HoldsError, IsAcceptedClause, NamedRule, trait_alias, sizedness, copy_clone, fn_ptr_trait, fn_trait, tuple, pointee, discriminant_kind, destruct, field, said_by}
 use Rattle.goal_kinds.specs.Candidates.{Candidate, assumption, implied_bound, by_impl, built_in, error, bounds_under, object_bounds, impls_for, environment, rest}
-use Rattle.goal_kinds.specs.KindWords.{KindWords, trait_words, GoalWords, words_for, Gives, Refutes}
+use Rattle.goal_kinds.specs.KindWords.{KindWords, trait_words, GoalWords, words_for, Gives, Refutes, HasList}
 use Rattle.goal_kinds.specs.Levels.{level}
 use Rattle.goal_kinds.specs.Premises.{TraitTree}
 use Rattle.goal_kinds.specs.RuleWords.{TermsAreFor}
@@ -51,13 +51,17 @@ abbrev pub SaysNoMore : GoalWords → Rule → Candidate → Type 0
 SaysNoMore W r c =
     ((n : ℕ) (t : Tree) → RuleSays W.has_term W.setting n r t → W.gives n c t) × ((n : ℕ) → RuleRefuted W.setting (level W.setting n) r → W.refuted n c)
 
--- a rule speaks for a candidate: that of the built-in one may say less than it
+-- what a rule says of a candidate: that of the built-in one may say less than it, and that of an impl is told of in the modes of the headline
+abbrev pub Says : GoalWords → Rule → Candidate → Type 0
+Says W r (assumption p) = SaysTheSame W r (assumption p)
+Says W r (implied_bound q cs) = SaysTheSame W r (implied_bound q cs)
+Says W r (by_impl i) = is_headline W.setting.mode ≡ true → SaysTheSame W r (by_impl i)
+Says W r built_in = SaysNoMore W r built_in
+Says W r error = SaysTheSame W r error
+
+-- a rule speaks for a candidate: in every mode its list is the candidate's
 abbrev pub Speaks : GoalWords → Rule → Candidate → Type 0
-Speaks W r (assumption p) = SaysTheSame W r (assumption p)
-Speaks W r (implied_bound q cs) = SaysTheSame W r (implied_bound q cs)
-Speaks W r (by_impl i) = SaysTheSame W r (by_impl i)
-Speaks W r built_in = SaysNoMore W r built_in
-Speaks W r error = SaysTheSame W r error
+Speaks W r c = HasList W certainty.Yes c r × Says W r c
 
 -- a candidate is a clause that the fast rejection doesn't let pass
 abbrev pub IsBarred : GoalWords → Candidate → Type 0
@@ -111,9 +115,9 @@ AddsFor W c before after = Adds (Speaks W) (Lacks W) c before after
 abbrev pub AddsClause : GoalWords → ClauseKind → List Rule → List Rule → Type 0
 AddsClause W k before after = Adds (Speaks W) (λ _. W.passes k ≡ false) (said_by k) before after
 
--- the rule of an impl of the goal's trait, in the modes of the headline
-abbrev pub AddsImpl : GoalWords → TypingMode → ImplRow → List Rule → List Rule → Type 0
-AddsImpl W m r before after = is_headline m ≡ true → impl_of W.setting.tables r.id ≡ Some r → W.is_impl_for r → AddsFor W (by_impl r) before after
+-- the rule of an impl of the goal's trait
+abbrev pub AddsImpl : GoalWords → ImplRow → List Rule → List Rule → Type 0
+AddsImpl W r before after = impl_of W.setting.tables r.id ≡ Some r → W.is_impl_for r → AddsFor W (by_impl r) before after
 
 -- the rules of candidates are collected
 abbrev pub CollectsMore : GoalWords → List Candidate → List Rule → List Rule → Type 0
@@ -124,14 +128,14 @@ abbrev pub CollectsClauses : GoalWords → List Clause → List Rule → List Ru
 CollectsClauses W clauses before after =
     All (λ c. IsAcceptedClause W.setting.tables c.kind) clauses → Collects (Speaks W) (λ c. W.refuted 0 c) (environment W.setting) before after
 
--- in the modes of the headline, of a trait's impls, and of the rest, if each impl of the trait is for the goal
-abbrev pub CollectsImpls : GoalWords → TypingMode → TraitId → List Rule → List Rule → Type 0
-CollectsImpls W m i before after =
-    is_headline m ≡ true → ((r : ImplRow) → r.trait_id ≡ i → W.is_impl_for r) → CollectsMore W (map by_impl (impls_for W.setting.tables i)) before after
+-- of a trait's impls, and of the rest, if each impl of the trait is for the goal
+abbrev pub CollectsImpls : GoalWords → TraitId → List Rule → List Rule → Type 0
+CollectsImpls W i before after =
+    ((r : ImplRow) → r.trait_id ≡ i → W.is_impl_for r) → CollectsMore W (map by_impl (impls_for W.setting.tables i)) before after
 
-abbrev pub CollectsOthers : GoalWords → TypingMode → TraitId → Ty → List Rule → List Rule → Type 0
-CollectsOthers W m i s before after =
-    is_headline m ≡ true → ((r : ImplRow) → r.trait_id ≡ i → W.is_impl_for r) → CollectsMore W (rest W.setting i (erased (tree_of_ty s))) before after
+abbrev pub CollectsOthers : GoalWords → TraitId → Ty → List Rule → List Rule → Type 0
+CollectsOthers W i s before after =
+    ((r : ImplRow) → r.trait_id ≡ i → W.is_impl_for r) → CollectsMore W (rest W.setting i (erased (tree_of_ty s))) before after
 
 -- of what the clauses of a `dyn` type say
 abbrev pub CollectsObjects : GoalWords → Ty → List Rule → List Rule → Type 0
@@ -197,14 +201,14 @@ CollectsEnvironment W rs = AreCollected (Speaks W) (λ c. W.refuted 0 c) rs (env
 abbrev pub CollectsClassOfBounds : GoalWords → Option Ty → (AliasTerm → List Candidate) → List Rule → Type 0
 CollectsClassOfBounds W self added rs = (q : TraitTree) (s : Ty) → W.asked ≡ Some q → self ≡ Some s → CollectsBounds W added s [] rs
 
--- from the rest, in the modes of the headline, if each impl of the goal's trait is for the goal
-abbrev pub CollectsRest : GoalWords → TypingMode → Option Ty → (ImplRow → Type 0) → List Rule → Type 0
-CollectsRest W m self IsOwn rs =
-    (q : TraitTree) (s : Ty) → is_headline m ≡ true → W.asked ≡ Some q → self ≡ Some s → ((r : ImplRow) → r.trait_id ≡ q.def_id → IsOwn r) →
+-- from the rest, if each impl of the goal's trait is for the goal
+abbrev pub CollectsRest : GoalWords → Option Ty → (ImplRow → Type 0) → List Rule → Type 0
+CollectsRest W self IsOwn rs =
+    (q : TraitTree) (s : Ty) → W.asked ≡ Some q → self ≡ Some s → ((r : ImplRow) → r.trait_id ≡ q.def_id → IsOwn r) →
     AreCollected (Speaks W) (Lacks W) rs (rest W.setting q.def_id (erased (tree_of_ty s)))
 
 -- the rules of a class are collected for a goal
 abbrev pub CollectsFor : {P : Type 0} → Kind P → Tables → Goal P → TypingMode → TraitGoalProvenVia → List Rule → Type 0
 CollectsFor K t g m class.ParamEnv rs = CollectsEnvironment (words_for K.words t g m) rs
 CollectsFor K t g m class.AliasBound rs = CollectsClassOfBounds (words_for K.words t g m) (K.words.self_type g.predicate) (K.words.additional g.predicate (setting_of t m g.param_env.items)) rs
-CollectsFor K t g m class.Misc rs = CollectsRest (words_for K.words t g m) m (K.words.self_type g.predicate) (K.words.is_impl_for g.predicate t) rs
+CollectsFor K t g m class.Misc rs = CollectsRest (words_for K.words t g m) (K.words.self_type g.predicate) (K.words.is_impl_for g.predicate t) rs

@@ -27,6 +27,7 @@ pub mod Collecting
 pub mod OpenForms
 pub mod OpenGoals
 pub mod OpenProjections
+pub mod OpenAnswers
 pub mod OpenHostGoals
 pub mod Recording
 pub mod Promises

@@ -44,9 +44,9 @@ pub record AsksTerm (env : List Clause) (t : Tree) (s : State) (g : Goal Normali
   pub fresh : tree_of_term g.predicate.term ≡ variable (taking (is_type_kind g.predicate.alias.kind) (length (kinds_of s)))
   pub environment : IsSameEnvironment env g.param_env.items
 
--- it is answered somehow, in a context with that variable, and nothing is bound
-abbrev pub answers_somehow : Goal NormalizesTo → State → Result Response Fault → State → Type 0
-answers_somehow g s r u = u ≡ restored (with_taking g.predicate.alias.kind s) u
+-- how such a goal is answered
+abbrev pub Answering : Type 1
+Answering = Goal NormalizesTo → State → Result Response Fault → State → Type 0
 
 -- a response that is sure and enters no hidden type is applied
 pub record AppliesSure (old new : State) (q : Response) : Type 0 where
@@ -59,7 +59,7 @@ abbrev pub IsUnsure : Response → Type 0
 IsUnsure q = (q.certainty ≡ certainty.Maybe) ⊎ (q.opaque_entries.items ≡ [] → ⊥)
 
 -- the head form is what the variable stands for, once the response is applied
-pub record TakesForm (Answers : Goal NormalizesTo → State → Result Response Fault → State → Type 0) (env : List Clause) (t : Tree) (old : State) (u : Term) (new : State) : Type 0 where
+pub record TakesForm (Answers : Answering) (env : List Clause) (t : Tree) (old : State) (u : Term) (new : State) : Type 0 where
   pub asked : Goal NormalizesTo
   pub asks : AsksTerm env t old asked
   pub response : Response
@@ -71,7 +71,7 @@ pub record TakesForm (Answers : Goal NormalizesTo → State → Result Response 
   pub left : new ≡ record applied { terms = new.terms; delayed_faults = new.delayed_faults }
 
 -- there is none so far, since the response isn't applied
-pub record LeavesForm (Answers : Goal NormalizesTo → State → Result Response Fault → State → Type 0) (env : List Clause) (t : Tree) (old : State) : Type 0 where
+pub record LeavesForm (Answers : Answering) (env : List Clause) (t : Tree) (old : State) : Type 0 where
   pub asked : Goal NormalizesTo
   pub asks : AsksTerm env t old asked
   pub response : Response
@@ -80,25 +80,25 @@ pub record LeavesForm (Answers : Goal NormalizesTo → State → Result Response
   pub unsure : IsUnsure response
 
 -- there is none, since the goal is refused
-pub record RefusesTerm (Answers : Goal NormalizesTo → State → Result Response Fault → State → Type 0) (env : List Clause) (t : Tree) (old : State) : Type 0 where
+pub record RefusesTerm (Answers : Answering) (env : List Clause) (t : Tree) (old : State) : Type 0 where
   pub asked : Goal NormalizesTo
   pub asks : AsksTerm env t old asked
   pub answered : State
   pub answers : Answers asked old (Err fault.NoSolution) answered
 
 -- what is answered for the head form of such an alias; at depth 0 there is none so far
-abbrev pub OpensFrom : (Goal NormalizesTo → State → Result Response Fault → State → Type 0) → List Clause → Tree → State → Result (Option Term) Fault → State → Type 0
+abbrev pub OpensFrom : Answering → List Clause → Tree → State → Result (Option Term) Fault → State → Type 0
 OpensFrom Answers env t s (Ok (Some u)) z = TakesForm Answers env t s u z
 OpensFrom Answers env t s (Ok None) z = (s.remaining_depth ≡ 0) ⊎ LeavesForm Answers env t s
 OpensFrom Answers env t s (Err fault.NoSolution) z = RefusesTerm Answers env t s
 OpensFrom Answers env t s (Err f) z = Unit {0}
 
 -- so it is in a context that may have more terms and records
-abbrev pub OpensForm : (Goal NormalizesTo → State → Result Response Fault → State → Type 0) → List Clause → Tree → State → Result (Option Term) Fault → State → Type 0
+abbrev pub OpensForm : Answering → List Clause → Tree → State → Result (Option Term) Fault → State → Type 0
 OpensForm Answers env t s r z = (b : State) × (b ≡ restored s b) × OpensFrom Answers env t b r z
 
 -- so it is for a term, if it is such an alias
-abbrev pub OpensTerm : (Goal NormalizesTo → State → Result Response Fault → State → Type 0) → List Clause → Term → State → Result (Option Term) Fault → State → Type 0
+abbrev pub OpensTerm : Answering → List Clause → Term → State → Result (Option Term) Fault → State → Type 0
 OpensTerm Answers env e s r z = is_open_form (bound_term s e) env ≡ true → OpensForm Answers env (bound_term s e) s r z
 
 -- whether there is a head form

@@ -30,7 +30,7 @@ use Rattle.goal_solver.specs.Binding.{Applies, bound_term}
 use Rattle.goal_solver.specs.GoingBack.{begun, restored}
 use Rattle.goal_solver.specs.HeadForms.{is_open_form}
 use Rattle.goal_solver.specs.HiddenTypes.{AsksForm}
-use Rattle.goal_solver.specs.OpenForms.{OpensForm, OpensFrom, answers_somehow}
+use Rattle.goal_solver.specs.OpenForms.{Answering, OpensForm, OpensFrom}
 use Rattle.goal_solver.specs.Relating.{ChangesRecords}
 use Rattle.goal_solver.specs.Responses.{ListsSinceMark}
 use Rattle.goal_solver.specs.MergedRules.{MergesRules}
@@ -164,9 +164,9 @@ pub record IsSelfAlias {P : Type 0} (self_of : P → Option Ty) (g : Goal P) (s 
   pub same : erased (tree_of_alias a) ≡ bound_term s (tree_of_ty self.self)
 
 -- in a trial its head form is asked for
-pub record OpensSelf {P : Type 0} (self_of : P → Option Ty) (g : Goal P) (s : State) (a : Result (Option Term) Fault) (z : State) : Type 0 where
+pub record OpensSelf {P : Type 0} (Answers : Answering) (self_of : P → Option Ty) (g : Goal P) (s : State) (a : Result (Option Term) Fault) (z : State) : Type 0 where
   pub self : AsksOpenSelf self_of g s
-  pub opens : OpensForm answers_somehow g.param_env.items (bound_term s (tree_of_ty self.self)) (begun s) a z
+  pub opens : OpensForm Answers g.param_env.items (bound_term s (tree_of_ty self.self)) (begun s) a z
   pub alone : ChangesRecords (begun s) z
 
 -- a goal is considered for a head form of its self type, in the same environment
@@ -235,27 +235,23 @@ abbrev pub FormedBy : Type 1
 FormedBy = Result (Option Term) Fault → State → Result (Option Response) Fault → State → Type 0
 
 -- such an alias's head form is asked for, and then the goal is answered by it
-abbrev pub InTrial : FormedBy → List Clause → AliasTerm → State → Result (Option Response) Fault → State → Type 0
-InTrial By env l s r u = (a : Result (Option Term) Fault) × (z : State) × OpensFrom answers_somehow env (erased (tree_of_alias l)) s a z × ChangesRecords s z × By a z r u
+abbrev pub InTrialWith : Answering → FormedBy → List Clause → AliasTerm → State → Result (Option Response) Fault → State → Type 0
+InTrialWith Answers By env l s r u = (a : Result (Option Term) Fault) × (z : State) × OpensFrom Answers env (erased (tree_of_alias l)) s a z × ChangesRecords s z × By a z r u
 
 -- in a trial the head form of such an alias is asked for, the goal answered by it, and then everything goes back but terms and records
-pub record MergesOpened {P : Type 0} (self_of : P → Option Ty) (By : FormedBy) (g : Goal P) (s : State) (r : Result Response Fault) (u : State) : Type 0 where
+pub record MergesOpenedWith {P : Type 0} (Answers : Answering) (self_of : P → Option Ty) (By : FormedBy) (g : Goal P) (s : State) (r : Result Response Fault) (u : State) : Type 0 where
   pub form : Result (Option Term) Fault
   pub formed : State
-  pub opens : OpensSelf self_of g s form formed
+  pub opens : OpensSelf Answers self_of g s form formed
   pub answer : Result (Option Response) Fault
   pub last : State
   pub by : By form formed answer last
   pub after : IsAfterTrial answer r
   pub back : u ≡ restored s last
 
--- it is so where such an alias is the self type, but for terms and records
-abbrev pub OpensIfAsked : {P : Type 0} → (P → Option Ty) → FormedBy → Goal P → State → Result Response Fault → State → Type 0
-OpensIfAsked self_of By g s r u = AsksOpenSelf self_of g s → (z : State) × (z ≡ restored s z) × WhenAnswered r (MergesOpened self_of By g z r u)
-
 -- a goal is answered by its candidates: undecided where it isn't considered, refused where it is refuted that its self type has a head form, and else by its classes
-abbrev pub MergesGoal : {P : Type 0} → Kind P → Goal P → State → Result Response Fault → State → Type 0
-MergesGoal {P} K g s r u =
+abbrev pub MergesGoalWith : {P : Type 0} → Answering → Kind P → Goal P → State → Result Response Fault → State → Type 0
+MergesGoalWith {P} Answers K g s r u =
     ((z : State) × IsLeft K.words.self_type K.words.is_with_self (has_kind_fault K.has_fault s.tables) g s z × (AsksOpenSelf K.words.self_type g z → ⊥) × (u ≡ restored z u) × IsMaybe r)
     ⊎ (IsFormless K.words.self_type g s u × (r ≡ Err fault.NoSolution))
     ⊎ ((h : Goal P)
@@ -263,8 +259,8 @@ MergesGoal {P} K g s r u =
     × Considers K.words.self_type K.words.is_with_self g h s z
     × (has_kind_fault K.has_fault s.tables h ≡ false)
     × ByClasses (CollectsFor K s.tables h) h.param_env.items trait_classes z r u)
-    ⊎ ((z : State) × (z ≡ restored s z) × MergesOpened K.words.self_type (ByFormedClasses K g) g z r u)
+    ⊎ ((z : State) × (z ≡ restored s z) × MergesOpenedWith Answers K.words.self_type (ByFormedClasses K g) g z r u)
 
 -- so a trait goal is
-abbrev pub MergesTrait : Goal TraitPredicate → State → Result Response Fault → State → Type 0
-MergesTrait g s r u = MergesGoal trait_kind g s r u
+abbrev pub MergesTraitWith : Answering → Goal TraitPredicate → State → Result Response Fault → State → Type 0
+MergesTraitWith Answers g s r u = MergesGoalWith Answers trait_kind g s r u

@@ -17,7 +17,8 @@ use Rattle.goal_solver.specs.Answers.{IsMaybe}
 use Rattle.goal_solver.specs.Collecting.{Kind, kind_of}
 use Rattle.goal_solver.specs.GoingBack.{restored}
 use Rattle.goal_solver.specs.MergedRules.{MergesRules}
-use Rattle.goal_solver.specs.OpenGoals.{AnswersBeside, AsksOpenSelf, IsLeft, IsFormless, MergesOpened, PassesSelf, WhenAnswered, MergesTrait, at_depth, has_kind_fault}
+use Rattle.goal_solver.specs.OpenAnswers.{MergesOpened, MergesTrait}
+use Rattle.goal_solver.specs.OpenGoals.{AnswersBeside, AsksOpenSelf, IsLeft, IsFormless, PassesSelf, WhenAnswered, at_depth, has_kind_fault}
 use Rattle.goal_solver.specs.OpenProjections.{CollectsGroups, GroupsForSelf, proven_class}
 use Rattle.goal_solver.specs.State.{State}
 use Rattle.goal_solver.specs.TranslatedArgs.{IsSameEnvironment}

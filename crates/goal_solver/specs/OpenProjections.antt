@@ -42,8 +42,8 @@ use Rattle.goal_solver.specs.Collecting.{Kind, kind_of, CollectsFor}
 use Rattle.goal_solver.specs.GoingBack.{restored}
 use Rattle.goal_solver.specs.MergedRules.{MergesRules}
 use Rattle.goal_solver.specs.HiddenTypes.{AsksForm, tree_in}
-use Rattle.goal_solver.specs.OpenForms.{with_taking}
-use Rattle.goal_solver.specs.OpenGoals.{AnswersBeside, AsksOpenSelf, Considers, IsFormless, IsLeft, MergesOpened, MergesTrait, PassesSelf, TakesSelf, WhenAnswered, at_depth, has_kind_fault}
+use Rattle.goal_solver.specs.OpenForms.{Answering}
+use Rattle.goal_solver.specs.OpenGoals.{AnswersBeside, AsksOpenSelf, Considers, IsFormless, IsLeft, MergesOpenedWith, MergesTraitWith, PassesSelf, TakesSelf, WhenAnswered, at_depth, has_kind_fault}
 use Rattle.goal_solver.specs.OpenRuns.{RunsOpen}
 use Rattle.goal_solver.specs.Refusals.{IsRefusedOpen}
 use Rattle.goal_solver.specs.State.{State}
@@ -62,13 +62,13 @@ abbrev pub proven_class : Response → Option TraitGoalProvenVia
 proven_class r = class_if r.certainty r.proven_via
 
 -- a trait goal is answered, as `compute_trait_goal` does it
-pub record AnswersTrait (q : Goal TraitPredicate) (old new : State) (r : Result Response Fault) : Type 0 where
+pub record AnswersTraitWith (Answers : Answering) (q : Goal TraitPredicate) (old new : State) (r : Result Response Fault) : Type 0 where
   pub sound : (m : TypingMode) → IsOwed new m → AreClosed q.predicate.trait_ref.args.items q.param_env.items →
       IsTraitAnswer (level_over old m q.param_env.items) q.predicate.trait_ref.def_id (erased_args q.predicate.trait_ref.args.items) r
   pub decided : (m : TypingMode) → IsOwed new m → AreClosed q.predicate.trait_ref.args.items q.param_env.items → IsMaybe r →
       IsOpen (level_over old m q.param_env.items) q.predicate.trait_ref.def_id (erased_args q.predicate.trait_ref.args.items)
   pub merges : (n : ℕ) → (AreClosed q.predicate.trait_ref.args.items q.param_env.items → ⊥) → old.remaining_depth ≡ suc n →
-      WhenAnswered r (MergesTrait q (at_depth n old) r (at_depth n new))
+      WhenAnswered r (MergesTraitWith Answers q (at_depth n old) r (at_depth n new))
   pub back : new ≡ restored old new
 
 -- a goal asks for the trait of the item that an alias projects, with the alias's first arguments, in the same environment
@@ -227,29 +227,29 @@ ByFormedGroups K p c g (Ok a) z r u =
     × AnswersBeside y q r u)
 
 -- a projection whose trait goal holds through a class is answered by its candidates: undecided where it isn't considered, refused where it is refuted that its self type has a head form, and else by its groups
-abbrev pub MergesThrough : {P : Type 0} → Kind P → NormalizesTo → TraitGoalProvenVia → Goal P → State → Result Response Fault → State → Type 0
-MergesThrough {P} K p c g s r u =
+abbrev pub MergesThroughWith : {P : Type 0} → Answering → Kind P → NormalizesTo → TraitGoalProvenVia → Goal P → State → Result Response Fault → State → Type 0
+MergesThroughWith {P} Answers K p c g s r u =
     ((z : State) × IsLeft K.words.self_type K.words.is_with_self (has_kind_fault K.has_fault s.tables) g s z × (AsksOpenSelf K.words.self_type g z → ⊥) × (u ≡ restored z u) × IsMaybe r)
     ⊎ (IsFormless K.words.self_type g s u × (r ≡ Err fault.NoSolution))
     ⊎ ((w : GroupRules)
     × (z : State)
     × CollectsGroups K c g s z w
     × ByGroups c w.param_env.items w.environment.items w.later.items (own_args s.tables p.alias) p z r u)
-    ⊎ ((z : State) × (z ≡ restored s z) × MergesOpened K.words.self_type (ByFormedGroups K p c g) g z r u)
+    ⊎ ((z : State) × (z ≡ restored s z) × MergesOpenedWith Answers K.words.self_type (ByFormedGroups K p c g) g z r u)
 
 -- goals of the terms of aliases, as a kind of goals
 abbrev pub alias_kind : Kind NormalizesTo
 alias_kind = kind_of alias_words (λ p t f. lies_in_equation t [] f p.alias p.term)
 
 -- by the class of the trait goal's answer, if it is sure; else the goal is undecided
-abbrev pub ByClass : Option TraitGoalProvenVia → Goal NormalizesTo → State → Result Response Fault → State → Type 0
-ByClass None g s r u = IsMaybe r × (u ≡ s)
-ByClass (Some c) g s r u = MergesThrough alias_kind g.predicate c g s r u
+abbrev pub ByClassWith : Answering → Option TraitGoalProvenVia → Goal NormalizesTo → State → Result Response Fault → State → Type 0
+ByClassWith Answers None g s r u = IsMaybe r × (u ≡ s)
+ByClassWith Answers (Some c) g s r u = MergesThroughWith Answers alias_kind g.predicate c g s r u
 
 -- by the trait goal's answer; its refusal is the answer
-abbrev pub ByTrait : Result Response Fault → Goal NormalizesTo → State → Result Response Fault → State → Type 0
-ByTrait (Ok a) g s r u = ByClass (proven_class a) g s r u
-ByTrait (Err f) g s r u = (r ≡ Err f) × (u ≡ s)
+abbrev pub ByTraitWith : Answering → Result Response Fault → Goal NormalizesTo → State → Result Response Fault → State → Type 0
+ByTraitWith Answers (Ok a) g s r u = ByClassWith Answers (proven_class a) g s r u
+ByTraitWith Answers (Err f) g s r u = (r ≡ Err f) × (u ≡ s)
 
 -- a rule's list is that of an alias which is no projection, and gives its terms to the one that a goal expects
 pub record IsAliasRule (t : Tables) (m : TypingMode) (g : Goal NormalizesTo) (rule : Rule) : Type 0 where
@@ -269,17 +269,11 @@ RunsEquation g s r u =
     × IsListed s.tables rule (Some (equation_list (erased (tree_of_alias g.predicate.projection_term)) (erased (tree_of_term g.predicate.term))))
     × AnswersRun g.param_env.items rule.entries.items s r u
 
--- the goal of a projection's term is answered: by the trait goal, and then by its candidates. That of another alias is answered by its list
-abbrev pub MergesProjection : Goal NormalizesTo → State → Result Response Fault → State → Type 0
-MergesProjection g s r u =
+-- the goal of a projection's term is answered: by the trait goal, in which a self type is opened at one less of the depth, and then by its candidates. That of another alias is answered by its list
+abbrev pub MergesProjectionWith : Answering → Answering → Goal NormalizesTo → State → Result Response Fault → State → Type 0
+MergesProjectionWith Answers Less g s r u =
     ((projected_trait s.tables g.predicate.alias ≡ None) × RunsAlias g s r u)
-    ⊎ ((q : Goal TraitPredicate) × (a : Result Response Fault) × (z : State) × AsksItsTrait s.tables g q × AnswersTrait q s z a × ByTrait a g z r u)
-
--- the goal of the term of an alias with inference variables, which a fresh variable takes, is answered as `compute_normalizes_to_goal` does it
-abbrev pub answers_term : Goal NormalizesTo → State → Result Response Fault → State → Type 0
-answers_term g s r u =
-    (u ≡ restored (with_taking g.predicate.alias.kind s) u)
-    × ((n : ℕ) → s.remaining_depth ≡ suc n → MergesProjection g (at_depth n (with_taking g.predicate.alias.kind s)) r (at_depth n u))
+    ⊎ ((q : Goal TraitPredicate) × (a : Result Response Fault) × (z : State) × AsksItsTrait s.tables g q × AnswersTraitWith Less q s z a × ByTraitWith Answers a g z r u)
 
 -- what the rules of the groups of an alias's candidates make of its goal
 abbrev pub ByGroupsOf : TraitGoalProvenVia → GroupRules → NormalizesTo → State → Result Response Fault → State → Type 0

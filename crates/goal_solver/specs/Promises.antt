@@ -39,9 +39,10 @@ use Rattle.goal_solver.specs.Answers.{IsOwed, level_over, AreClosed, is_closed_a
 use Rattle.goal_solver.specs.Assembled.{level_above, level_through, HoldsThrough}
 use Rattle.goal_solver.specs.Binding.{IsApplicable}
 use Rattle.goal_solver.specs.Goals.{IsAcceptedNormalization}
-use Rattle.goal_solver.specs.OpenGoals.{MergesTrait, WhenAnswered, at_depth}
+use Rattle.goal_solver.specs.OpenAnswers.{MergesProjection, MergesTrait}
+use Rattle.goal_solver.specs.OpenGoals.{WhenAnswered, at_depth}
 use Rattle.goal_solver.specs.OpenHostGoals.{MergesHostEffect}
-use Rattle.goal_solver.specs.OpenProjections.{MergesProjection, RunsEquation, AnswersRun}
+use Rattle.goal_solver.specs.OpenProjections.{RunsEquation, AnswersRun}
 use Rattle.goal_eval.specs.Outcomes.{StandsFor}
 use Rattle.goal_solver.specs.State.{State, kinds_of}
 

@@ -9,7 +9,7 @@ ghost use Rattle.goal_tables.specs.Rows.{item_of, opaque_of};
 ghost use Rattle.goal_kinds.specs.CandidateRules.{HasNoKindFault, said_by};
 ghost use Rattle.goal_kinds.specs.Candidates.{assumption, built_in, error, object_bound, environment, rest};
 ghost use Rattle.goal_kinds.specs.Premises.{predicate_under};
-ghost use Rattle.goal_kinds.specs.KindWords.{words_for, AnswersWhere};
+ghost use Rattle.goal_kinds.specs.KindWords.{words_for, AnswersWhere, HasList};
 ghost use Rattle.goal_solver.specs.Collecting.{is_later_named, is_any_named, args_and_itself, clauses_of_item, clauses_of_opaque, kind_of};
 ghost use Rattle.goal_solver.specs.Collecting.{AddsFor, AddsClause, AddsImpl, CollectsClauses, CollectsImpls, CollectsOthers, CollectsObjects, CollectsDeclared, CollectsAlias, CollectsSelf, CollectsFor, KeepTermsFor};
 ghost use Rattle.goal_solver.specs.OpenGoals.{has_kind_fault};
@@ -108,7 +108,7 @@ fn push_impl_rule<G: GoalKind>(
     found: &mut Vec<Rule>,
 ) -> Result<(), Fault>
     requires accepted { HasNoKindFault (λ f. G.has_fault goal.now.predicate tables.now f) }
-    ensures adds { IfOk result (λ _. AddsImpl (words_for G.words tables.now goal.now mode.now) mode.now row.now found.old.items found.new.items) }
+    ensures adds { IfOk result (λ _. AddsImpl (words_for G.words tables.now goal.now mode.now) row.now found.old.items found.new.items) }
     ensures expected { IfOk result (λ _. KeepTermsFor (G.words.expected goal.now.predicate) found.old.items found.new.items) }
     ensures only_memory { IsOkUnless result Fault.OutOfMemory }
 {
@@ -128,7 +128,7 @@ fn push_impl_rules<G: GoalKind>(
     found: &mut Vec<Rule>,
 ) -> Result<(), Fault>
     requires accepted { HasNoKindFault (λ f. G.has_fault goal.now.predicate tables.now f) }
-    ensures collected { IfOk result (λ _. CollectsImpls (words_for G.words tables.now goal.now mode.now) mode.now trait_id found.old.items found.new.items) }
+    ensures collected { IfOk result (λ _. CollectsImpls (words_for G.words tables.now goal.now mode.now) trait_id found.old.items found.new.items) }
     ensures expected { IfOk result (λ _. KeepTermsFor (G.words.expected goal.now.predicate) found.old.items found.new.items) }
     ensures only_memory { IsOkUnless result Fault.OutOfMemory }
 {
@@ -158,7 +158,8 @@ fn named_rule<G: GoalKind>(
     mode: &TypingMode,
     goal: &Goal<G>,
 ) -> Result<Rule, Fault>
-    ensures { AnswersWhere (words_for G.words tables.now goal.now mode.now) (is_any_named (G.words.is_for goal.now.predicate tables.now)) result }
+    ensures answer { AnswersWhere (words_for G.words tables.now goal.now mode.now) (is_any_named (G.words.is_for goal.now.predicate tables.now)) result }
+    ensures list { IfOk result (HasList (words_for G.words tables.now goal.now mode.now) Certainty.Yes built_in) }
 {
     let alias = G::consider_trait_alias_candidate(tables, mode, goal);
     if is_for_goal(&alias) {
@@ -189,7 +190,8 @@ fn later_named_rule<G: GoalKind>(
     mode: &TypingMode,
     goal: &Goal<G>,
 ) -> Result<Rule, Fault>
-    ensures { AnswersWhere (words_for G.words tables.now goal.now mode.now) (is_later_named (G.words.is_for goal.now.predicate tables.now)) result }
+    ensures answer { AnswersWhere (words_for G.words tables.now goal.now mode.now) (is_later_named (G.words.is_for goal.now.predicate tables.now)) result }
+    ensures list { IfOk result (HasList (words_for G.words tables.now goal.now mode.now) Certainty.Yes built_in) }
 {
     let tuple = G::consider_builtin_tuple_candidate(tables, mode, goal);
     if is_for_goal(&tuple) {
@@ -487,7 +489,7 @@ fn push_rest_rules<G: GoalKind>(
     found: &mut Vec<Rule>,
 ) -> Result<(), Fault>
     requires accepted { HasNoKindFault (λ f. G.has_fault goal.now.predicate tables.now f) }
-    ensures collected { IfOk result (λ _. CollectsOthers (words_for G.words tables.now goal.now mode.now) mode.now trait_id self_ty.now found.old.items found.new.items) }
+    ensures collected { IfOk result (λ _. CollectsOthers (words_for G.words tables.now goal.now mode.now) trait_id self_ty.now found.old.items found.new.items) }
     ensures only_memory { IsOkUnless result Fault.OutOfMemory }
 {
     push_impl_rules(tables, mode, goal, trait_id, found)?;

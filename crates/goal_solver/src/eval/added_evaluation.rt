@@ -17,6 +17,7 @@ ghost use Rattle.goal_solver.specs.Relating.{ChangesRecords, IsFaultFor, SaysYes
 use crate::assembly::more_special::binds_nothing;
 use crate::context::{EvalCtxt, Snapshot};
 use crate::eval::goal_outcomes::OpenGoal;
+use crate::eval::open_asked::answer_of;
 use crate::faults::Fault;
 use goal_eval::eval::outcomes::Stop;
 use goal_kinds::outcomes::Outcome;
@@ -275,8 +276,8 @@ impl EvalCtxt<'_> {
         ensures goes_back { GoesBack self.old self.new }
         ensures fault { IsFaultFor self.old self.new result }
     {
-        if let Some(certainty) = self.begin_open(goal)? {
-            return Ok(certainty);
+        if let Some(known) = self.begin_open(goal)? {
+            return answer_of(known);
         }
         let answered = self.evaluate_once(goal);
         self.end_open(&answered);

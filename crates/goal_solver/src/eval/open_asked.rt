@@ -1,6 +1,6 @@
 //! The goals with inference variables that an evaluation asks. One that leads back to itself is not asked again, and
 //! one that two others ask is answered once.
-ghost use Rattle.std.specs.Prelude.{◌≡◌, IsOkUnless};
+ghost use Rattle.std.specs.Prelude.{◌≡◌, IfErr, IsOkUnless};
 ghost use Rattle.goal_terms.specs.TableMeaning.{Keeps};
 
 use crate::context::EvalCtxt;
@@ -8,6 +8,7 @@ use crate::eval::goal_outcomes::OpenGoal;
 use crate::eval::where_goals::copied_clauses;
 use crate::faults::Fault;
 use goal_infer::state::InferState;
+use goal_kinds::outcomes::Outcome;
 use goal_tables::predicate_terms::some_in_env;
 use goal_terms::answers::Certainty;
 use goal_terms::ids::TraitId;
@@ -51,16 +52,16 @@ struct Running {
 struct Answered {
     question: OpenQuestion,
     depth: u32,
-    certainty: Certainty,
+    outcome: Outcome,
 }
 
 impl Answered {
-    /// Whether the answer is right at another depth, too: a yes is so at each greater one, and a goal that stayed
-    /// undecided stays so at each smaller one.
-    fn holds_at(&self, depth: u32) -> bool {
-        match self.certainty {
-            Certainty::Yes => self.depth <= depth,
-            Certainty::Maybe => depth <= self.depth,
+    /// Whether the answer is right at another depth, too: what is decided is so at each greater one, and a goal that
+    /// stayed undecided stays so at each smaller one.
+    fn stands_at(&self, depth: u32) -> bool {
+        match self.outcome {
+            Outcome::Holds | Outcome::Refuted => self.depth <= depth,
+            Outcome::Undecided => depth <= self.depth,
         }
     }
 }
@@ -91,7 +92,7 @@ impl OpenAsked {
         question: OpenQuestion,
         depth: u32,
         inference: &InferState,
-    ) -> Result<Option<Certainty>, Fault>
+    ) -> Result<Option<Outcome>, Fault>
         ensures only_memory { IsOkUnless result Fault.OutOfMemory }
     {
         if self
@@ -100,7 +101,7 @@ impl OpenAsked {
             .any(|other| other.question.is_same(&question))
         {
             self.led_back = self.led_back.wrapping_add(1);
-            return Ok(Some(Certainty::Maybe));
+            return Ok(Some(Outcome::Undecided));
         }
         if let Some(known) = self.known(&question, depth) {
             return Ok(Some(known));
@@ -118,42 +119,43 @@ impl OpenAsked {
     }
 
     /// What a goal was answered before, if that is right at a depth.
-    fn known(&self, question: &OpenQuestion, depth: u32) -> Option<Certainty> {
+    fn known(&self, question: &OpenQuestion, depth: u32) -> Option<Outcome> {
         if !question.lasts {
             return None;
         }
-        let found = self.answered.iter().find(|other| other.holds_at(depth)
+        let found = self.answered.iter().find(|other| other.stands_at(depth)
             && other.question.is_same(question))?;
-        Some(found.certainty)
+        Some(found.outcome)
     }
 
     /// The last goal is answered at a depth. The answer is kept while others are being answered, if it is one for
     /// each goal that asks the same. Where memory is refused it isn't kept.
-    fn end(&mut self, certainty: Option<Certainty>, depth: u32, inference: &InferState) {
+    fn end(&mut self, outcome: Option<Outcome>, depth: u32, inference: &InferState) {
         let Some(ended) = self.running.pop() else {
             return;
         };
         if self.running.is_empty() {
             self.answered.clear();
-        } else if let Some(certainty) = certainty {
-            self.keep(ended, certainty, depth, inference);
+        } else if let Some(outcome) = outcome {
+            self.keep(ended, outcome, depth, inference);
         }
     }
 
-    /// Keeps a yes for which nothing was bound or equated, and that a goal is undecided, if none led back.
-    fn keep(&mut self, ended: Running, certainty: Certainty, depth: u32, inference: &InferState) {
-        let lasts = match certainty {
-            Certainty::Yes => {
+    /// Keeps a yes for which nothing was bound or equated, a refusal, and that a goal is undecided, if none led back.
+    fn keep(&mut self, ended: Running, outcome: Outcome, depth: u32, inference: &InferState) {
+        let lasts = match outcome {
+            Outcome::Holds => {
                 ended.bound == inference.trail().len()
                     && ended.equated == inference.equations().len()
             }
-            Certainty::Maybe => ended.led_back == self.led_back,
+            Outcome::Refuted => true,
+            Outcome::Undecided => ended.led_back == self.led_back,
         };
         if lasts && ended.question.lasts {
             let answered = Answered {
                 question: ended.question,
                 depth,
-                certainty,
+                outcome,
             };
             let _unless_refused = self.answered.push(answered);
         }
@@ -164,7 +166,7 @@ impl EvalCtxt<'_> {
     /// What is known of a goal with inference variables: that it is undecided, if it is being answered, or what it
     /// was answered before. Else it is being answered from now on. Nothing changes but that there may be more terms.
     /// Only memory is refused.
-    pub(crate) fn begin_open(&mut self, goal: &OpenGoal) -> Result<Option<Certainty>, Fault>
+    pub(crate) fn begin_open(&mut self, goal: &OpenGoal) -> Result<Option<Outcome>, Fault>
         ensures unchanged { self.new ≡ record self.old { terms = self.new.terms } }
         ensures kept { Keeps self.old.terms self.new.terms }
         ensures only_memory { IsOkUnless result Fault.OutOfMemory }
@@ -187,12 +189,13 @@ impl EvalCtxt<'_> {
     pub(crate) fn end_open(&mut self, answered: &Result<Certainty, Fault>)
         ensures { self.new ≡ self.old }
     {
-        let certainty = match answered {
-            Ok(certainty) if self.storage.is_empty() => Some(*certainty),
-            _ => None,
+        let outcome = if self.storage.is_empty() {
+            outcome_of(answered)
+        } else {
+            None
         };
         self.asked
-            .end(certainty, self.remaining_depth, &self.inference);
+            .end(outcome, self.remaining_depth, &self.inference);
     }
 
     /// What a goal asks.
@@ -217,5 +220,26 @@ impl EvalCtxt<'_> {
             lasts: self.storage.is_empty() && !some_in_env(NodeTest::IsAnyInfer, &environment),
             environment,
         })
+    }
+}
+
+/// What a goal came to, by what it was answered: nothing after another fault than a refusal.
+fn outcome_of(answered: &Result<Certainty, Fault>) -> Option<Outcome> {
+    match answered {
+        Ok(Certainty::Yes) => Some(Outcome::Holds),
+        Ok(Certainty::Maybe) => Some(Outcome::Undecided),
+        Err(Fault::NoSolution) => Some(Outcome::Refuted),
+        Err(_) => None,
+    }
+}
+
+/// What is answered to a goal of which it is known what it comes to.
+pub(crate) fn answer_of(outcome: Outcome) -> Result<Certainty, Fault>
+    ensures { IfErr result (λ f. f ≡ Fault.NoSolution) }
+{
+    match outcome {
+        Outcome::Holds => Ok(Certainty::Yes),
+        Outcome::Undecided => Ok(Certainty::Maybe),
+        Outcome::Refuted => Err(Fault::NoSolution),
     }
 }

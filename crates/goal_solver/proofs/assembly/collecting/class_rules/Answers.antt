@@ -36,7 +36,7 @@ returns-clause-collected g c =
           (c.in-Some-self_ty.ensures ∙ of) c.new-found.ensures.items w.in_ok-push_bound_rules.ensures.collected)
       | in_default-class+in_ok-push_rest_rules w ↦ absurd (w.in_default-class.not-AliasBound is)
     ])
-    (λ q s is headline asked of own. elim c.match-class-2.branch [
+    (λ q s is asked of own. elim c.match-class-2.branch [
       | in-AliasBound+in_ok-push_bound_rules w ↦ absurd (classes-differ c.args.class w.in-AliasBound.is is)
       | in_default-class+in_ok-push_rest_rules w ↦
           let the_trait : c.in-Some.trait_id ≡ q.def_id = some-same c.in-Some.trait_id q.def_id (c.in-Some.ensures ∙ ap (option_map (λ x. x.def_id)) asked) in
@@ -45,5 +45,5 @@ returns-clause-collected g c =
           (subst (AreCollected (Speaks W) (Lacks W) w.push_rest_rules.new.found.items) (ap₂ (λ i t. rest W.setting i (erased (tree_of_ty t))) the_trait the_type)
           (collects-from_none (Speaks W) (Lacks W) (rest W.setting c.in-Some.trait_id (erased (tree_of_ty c.in-Some-self_ty.self_ty.now)))
           c.new-found.result.items w.push_rest_rules.new.found.items c.new-found.ensures.items
-          (w.in_ok-push_rest_rules.ensures.collected headline (λ row e. own row (e ∙ the_trait)))))
+          (w.in_ok-push_rest_rules.ensures.collected (λ row e. own row (e ∙ the_trait)))))
     ])

@@ -17,4 +17,4 @@ returns-clause-collected g c =
     (subst (λ s. Collects (Speaks (words_for g.G.GoalKind.words c.args.tables.now c.args.goal.now c.args.mode.now)) (Lacks (words_for g.G.GoalKind.words c.args.tables.now c.args.goal.now c.args.mode.now)) (bounds_under s c.args.clauses.now) c.args.found.now.items c.push_declared_rules.new.found.items)
     (ap (λ xs. map erased (trees_of xs)) c.deref.ensures.value ∙ c.in_ok-args.ensures) c.in_ok-push_declared_rules.ensures.collected)
     (collects-pairs (words_for g.G.GoalKind.words c.args.tables.now c.args.goal.now c.args.mode.now) c.in_ok-added.added.items (g.G.GoalKind.words.additional c.args.goal.now.predicate (setting_of c.args.tables.now c.args.mode.now c.args.goal.now.param_env.items) c.args.alias.now)
-    c.push_declared_rules.new.found.items c.push_rules.new.found.items c.in_ok-push_rules.ensures c.in_ok-added.ensures.gives c.in_ok-added.ensures.refuted c.in_ok-added.ensures.no_impl)
+    c.push_declared_rules.new.found.items c.push_rules.new.found.items c.in_ok-push_rules.ensures c.in_ok-added.ensures.list c.in_ok-added.ensures.gives c.in_ok-added.ensures.refuted)

@@ -13,4 +13,4 @@ consider_error_guaranteed_candidate-requires g c = record {
 }
 
 pub returns-in_ok-push_rule-in-Ok-clause-adds : goal.returns-in_ok-push_rule-in-Ok-clause-adds
-returns-in_ok-push_rule-in-Ok-clause-adds g c = inl (c.in-Ok.rule, c.in_ok-push_rule-in-Ok.ensures, (c.in-Ok.ensures.gives, c.in-Ok.ensures.refuted))
+returns-in_ok-push_rule-in-Ok-clause-adds g c = inl (c.in-Ok.rule, c.in_ok-push_rule-in-Ok.ensures, (c.in-Ok.ensures.list, (c.in-Ok.ensures.gives, c.in-Ok.ensures.refuted)))

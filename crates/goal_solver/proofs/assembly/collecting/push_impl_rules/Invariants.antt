@@ -3,7 +3,6 @@ use Rattle.std.specs.List.{All}
 use Rattle.goal_tables.specs.declared.rows.ImplRow.{ImplRow}
 use Rattle.goal_kinds.specs.Candidates.{by_impl, impls_for}
 use Rattle.goal_kinds.specs.RuleWords.{TermsAreFor}
-use Rattle.goal_kinds.specs.Settings.{is_headline}
 use Rattle.goal_kinds.specs.KindWords.{words_for}
 use Rattle.goal_solver.specs.Collecting.{Speaks, Lacks, Collects}
 use Rattle.goal_solver.proofs.assembly.collecting.push_impl_rules.Given as goal
@@ -11,8 +10,7 @@ use Rattle.goal_solver.proofs.assembly.collecting.push_impl_rules.Given as goal
 abbrev pub invariant-loop-i : goal.invariant-loop-i
 invariant-loop-i g l = record {
   collected :
-      is_headline l.mode ≡ true
-      → ((row : ImplRow) → row.trait_id ≡ l.fn.trait_id → g.G.GoalKind.words.is_impl_for l.goal.predicate l.tables row)
+      ((row : ImplRow) → row.trait_id ≡ l.fn.trait_id → g.G.GoalKind.words.is_impl_for l.goal.predicate l.tables row)
       → Collects
       (Speaks (words_for g.G.GoalKind.words l.tables l.goal l.mode))
       (Lacks (words_for g.G.GoalKind.words l.tables l.goal l.mode))

@@ -8,14 +8,14 @@ use Rattle.goal_solver.proofs.CollectingLemmas.{collects-chain, collects-one}
 use Rattle.goal_solver.proofs.assembly.collecting.push_rest_rules.Goals as goal
 
 pub returns-clause-collected : goal.returns-clause-collected
-returns-clause-collected g c headline own =
+returns-clause-collected g c own =
     collects-chain (Speaks (words_for g.G.GoalKind.words c.args.tables.now c.args.goal.now c.args.mode.now)) (Lacks (words_for g.G.GoalKind.words c.args.tables.now c.args.goal.now c.args.mode.now))
     (map by_impl (impls_for c.args.tables.now c.args.trait_id) ++ (built_in ∷ object_bounds (erased (tree_of_ty c.args.self_ty.now)))) (error ∷ [])
     c.args.found.now.items c.push_object_rules.new.found.items c.push_error_rule.new.found.items
     (collects-chain (Speaks (words_for g.G.GoalKind.words c.args.tables.now c.args.goal.now c.args.mode.now)) (Lacks (words_for g.G.GoalKind.words c.args.tables.now c.args.goal.now c.args.mode.now))
     (map by_impl (impls_for c.args.tables.now c.args.trait_id)) (built_in ∷ object_bounds (erased (tree_of_ty c.args.self_ty.now)))
     c.args.found.now.items c.push_impl_rules.new.found.items c.push_object_rules.new.found.items
-    (c.in_ok-push_impl_rules.ensures.collected headline own)
+    (c.in_ok-push_impl_rules.ensures.collected own)
     (collects-chain (Speaks (words_for g.G.GoalKind.words c.args.tables.now c.args.goal.now c.args.mode.now)) (Lacks (words_for g.G.GoalKind.words c.args.tables.now c.args.goal.now c.args.mode.now))
     (built_in ∷ []) (object_bounds (erased (tree_of_ty c.args.self_ty.now)))
     c.push_impl_rules.new.found.items c.push_built_in_rule.new.found.items c.push_object_rules.new.found.items

@@ -9,7 +9,7 @@ use Rattle.goal_kinds.specs.declared.faults.Fault.{Fault}
 use Rattle.goal_solver.specs.AddedGoals.{AreSplit, LeavesUndecided, IsRefusalAt, AreClosedAt, IsAnswerAt, IsClosedGoal}
 use Rattle.goal_solver.specs.GoingBack.{BeginsWith, GoesBack, restored, begun}
 use Rattle.goal_solver.specs.Relating.{IsFaultFor, SaysYes, ChangesRecords}
-use Rattle.goal_solver.proofs.AddedGoalLemmas.{round-begins, records-through, fault-before, restored-owed, restored-alone, restored-fault, restored-itself, answer-before, fault-later}
+use Rattle.goal_solver.proofs.AddedGoalLemmas.{round-begins, records-through, fault-before, refused-fault, restored-owed, restored-alone, restored-fault, restored-itself, answer-before, fault-later}
 use Rattle.goal_solver.proofs.GoingBackLemmas.{goes_back-same, goes_back-through, begins-through, goes_back-restored, goes_back-tried, valid-begun}
 use Rattle.goal_solver.proofs.RoundLemmas.{next-listed, next-within, next-fault, next-says, next-split, next-begins, ends-says, ends-split, handed-on, first-fault, first-done, first-open, left-none, left-some, same-lengths}
 use Rattle.goal_solver.proofs.RefusalLemmas.{refused-on, refuses-later, refuses-among, aside-refused, restored-refused, memory-only, pending-refused, stops-at, refused-map, stops-last, open-refused, open-goal-refused, evaluation-refused}
@@ -24,6 +24,7 @@ use Rattle.goal_solver.proofs.PlaceLemmas.{taken-split}
 use Rattle.goal_solver.proofs.FaultLemmas.{undone-faults, grown-faults}
 use Rattle.goal_solver.proofs.VariableLemmas.{on_err}
 use Rattle.goal_solver.specs.Responses.{ListsSinceMark}
+use Rattle.goal_solver.specs.OpenAnswers.{answers_term, AnswersTrait, InTrial, MergesProjection}
 use Rattle.goal_solver.specs.OpenRuns.{Evaluates, open_progress, open_start, RunsThrough, RunsOpen}
 use Rattle.goal_solver.proofs.ClosingLemmas.{evaluates-grown, closing-answers, closing-recorded}
 use Rattle.goal_eval.proofs.MergingLemmas.{ok-map}
@@ -46,13 +47,13 @@ use Rattle.goal_terms.specs.declared.answers.Response.{Response}
 use Rattle.goal_eval.specs.ErasedArgs.{erased_args}
 use Rattle.goal_solver.specs.Answers.{IsQuiet}
 use Rattle.goal_solver.specs.Collecting.{trait_kind}
-use Rattle.goal_solver.specs.OpenGoals.{AsksOpenSelf, WhenTried, ConsidersRules, AreOfClass, rules_of_class, trait_classes, WhenAnswered, ByClasses, ByFormedClasses, InTrial}
+use Rattle.goal_solver.specs.OpenGoals.{AsksOpenSelf, WhenTried, ConsidersRules, AreOfClass, rules_of_class, trait_classes, WhenAnswered, ByClasses, ByFormedClasses}
 use Rattle.goal_solver.proofs.ApplicableLemmas.{nothing-applies-after, nothing-applies}
 use Rattle.goal_solver.proofs.OpenClassLemmas.{answered-in, by-classes, class-answers, first-answers, next-answers, none-answers, none-left}
 use Rattle.goal_solver.proofs.OpenTraitLemmas.{grown-records, some-unless, restored-records, let-go, let-go-back, let-go-caused, let-go-fault}
 use Rattle.goal_solver.specs.OpenHostGoals.{host_kind, rules_of_groups, AnswersPlain, ByFormedRuleGroups, ByRuleGroups, MergesHostEffect}
 use Rattle.goal_solver.proofs.OpenHostLemmas.{const-at_once, const-below, const-grouped, const-refused, const-through, const-unproven, group-answered, group-first, group-later, group-none, group-refuted, group-split}
-use Rattle.goal_solver.specs.OpenProjections.{ConsidersGroups, AnswersTrait, IsAliasRule, MergesProjection, IsRigid, WithForms, alias_kind, own_args, answers_term, ByFormedGroups, ByGroups}
+use Rattle.goal_solver.specs.OpenProjections.{ConsidersGroups, IsAliasRule, IsRigid, WithForms, alias_kind, own_args, ByFormedGroups, ByGroups}
 use Rattle.goal_solver.proofs.OpenProjectionLemmas.{alias-none, alias-run, asks-its-trait, no-trait, projects-alias, projects-refused, projects-unproven, projects-through, rules-merged, environment-answers, environment-splits, later-answers, bounds-answer, bounds-split, bounds-rigid, rest-answers, rest-splits, rest-refuses, through-groups, not-maybe}
 use Rattle.goal_kinds.specs.Answers.{setting_of}
 use Rattle.goal_solver.proofs.PromiseLemmas.{leaves-undecided}
@@ -986,14 +987,14 @@ pub evaluate_alias_or_other-returns-in-None-clause-fault : goal.evaluate_alias_o
 evaluate_alias_or_other-returns-in-None-clause-fault t c =
     fault-later c.args.self.now c.open_normalization.new.self c.evaluate_other.new.self c.evaluate_other.result (goes_back-grown c.args.self.now c.open_normalization.new.self c.open_normalization.ensures.unchanged c.open_normalization.ensures.kept) c.evaluate_other.ensures.fault
 
-pub evaluate_open-returns-in_err-certainty-clause-alone : goal.evaluate_open-returns-in_err-certainty-clause-alone
-evaluate_open-returns-in_err-certainty-clause-alone t c = grown-records c.args.self.now c.begin_open.new.self c.begin_open.ensures.unchanged
+pub evaluate_open-returns-in_err-known-clause-alone : goal.evaluate_open-returns-in_err-known-clause-alone
+evaluate_open-returns-in_err-known-clause-alone t c = grown-records c.args.self.now c.begin_open.new.self c.begin_open.ensures.unchanged
 
-pub evaluate_open-returns-in_err-certainty-clause-faults : goal.evaluate_open-returns-in_err-certainty-clause-faults
-evaluate_open-returns-in_err-certainty-clause-faults t c = grown-faults c.args.self.now c.begin_open.new.self c.begin_open.ensures.unchanged
+pub evaluate_open-returns-in_err-known-clause-faults : goal.evaluate_open-returns-in_err-known-clause-faults
+evaluate_open-returns-in_err-known-clause-faults t c = grown-faults c.args.self.now c.begin_open.new.self c.begin_open.ensures.unchanged
 
-pub evaluate_open-returns-in_err-certainty-clause-goes_back : goal.evaluate_open-returns-in_err-certainty-clause-goes_back
-evaluate_open-returns-in_err-certainty-clause-goes_back t c = goes_back-grown c.args.self.now c.begin_open.new.self c.begin_open.ensures.unchanged c.begin_open.ensures.kept
+pub evaluate_open-returns-in_err-known-clause-goes_back : goal.evaluate_open-returns-in_err-known-clause-goes_back
+evaluate_open-returns-in_err-known-clause-goes_back t c = goes_back-grown c.args.self.now c.begin_open.new.self c.begin_open.ensures.unchanged c.begin_open.ensures.kept
 
 pub evaluate_open-returns-in-Some-clause-alone : goal.evaluate_open-returns-in-Some-clause-alone
 evaluate_open-returns-in-Some-clause-alone t c = grown-records c.args.self.now c.begin_open.new.self c.begin_open.ensures.unchanged
@@ -1003,6 +1004,9 @@ evaluate_open-returns-in-Some-clause-faults t c = grown-faults c.args.self.now c
 
 pub evaluate_open-returns-in-Some-clause-goes_back : goal.evaluate_open-returns-in-Some-clause-goes_back
 evaluate_open-returns-in-Some-clause-goes_back t c = goes_back-grown c.args.self.now c.begin_open.new.self c.begin_open.ensures.unchanged c.begin_open.ensures.kept
+
+pub evaluate_open-returns-in-Some-clause-fault : goal.evaluate_open-returns-in-Some-clause-fault
+evaluate_open-returns-in-Some-clause-fault t c = refused-fault c.args.self.now c.begin_open.new.self c.answer_of.result c.answer_of.ensures
 
 pub evaluate_open-returns-clause-alone : goal.evaluate_open-returns-clause-alone
 evaluate_open-returns-clause-alone t c =

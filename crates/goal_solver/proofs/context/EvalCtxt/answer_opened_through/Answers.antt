@@ -5,9 +5,10 @@ use Rattle.goal_terms.specs.declared.answers.Response.{Response}
 use Rattle.goal_terms.specs.declared.predicates.Clause.{Clause}
 use Rattle.goal_kinds.specs.declared.faults.Fault.{Fault}
 use Rattle.goal_solver.specs.Collecting.{kind_of}
+use Rattle.goal_solver.specs.OpenAnswers.{answers_term, InTrial}
 use Rattle.goal_solver.specs.OpenForms.{OpensFrom}
-use Rattle.goal_solver.specs.OpenGoals.{WhenTried, InTrial}
-use Rattle.goal_solver.specs.OpenProjections.{ByFormedGroups, ByGroups, answers_term, own_args}
+use Rattle.goal_solver.specs.OpenGoals.{WhenTried}
+use Rattle.goal_solver.specs.OpenProjections.{ByFormedGroups, ByGroups, own_args}
 use Rattle.goal_solver.specs.Relating.{IsFaultFor}
 use Rattle.goal_solver.proofs.AddedGoalLemmas.{fault-before}
 use Rattle.goal_solver.proofs.GoingBackLemmas.{goes_back-through}

@@ -2,11 +2,11 @@ use Rattle.std.proofs.Common.{◌≡◌, ◌∙◌, Option, Result}
 use Rattle.goal_terms.specs.Erased.{erased}
 use Rattle.goal_terms.specs.declared.terms.Term.{Term}
 use Rattle.goal_kinds.specs.declared.faults.Fault.{Fault}
+use Rattle.goal_solver.specs.OpenAnswers.{answers_term}
 use Rattle.goal_solver.specs.OpenForms.{OpensFrom}
 use Rattle.goal_solver.proofs.RoundLemmas.{handed-on}
 use Rattle.goal_terms.specs.TreeOf.{tree_of_alias}
 use Rattle.goal_solver.specs.HeadForms.{bound_term}
-use Rattle.goal_solver.specs.OpenProjections.{answers_term}
 use Rattle.goal_solver.proofs.AddedGoalLemmas.{fault-later, records-through}
 use Rattle.goal_solver.proofs.AnswerLemmas.{goes_back-grown}
 use Rattle.goal_solver.proofs.FaultLemmas.{grown-faults}
