@@ -72,32 +72,32 @@ asked-same S m e (Some c) i args x = effect_list-stands S m e c i args x
 
 -- the list that is made for a run is that of a candidate
 list_for-made : (c : over.Setting) (m : TypingMode) → RunsFor c m → (o : Option BoundConstness) (i : TraitId) (args : List Tree) (x : Candidate) (made : Option (List Entry)) →
-    made ≡ asked_list (setting_in c (list_mode c)) o i args x → IsListFor c.typing_mode.now made (asked_list (setting_in c m) o i args x)
+    made ≡ asked_list (setting_in c (list_mode c)) o i args x → IsListFor c made (asked_list (setting_in c m) o i args x)
 list_for-made c m s o i args x made e =
     list-for (λ k. asked_list (setting_in c k) o i args x) c m made s e
-    (list_stands_in-same (asked_list (erased_setting (setting_in c m)) o i args x) (asked_list (setting_in c m) o i args x) (asked-same (setting_in c m) m s.0 o i args x))
+    (λ e. list_stands_in-same (asked_list (erased_setting (setting_in c m)) o i args x) (asked_list (setting_in c m) o i args x) (asked-same (setting_in c m) m e o i args x))
 
 -- the list that is made is that of a candidate for what is asked
 module _ (c : over.Setting) (lists : ListSetting) (T U : List Tree) (asked : AskedTrait) where
   made : lists.rows.now ≡ c.rows.now → lists.mode.now ≡ list_mode c → (o : Option BoundConstness) → asked.constness ≡ o → (x : Candidate)
       (res : Result (Option (Vec InternedEntry Global)) OutOfMemory) →
       IfOk res (λ q. list_at U q ≡ asked_list (setting_at lists c.environment.now) o asked.trait_id (erased_all T asked.args.now) x) → (m : TypingMode) → RunsFor c m →
-      IfOk res (λ q. IsListFor c.typing_mode.now (list_at U q) (candidate_list (setting_in c m) T asked x))
+      IfOk res (λ q. IsListFor c (list_at U q) (candidate_list (setting_in c m) T asked x))
   made e f o g x res h m s =
       let args : List Tree = erased_all T asked.args.now in
-      IfOk-weaker res (λ q. list_at U q ≡ asked_list (setting_at lists c.environment.now) o asked.trait_id args x) (λ q. IsListFor c.typing_mode.now (list_at U q) (candidate_list (setting_in c m) T asked x))
+      IfOk-weaker res (λ q. list_at U q ≡ asked_list (setting_at lists c.environment.now) o asked.trait_id args x) (λ q. IsListFor c (list_at U q) (candidate_list (setting_in c m) T asked x))
       (λ q k.
       list_for-made c m s asked.constness asked.trait_id args x (list_at U q)
       (k ∙ ap₂ (λ S y. asked_list S y asked.trait_id args x) (ap₂ (λ t k. setting_of t k c.environment.now) e f) (sym g))) h
 
   pub made-plain : (x : Candidate) (res : Result (Option (Vec InternedEntry Global)) OutOfMemory) → lists.rows.now ≡ c.rows.now → lists.mode.now ≡ list_mode c → asked.constness ≡ None →
       IfOk res (λ q. list_at U q ≡ trait_list (setting_at lists c.environment.now) asked.trait_id (erased_all T asked.args.now) x) → (m : TypingMode) → RunsFor c m →
-      IfOk res (λ q. IsListFor c.typing_mode.now (list_at U q) (candidate_list (setting_in c m) T asked x))
+      IfOk res (λ q. IsListFor c (list_at U q) (candidate_list (setting_in c m) T asked x))
   made-plain x res e f g h = made e f None g x res h
 
   pub made-const : (b : BoundConstness) (x : Candidate) (res : Result (Option (Vec InternedEntry Global)) OutOfMemory) → lists.rows.now ≡ c.rows.now → lists.mode.now ≡ list_mode c →
       asked.constness ≡ Some b → IfOk res (λ q. list_at U q ≡ effect_list (setting_at lists c.environment.now) b asked.trait_id (erased_all T asked.args.now) x) →
-      (m : TypingMode) → RunsFor c m → IfOk res (λ q. IsListFor c.typing_mode.now (list_at U q) (candidate_list (setting_in c m) T asked x))
+      (m : TypingMode) → RunsFor c m → IfOk res (λ q. IsListFor c (list_at U q) (candidate_list (setting_in c m) T asked x))
   made-const b x res e f g h = made e f (Some b) g x res h
 
 -- a list that asks for no term: some term stands for what it would ask for
@@ -114,49 +114,49 @@ asked-asks_none : (S : Setting) (o : Option BoundConstness) (i : TraitId) (args 
 asked-asks_none S None i args x = trait_list-asks_none S i args x
 asked-asks_none S (Some c) i args x = effect_list-asks_none S c i args x
 
--- in a headline mode a list says what its candidate does
-asked-holds : (S : Setting) → is_headline S.mode ≡ true → (L : Level) (o : Option BoundConstness) (i : TraitId) (args : List Tree) (x : Candidate) →
+-- a list says what its candidate does
+asked-holds : (S : Setting) (L : Level) (o : Option BoundConstness) (i : TraitId) (args : List Tree) (x : Candidate) →
     ListHolds L (asked_list S o i args x) ↔ AskedHolds S L o i args x
-asked-holds S e L None i args x = trait_list-holds S e L i args x
-asked-holds S e L (Some c) i args x = effect_list-holds S e L c i args x
+asked-holds S L None i args x = trait_list-holds S L i args x
+asked-holds S L (Some c) i args x = effect_list-holds S L c i args x
 
-asked-refuted : (S : Setting) → is_headline S.mode ≡ true → (L : Level) (o : Option BoundConstness) (i : TraitId) (args : List Tree) (x : Candidate) →
+asked-refuted : (S : Setting) (L : Level) (o : Option BoundConstness) (i : TraitId) (args : List Tree) (x : Candidate) →
     ListRefuted L (asked_list S o i args x) ↔ AskedRefuted S L o i args x
-asked-refuted S e L None i args x = trait_list-refuted S e L i args x
-asked-refuted S e L (Some c) i args x = effect_list-refuted S e L c i args x
+asked-refuted S L None i args x = trait_list-refuted S L i args x
+asked-refuted S L (Some c) i args x = effect_list-refuted S L c i args x
 
-pub asked-says : (S : Setting) → is_headline S.mode ≡ true → (L : Level) (T U : List Tree) (asked : AskedTrait) (x : Candidate) (r : ListOutcome) →
+pub asked-says : (S : Setting) (L : Level) (T U : List Tree) (asked : AskedTrait) (x : Candidate) (r : ListOutcome) →
     SaysList L (candidate_list S T asked x) U r → SaysListed S L T asked x (list_held r)
-asked-says S e L T U asked x r h =
+asked-says S L T U asked x r h =
     let o : Option BoundConstness = asked.constness in
     let args : List Tree = erased_all T asked.args.now in
     let q : Option (List Entry) = asked_list S o asked.trait_id args x in
-    let holds : ListHolds L q ↔ AskedHolds S L o asked.trait_id args x = asked-holds S e L o asked.trait_id args x in
-    let refuted : ListRefuted L q ↔ AskedRefuted S L o asked.trait_id args x = asked-refuted S e L o asked.trait_id args x in
+    let holds : ListHolds L q ↔ AskedHolds S L o asked.trait_id args x = asked-holds S L o asked.trait_id args x in
+    let refuted : ListRefuted L q ↔ AskedRefuted S L o asked.trait_id args x = asked-refuted S L o asked.trait_id args x in
     says-same (ListHolds L q) (AskedHolds S L o asked.trait_id args x) (ListRefuted L q) (AskedRefuted S L o asked.trait_id args x) holds.0 holds.1 refuted.0 refuted.1
     (list_held r) (held-says L q U r (asked-asks_none S o asked.trait_id args x) h)
 
 -- so it is with the list of an impl for arguments of its trait
-pub impl-says : (S : Setting) → is_headline S.mode ≡ true → (L : Level) (U args : List Tree) (q : ImplRow) (r : ListOutcome) (o : Outcome) → o ≡ list_held r →
-    SaysList L (trait_list S q.trait_id args (by_impl q)) U r → Says (ImplHolds L args q) (ImplRefuted L args q) o
+pub impl-says : (S : Setting) (L : Level) (U args : List Tree) (q : ImplRow) (r : ListOutcome) (o : Outcome) → o ≡ list_held r →
+    SaysList L (trait_list S q.trait_id args (by_impl q)) U r → Says (ImplHolds L args q) (ImplRefuted S.mode L args q) o
 unfolding CandidateHolds CandidateRefuted
-impl-says S e L U args q r o same h =
+impl-says S L U args q r o same h =
     let x : Candidate = by_impl q in
     let es : Option (List Entry) = trait_list S q.trait_id args x in
-    let holds : ListHolds L es ↔ CandidateHolds S L q.trait_id args x = trait_list-holds S e L q.trait_id args x in
-    let refuted : ListRefuted L es ↔ CandidateRefuted S L q.trait_id args x = trait_list-refuted S e L q.trait_id args x in
-    subst (Says (ImplHolds L args q) (ImplRefuted L args q)) (sym same)
-    (says-same (ListHolds L es) (ImplHolds L args q) (ListRefuted L es) (ImplRefuted L args q) holds.0 holds.1 refuted.0 refuted.1
+    let holds : ListHolds L es ↔ CandidateHolds S L q.trait_id args x = trait_list-holds S L q.trait_id args x in
+    let refuted : ListRefuted L es ↔ CandidateRefuted S L q.trait_id args x = trait_list-refuted S L q.trait_id args x in
+    subst (Says (ImplHolds L args q) (ImplRefuted S.mode L args q)) (sym same)
+    (says-same (ListHolds L es) (ImplHolds L args q) (ListRefuted L es) (ImplRefuted S.mode L args q) holds.0 holds.1 refuted.0 refuted.1
     (list_held r) (held-says L es U r (trait_list-asks_none S q.trait_id args x) h))
 
 -- and the list that is made of it is this one
 pub made-impl : (c : over.Setting) (lists : ListSetting) (T U : List Tree) (ids : List TermId) (q : ImplRow) (res : Result (Option (Vec InternedEntry Global)) OutOfMemory) →
     lists.rows.now ≡ c.rows.now → lists.mode.now ≡ list_mode c →
     IfOk res (λ o. list_at U o ≡ trait_list (setting_at lists c.environment.now) q.trait_id (erased_all T ids) (by_impl q)) →
-    (m : TypingMode) → RunsFor c m → IfOk res (λ o. IsListFor c.typing_mode.now (list_at U o) (trait_list (setting_in c m) q.trait_id (erased_all T ids) (by_impl q)))
+    (m : TypingMode) → RunsFor c m → IfOk res (λ o. IsListFor c (list_at U o) (trait_list (setting_in c m) q.trait_id (erased_all T ids) (by_impl q)))
 made-impl c lists T U ids q res e f h m s =
     IfOk-weaker res (λ o. list_at U o ≡ trait_list (setting_at lists c.environment.now) q.trait_id (erased_all T ids) (by_impl q))
-    (λ o. IsListFor c.typing_mode.now (list_at U o) (trait_list (setting_in c m) q.trait_id (erased_all T ids) (by_impl q)))
+    (λ o. IsListFor c (list_at U o) (trait_list (setting_in c m) q.trait_id (erased_all T ids) (by_impl q)))
     (λ o k.
     list_for-made c m s None q.trait_id (erased_all T ids) (by_impl q) (list_at U o)
     (k ∙ ap (λ S. trait_list S q.trait_id (erased_all T ids) (by_impl q)) (ap₂ (λ t k. setting_of t k c.environment.now) e f))) h

@@ -1,5 +1,5 @@
 -- What the run of a list says of the candidate, or of the alias, whose list it is.
-use Rattle.std.proofs.Common.{◌≡◌, ℕ, suc, true, List, Option, Some, None, refl, sym, ap, ap₂, subst}
+use Rattle.std.proofs.Common.{◌≡◌, ℕ, suc, List, Option, Some, None, refl, sym, ap, ap₂, subst}
 use Rattle.goal_terms.specs.Tree.{Tree}
 use Rattle.goal_terms.specs.declared.ids.ItemId.{ItemId}
 use Rattle.goal_terms.specs.declared.modes.TypingMode.{TypingMode}
@@ -15,7 +15,7 @@ use Rattle.goal_kinds.specs.Levels.{level}
 use Rattle.goal_kinds.specs.ListModes.{ListStandsIn}
 use Rattle.goal_kinds.specs.ProjectionLists.{projection_list}
 use Rattle.goal_kinds.specs.Projections.{projected_item, CandidateGives, TermRefuted}
-use Rattle.goal_kinds.specs.Settings.{Setting, is_headline}
+use Rattle.goal_kinds.specs.Settings.{Setting}
 use Rattle.goal_kinds.specs.declared.lists.ListSetting.{ListSetting}
 use Rattle.goal_kinds.proofs.AliasLists.{alias_list-gives, alias_list-refuted}
 use Rattle.goal_kinds.proofs.ListHeights.{list_holds-not_refuted}
@@ -44,30 +44,30 @@ term-says : (S : Setting) (n : ℕ) (o : Option (List Entry)) (T : List Tree) (x
 term-says S n o T x f is h = subst (SaysWhich (ListGives (level S n) o) (ListRefuted (level S n) o) T) (sym is) (outcome-says S n o T x h)
 
 -- the list of a candidate for a projection's term
-pub candidate-says : (S : Setting) → is_headline S.mode ≡ true → (n : ℕ) (p : Projection) (itself : Tree) (c : Candidate) (T : List Tree) (x : ListOutcome) (f : Found) → f ≡ list_term x →
+pub candidate-says : (S : Setting) (n : ℕ) (p : Projection) (itself : Tree) (c : Candidate) (T : List Tree) (x : ListOutcome) (f : Found) → f ≡ list_term x →
     SaysList (level S n) (projection_list S p itself c) T x → SaysWhich (λ u. CandidateGives S (level S n) p itself u c) (TermRefuted S (level S n) p c) T f
-candidate-says S e n p itself c T x f is h =
+candidate-says S n p itself c T x f is h =
     which-map (ListGives (level S n) (projection_list S p itself c)) (λ u. CandidateGives S (level S n) p itself u c)
     (ListRefuted (level S n) (projection_list S p itself c)) (TermRefuted S (level S n) p c) T
-    (λ u. (projection_list-gives S e (level S n) p itself c u).0) (λ u. (projection_list-gives S e (level S n) p itself c u).1)
-    (projection_list-refuted S e (level S n) p itself c).0 (projection_list-refuted S e (level S n) p itself c).1
+    (λ u. (projection_list-gives S (level S n) p itself c u).0) (λ u. (projection_list-gives S (level S n) p itself c u).1)
+    (projection_list-refuted S (level S n) p itself c).0 (projection_list-refuted S (level S n) p itself c).1
     f (term-says S n (projection_list S p itself c) T x f is h)
 
 -- the list of an alias that is no projection, one below the alias
-alias-above : (S : Setting) → is_headline S.mode ≡ true → (n : ℕ) (k : AliasTermKind) → projected_item k ≡ None → (args T : List Tree) (x : ListOutcome) (f : Found) → f ≡ list_term x →
+alias-above : (S : Setting) (n : ℕ) (k : AliasTermKind) → projected_item k ≡ None → (args T : List Tree) (x : ListOutcome) (f : Found) → f ≡ list_term x →
     SaysList (level S n) (Some (alias_list S k args)) T x → SaysWhich ((level S (suc n)).gives k args) ((level S (suc n)).gives_refuted k args) T f
 unfolding level
-alias-above S e n k none args T x f is h =
+alias-above S n k none args T x f is h =
     which-map (ListGives (level S n) (Some (alias_list S k args))) ((level S (suc n)).gives k args)
     (ListRefuted (level S n) (Some (alias_list S k args))) ((level S (suc n)).gives_refuted k args) T
-    (λ u. (alias_list-gives S e (level S n) k args none u).0) (λ u. (alias_list-gives S e (level S n) k args none u).1)
-    (alias_list-refuted S e (level S n) k args none).0 (alias_list-refuted S e (level S n) k args none).1
+    (λ u. (alias_list-gives S (level S n) k args none u).0) (λ u. (alias_list-gives S (level S n) k args none u).1)
+    (alias_list-refuted S (level S n) k args none).0 (alias_list-refuted S (level S n) k args none).1
     f (term-says S n (Some (alias_list S k args)) T x f is h)
 
-pub alias-says : (S : Setting) → is_headline S.mode ≡ true → (n d : ℕ) → d ≡ suc n → (k : AliasTermKind) → projected_item k ≡ None → (args T : List Tree) (x : ListOutcome) (f : Found) → f ≡ list_term x →
+pub alias-says : (S : Setting) (n d : ℕ) → d ≡ suc n → (k : AliasTermKind) → projected_item k ≡ None → (args T : List Tree) (x : ListOutcome) (f : Found) → f ≡ list_term x →
     SaysList (level S n) (Some (alias_list S k args)) T x → SaysWhich ((level S d).gives k args) ((level S d).gives_refuted k args) T f
-alias-says S e n d above k none args T x f is h =
-    subst (λ y. SaysWhich ((level S y).gives k args) ((level S y).gives_refuted k args) T f) (sym above) (alias-above S e n k none args T x f is h)
+alias-says S n d above k none args T x f is h =
+    subst (λ y. SaysWhich ((level S y).gives k args) ((level S y).gives_refuted k args) T f) (sym above) (alias-above S n k none args T x f is h)
 
 -- what the lists of a run are made for
 pub made-for : (s : over.Setting) (l : ListSetting) → l.rows ≡ s.rows → l.mode.now ≡ list_mode s →
@@ -76,17 +76,17 @@ made-for s l e f = ap₂ (λ r x. setting_of r.now x s.environment.now) e f
 
 -- a run goes by the list of a candidate for a projection's term
 pub candidate-for : (s : over.Setting) (m : TypingMode) → RunsFor s m → (p : Projection) (itself : Tree) (c : Candidate) (o : Option (List Entry)) →
-    o ≡ projection_list (setting_in s (list_mode s)) p itself c → IsListFor s.typing_mode.now o (projection_list (setting_in s m) p itself c)
+    o ≡ projection_list (setting_in s (list_mode s)) p itself c → IsListFor s o (projection_list (setting_in s m) p itself c)
 candidate-for s m stands p itself c o is =
-    list-for (λ x. projection_list (setting_in s x) p itself c) s m o stands is (projection_list-stands_in (setting_in s m) m stands.0 p itself c)
+    list-for (λ x. projection_list (setting_in s x) p itself c) s m o stands is (λ e. projection_list-stands_in (setting_in s m) m e p itself c)
 
 -- and by that of an alias that is no projection
 pub alias-for : (s : over.Setting) (m : TypingMode) → RunsFor s m → (k : AliasTermKind) (args : List Tree) (es : List Entry) →
-    es ≡ alias_list (setting_in s (list_mode s)) k args → IsListFor s.typing_mode.now (Some es) (Some (alias_list (setting_in s m) k args))
+    es ≡ alias_list (setting_in s (list_mode s)) k args → IsListFor s (Some es) (Some (alias_list (setting_in s m) k args))
 unfolding ListStandsIn
 alias-for s m stands k args es is =
     list-for (λ x. Some (alias_list (setting_in s x) k args)) s m (Some es) stands (ap Some is)
-    (alias_list (setting_in s m) k args, refl, alias_list-stands_in (setting_in s m) m stands.0 k args)
+    (λ e. (alias_list (setting_in s m) k args, refl, alias_list-stands_in (setting_in s m) m e k args))
 
 -- an alias of another kind than the two of projections projects nothing
 pub no_item : (k : AliasTermKind) → ((i : ItemId) → k ≡ ProjectionTy i → ⊥) → ((i : ItemId) → k ≡ ProjectionConst i → ⊥) → projected_item k ≡ None

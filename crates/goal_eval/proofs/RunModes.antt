@@ -7,24 +7,26 @@ use Rattle.goal_kinds.specs.Entries.{Entry}
 use Rattle.goal_kinds.specs.ListModes.{ListStandsIn}
 use Rattle.goal_kinds.specs.Settings.{is_headline}
 use Rattle.goal_eval.specs.Lists.{mode_of_lists, list_mode, IsListFor}
-use Rattle.goal_eval.specs.Outcomes.{RunsFor}
+use Rattle.goal_eval.specs.Outcomes.{RunsAs, RunsFor, GoesByOwn}
 use Rattle.goal_eval.specs.declared.eval.outcomes.OnAccess.{OnAccess}
 use Rattle.goal_eval.specs.declared.eval.outcomes.OnAccess.TheVariants as on_access
 use Rattle.goal_eval.specs.declared.eval.outcomes.Setting as over
 
--- a headline mode goes by its own lists
-own-lists : (on : OnAccess) (run : TypingMode) → is_headline run ≡ true → mode_of_lists on run ≡ run
-own-lists on_access.Stop run e = ap (λ b. if b then run else mode.ErasedNotCoherence) e
+-- some runs go by the lists of their own mode
+own-lists : (on : OnAccess) (run : TypingMode) → GoesByOwn on run → mode_of_lists on run ≡ run
+own-lists on_access.Stop run (inl e) = ap (λ b. if b then run else mode.ErasedNotCoherence) e
+own-lists on_access.Stop run (inr e) = absurd (cc)
 own-lists on_access.Record run e = refl
 
--- another one goes by those of the erased mode, where it stops at accesses
+-- one that stops at modes goes by those of the erased mode
 erased-lists : (on : OnAccess) (run : TypingMode) → is_headline run ≡ false → on ≡ on_access.Stop → mode_of_lists on run ≡ mode.ErasedNotCoherence
 erased-lists on run e f = ap (λ x. mode_of_lists x run) f ∙ ap (λ b. if b then run else mode.ErasedNotCoherence) e
 
--- a list that is made for a run stands for that of each headline mode for which the run stands
+-- a list that is made for a run stands for that of each mode for which the run stands
 pub list-for : (f : TypingMode → Option (List Entry)) (c : over.Setting) (m : TypingMode) (o : Option (List Entry)) → RunsFor c m → o ≡ f (list_mode c) →
-    ListStandsIn (f mode.ErasedNotCoherence) (f m) → IsListFor c.typing_mode.now o (f m)
+    (is_headline m ≡ true → ListStandsIn (f mode.ErasedNotCoherence) (f m)) → IsListFor c o (f m)
+unfolding RunsAs
 list-for f c m o s is for =
     ⊎_elim
-    (λ h. inl (sym (ap f (own-lists c.on_access c.typing_mode.now (ap is_headline h ∙ s.0) ∙ h)) ∙ sym is))
-    (λ h. inr (h.0, subst (λ q. ListStandsIn q (f m)) (sym (is ∙ ap f (erased-lists c.on_access c.typing_mode.now h.0 h.1))) for)) s.1
+    (λ h. inl (sym (ap f (own-lists c.on_access c.typing_mode.now h.1 ∙ h.0)) ∙ sym is))
+    (λ h. inr (h.1, subst (λ q. ListStandsIn q (f m)) (sym (is ∙ ap f (erased-lists c.on_access c.typing_mode.now h.1.0 h.1.1))) (for h.0))) s.0

@@ -49,16 +49,16 @@ no-place : (t : Tables) (P R : ImplRow → Type 0) → ((q : ImplRow) → P q �
 no-place t P R contrary p h k = contrary k.0 (subst P (same-row h.0 k.0 (slice_get t.impls.items p) h.1 k.1) h.2) k.2
 
 -- an impl that holds isn't refuted
-no-impl : (L : Level) → IsConsistent L → (args : List Tree) (q : ImplRow) → ImplHolds L args q → ImplRefuted L args q → ⊥
+no-impl : (m : TypingMode) (L : Level) → IsConsistent L → (args : List Tree) (q : ImplRow) → ImplHolds L args q → ImplRefuted m L args q → ⊥
 unfolding ImplHolds
-no-impl L c args q h k = no_impl_refuted L c args q h.0 h.1 k
+no-impl m L c args q h k = no_impl_refuted m L c args q h.0 h.1 k
 
 -- what the impls at some places come to
-abbrev pub SaysPlaces : Tables → Level → List Tree → List ℕ → Outcome → Type 0
-SaysPlaces t L args places o = Says (Exists (AtPlace t (ImplHolds L args)) places) (Each (AtPlace t (ImplRefuted L args)) places) o
+abbrev pub SaysPlaces : Tables → TypingMode → Level → List Tree → List ℕ → Outcome → Type 0
+SaysPlaces t m L args places o = Says (Exists (AtPlace t (ImplHolds L args)) places) (Each (AtPlace t (ImplRefuted m L args)) places) o
 
 abbrev pub ImplsSoFar : over.Setting → ℕ → List Tree → List TermId → List ℕ → ℕ → Outcome → Type 0
-ImplsSoFar c n T ids places k o = (m : TypingMode) → RunsFor c m → SaysPlaces c.rows.now (level_in c m n) (erased_all T ids) (take k places) o
+ImplsSoFar c n T ids places k o = (m : TypingMode) → RunsFor c m → SaysPlaces c.rows.now m (level_in c m n) (erased_all T ids) (take k places) o
 
 pub impls-start : (c : over.Setting) (n : ℕ) (T : List Tree) (ids : List TermId) (places : List ℕ) → ImplsSoFar c n T ids places 0 outcome.Refuted
 unfolding Each
@@ -67,23 +67,23 @@ impls-start c n T ids places m s = tt
 -- one more
 pub impls-more : (c : over.Setting) (n : ℕ) (T U : List Tree) (ids : List TermId) (places : List ℕ) (k p : ℕ) (q : ImplRow) (before next o : Outcome) →
     Keeps T U → AreIn T ids → k < length places → p ≡ get_or places k 0 → slice_get c.rows.now.impls.items p ≡ Some q → o ≡ one_of before next → ImplsSoFar c n T ids places k before →
-    ((m : TypingMode) → RunsFor c m → Says (ImplHolds (level_in c m n) (erased_all U ids) q) (ImplRefuted (level_in c m n) (erased_all U ids) q) next) →
+    ((m : TypingMode) → RunsFor c m → Says (ImplHolds (level_in c m n) (erased_all U ids) q) (ImplRefuted m (level_in c m n) (erased_all U ids) q) next) →
     ImplsSoFar c n T ids places (k + 1) o
 impls-more c n T U ids places k p q before next o keeps within l here at e so_far says m s =
     let t : Tables = c.rows.now in
     let L : Level = level_in c m n in
     let args : List Tree = erased_all T ids in
     let P : ℕ → Type 0 = AtPlace t (ImplHolds L args) in
-    let R : ℕ → Type 0 = AtPlace t (ImplRefuted L args) in
-    let said : Says (ImplHolds L args q) (ImplRefuted L args q) next =
-    subst (λ xs. Says (ImplHolds L xs q) (ImplRefuted L xs q) next) (all_same-grown T U keeps ids within) (says m s) in
+    let R : ℕ → Type 0 = AtPlace t (ImplRefuted m L args) in
+    let said : Says (ImplHolds L args q) (ImplRefuted m L args q) next =
+    subst (λ xs. Says (ImplHolds L xs q) (ImplRefuted m L xs q) next) (all_same-grown T U keeps ids within) (says m s) in
     let at_place : Says (P p) (R p) next =
-    says-same (ImplHolds L args q) (P p) (ImplRefuted L args q) (R p) (λ h. (q, at, h)) (λ h. subst (ImplHolds L args) (same-row h.0 q (slice_get t.impls.items p) h.1 at) h.2)
-    (λ h. (q, at, h)) (λ h. subst (ImplRefuted L args) (same-row h.0 q (slice_get t.impls.items p) h.1 at) h.2) next said in
+    says-same (ImplHolds L args q) (P p) (ImplRefuted m L args q) (R p) (λ h. (q, at, h)) (λ h. subst (ImplHolds L args) (same-row h.0 q (slice_get t.impls.items p) h.1 at) h.2)
+    (λ h. (q, at, h)) (λ h. subst (ImplRefuted m L args) (same-row h.0 q (slice_get t.impls.items p) h.1 at) h.2) next said in
     let more : take (k + 1) places ≡ take k places ++ p ∷ [] = take_more places k 0 l ∙ ap (λ x. take k places ++ x ∷ []) (sym here) in
-    subst (SaysPlaces t L args (take (k + 1) places)) (sym e)
-    (subst (λ ps. SaysPlaces t L args ps (one_of before next)) (sym more)
-    (some-more P R (no-place t (ImplHolds L args) (ImplRefuted L args) (no-impl L (each_level_is_consistent (setting_in c m) n) args)) (take k places) p before next (so_far m s) at_place))
+    subst (SaysPlaces t m L args (take (k + 1) places)) (sym e)
+    (subst (λ ps. SaysPlaces t m L args ps (one_of before next)) (sym more)
+    (some-more P R (no-place t (ImplHolds L args) (ImplRefuted m L args) (no-impl m L (each_level_is_consistent (setting_in c m) n) args)) (take k places) p before next (so_far m s) at_place))
 
 -- what some element of a list has, one at some place has; and the other way round
 some-index : {A : Type 0} (P : A → Type 0) (xs : List A) (d : A) → Exists P xs → (j : ℕ) × (j < length xs) × P (get_or xs j d)
@@ -132,24 +132,24 @@ module _ (S : Setting) (L : Level) (args : List Tree) (r : ImplRow) (places : Li
       let stands : StandsAmong S.tables.impls.items places q.1 = All-contains (StandsAmong S.tables.impls.items places) (reached S.tables q.0 r) q.1 (a.whole q.0) q.2 in
       contained-some (AtPlace S.tables (ImplHolds L args)) places stands.0 stands.1 (q.1, stands.2, q.3)
 
-  places-decide : Each (AtPlace S.tables (ImplRefuted L args)) places → Decides S L args (by_impl r)
+  places-decide : Each (AtPlace S.tables (ImplRefuted S.mode L args)) places → Decides S L args (by_impl r)
   places-decide h =
       decides-all S L args r
       (λ n.
-      All-weaker (StandsAmong S.tables.impls.items places) (ImplRefuted L args)
+      All-weaker (StandsAmong S.tables.impls.items places) (ImplRefuted S.mode L args)
       (λ q stands.
-      let there : AtPlace S.tables (ImplRefuted L args) stands.0 = contained-each (AtPlace S.tables (ImplRefuted L args)) places stands.0 stands.1 h in
-      subst (ImplRefuted L args) (same-row there.0 q (slice_get S.tables.impls.items stands.0) there.1 stands.2) there.2)
+      let there : AtPlace S.tables (ImplRefuted S.mode L args) stands.0 = contained-each (AtPlace S.tables (ImplRefuted S.mode L args)) places stands.0 stands.1 h in
+      subst (ImplRefuted S.mode L args) (same-row there.0 q (slice_get S.tables.impls.items stands.0) there.1 stands.2) there.2)
       (reached S.tables n r) (a.whole n))
 
-  decide-places : Decides S L args (by_impl r) → Each (AtPlace S.tables (ImplRefuted L args)) places
+  decide-places : Decides S L args (by_impl r) → Each (AtPlace S.tables (ImplRefuted S.mode L args)) places
   decide-places h =
-      index-each (AtPlace S.tables (ImplRefuted L args)) places 0
-      (λ j l. let at = a.sound j l in (at.1, at.3, All-contains (ImplRefuted L args) (reached S.tables at.0 r) at.1 (all-decides S L args r h at.0) at.4))
+      index-each (AtPlace S.tables (ImplRefuted S.mode L args)) places 0
+      (λ j l. let at = a.sound j l in (at.1, at.3, All-contains (ImplRefuted S.mode L args) (reached S.tables at.0 r) at.1 (all-decides S L args r h at.0) at.4))
 
-  pub special-says : (o : Outcome) → SaysPlaces S.tables L args places o → SaysMoreSpecial S L args (by_impl r) o
+  pub special-says : (o : Outcome) → SaysPlaces S.tables S.mode L args places o → SaysMoreSpecial S L args (by_impl r) o
   special-says o h =
-      says-same (Exists (AtPlace S.tables (ImplHolds L args)) places) (PassedOver S L args (by_impl r)) (Each (AtPlace S.tables (ImplRefuted L args)) places) (Decides S L args (by_impl r))
+      says-same (Exists (AtPlace S.tables (ImplHolds L args)) places) (PassedOver S L args (by_impl r)) (Each (AtPlace S.tables (ImplRefuted S.mode L args)) places) (Decides S L args (by_impl r))
       places-pass pass-places places-decide decide-places o h
 
 -- all of them
@@ -157,7 +157,7 @@ pub impls-end : (c : over.Setting) (n : ℕ) (T : List Tree) (ids : List TermId)
     (m : TypingMode) → RunsFor c m → AreMoreSpecial c.rows.now r places → SaysMoreSpecial (setting_in c m) (level_in c m n) (erased_all T ids) (by_impl r) o
 impls-end c n T ids r places k o l so_far m s a =
     special-says (setting_in c m) (level_in c m n) (erased_all T ids) r places a o
-    (subst (λ ps. SaysPlaces c.rows.now (level_in c m n) (erased_all T ids) ps o) (take_all k places l) (so_far m s))
+    (subst (λ ps. SaysPlaces c.rows.now m (level_in c m n) (erased_all T ids) ps o) (take_all k places l) (so_far m s))
 
 -- one that holds
 pub impls-shown : (c : over.Setting) (n : ℕ) (T : List Tree) (ids : List TermId) (r : ImplRow) (places : List ℕ) (k : ℕ) (o : Outcome) → o ≡ outcome.Holds → ImplsSoFar c n T ids places k o →
@@ -165,7 +165,7 @@ pub impls-shown : (c : over.Setting) (n : ℕ) (T : List Tree) (ids : List TermI
 impls-shown c n T ids r places k o e so_far m s a =
     let L : Level = level_in c m n in
     special-says (setting_in c m) L (erased_all T ids) r places a outcome.Holds
-    (Exists-taken (AtPlace c.rows.now (ImplHolds L (erased_all T ids))) k places (subst (SaysPlaces c.rows.now L (erased_all T ids) (take k places)) e (so_far m s)))
+    (Exists-taken (AtPlace c.rows.now (ImplHolds L (erased_all T ids))) k places (subst (SaysPlaces c.rows.now m L (erased_all T ids) (take k places)) e (so_far m s)))
 
 -- a candidate that is no impl has none that is more special
 pub others-decide : (S : Setting) (L : Level) (args T : List Tree) (x : InternedCandidate) → ((r : _) → x ≡ candidates.Impl r → ⊥) → SaysMoreSpecial S L args (candidate_at T x) outcome.Refuted

@@ -19,7 +19,7 @@ use Rattle.goal_kinds.specs.Words.{OfRow}
 use Rattle.goal_kinds.specs.declared.lists.InternedEntry.{InternedEntry}
 use Rattle.goal_kinds.specs.declared.lists.RowHeader.{RowHeader}
 use Rattle.goal_eval.specs.Combined.{SaysMatched}
-use Rattle.goal_eval.specs.Outcomes.{RunsFor, level_in, Says, SaysWhich, SaysMatch}
+use Rattle.goal_eval.specs.Outcomes.{StopsAtModes, RunsFor, level_in, Says, SaysWhich, SaysMatch}
 use Rattle.goal_eval.specs.declared.eval.outcomes.OnAccess.{OnAccess}
 use Rattle.goal_eval.specs.declared.eval.outcomes.OnAccess.TheVariants as on_access
 use Rattle.goal_eval.specs.declared.eval.outcomes.Setting as over
@@ -45,25 +45,25 @@ mode_of_lists on_access.Record run = run
 abbrev pub list_mode : over.Setting → TypingMode
 list_mode c = mode_of_lists c.on_access c.typing_mode.now
 
--- a run's list is that of a headline mode; where the run's mode isn't of the headline, as far as it reads none
-abbrev pub IsListFor : TypingMode → Option (List Entry) → Option (List Entry) → Type 0
-IsListFor run o q = (q ≡ o) ⊎ ((is_headline run ≡ false) × ListStandsIn o q)
+-- a run's list is that of a mode; where the run stops at modes, as far as it reads none
+abbrev pub IsListFor : over.Setting → Option (List Entry) → Option (List Entry) → Type 0
+IsListFor c o q = (q ≡ o) ⊎ (StopsAtModes c.on_access c.typing_mode.now × ListStandsIn o q)
 
 -- each list that a run's list stands for has a property
 abbrev pub ForEachList : over.Setting → Option (List Entry) → (Option (List Entry) → Type 0) → Type 0
-ForEachList c o P = (q : Option (List Entry)) → IsListFor c.typing_mode.now o q → P q
+ForEachList c o P = (q : Option (List Entry)) → IsListFor c o q → P q
 
 -- a list over numbers is one by which a run goes for this list
 abbrev pub GoesBy : over.Setting → List Tree → Option (List Entry) → Option (Vec InternedEntry Global) → Type 0
-GoesBy c T q = λ o. IsListFor c.typing_mode.now (list_at T o) q
+GoesBy c T q = λ o. IsListFor c (list_at T o) q
 
 -- entries over numbers are such a list
 abbrev pub AreEntriesOf : over.Setting → List Tree → List Entry → Vec InternedEntry Global → Type 0
-AreEntriesOf c T fs = λ es. IsListFor c.typing_mode.now (Some (entries_at T es.items)) (Some fs)
+AreEntriesOf c T fs = λ es. IsListFor c (Some (entries_at T es.items)) (Some fs)
 
--- a run's entries are those of a headline mode's list, in the same way
-abbrev pub AreEntriesFor : TypingMode → List Entry → List Entry → Type 0
-AreEntriesFor run es fs = (fs ≡ es) ⊎ ((is_headline run ≡ false) × StandsIn es fs)
+-- a run's entries are those of a mode's list, in the same way
+abbrev pub AreEntriesFor : over.Setting → List Entry → List Entry → Type 0
+AreEntriesFor c es fs = (fs ≡ es) ⊎ (StopsAtModes c.on_access c.typing_mode.now × StandsIn es fs)
 
 -- what a list comes to: where it holds and asks for a term, this is the term
 abbrev pub SaysList : Level → Option (List Entry) → List Tree → ListOutcome → Type 0
@@ -73,8 +73,8 @@ SaysList L o T list.Refuted = ListRefuted L o
 SaysList L o T list.Undecided = ((t : Tree) → ListHoldsWith L o t → ⊥) × (ListRefuted L o → ⊥)
 
 -- what entries come to, said of each list that they stand for
-abbrev pub SaysEntries : TypingMode → List Entry → Level → List Tree → ListOutcome → Type 0
-SaysEntries run es L T o = (q : List Entry) → AreEntriesFor run es q → SaysList L (Some q) T o
+abbrev pub SaysEntries : over.Setting → List Entry → Level → List Tree → ListOutcome → Type 0
+SaysEntries c es L T o = (q : List Entry) → AreEntriesFor c es q → SaysList L (Some q) T o
 
 -- something is so at each level that a run stands for
 abbrev pub AtEachLevel : over.Setting → ℕ → (Level → Type 0) → Type 0

@@ -36,17 +36,21 @@ use Rattle.goal_eval.specs.declared.eval.outcomes.HeaderMatch as matches
 use Rattle.goal_eval.specs.declared.eval.outcomes.Projection as projections
 use Rattle.goal_eval.specs.declared.eval.outcomes.HeaderMatch.TheVariants as match
 
--- a run stands for a headline mode: it is in that mode, or in one that isn't of the headline and then stops where a rule reads the mode
-abbrev pub StandsFor : TypingMode → TypingMode → Type 0
-StandsFor run m = (is_headline m ≡ true) × ((run ≡ m) ⊎ (is_headline run ≡ false))
+-- a run in a mode that isn't of the headline stops where a rule reads the mode
+abbrev pub StopsAtModes : OnAccess → TypingMode → Type 0
+StopsAtModes on run = (is_headline run ≡ false) × (on ≡ on_access.Stop)
 
--- a run in a mode stands for a headline mode: it is in that mode, or in one that isn't of the headline and stops where a rule reads the mode
-abbrev pub RunsAs : OnAccess → TypingMode → TypingMode → Type 0
-RunsAs on run m = (is_headline m ≡ true) × ((run ≡ m) ⊎ ((is_headline run ≡ false) × (on ≡ on_access.Stop)))
+-- a run in a mode goes by the lists of that mode: it is of the headline, or goes on where a rule reads the mode
+abbrev pub GoesByOwn : OnAccess → TypingMode → Type 0
+GoesByOwn on run = (is_headline run ≡ true) ⊎ (on ≡ on_access.Record)
+
+-- a run in a mode stands for a mode: for its own, by whose lists it goes; or for one of the headline, where it stops at modes
+unfoldable pub RunsAs : OnAccess → TypingMode → TypingMode → Type 0
+RunsAs on run m = ((run ≡ m) × GoesByOwn on run) ⊎ ((is_headline m ≡ true) × StopsAtModes on run)
 
 -- so does a run over tables, if they are accepted
 abbrev pub RunsOver : OnAccess → TypingMode → Tables → TypingMode → Type 0
-RunsOver on run t m = (is_headline m ≡ true) × ((run ≡ m) ⊎ ((is_headline run ≡ false) × (on ≡ on_access.Stop))) × IsChecked t
+RunsOver on run t m = RunsAs on run m × IsChecked t
 
 -- and over a setting
 abbrev pub RunsFor : over.Setting → TypingMode → Type 0

@@ -35,8 +35,8 @@ abbrev pub SaysMoreSpecial : Setting → Level → List Tree → Candidate → O
 SaysMoreSpecial S L args x o = Says (PassedOver S L args x) (Decides S L args x) o
 
 -- whether an impl holds for arguments of its trait
-abbrev pub SaysImpl : Level → List Tree → ImplRow → Outcome → Type 0
-SaysImpl L args r = Says (ImplHolds L args r) (ImplRefuted L args r)
+abbrev pub SaysImpl : Setting → Level → List Tree → ImplRow → Outcome → Type 0
+SaysImpl S L args r = Says (ImplHolds L args r) (ImplRefuted S.mode L args r)
 
 -- the list of an impl for arguments of its trait
 abbrev pub list_of_impl : Setting → List Tree → ImplRow → Option (List Entry)

@@ -31,10 +31,10 @@ use Rattle.goal_kinds.specs.ListModes.{access_in, accesses_in, in_mode, erased_s
 use Rattle.goal_kinds.specs.NamedRows.{KeepsKey, KeepsKeys, Defines}
 use Rattle.goal_kinds.specs.Projections.{projected_item}
 use Rattle.goal_kinds.specs.RuleLists.{arguments_of, expected_of, entry_of, list_of_rule, list_then, IsListed}
-use Rattle.goal_kinds.specs.RuleModes.{access_of, access_to, accesses_of, IsRuleIn, among, first_use_of, accesses_for_opaque, accesses_for}
+use Rattle.goal_kinds.specs.RuleModes.{access_of, access_to, accesses_of, IsRuleIn, first_use_of, accesses_for_opaque, accesses_for}
 use Rattle.goal_kinds.specs.RuleWords.{RuleMeans, TermsAreFor, IsHiddenEntry, DefinesHidden}
 use Rattle.goal_kinds.specs.Rules.{clauses_in, conditions_in, EntriesHold, RuleGives}
-use Rattle.goal_kinds.specs.Settings.{Setting, is_headline}
+use Rattle.goal_kinds.specs.Settings.{Setting, is_headline, among}
 use Rattle.goal_kinds.specs.declared.faults.Fault.{Fault}
 use Rattle.goal_kinds.specs.declared.lists.ListSetting.{ListSetting}
 use Rattle.goal_kinds.specs.declared.lists.InternedEntry.{InternedEntry}
@@ -196,11 +196,11 @@ module _ (t : Tables) (m : TypingMode) (env : List Clause) (k : AliasTermKind) (
       gives = λ u.
           iff-chain (iff-back (rule_list-gives S (level S n) r u))
           (subst (λ l. ListGives (level S n) l u ↔ AliasGives S (level S n) k args u) (sym (list-in_mode stands))
-          (alias_list-gives S stands.0 (level S n) k args none u));
+          (alias_list-gives S (level S n) k args none u));
       refuted =
           iff-chain (iff-back (rule_list-refuted S (level S n) r))
           (subst (λ l. ListRefuted (level S n) l ↔ AliasRefuted S (level S n) k args) (sym (list-in_mode stands))
-          (alias_list-refuted S stands.0 (level S n) k args none));
+          (alias_list-refuted S (level S n) k args none));
     }
 
 -- an entry that decides nothing doesn't hold, whatever the tables

@@ -16,7 +16,7 @@ use Rattle.goal_kinds.specs.Headers.{under, Fits}
 use Rattle.goal_kinds.specs.Laws.{IsConsistent}
 use Rattle.goal_kinds.specs.Level.{Level}
 use Rattle.goal_kinds.specs.Premises.{PremisesRefuted, clauses_under}
-use Rattle.goal_kinds.specs.Settings.{Setting, reveals}
+use Rattle.goal_kinds.specs.Settings.{Setting, leaves_open, reveals}
 use Rattle.goal_kinds.proofs.ContraryWords.{OfRow-twice, Either-twice}
 use Rattle.goal_kinds.proofs.EqualLemmas.{one_head_form, no_head_form_refuted}
 use Rattle.goal_kinds.proofs.PremiseLemmas.{no_premises_refuted}
@@ -94,14 +94,18 @@ one_opaque_term : (S : Setting) (L : Level) → IsConsistent L → (i : OpaqueId
     OpaqueGives S L i args t r → OpaqueGives S L i args u r → t ≡ u
 unfolding OpaqueGives
 one_opaque_term S L c i args t u r h k =
-    Either-twice _ _ _ _ (λ x y. one_head_form L c.one_term (under args (tree_of_ty r.hidden)) t u x y) (λ x y. x ∙ sym y) (reveals S.mode r) h k
+    Either-twice _ _ _ _ (λ x y. absurd x)
+    (λ x y. Either-twice _ _ _ _ (λ z w. one_head_form L c.one_term (under args (tree_of_ty r.hidden)) t u z w) (λ z w. z ∙ sym w) (reveals S.mode r) x y)
+    (leaves_open S.mode r) h k
 
 -- then it isn't refuted
 no_opaque_refuted : (S : Setting) (L : Level) → IsConsistent L → (i : OpaqueId) (args : List Tree) (u : Tree) (r : OpaqueRow) →
     OpaqueGives S L i args u r → OpaqueRefuted S L args r → ⊥
 unfolding OpaqueGives OpaqueRefuted
 no_opaque_refuted S L c i args u r h k =
-    Either-twice _ _ _ _ (λ x y. no_head_form_refuted L c.no_term_refuted (under args (tree_of_ty r.hidden)) u x y) (λ x y. y) (reveals S.mode r) h k
+    Either-twice _ _ _ _ (λ x y. x)
+    (λ x y. Either-twice _ _ _ _ (λ z w. no_head_form_refuted L c.no_term_refuted (under args (tree_of_ty r.hidden)) u z w) (λ z w. w) (reveals S.mode r) x y)
+    (leaves_open S.mode r) h k
 
 -- an alias has one term
 pub one_alias_term : (S : Setting) (L : Level) → IsConsistent L → (k : AliasTermKind) (args : List Tree) (t u : Tree) →

@@ -1,6 +1,5 @@
 -- The list of each alias that is no projection says what the alias does.
-use Rattle.std.proofs.Common.{◌≡◌, ◌↔◌, ◌⊎◌, ◌&&◌, ℕ, Bool, true, false, List, [], ◌∷◌, ◌++◌, Option, Some, None, if◌then◌else◌, refl, sym, ap, subst}
-use Rattle.std.proofs.lemmas.Bool.{false≢true}
+use Rattle.std.proofs.Common.{◌≡◌, ◌↔◌, ◌⊎◌, ◌&&◌, ℕ, Bool, true, false, List, [], ◌∷◌, ◌++◌, Option, Some, None, if◌then◌else◌, refl}
 use Rattle.std.specs.Prelude.{slice_get}
 use Rattle.goal_terms.specs.Tree.{Tree, alias, forest}
 use Rattle.goal_terms.specs.TreeOf.{tree_of_ty, tree_of_term}
@@ -22,13 +21,13 @@ use Rattle.goal_kinds.specs.Level.{Level}
 use Rattle.goal_kinds.specs.Premises.{PremisesHold, PremisesRefuted, clauses_under}
 use Rattle.goal_kinds.specs.ProjectionLists.{standing}
 use Rattle.goal_kinds.specs.Projections.{projected_item}
-use Rattle.goal_kinds.specs.RuleModes.{among}
-use Rattle.goal_kinds.specs.Settings.{Setting, is_empty, is_headline, reveals}
+use Rattle.goal_kinds.specs.RuleModes.{access_to}
+use Rattle.goal_kinds.specs.Settings.{Setting, leaves_open, reveals, among}
 use Rattle.goal_kinds.specs.Words.{OfRow, Either}
 use Rattle.goal_kinds.specs.declared.rules.FirstUse.{FirstUse}
 use Rattle.goal_kinds.specs.declared.rules.FirstUse.TheVariants as first
 use Rattle.goal_kinds.proofs.EntryLemmas.{iff-same}
-use Rattle.goal_kinds.proofs.ListEntries.{EntriesSay, say-gives, say-refuted, says-same, given-says, followed-says, header-says, row_clauses-say, standing-says, value-says, undecided-says}
+use Rattle.goal_kinds.proofs.ListEntries.{EntriesSay, say-gives, say-refuted, says-same, given-says, followed-says, header-says, row_clauses-say, standing-says, value-says, undecided-says, access-says, ambiguous-says, hidden_type-says}
 
 -- the value of a row that may lack it
 row_value-says : (L : Level) (named : List (List Tree)) (n : ℕ) (s : List Tree) (o : Option Term) → slice_get named n ≡ Some s →
@@ -75,26 +74,6 @@ inherent_alias-says S L r (self ∷ own) =
     (λ i. row-says L (inherent_impl_of S.tables i.impl_id) (inherent_list self own i) (λ q u. InherentGives L self own u i q) (InherentRefuted L self own i)
     (λ q. inherent-says L self own i q))
 
--- no opaque type is among none
-and_false : (b : Bool) → (b && false) ≡ false
-and_false true = refl
-and_false false = refl
-
-none_among : (ids : List OpaqueId) (r : OpaqueRow) → is_empty ids ≡ true → among ids r ≡ false
-none_among [] r e = and_false r.is_local
-none_among (i ∷ ids) r e = absurd (false≢true e)
-
--- what a headline mode makes of an opaque type
-by_mode : (m : TypingMode) → is_headline m ≡ true → (r : OpaqueRow) (defined : FirstUse → List Entry) (revealed itself : List Entry) →
-    opaque_list m r defined revealed itself ≡ (if reveals m r then revealed else itself)
-unfolding opaque_list
-by_mode mode.Coherence e r defined revealed itself = absurd (false≢true e)
-by_mode (mode.Analysis ids) e r defined revealed itself = ap (λ b. if b then defined first.Expected else itself) (none_among ids.items r e)
-by_mode (mode.Borrowck ids) e r defined revealed itself = ap (λ b. if b then defined first.TypeChecked else itself) (none_among ids.items r e)
-by_mode (mode.PostBorrowckAnalysis ids) e r defined revealed itself = refl
-by_mode mode.PostAnalysis e r defined revealed itself = refl
-by_mode mode.ErasedNotCoherence e r defined revealed itself = absurd (false≢true e)
-
 -- one of two lists, by a test
 either-says : (L : Level) (b : Bool) (es zs : List Entry) (P Q : Tree → Type 0) (R T : Type 0) → EntriesSay L [] es P R → EntriesSay L [] zs Q T →
     EntriesSay L [] (if b then es else zs) (λ u. Either b (P u) (Q u)) (Either b R T)
@@ -102,25 +81,36 @@ unfolding Either
 either-says L true es zs P Q R T f g = f
 either-says L false es zs P Q R T f g = g
 
+-- what a mode makes of an opaque type: its list says nothing where the mode leaves the type open
+by_mode-says : (m : TypingMode) (L : Level) (r : OpaqueRow) (defined : FirstUse → List Entry) (revealed itself : List Entry) (P Q : Tree → Type 0) (R : Type 0) →
+    ((f : FirstUse) → EntriesSay L [] (defined f) (λ u. ⊥) ⊥) → EntriesSay L [] revealed P R → EntriesSay L [] itself Q ⊥ →
+    EntriesSay L [] (opaque_list m r defined revealed itself) (λ u. Either (leaves_open m r) ⊥ (Either (reveals m r) (P u) (Q u))) (Either (leaves_open m r) ⊥ (Either (reveals m r) R ⊥))
+unfolding opaque_list Either
+by_mode-says mode.Coherence L r defined revealed itself P Q R d f g = ambiguous-says L []
+by_mode-says (mode.Analysis ids) L r defined revealed itself P Q R d f g = either-says L (among ids.items r) _ _ _ _ _ _ (d first.Expected) g
+by_mode-says (mode.Borrowck ids) L r defined revealed itself P Q R d f g = either-says L (among ids.items r) _ _ _ _ _ _ (d first.TypeChecked) g
+by_mode-says (mode.PostBorrowckAnalysis ids) L r defined revealed itself P Q R d f g = either-says L (among ids.items r) _ _ _ _ _ _ f g
+by_mode-says mode.PostAnalysis L r defined revealed itself P Q R d f g = f
+by_mode-says mode.ErasedNotCoherence L r defined revealed itself P Q R d f g = access-says L [] (access_to r) itself _ _ g
+
 -- an opaque type
-opaque-says : (S : Setting) → is_headline S.mode ≡ true → (L : Level) (i : OpaqueId) (args : List Tree) (r : OpaqueRow) →
+opaque-says : (S : Setting) (L : Level) (i : OpaqueId) (args : List Tree) (r : OpaqueRow) →
     EntriesSay L [] (opaque_alias_list S i args r) (λ u. OpaqueGives S L i args u r) (OpaqueRefuted S L args r)
 unfolding OpaqueGives OpaqueRefuted
-opaque-says S headline L i args r =
+opaque-says S L i args r =
     let itself = alias (OpaqueTy i) (forest args) in
-    subst (λ es. EntriesSay L [] es (λ u. OpaqueGives S L i args u r) (OpaqueRefuted S L args r)) (sym (by_mode S.mode headline r (defined_list i args) (hidden_list args r) (standing itself)))
-    (either-says L (reveals S.mode r) (hidden_list args r) (standing itself) _ _ _ _
+    by_mode-says S.mode L r (defined_list i args) (hidden_list args r) (standing itself) _ _ _ (λ f. hidden_type-says L [] i args f)
     (given-says L [] args (expected (value_under (tree_of_ty r.hidden) 0) ∷ []) _ _ (value-says L (args ∷ []) (tree_of_ty r.hidden) 0 args refl))
-    (standing-says L [] itself))
+    (standing-says L [] itself)
 
 -- each alias that is no projection
-module _ (S : Setting) (headline : is_headline S.mode ≡ true) (L : Level) where
+module _ (S : Setting) (L : Level) where
   alias_list-says : (k : AliasTermKind) (args : List Tree) → projected_item k ≡ None → EntriesSay L [] (alias_list S k args) (AliasGives S L k args) (AliasRefuted S L k args)
   unfolding alias_list AliasGives AliasRefuted
   alias_list-says (InherentTy i) args e = inherent_alias-says S L (inherent_of S.tables i) args
   alias_list-says (InherentConst i) args e = inherent_alias-says S L (inherent_of S.tables i) args
   alias_list-says (OpaqueTy i) args e =
-      row-says L (opaque_of S.tables i) (opaque_alias_list S i args) (λ r u. OpaqueGives S L i args u r) (OpaqueRefuted S L args) (opaque-says S headline L i args)
+      row-says L (opaque_of S.tables i) (opaque_alias_list S i args) (λ r u. OpaqueGives S L i args u r) (OpaqueRefuted S L args) (opaque-says S L i args)
   alias_list-says (FreeTy i) args e = row-says L (free_of S.tables i) (free_list args) (λ r u. FreeGives L args u r) (FreeRefuted L args) (free-says L args)
   alias_list-says (FreeConst i) args e = row-says L (free_of S.tables i) (free_list args) (λ r u. FreeGives L args u r) (FreeRefuted L args) (free-says L args)
   alias_list-says (UnevaluatedConst n) args e = undecided-says L []

@@ -8,6 +8,7 @@ use Rattle.std.proofs.lemmas.List.Sorted.{All-permutation, IsPermutation-sym}
 use Rattle.goal_terms.specs.declared.ids.DefId.{DefId}
 use Rattle.goal_terms.specs.declared.ids.OpaqueId.{OpaqueId}
 use Rattle.goal_terms.specs.declared.modes.TypingMode.{TypingMode}
+use Rattle.goal_terms.specs.declared.modes.TypingMode.TheVariants as mode
 use Rattle.goal_tables.specs.Places.{first_place, has_double}
 use Rattle.goal_tables.specs.declared.rows.ImplRow.{ImplRow}
 use Rattle.goal_tables.specs.declared.rows.OpaqueRow.{OpaqueRow}
@@ -15,7 +16,7 @@ use Rattle.goal_tables.specs.declared.rows.Source.{Source}
 use Rattle.goal_tables.specs.declared.rows.Source.TheVariants as source
 use Rattle.goal_tables.specs.declared.rows.SourceRow.{SourceRow}
 use Rattle.goal_kinds.specs.Laws.{IsAlike}
-use Rattle.goal_kinds.specs.Settings.{Setting}
+use Rattle.goal_kinds.specs.Settings.{Setting, is_coherence, is_headline}
 use Rattle.goal_kinds.specs.Words.{Each, Exists}
 use Rattle.goal_kinds.proofs.Members.{IsIn, HasSameElements, each-element, each-by_element}
 
@@ -106,8 +107,11 @@ alike-reordered S v s d = record {
   among = s.0;
   among_back = s.1;
   same_impl = λ i. find-same (λ r. r.id.0) i.0 S.tables.impls.items v.items s d;
+  same_coherence = refl;
+  same_opens = λ i r e. refl;
   same_reveals = λ i r e. refl;
   same_defaults = λ i j r x e f. refl;
+  same_hidden_defaults = λ i j r x e f. refl;
 }
 
 -- what each element of a list has, each of a permutation of it has
@@ -156,16 +160,31 @@ no_default t each rows h q d i e =
     let p : false ≡ true = sym n ∙ y in
     cc
 
--- a setting in another mode is alike, if there are no opaque types, and no impl uses a default, by a test that each default passes
-pub alike-any_mode : (S : Setting) (m : TypingMode) (t : Source → Bool) → ((d : DefId) → t (source.Def d true) ≡ true) →
+-- a setting in another mode is alike, if both or neither are of coherence, there are no opaque types, and no impl uses a default, by a test that each default passes
+pub alike-any_mode : (S : Setting) (m : TypingMode) (t : Source → Bool) → is_coherence m ≡ is_coherence S.mode → ((d : DefId) → t (source.Def d true) ≡ true) →
     S.tables.opaque_types.items ≡ [] → list_any (λ r. t r.source) S.tables.sources.items ≡ false → IsAlike S S.tables.impls m
-alike-any_mode S m t passes bare h = record {
+alike-any_mode S m t coherence passes bare h = record {
   among = λ r i. i;
   among_back = λ r i. i;
   same_impl = λ i. refl;
+  same_coherence = coherence;
+  same_opens = λ i r e. absurd (no_opaque S.tables.opaque_types.items i r bare e);
   same_reveals = λ i r e. absurd (no_opaque S.tables.opaque_types.items i r bare e);
   same_defaults = λ i j q d e f. absurd (no_default t passes S.tables.sources.items h q d (found _ S.tables.sources.items q e).0 f);
+  same_hidden_defaults = λ i j q d e f. absurd (no_default t passes S.tables.sources.items h q d (found _ S.tables.sources.items q e).0 f);
 }
+
+-- no mode of the headline is of coherence
+headline-coherent : (m : TypingMode) → is_headline m ≡ true → is_coherence m ≡ false
+headline-coherent mode.Coherence h = sym h
+headline-coherent (mode.Analysis ids) h = refl
+headline-coherent (mode.Borrowck ids) h = refl
+headline-coherent (mode.PostBorrowckAnalysis ids) h = refl
+headline-coherent mode.PostAnalysis h = refl
+headline-coherent mode.ErasedNotCoherence h = refl
+
+pub headlines-coherent : (m k : TypingMode) → is_headline m ≡ true → is_headline k ≡ true → is_coherence k ≡ is_coherence m
+headlines-coherent m k h i = headline-coherent k i ∙ sym (headline-coherent m h)
 
 -- other impls and another mode, where either alone is alike
 pub alike-both : {S : Setting} {v : Vec ImplRow Global} {m : TypingMode} → IsAlike S v S.mode → IsAlike S S.tables.impls m → IsAlike S v m
@@ -173,6 +192,9 @@ alike-both a b = record {
   among = a.among;
   among_back = a.among_back;
   same_impl = a.same_impl;
+  same_coherence = b.same_coherence;
+  same_opens = b.same_opens;
   same_reveals = b.same_reveals;
   same_defaults = b.same_defaults;
+  same_hidden_defaults = b.same_hidden_defaults;
 }

@@ -1,9 +1,10 @@
 -- Candidates for trait goals over a consistent level: one that holds isn't refuted, and one that decides isn't passed over.
-use Rattle.std.proofs.Common.{◌≡◌, List, Option, Some, None, sym, ◌∙◌, subst, ⊎_elim, true≢false}
+use Rattle.std.proofs.Common.{◌≡◌, List, Option, Some, None, sym, ◌∙◌, subst, ⊎_elim, true≢false, ◌||◌, ap}
 use Rattle.goal_terms.specs.PredicateTrees.{PredicateTree, holds, equals, holds_const}
 use Rattle.goal_terms.specs.Tree.{Tree}
 use Rattle.goal_terms.specs.TreeOf.{trees_of}
 use Rattle.goal_terms.specs.declared.ids.TraitId.{TraitId}
+use Rattle.goal_terms.specs.declared.modes.TypingMode.{TypingMode}
 use Rattle.goal_tables.specs.Specialized.{reached}
 use Rattle.goal_tables.specs.declared.rows.ImplRow.{ImplRow}
 use Rattle.goal_kinds.specs.Builtins.{trait_rule}
@@ -13,7 +14,7 @@ use Rattle.goal_kinds.specs.Laws.{IsConsistent}
 use Rattle.goal_kinds.specs.Level.{Level}
 use Rattle.goal_kinds.specs.Premises.{Premise, PremisesRefuted, clauses_under}
 use Rattle.goal_kinds.specs.Settings.{Setting}
-use Rattle.goal_kinds.specs.TraitGoals.{AssumptionHolds, AssumptionRefuted, header_of, ImplHoldsUnder, ImplHolds, ImplRefuted, TraitRuleHolds, TraitRuleRefuted, CandidateHolds, CandidateRefuted, PassedOver, Decides, CandidateDecides, CandidateRuledOut}
+use Rattle.goal_kinds.specs.TraitGoals.{AssumptionHolds, AssumptionRefuted, header_of, ImplHoldsUnder, ImplHolds, ImplRefuted, TraitRuleHolds, TraitRuleRefuted, CandidateHolds, CandidateRefuted, PassedOver, Decides, CandidateDecides, CandidateRuledOut, only_bars}
 use Rattle.goal_kinds.specs.Words.{Pairs, SomePair}
 use Rattle.goal_kinds.proofs.ContraryWords.{Exists-Each}
 use Rattle.goal_kinds.proofs.EqualLemmas.{no_pair_apart}
@@ -39,12 +40,12 @@ unfolding ImplHoldsUnder Fits
 one_impl_substitution L c r args s u h k = one_substitution L c r.params.items (header_of r) args u s k h.1.0
 
 -- an impl that holds isn't refuted
-pub no_impl_refuted : (L : Level) → IsConsistent L → (args : List Tree) (r : ImplRow) (s : List Tree) →
-    ImplHoldsUnder L r args s → ImplRefuted L args r → ⊥
+pub no_impl_refuted : (m : TypingMode) (L : Level) → IsConsistent L → (args : List Tree) (r : ImplRow) (s : List Tree) →
+    ImplHoldsUnder L r args s → ImplRefuted m L args r → ⊥
 unfolding ImplHoldsUnder ImplRefuted
-no_impl_refuted L c args r s h k =
+no_impl_refuted m L c args r s h k =
     ⊎_elim
-    (λ n. true≢false (sym h.0 ∙ n))
+    (λ n. true≢false (sym (ap (λ b. b || only_bars m r) h.0) ∙ n))
     (⊎_elim
     (λ q. no_fit_and_clash L c r.params.items (trees_of r.trait_args.items) args s h.1 q)
     (λ u.
@@ -65,7 +66,7 @@ pub no_candidate_refuted : (S : Setting) (L : Level) → IsConsistent L → (i :
 unfolding CandidateHolds CandidateRefuted ImplHolds
 no_candidate_refuted S L c i args (assumption p) h k = no_assumption_refuted L c i args p h k
 no_candidate_refuted S L c i args (implied_bound b cs) h k = h
-no_candidate_refuted S L c i args (by_impl r) h k = no_impl_refuted L c args r h.0 h.1 k
+no_candidate_refuted S L c i args (by_impl r) h k = no_impl_refuted S.mode L c args r h.0 h.1 k
 no_candidate_refuted S L c i args built_in h k = no_rule_refuted L c (trait_rule S.tables i args) h k
 no_candidate_refuted S L c i args error h k = true≢false (sym h ∙ k)
 
@@ -73,7 +74,7 @@ no_candidate_refuted S L c i args error h k = true≢false (sym h ∙ k)
 pub not_passed_over : (S : Setting) (L : Level) → IsConsistent L → (args : List Tree) (x : Candidate) → Decides S L args x → PassedOver S L args x → ⊥
 unfolding Decides PassedOver ImplHolds
 not_passed_over S L c args (by_impl r) h k =
-    Exists-Each (ImplHolds L args) (ImplRefuted L args) (λ q y z. no_impl_refuted L c args q y.0 y.1 z) (reached S.tables k.0 r) k.1 (h k.0)
+    Exists-Each (ImplHolds L args) (ImplRefuted S.mode L args) (λ q y z. no_impl_refuted S.mode L c args q y.0 y.1 z) (reached S.tables k.0 r) k.1 (h k.0)
 not_passed_over S L c args (assumption p) h k = k
 not_passed_over S L c args (implied_bound b cs) h k = k
 not_passed_over S L c args built_in h k = k

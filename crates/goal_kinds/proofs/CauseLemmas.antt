@@ -51,8 +51,8 @@ use Rattle.goal_kinds.specs.ListModes.{accesses_in, list_accesses}
 use Rattle.goal_kinds.specs.Premises.{Premise, predicate, equation, ConstRule, conditions_as}
 use Rattle.goal_kinds.specs.ProjectionLists.{is_item, same_item_list, equation_clause_list, projection_assumption_list, standing, definition_value, taken_entries, rigid_entries, value_entries, definition_entries, default_entries, source_entries, said_by_row_entries, said_entries, listed_list, projection_list}
 use Rattle.goal_kinds.specs.Projections.{projected_item}
-use Rattle.goal_kinds.specs.RuleModes.{among, access_to}
-use Rattle.goal_kinds.specs.Settings.{Setting}
+use Rattle.goal_kinds.specs.RuleModes.{access_to}
+use Rattle.goal_kinds.specs.Settings.{Setting, among}
 use Rattle.goal_kinds.specs.TraitGoals.{any_error}
 use Rattle.goal_kinds.specs.TraitLists.{is_trait, trait_assumption_list, reserved_list, list_by_polarity, source_of_rule, trait_list}
 use Rattle.goal_kinds.specs.declared.lists.InternedEntry.{InternedEntry}
@@ -126,20 +126,20 @@ alone-caused t g [] = tt
 alone-caused t g (p ∷ ps) = (premise-caused t g p, alone-caused t g ps)
 
 -- an impl, by its polarity
-reserved-caused : (t : Tables) (m : TypingMode) → ListCaused t (reserved_list m)
+reserved-caused : (t : Tables) (m : TypingMode) (es : List Entry) → AreCaused t es → ListCaused t (reserved_list m es)
 unfolding AreCaused
-reserved-caused t mode.Coherence = (tt, tt)
-reserved-caused t (mode.Analysis ids) = tt
-reserved-caused t (mode.Borrowck ids) = tt
-reserved-caused t (mode.PostBorrowckAnalysis ids) = tt
-reserved-caused t mode.PostAnalysis = tt
-reserved-caused t mode.ErasedNotCoherence = tt
+reserved-caused t mode.Coherence es h = (tt, h)
+reserved-caused t (mode.Analysis ids) es h = tt
+reserved-caused t (mode.Borrowck ids) es h = tt
+reserved-caused t (mode.PostBorrowckAnalysis ids) es h = tt
+reserved-caused t mode.PostAnalysis es h = tt
+reserved-caused t mode.ErasedNotCoherence es h = tt
 
 polarity-caused : (t : Tables) (m : TypingMode) (x : ImplPolarity) (es : List Entry) → AreCaused t es → ListCaused t (list_by_polarity m x es)
 unfolding list_by_polarity
 polarity-caused t m polarity.Positive es h = h
 polarity-caused t m polarity.Negative es h = tt
-polarity-caused t m polarity.Reservation es h = reserved-caused t m
+polarity-caused t m polarity.Reservation es h = reserved-caused t m es h
 
 -- the candidates for a trait goal
 assumption-caused : (t : Tables) (i : TraitId) (args : List Tree) (p : PredicateTree) → ListCaused t (trait_assumption_list i args p)

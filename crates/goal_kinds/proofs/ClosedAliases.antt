@@ -16,7 +16,7 @@ use Rattle.goal_tables.specs.declared.rows.OpaqueRow.{OpaqueRow}
 use Rattle.goal_kinds.specs.Aliases.{ValueGives, FreeGives, self_header, InherentGives, InherentAliasGives, OpaqueGives, AliasGives}
 use Rattle.goal_kinds.specs.Headers.{under, Fits}
 use Rattle.goal_kinds.specs.Level.{Level}
-use Rattle.goal_kinds.specs.Settings.{Setting, reveals}
+use Rattle.goal_kinds.specs.Settings.{Setting, leaves_open, reveals}
 use Rattle.goal_kinds.specs.Words.{Each, OfRow}
 use Rattle.goal_kinds.proofs.ClosedCandidates.{IsClosedSetting}
 use Rattle.goal_kinds.proofs.ClosedHeaders.{KeepsClosed, either-out, closed-head_form, closed-all_known}
@@ -80,8 +80,9 @@ closed-opaque_gives : {L : Level} → KeepsClosed L → (S : Setting) (i : Opaqu
     (u : Tree) (r : OpaqueRow) → IsClosedTree (tree_of_ty r.hidden) → OpaqueGives S L i args u r → IsClosedTree u
 unfolding OpaqueGives
 closed-opaque_gives w S i args all u r e g =
-    either-out (reveals S.mode r) (closed-head_form w (under args (tree_of_ty r.hidden)) u (closed-under args all (tree_of_ty r.hidden) e))
-    (λ h. ap (some_node is_any_infer) h ∙ closed-alias (OpaqueTy i) args all) g
+    either-out (leaves_open S.mode r) (λ h. absurd h)
+    (either-out (reveals S.mode r) (closed-head_form w (under args (tree_of_ty r.hidden)) u (closed-under args all (tree_of_ty r.hidden) e))
+    (λ h. ap (some_node is_any_infer) h ∙ closed-alias (OpaqueTy i) args all)) g
 
 closed-opaque_row : {L : Level} → KeepsClosed L → (S : Setting) (i : OpaqueId) (args : List Tree) → AreClosedTrees args →
     (u : Tree) (o : Option OpaqueRow) → ((r : OpaqueRow) → o ≡ Some r → IsClosedTree (tree_of_ty r.hidden)) → OfRow o (OpaqueGives S L i args u) → IsClosedTree u

@@ -2,6 +2,7 @@
 use Rattle.std.proofs.Common.{◌≡◌, ℕ, ◌&&◌, Bool, true, false, not, List, [], ◌∷◌, ◌++◌, map, Option, Some, None, refl, ap, ◌∙◌, sym, subst, if◌then◌else◌}
 use Rattle.goal_terms.specs.NodeTests.{is_any_infer, some_node}
 use Rattle.goal_terms.specs.Tree.{Tree}
+use Rattle.goal_terms.specs.declared.modes.TypingMode.{TypingMode}
 use Rattle.goal_tables.specs.Faults.{IsChecked}
 use Rattle.goal_tables.specs.Rows.{source_of, definition_of}
 use Rattle.goal_tables.specs.declared.rows.DefRow.{DefRow}
@@ -14,9 +15,9 @@ use Rattle.goal_tables.specs.declared.rows.Source.TheVariants as source
 use Rattle.goal_tables.specs.declared.rows.SourceRow.{SourceRow}
 use Rattle.goal_kinds.specs.Headers.{under, Fits}
 use Rattle.goal_kinds.specs.ImplTerms.{Said, an_error, the_alias, a_value, evaluated, not_said, said_by_value, said_by_definition, said_by_source, said_by_row, said}
-use Rattle.goal_kinds.specs.ImplTerms.{Projection, trait_args, own_args, error_term, header_under, OtherImplHolds, Taken, from_projection, from_impl, from_other, taken, Translated, SaidGives, ImplGives}
+use Rattle.goal_kinds.specs.ImplTerms.{Projection, trait_args, own_args, error_term, header_under, OtherImplHolds, Taken, from_projection, from_impl, from_other, taken, Translated, SaidGives, ImplGives, the_alias_unless}
 use Rattle.goal_kinds.specs.Level.{Level}
-use Rattle.goal_kinds.specs.Settings.{Setting, takes_defaults}
+use Rattle.goal_kinds.specs.Settings.{Setting, takes_defaults, is_coherence, hides_defaults}
 use Rattle.goal_kinds.specs.TraitGoals.{ImplHoldsUnder, header_of}
 use Rattle.goal_kinds.specs.Words.{Each, OfRow}
 use Rattle.goal_kinds.proofs.ClosedHeaders.{KeepsClosed, closed-head_form, closed-all_known}
@@ -32,29 +33,29 @@ IsClosedSaying (evaluated c) = Unit {0}
 IsClosedSaying not_said = Unit {0}
 
 -- by a definition's value
-closed-missing : (b : Bool) (n : ℕ) → IsClosedSaying (if b then the_alias else an_error n)
-closed-missing true n = tt
-closed-missing false n = tt
+closed-alias_unless : (b : Bool) → IsClosedSaying (the_alias_unless b)
+closed-alias_unless true = tt
+closed-alias_unless false = tt
 
-closed-said_by_value : (r : ImplRow) (d : DefRow) (v : DefValue) → IsClosedValue v → IsClosedSaying (said_by_value r d v)
-closed-said_by_value r d value.Missing e = closed-missing r.guaranteed_unsized d.id.0
-closed-said_by_value r d (value.Term x) e = e
-closed-said_by_value r d value.Evaluated e = tt
+closed-choice : (b : Bool) (x y : Said) → IsClosedSaying x → IsClosedSaying y → IsClosedSaying (if b then x else y)
+closed-choice true x y e f = e
+closed-choice false x y e f = f
 
-closed-said_by_definition : (r : ImplRow) (o : Option DefRow) → ((d : DefRow) → o ≡ Some d → IsClosedValue d.value) → IsClosedSaying (said_by_definition r o)
-closed-said_by_definition r None each = tt
-closed-said_by_definition r (Some d) each = closed-said_by_value r d d.value (each d refl)
+closed-said_by_value : (m : TypingMode) (r : ImplRow) (d : DefRow) (v : DefValue) → IsClosedValue v → IsClosedSaying (said_by_value m r d v)
+closed-said_by_value m r d value.Missing e = closed-choice r.guaranteed_unsized (the_alias_unless (is_coherence m)) (an_error d.id.0) (closed-alias_unless (is_coherence m)) tt
+closed-said_by_value m r d (value.Term x) e = e
+closed-said_by_value m r d value.Evaluated e = tt
+
+closed-said_by_definition : (m : TypingMode) (r : ImplRow) (o : Option DefRow) → ((d : DefRow) → o ≡ Some d → IsClosedValue d.value) → IsClosedSaying (said_by_definition m r o)
+closed-said_by_definition m r None each = tt
+closed-said_by_definition m r (Some d) each = closed-said_by_value m r d d.value (each d refl)
 
 -- by a source
-closed-default : (b : Bool) (x : Said) → IsClosedSaying x → IsClosedSaying (if b then the_alias else x)
-closed-default true x e = tt
-closed-default false x e = e
-
 closed-said_by_source : (S : Setting) → IsChecked S.tables → (r : ImplRow) (x : Source) → IsClosedSaying (said_by_source S r x)
 closed-said_by_source S ok r (source.Broken n) = tt
 closed-said_by_source S ok r (source.Def d is_default) =
-    closed-default (is_default && not (takes_defaults S.mode)) (said_by_definition r (definition_of S.tables d))
-    (closed-said_by_definition r (definition_of S.tables d) (λ q e. closed-definition S.tables ok d q e))
+    closed-choice (is_default && not (takes_defaults S.mode)) (the_alias_unless (hides_defaults S.mode)) (said_by_definition S.mode r (definition_of S.tables d))
+    (closed-alias_unless (hides_defaults S.mode)) (closed-said_by_definition S.mode r (definition_of S.tables d) (λ q e. closed-definition S.tables ok d q e))
 
 closed-said_by_row : (S : Setting) → IsChecked S.tables → (r : ImplRow) (o : Option SourceRow) → IsClosedSaying (said_by_row S r o)
 closed-said_by_row S ok r None = tt

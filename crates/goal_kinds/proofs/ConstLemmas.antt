@@ -3,6 +3,7 @@ use Rattle.std.proofs.Common.{◌≡◌, true, List, [], ◌∷◌, Option, Some
 use Rattle.goal_terms.specs.PredicateTrees.{PredicateTree, holds, equals, holds_const}
 use Rattle.goal_terms.specs.Tree.{Tree}
 use Rattle.goal_terms.specs.declared.ids.TraitId.{TraitId}
+use Rattle.goal_terms.specs.declared.modes.TypingMode.{TypingMode}
 use Rattle.goal_terms.specs.declared.predicates.BoundConstness.{BoundConstness}
 use Rattle.goal_terms.specs.declared.predicates.BoundConstness.TheVariants as constness
 use Rattle.goal_tables.specs.declared.rows.ImplRow.{ImplRow}
@@ -48,14 +49,14 @@ no_implied_refuted L l c d e i args b conditions h k =
     k
 
 -- a const impl that holds isn't refuted
-no_const_impl_refuted : (L : Level) → IsConsistent L → (c d : BoundConstness) → satisfies c d ≡ true → (args : List Tree) (r : ImplRow) →
-    ConstImplHolds L c args r → ConstImplRefuted L d args r → ⊥
+no_const_impl_refuted : (m : TypingMode) (L : Level) → IsConsistent L → (c d : BoundConstness) → satisfies c d ≡ true → (args : List Tree) (r : ImplRow) →
+    ConstImplHolds L c args r → ConstImplRefuted m L d args r → ⊥
 unfolding ConstImplHolds ConstImplRefuted
-no_const_impl_refuted L l c d e args r h k =
+no_const_impl_refuted m L l c d e args r h k =
     ⊎_elim
     (λ n. true≢false (sym h.1 ∙ n))
     (⊎_elim
-    (λ x. no_impl_refuted L l args r h.0 h.2 x)
+    (λ x. no_impl_refuted m L l args r h.0 h.2 x)
     (λ x.
     let p : x.0 ≡ h.0 = one_impl_substitution L l r args h.0 x.0 h.2 x.1 in
     no_conditions_refuted L l c d e (traits_under h.0 r.const_conditions.items) h.3
@@ -76,7 +77,7 @@ pub no_const_candidate_refuted : (S : Setting) (L : Level) → IsConsistent L �
 unfolding ConstCandidateHolds ConstCandidateRefuted
 no_const_candidate_refuted S L l c d e i args (assumption p) h k = no_const_assumption_refuted L l c d e i args p h k
 no_const_candidate_refuted S L l c d e i args (implied_bound b conditions) h k = no_implied_refuted L l c d e i args b conditions h k
-no_const_candidate_refuted S L l c d e i args (by_impl r) h k = no_const_impl_refuted L l c d e args r h k
+no_const_candidate_refuted S L l c d e i args (by_impl r) h k = no_const_impl_refuted S.mode L l c d e args r h k
 no_const_candidate_refuted S L l c d e i args built_in h k = no_const_rule_refuted L l c d e (const_rule S.tables i args) h k
 no_const_candidate_refuted S L l c d e i args error h k = true≢false (sym h ∙ k)
 

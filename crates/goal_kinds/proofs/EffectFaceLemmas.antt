@@ -42,14 +42,13 @@ use Rattle.goal_kinds.specs.declared.faults.Fault.{Fault}
 use Rattle.goal_kinds.specs.declared.faults.Fault.TheVariants as fault
 use Rattle.goal_kinds.specs.declared.lists.ListSetting.{ListSetting}
 use Rattle.goal_kinds.specs.declared.rules.Rule.{Rule}
-use Rattle.goal_kinds.proofs.EffectLists.{effect_candidate_list-holds, effect_candidate_list-refuted}
+use Rattle.goal_kinds.proofs.EffectLists.{effect_list-holds, effect_list-refuted}
 use Rattle.goal_kinds.proofs.FaceLemmas.{IsSomeGiven, one-given, some-given, then-yes, listed-yes_back, face-gives, face-refuted, face-told, face-refusal, face-named}
 use Rattle.goal_kinds.proofs.ListTerms.{effect_list-asks_none}
 use Rattle.goal_kinds.proofs.ListedRules.{some-accepted}
 use Rattle.goal_kinds.proofs.RebuiltLemmas.{zip-push}
 use Rattle.goal_kinds.proofs.SortedEffects.{effect_list-sorted}
 use Rattle.goal_kinds.proofs.TraitFaceLemmas.{or-false, polarity-some}
-use Rattle.goal_kinds.proofs.TraitLists.{ReadsHeadline}
 
 -- rules that are listed for a goal
 module _ (S : ListSetting) (t : Tables) (m : TypingMode) (env : List Clause) (p : HostEffectPredicate) (c : Candidate) (rows : S.rows.now ≡ t) (mode : S.mode.now ≡ m) where
@@ -62,15 +61,13 @@ module _ (S : ListSetting) (t : Tables) (m : TypingMode) (env : List Clause) (p 
   abbrev Refuted : Setting → ℕ → Type 0
   Refuted V n = EffectCandidateRefuted p V n c
 
-  made-holds : ReadsHeadline m c → (n : ℕ) → ListHolds (level (setting_at S env) n) (asked (setting_at S env)) ↔ Holds (setting_at S env) n
-  made-holds reads n =
-      effect_candidate_list-holds (setting_at S env) (level (setting_at S env) n) p.constness p.trait_ref.def_id (given p.trait_ref.args) c
-      (subst (λ k. ReadsHeadline k c) (sym mode) reads)
+  made-holds : (n : ℕ) → ListHolds (level (setting_at S env) n) (asked (setting_at S env)) ↔ Holds (setting_at S env) n
+  made-holds n =
+      effect_list-holds (setting_at S env) (level (setting_at S env) n) p.constness p.trait_ref.def_id (given p.trait_ref.args) c
 
-  made-refuted : ReadsHeadline m c → (n : ℕ) → ListRefuted (level (setting_at S env) n) (asked (setting_at S env)) ↔ Refuted (setting_at S env) n
-  made-refuted reads n =
-      effect_candidate_list-refuted (setting_at S env) (level (setting_at S env) n) p.constness p.trait_ref.def_id (given p.trait_ref.args) c
-      (subst (λ k. ReadsHeadline k c) (sym mode) reads)
+  made-refuted : (n : ℕ) → ListRefuted (level (setting_at S env) n) (asked (setting_at S env)) ↔ Refuted (setting_at S env) n
+  made-refuted n =
+      effect_list-refuted (setting_at S env) (level (setting_at S env) n) p.constness p.trait_ref.def_id (given p.trait_ref.args) c
 
   -- a rule whose entries are those of the list
   abbrev ListedThen : Certainty → Result Rule Fault → Type 0
@@ -79,37 +76,37 @@ module _ (S : ListSetting) (t : Tables) (m : TypingMode) (env : List Clause) (p 
   abbrev Listed : Result Rule Fault → Type 0
   Listed r = IfOk r (λ x. IsListed S.rows.now x (asked (setting_at S env)))
 
-  pub effect-gives : (sure : Certainty) (r : Result Rule Fault) → ReadsHeadline m c → ListedThen sure r →
+  pub effect-gives : (sure : Certainty) (r : Result Rule Fault) → ListedThen sure r →
       IfOk r (GivesAs false (setting_of t m env) sure (λ n u. EffectCandidateHolds p (setting_of t m env) n c))
-  effect-gives sure r reads h = face-gives false asked (λ V n u. Holds V n) Refuted S t m env rows mode sure r (λ n u. made-holds reads n) h
+  effect-gives sure r h = face-gives false asked (λ V n u. Holds V n) Refuted S t m env rows mode sure r (λ n u. made-holds n) h
 
-  pub effect-refuted : (sure : Certainty) (r : Result Rule Fault) → ReadsHeadline m c → ListedThen sure r →
+  pub effect-refuted : (sure : Certainty) (r : Result Rule Fault) → ListedThen sure r →
       IfOk r (RefutedAs (setting_of t m env) (λ n. EffectCandidateRefuted p (setting_of t m env) n c))
-  effect-refuted sure r reads h = face-refuted false asked (λ V n u. Holds V n) Refuted S t m env rows mode sure r (made-refuted reads) h
+  effect-refuted sure r h = face-refuted false asked (λ V n u. Holds V n) Refuted S t m env rows mode sure r made-refuted h
 
   pub effect-told : (sure : Certainty) (r : Result Rule Fault) → ListedThen sure r → IfOk r (IsToldBy t sure (Some (asked_effect_list p (setting_of t m env) c)))
   effect-told sure r h = face-told false asked (λ V n u. Holds V n) Refuted S t m env rows mode sure r h
 
   -- the same where nothing is left undecided behind the list
-  pub sure_effect-gives : (r : Result Rule Fault) → ReadsHeadline m c → Listed r →
+  pub sure_effect-gives : (r : Result Rule Fault) → Listed r →
       IfOk r (GivesAs false (setting_of t m env) certainty.Yes (λ n u. EffectCandidateHolds p (setting_of t m env) n c))
-  sure_effect-gives r reads h = effect-gives certainty.Yes r reads (listed-yes_back S.rows.now (asked (setting_at S env)) r h)
+  sure_effect-gives r h = effect-gives certainty.Yes r (listed-yes_back S.rows.now (asked (setting_at S env)) r h)
 
-  pub sure_effect-refuted : (r : Result Rule Fault) → ReadsHeadline m c → Listed r →
+  pub sure_effect-refuted : (r : Result Rule Fault) → Listed r →
       IfOk r (RefutedAs (setting_of t m env) (λ n. EffectCandidateRefuted p (setting_of t m env) n c))
-  sure_effect-refuted r reads h = effect-refuted certainty.Yes r reads (listed-yes_back S.rows.now (asked (setting_at S env)) r h)
+  sure_effect-refuted r h = effect-refuted certainty.Yes r (listed-yes_back S.rows.now (asked (setting_at S env)) r h)
 
   pub sure_effect-told : (r : Result Rule Fault) → Listed r → IfOk r (IsToldBy t certainty.Yes (Some (asked_effect_list p (setting_of t m env) c)))
   sure_effect-told r h = effect-told certainty.Yes r (listed-yes_back S.rows.now (asked (setting_at S env)) r h)
 
-  pub effect-refusal : (r : Result Rule Fault) → ReadsHeadline m c → IfErr r (IsRefusal (asked (setting_at S env) ≡ None)) →
+  pub effect-refusal : (r : Result Rule Fault) → IfErr r (IsRefusal (asked (setting_at S env) ≡ None)) →
       IfErr r (IsRefusal (EffectCandidateRefuted p (setting_of t m env) 0 c))
-  effect-refusal r reads h = face-refusal false asked (λ V n u. Holds V n) Refuted S t m env rows mode r (made-refuted reads) h
+  effect-refusal r h = face-refusal false asked (λ V n u. Holds V n) Refuted S t m env rows mode r made-refuted h
 
-  pub effect-named : (b : Bool) (r : Result Rule Fault) → ReadsHeadline m c → (b ≡ false → r ≡ Err fault.NotForThisKind) → Listed r →
+  pub effect-named : (b : Bool) (r : Result Rule Fault) → (b ≡ false → r ≡ Err fault.NotForThisKind) → Listed r →
       (b ≡ true → IfErr r (IsRefusal (asked (setting_at S env) ≡ None))) →
       IsNamedAnswer b false (setting_of t m env) (λ n u. EffectCandidateHolds p (setting_of t m env) n c) (λ n. EffectCandidateRefuted p (setting_of t m env) n c) r
-  effect-named b r reads other listed refused = face-named false asked (λ V n u. Holds V n) Refuted S t m env rows mode b r (λ n u. made-holds reads n) (made-refuted reads) other listed refused
+  effect-named b r other listed refused = face-named false asked (λ V n u. Holds V n) Refuted S t m env rows mode b r (λ n u. made-holds n) made-refuted other listed refused
 
 -- the answer of a function of the trait alias, or of a built-in rule, by the test that it makes
 pub effect-answer : (S : ListSetting) (t : Tables) (m : TypingMode) (env : List Clause) (p : HostEffectPredicate) → S.rows.now ≡ t → S.mode.now ≡ m →
@@ -118,7 +115,7 @@ pub effect-answer : (S : ListSetting) (t : Tables) (m : TypingMode) (env : List 
     (tested ≡ true → IfErr r (IsRefusal (asked_effect_list p (setting_at S env) built_in ≡ None))) →
     IsNamedAnswer b false (setting_of t m env) (λ n u. EffectCandidateHolds p (setting_of t m env) n built_in) (λ n. EffectCandidateRefuted p (setting_of t m env) n built_in) r
 effect-answer S t m env p rows mode tested b r same other listed refused =
-    effect-named S t m env p built_in rows mode b r tt (λ e. other (same ∙ e)) listed (λ e. refused (same ∙ e))
+    effect-named S t m env p built_in rows mode b r (λ e. other (same ∙ e)) listed (λ e. refused (same ∙ e))
 
 -- the list of a clause that says what is asked
 said-list : (S : Setting) (p : HostEffectPredicate) (k : ClauseKind) → is_of_effect p k ≡ true → IsSomeGiven (asked_effect_list p S (said_by k))
@@ -231,14 +228,6 @@ module _ {A B : Type 0} (f : B → Bool) (P Q : A → B → Type 0) (g : (a : A)
   kept-zip [] (x ∷ xs) h = absurd h
   kept-zip (y ∷ ys) xs h = kept-step y ys (kept-zip ys) (f y) refl xs h
 
--- an implied const bound reads no mode
-implied-reads : (m : TypingMode) (i : TraitId) (c : Candidate) → is_implied_for i c ≡ true → ReadsHeadline m c
-implied-reads m i (assumption q) e = tt
-implied-reads m i (implied_bound b conditions) e = tt
-implied-reads m i (by_impl r) e = absurd (cc)
-implied-reads m i built_in e = tt
-implied-reads m i error e = tt
-
 -- an implied const bound is no impl
 implied-plain : (i : TraitId) (c : Candidate) → is_implied_for i c ≡ true → IsNoImpl c
 implied-plain i (assumption p) e = tt
@@ -267,11 +256,11 @@ module _ (S : ListSetting) (t : Tables) (m : TypingMode) (env : List Clause) (p 
 
   pub implied-give : (r : Result (Vec Rule Global) Fault) → AreListed r →
       Each-of (λ x c. GivesAs false (setting_of t m env) certainty.Yes (λ n u. EffectCandidateHolds p (setting_of t m env) n c) x) t r
-  implied-give r h = each-says _ (λ x c e l. sure_effect-gives S t m env p c rows mode (Ok x) (implied-reads m p.trait_ref.def_id c e) l) r h
+  implied-give r h = each-says _ (λ x c e l. sure_effect-gives S t m env p c rows mode (Ok x) l) r h
 
   pub implied-refuted : (r : Result (Vec Rule Global) Fault) → AreListed r →
       Each-of (λ x c. RefutedAs (setting_of t m env) (λ n. EffectCandidateRefuted p (setting_of t m env) n c) x) t r
-  implied-refuted r h = each-says _ (λ x c e l. sure_effect-refuted S t m env p c rows mode (Ok x) (implied-reads m p.trait_ref.def_id c e) l) r h
+  implied-refuted r h = each-says _ (λ x c e l. sure_effect-refuted S t m env p c rows mode (Ok x) l) r h
 
   pub implied-no_impl : (r : Result (Vec Rule Global) Fault) → AreListed r → Each-of (λ x c. IsNoImpl c) t r
   implied-no_impl r h = each-says _ (λ x c e l. implied-plain p.trait_ref.def_id c e) r h

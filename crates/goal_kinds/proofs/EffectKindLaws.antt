@@ -34,7 +34,7 @@ pub effect-higher : (p : HostEffectPredicate) (S : Setting) (n m : ℕ) (c : Can
 effect-higher p S n m c le h = within-const_candidate_holds (within-level S n m le) S S.tables.impls S.mode p.constness p.trait_ref.def_id (given p.trait_ref.args) c h
 
 pub effect-higher_refuted : (p : HostEffectPredicate) (S : Setting) (n m : ℕ) (c : Candidate) → n ≤ m → EffectCandidateRefuted p S n c → EffectCandidateRefuted p S m c
-effect-higher_refuted p S n m c le h = within-const_candidate_refuted (within-level S n m le) S S.tables.impls S.mode p.constness p.trait_ref.def_id (given p.trait_ref.args) c h
+effect-higher_refuted p S n m c le h = within-const_candidate_refuted (within-level S n m le) S S.tables.impls S.mode refl p.constness p.trait_ref.def_id (given p.trait_ref.args) c h
 
 -- a reference without a fault as a const bound has none as a trait reference
 first-false : (a b : Bool) → a || b ≡ false → a ≡ false
@@ -76,12 +76,12 @@ not-true false e = refl
 
 refused-by : (S : Setting) (m : TypingMode) (p : HostEffectPredicate) (i : ImplId) (r : ImplRow) → IsChecked S.tables → HasNoKindFault (λ f. lies_in_trait_ref S.tables [] f p.trait_ref) →
     impl_of S.tables i ≡ Some r → r.trait_id ≡ p.trait_ref.def_id → (b : Bool) → refuses_row m p.trait_ref r ≡ b → b || not r.is_const ≡ true →
-    ConstImplRefuted (level S 0) p.constness (given p.trait_ref.args) r
+    ConstImplRefuted m (level S 0) p.constness (given p.trait_ref.args) r
 unfolding ConstImplRefuted
 refused-by S m p i r ok x found same true e h = inr (inl (refused-impl S m p.trait_ref i r ok x found same e))
 refused-by S m p i r ok x found same false e h = inl (not-true r.is_const h)
 
 pub refused-const_impl : (S : Setting) (m : TypingMode) (p : HostEffectPredicate) (i : ImplId) (r : ImplRow) → IsChecked S.tables →
     HasNoKindFault (λ f. lies_in_const_ref S.tables [] f p.trait_ref) → impl_of S.tables i ≡ Some r → r.trait_id ≡ p.trait_ref.def_id →
-    refuses_effect_row m p r ≡ true → ConstImplRefuted (level S 0) p.constness (given p.trait_ref.args) r
+    refuses_effect_row m p r ≡ true → ConstImplRefuted m (level S 0) p.constness (given p.trait_ref.args) r
 refused-const_impl S m p i r ok x found same h = refused-by S m p i r ok (plain-accepted S.tables p.trait_ref x) found same (refuses_row m p.trait_ref r) refl h

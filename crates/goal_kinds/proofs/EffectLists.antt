@@ -1,5 +1,5 @@
 -- The list of each candidate for a host effect goal says what the candidate does.
-use Rattle.std.proofs.Common.{◌≡◌, ◌⊎◌, ◌↔◌, ◌&&◌, Bool, true, false, List, [], ◌∷◌, Option, Some, None, inl, inr, refl, sym, subst, ⊎_elim}
+use Rattle.std.proofs.Common.{◌≡◌, ◌⊎◌, ◌↔◌, ◌&&◌, Bool, true, false, List, [], ◌∷◌, Option, Some, None, inl, inr, refl, sym, ⊎_elim, ◌||◌}
 use Rattle.std.proofs.lemmas.Bool.{false≢true}
 use Rattle.std.specs.Option.{option_map}
 use Rattle.goal_terms.specs.PredicateTrees.{PredicateTree, holds, equals, holds_const}
@@ -18,13 +18,13 @@ use Rattle.goal_kinds.specs.EffectLists.{effect_assumption_list, implied_list, e
 use Rattle.goal_kinds.specs.Entries.{Entry, equal_terms, row_conditions, Named, NamedKnown, NamesNothing, EntriesHold, EntriesRefuted, ListHolds, ListRefuted, premise_entries}
 use Rattle.goal_kinds.specs.Level.{Level}
 use Rattle.goal_kinds.specs.Premises.{TraitTree, ConstRule, PremisesHold, PremisesRefuted, conditions_as}
-use Rattle.goal_kinds.specs.Settings.{Setting, is_headline}
-use Rattle.goal_kinds.specs.TraitGoals.{ImplHoldsUnder, ImplRefuted}
+use Rattle.goal_kinds.specs.Settings.{Setting}
+use Rattle.goal_kinds.specs.TraitGoals.{ImplHoldsUnder, ImplRefuted, only_bars}
 use Rattle.goal_kinds.specs.TraitLists.{is_trait, impl_match, list_by_polarity}
 use Rattle.goal_kinds.specs.Words.{OfRow, Pairs, SomePair}
 use Rattle.goal_kinds.proofs.EntryLemmas.{iff-chain, iff-both, iff-either, iff-same}
-use Rattle.goal_kinds.proofs.ListWords.{nothing-more, test-fails, trait-tested, tested-holds, tested-refuted, by_polarity, premises-hold, premises-refuted, premises_alone-hold, premises_alone-refuted}
-use Rattle.goal_kinds.proofs.TraitLists.{ReadsHeadline, reads-headline, equation-holds, equation-refuted, error_list-holds, error_list-refuted}
+use Rattle.goal_kinds.proofs.ListWords.{nothing-more, test-fails, trait-tested, tested-holds, tested-refuted, premises-hold, premises-refuted, premises_alone-hold, premises_alone-refuted, polarity-holds, polarity-refuted}
+use Rattle.goal_kinds.proofs.TraitLists.{equation-holds, equation-refuted, error_list-holds, error_list-refuted}
 
 -- both of two tests are passed, or one of them fails
 both-passed : (a b : Bool) → (a && b ≡ true) ↔ ((a ≡ true) × (b ≡ true))
@@ -99,7 +99,7 @@ module _ (L : Level) (c : BoundConstness) (i : TraitId) (args : List Tree) where
       (iff-either iff-same (premises_alone-refuted L [] g (conditions_as c r.conditions)))
 
 -- an impl
-module _ (S : Setting) (headline : is_headline S.mode ≡ true) (L : Level) (c : BoundConstness) (args : List Tree) (r : ImplRow) where
+module _ (S : Setting) (L : Level) (c : BoundConstness) (args : List Tree) (r : ImplRow) where
   -- what a const impl asks for
   abbrev const_match : List Entry
   const_match = impl_match r args (row_conditions c r.const_conditions.items 0 ∷ [])
@@ -111,7 +111,7 @@ module _ (S : Setting) (headline : is_headline S.mode ≡ true) (L : Level) (c :
     λ h. (h.1, (h.2.0, (h.0, h.2.1, (h.2.2, (h.3, tt))))),
   )
 
-  match-refuted : ((r.is_const ≡ false) ⊎ ((is_positive r.polarity ≡ false) ⊎ ListRefuted L (Some const_match))) ↔ ConstImplRefuted L c args r
+  match-refuted : ((r.is_const ≡ false) ⊎ ((is_positive r.polarity || only_bars S.mode r ≡ false) ⊎ ListRefuted L (Some const_match))) ↔ ConstImplRefuted S.mode L c args r
   unfolding ListRefuted EntriesRefuted NamedKnown NamesNothing OfRow ConstImplRefuted ImplRefuted
   match-refuted = (
     λ h. ⊎_elim (λ x. inl x)
@@ -127,36 +127,27 @@ module _ (S : Setting) (headline : is_headline S.mode ≡ true) (L : Level) (c :
   impl-holds : ListHolds L (effect_impl_list S.mode c args r) ↔ ConstImplHolds L c args r
   impl-holds =
       iff-chain (tested-holds L r.is_const (list_by_polarity S.mode r.polarity const_match))
-      (subst (λ o. ((r.is_const ≡ true) × ListHolds L o) ↔ ConstImplHolds L c args r) (sym (by_polarity S.mode headline r.polarity const_match))
-      (iff-chain (iff-both iff-same (tested-holds L (is_positive r.polarity) (Some const_match))) match-holds))
+      (iff-chain (iff-both iff-same (polarity-holds S.mode L r.polarity const_match)) match-holds)
 
-  impl-refuted : ListRefuted L (effect_impl_list S.mode c args r) ↔ ConstImplRefuted L c args r
+  impl-refuted : ListRefuted L (effect_impl_list S.mode c args r) ↔ ConstImplRefuted S.mode L c args r
   impl-refuted =
       iff-chain (tested-refuted L r.is_const (list_by_polarity S.mode r.polarity const_match))
-      (subst (λ o. ((r.is_const ≡ false) ⊎ ListRefuted L o) ↔ ConstImplRefuted L c args r) (sym (by_polarity S.mode headline r.polarity const_match))
-      (iff-chain (iff-either iff-same (tested-refuted L (is_positive r.polarity) (Some const_match))) match-refuted))
+      (iff-chain (iff-either iff-same (polarity-refuted S.mode L r.polarity const_match)) match-refuted)
 
 -- each candidate
 module _ (S : Setting) (L : Level) (c : BoundConstness) (i : TraitId) (args : List Tree) where
-  pub effect_candidate_list-holds : (x : Candidate) → ReadsHeadline S.mode x → ListHolds L (effect_list S c i args x) ↔ ConstCandidateHolds S L c i args x
+  pub effect_list-holds : (x : Candidate) → ListHolds L (effect_list S c i args x) ↔ ConstCandidateHolds S L c i args x
   unfolding effect_list ConstCandidateHolds
-  effect_candidate_list-holds (assumption p) e = assumption-holds L c i args p
-  effect_candidate_list-holds (implied_bound b conditions) e = implied-holds L c i args b conditions
-  effect_candidate_list-holds (by_impl r) e = impl-holds S e L c args r
-  effect_candidate_list-holds built_in e = rule-holds L c i args (source_of_const_rule S.tables i (trait_of S.tables i)) (const_rule S.tables i args)
-  effect_candidate_list-holds error e = error_list-holds L args
+  effect_list-holds (assumption p) = assumption-holds L c i args p
+  effect_list-holds (implied_bound b conditions) = implied-holds L c i args b conditions
+  effect_list-holds (by_impl r) = impl-holds S L c args r
+  effect_list-holds built_in = rule-holds L c i args (source_of_const_rule S.tables i (trait_of S.tables i)) (const_rule S.tables i args)
+  effect_list-holds error = error_list-holds L args
 
-  pub effect_candidate_list-refuted : (x : Candidate) → ReadsHeadline S.mode x → ListRefuted L (effect_list S c i args x) ↔ ConstCandidateRefuted S L c i args x
+  pub effect_list-refuted : (x : Candidate) → ListRefuted L (effect_list S c i args x) ↔ ConstCandidateRefuted S L c i args x
   unfolding effect_list ConstCandidateRefuted
-  effect_candidate_list-refuted (assumption p) e = assumption-refuted L c i args p
-  effect_candidate_list-refuted (implied_bound b conditions) e = implied-refuted L c i args b conditions
-  effect_candidate_list-refuted (by_impl r) e = impl-refuted S e L c args r
-  effect_candidate_list-refuted built_in e = rule-refuted L c i args (source_of_const_rule S.tables i (trait_of S.tables i)) (const_rule S.tables i args)
-  effect_candidate_list-refuted error e = error_list-refuted L args
-
-module _ (S : Setting) (headline : is_headline S.mode ≡ true) (L : Level) (c : BoundConstness) (i : TraitId) (args : List Tree) (x : Candidate) where
-  pub effect_list-holds : ListHolds L (effect_list S c i args x) ↔ ConstCandidateHolds S L c i args x
-  effect_list-holds = effect_candidate_list-holds S L c i args x (reads-headline S.mode x headline)
-
-  pub effect_list-refuted : ListRefuted L (effect_list S c i args x) ↔ ConstCandidateRefuted S L c i args x
-  effect_list-refuted = effect_candidate_list-refuted S L c i args x (reads-headline S.mode x headline)
+  effect_list-refuted (assumption p) = assumption-refuted L c i args p
+  effect_list-refuted (implied_bound b conditions) = implied-refuted L c i args b conditions
+  effect_list-refuted (by_impl r) = impl-refuted S L c args r
+  effect_list-refuted built_in = rule-refuted L c i args (source_of_const_rule S.tables i (trait_of S.tables i)) (const_rule S.tables i args)
+  effect_list-refuted error = error_list-refuted L args

@@ -156,7 +156,7 @@ at_head L K h k us ts e f = subst (λ b. Either b (InstanceUnequal L K (node h u
 
 pub header_clashes :
     (S : Setting) (n : ℕ) (r : ImplRow) (h k : Head) (us ts : Trees)
-    → header_of r ≡ node h us ∷ [] → is_some (parameter_of h) ≡ false → h ≢ k → ImplRefuted (level S n) (node k ts ∷ []) r
+    → header_of r ≡ node h us ∷ [] → is_some (parameter_of h) ≡ false → h ≢ k → ImplRefuted S.mode (level S n) (node k ts ∷ []) r
 unfolding level Clashes SomePair ImplRefuted
 header_clashes S zero r h k us ts e p f =
     inr (inl (subst (λ hs. Clashes (level S zero) r.params.items hs (node k ts ∷ [])) (sym e) (inl (at_head nothing _ h k us ts p f))))
@@ -181,14 +181,14 @@ unfolding erased
 header-str = ap (λ t. erased t ∷ []) (tree_of_arg-Ty _ ∙ tree_of_ty-Str)
 
 -- they clash with other types
-pub not_y : (S : Setting) (n : ℕ) (k : Head) (ts : Trees) → T (not (eqb 4 (number_of k))) → ImplRefuted (level S n) (node k ts ∷ []) not_tr_for_y
+pub not_y : (S : Setting) (n : ℕ) (k : Head) (ts : Trees) → T (not (eqb 4 (number_of k))) → ImplRefuted S.mode (level S n) (node k ts ∷ []) not_tr_for_y
 not_y S n k ts t = header_clashes S n not_tr_for_y (head.Adt (adt 4) 0) k none ts header-y refl (apart _ k (differs t))
 
-pub not_z : (S : Setting) (n : ℕ) (k : Head) (ts : Trees) → T (not (eqb 5 (number_of k))) → ImplRefuted (level S n) (node k ts ∷ []) tr_for_z
+pub not_z : (S : Setting) (n : ℕ) (k : Head) (ts : Trees) → T (not (eqb 5 (number_of k))) → ImplRefuted S.mode (level S n) (node k ts ∷ []) tr_for_z
 not_z S n k ts t = header_clashes S n tr_for_z (head.Adt (adt 5) 0) k none ts header-z refl (apart _ k (differs t))
 
-pub not_w : (S : Setting) (n : ℕ) (k : Head) (ts : Trees) → T (not (eqb 7 (number_of k))) → ImplRefuted (level S n) (node k ts ∷ []) tr_for_w
+pub not_w : (S : Setting) (n : ℕ) (k : Head) (ts : Trees) → T (not (eqb 7 (number_of k))) → ImplRefuted S.mode (level S n) (node k ts ∷ []) tr_for_w
 not_w S n k ts t = header_clashes S n tr_for_w (head.Adt (adt 7) 0) k none ts header-w refl (apart _ k (differs t))
 
-pub not_str : (S : Setting) (n : ℕ) (k : Head) (ts : Trees) → T (not (eqb 100 (number_of k))) → ImplRefuted (level S n) (node k ts ∷ []) tr_for_str
+pub not_str : (S : Setting) (n : ℕ) (k : Head) (ts : Trees) → T (not (eqb 100 (number_of k))) → ImplRefuted S.mode (level S n) (node k ts ∷ []) tr_for_str
 not_str S n k ts t = header_clashes S n tr_for_str head.Str k none ts header-str refl (apart _ k (differs t))

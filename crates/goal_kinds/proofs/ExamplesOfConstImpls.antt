@@ -39,10 +39,10 @@ fits_q : (n : ℕ) → Fits (level with_const n) [] (header_of const_tr_for_q) (
 unfolding opened
 fits_q n = subst (λ hs. Fits (level with_const n) [] hs (q_ty ∷ []) []) (sym header-q) (tt, (equal_leaf with_const n (head.Adt (adt 6) 0), tt))
 
-not_q : (n : ℕ) (k : Head) (ts : Trees) → number_of (head.Adt (adt 6) 0) ≢ number_of k → ImplRefuted (level with_const n) (node k ts ∷ []) const_tr_for_q
+not_q : (n : ℕ) (k : Head) (ts : Trees) → number_of (head.Adt (adt 6) 0) ≢ number_of k → ImplRefuted with_const.mode (level with_const n) (node k ts ∷ []) const_tr_for_q
 not_q n k ts f = header_clashes with_const n const_tr_for_q (head.Adt (adt 6) 0) k none ts header-q refl (apart _ k f)
 
-not_vec : (n : ℕ) (k : Head) (ts : Trees) → number_of (head.Adt (adt 1) 1) ≢ number_of k → ImplRefuted (level with_const n) (node k ts ∷ []) const_tr_for_vec
+not_vec : (n : ℕ) (k : Head) (ts : Trees) → number_of (head.Adt (adt 1) 1) ≢ number_of k → ImplRefuted with_const.mode (level with_const n) (node k ts ∷ []) const_tr_for_vec
 not_vec n k ts f = header_clashes with_const n const_tr_for_vec (head.Adt (adt 1) 1) k (forest (param 0 ∷ [])) ts header-vec refl (apart _ k f)
 
 -- `impl<T> const Tr for Vec<T>` fits `Vec` of a struct

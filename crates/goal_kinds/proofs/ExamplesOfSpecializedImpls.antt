@@ -67,7 +67,7 @@ unfolding opened
 fits_u8 v zero = subst (λ hs. Fits (level (with_two_for_vec v) 0) [] hs (vec_of u8_ty ∷ []) []) (sym header-u8) (tt, ((refl, ((refl, tt), tt)), tt))
 fits_u8 v (suc n) = subst (λ hs. Fits (level (with_two_for_vec v) (suc n)) [] hs (vec_of u8_ty ∷ []) []) (sym header-u8) (tt, ((refl, ((refl, tt), tt)), tt))
 
-not_u8 : (v : Listed) (n : ℕ) (w : UintTy) → unsigned.U8 ≢ w → ImplRefuted (level (with_two_for_vec v) n) (vec_of (uint w) ∷ []) tr_for_vec_of_u8
+not_u8 : (v : Listed) (n : ℕ) (w : UintTy) → unsigned.U8 ≢ w → ImplRefuted (with_two_for_vec v).mode (level (with_two_for_vec v) n) (vec_of (uint w) ∷ []) tr_for_vec_of_u8
 unfolding opened
 not_u8 v zero w f =
     inr
@@ -147,13 +147,13 @@ reached-further zero = refl
 reached-further (suc n) = ap (listed_by_all specialized.tables) (reached-further n)
 
 -- so the first decides where the second is refuted
-refuted_at : (L : Level) (args : List Tree) → ImplRefuted L args tr_for_vec_of_u8 → (n : ℕ) →
-    Each (ImplRefuted L args) (reached specialized.tables n (tr_for_vec (vec (impl 21 ∷ []) tt)))
+refuted_at : (L : Level) (args : List Tree) → ImplRefuted specialized.mode L args tr_for_vec_of_u8 → (n : ℕ) →
+    Each (ImplRefuted specialized.mode L args) (reached specialized.tables n (tr_for_vec (vec (impl 21 ∷ []) tt)))
 unfolding Each reached rows_named
 refuted_at L args h zero = (h, tt)
-refuted_at L args h (suc n) = subst (Each (ImplRefuted L args)) (sym (reached-further n)) tt
+refuted_at L args h (suc n) = subst (Each (ImplRefuted specialized.mode L args)) (sym (reached-further n)) tt
 
-decides_by : (L : Level) (args : List Tree) → ImplRefuted L args tr_for_vec_of_u8 → Decides specialized L args (by_impl (tr_for_vec (vec (impl 21 ∷ []) tt)))
+decides_by : (L : Level) (args : List Tree) → ImplRefuted specialized.mode L args tr_for_vec_of_u8 → Decides specialized L args (by_impl (tr_for_vec (vec (impl 21 ∷ []) tt)))
 unfolding Decides
 decides_by L args h = λ n. refuted_at L args h n
 
@@ -162,7 +162,7 @@ pub example-decides : (level specialized 2).gives (projection 5) (vec_of u32_ty 
 unfolding opened
 example-decides =
     let listed : Listed = vec (impl 21 ∷ []) tt in
-    let other : (n : ℕ) → ImplRefuted (level specialized n) (vec_of u32_ty ∷ []) tr_for_vec_of_u8 = λ n. not_u8 listed n unsigned.U32 (λ e. absurd (cc e)) in
+    let other : (n : ℕ) → ImplRefuted specialized.mode (level specialized n) (vec_of u32_ty ∷ []) tr_for_vec_of_u8 = λ n. not_u8 listed n unsigned.U32 (λ e. absurd (cc e)) in
     let decided : (n : ℕ) → Decides specialized (level specialized n) (vec_of u32_ty ∷ []) (by_impl (tr_for_vec listed)) = λ n. decides_by (level specialized n) (vec_of u32_ty ∷ []) (other n) in
     let u32_holds : (level specialized 1).through class.Misc (trait 12) (vec_of u32_ty ∷ []) =
     (vec_of u32_ty, refl, inl ((u32_ty ∷ [], (refl, fits_vec listed 0 unsigned.U32, tt)), decided 0), tt) in (
@@ -260,7 +260,7 @@ no_clash_yet (inl (inr (inl (inr p)))) = p.1
 no_clash_yet (inl (inr (inr p))) = p
 no_clash_yet (inr p) = p
 
-not_refuted_yet : ImplRefuted (level specialized 1) (vec_of f_alias ∷ []) tr_for_vec_of_u8 → ⊥
+not_refuted_yet : ImplRefuted specialized.mode (level specialized 1) (vec_of f_alias ∷ []) tr_for_vec_of_u8 → ⊥
 unfolding opened
 not_refuted_yet (inl e) = true≢false e
 not_refuted_yet (inr (inl p)) = no_clash_yet (subst (λ hs. Clashes (level specialized 1) [] hs (vec_of f_alias ∷ [])) header-u8 p)

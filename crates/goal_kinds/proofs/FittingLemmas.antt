@@ -162,7 +162,7 @@ unfolding level
 level-clash S zero K gs hs e = lists_clash nothing K gs hs e
 level-clash S (suc n) K gs hs e = lists_clash (level S n) K gs hs e
 
-pub impl_refuted : (S : Setting) (n : ℕ) (args : List Tree) (r : ImplRow) → may_fit args (by_impl r) ≡ false → ImplRefuted (level S n) (map erased args) r
+pub impl_refuted : (S : Setting) (n : ℕ) (args : List Tree) (r : ImplRow) → may_fit args (by_impl r) ≡ false → ImplRefuted S.mode (level S n) (map erased args) r
 unfolding ImplRefuted Clashes
 impl_refuted S n args r e = inr (inl (level-clash S n (Known (level S n) r.params.items (header_of r) (map erased args)) args (trees_of r.trait_args.items) e))
 
@@ -186,7 +186,7 @@ const_candidate_refuted S n c i args error e = absurd (true≢false e)
 
 pub term_refuted : (S : Setting) (n : ℕ) (p : Projection) (args : List Tree) → map erased args ≡ trait_args p → (x : Candidate) → may_fit args x ≡ false → TermRefuted S (level S n) p x
 unfolding TermRefuted ImplTermRefuted
-term_refuted S n p args same (by_impl r) e = inl (subst (λ ts. ImplRefuted (level S n) ts r) same (impl_refuted S n args r e))
+term_refuted S n p args same (by_impl r) e = inl (subst (λ ts. ImplRefuted S.mode (level S n) ts r) same (impl_refuted S n args r e))
 term_refuted S n p args same (assumption q) e = absurd (true≢false e)
 term_refuted S n p args same (implied_bound b cs) e = absurd (true≢false e)
 term_refuted S n p args same built_in e = absurd (true≢false e)

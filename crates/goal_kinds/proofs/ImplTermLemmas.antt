@@ -112,7 +112,7 @@ pub no_impl_term_refuted : (S : Setting) (L : Level) → IsConsistent L → (p :
 unfolding ImplGives ImplTermRefuted
 no_impl_term_refuted S L c p itself r u h k =
     ⊎_elim
-    (λ x. no_impl_refuted L c (trait_args p) r h.0 h.1 x)
+    (λ x. no_impl_refuted S.mode L c (trait_args p) r h.0 h.1 x)
     (λ x.
     let e : x.0 ≡ h.0 = one_impl_substitution L c r (trait_args p) h.0 x.0 h.1 x.1 in
     ⊎_elim

@@ -5,13 +5,16 @@ use Rattle.goal_terms.specs.Erased.{erased}
 use Rattle.goal_terms.specs.Tree.{Tree}
 use Rattle.goal_terms.specs.declared.answers.DelayedFault.{DelayedFault}
 use Rattle.goal_terms.specs.declared.answers.GoalSource.{GoalSource}
+use Rattle.goal_terms.specs.declared.answers.OpaqueAccess.{OpaqueAccess}
 use Rattle.goal_terms.specs.declared.answers.ParamKind.{ParamKind}
+use Rattle.goal_terms.specs.declared.ids.OpaqueId.{OpaqueId}
 use Rattle.goal_terms.specs.declared.predicates.Clause.{Clause}
-use Rattle.goal_kinds.specs.Entries.{Entry, arguments, given_arguments, of_header, of_other_header, followed_by, equal_terms, row_clauses, ExpectedTerm, expected, as_it_stands, head_form_of, value_under, delayed_fault, evaluation, undecided, OfNumbered, Named, NamedKnown, NamesNothing, TermIs, NoTerm, EntriesHold, EntriesRefuted, ListGives, ListRefuted, premise_entries}
+use Rattle.goal_kinds.specs.Entries.{Entry, arguments, given_arguments, of_header, of_other_header, followed_by, equal_terms, row_clauses, ExpectedTerm, expected, as_it_stands, head_form_of, value_under, delayed_fault, evaluation, undecided, OfNumbered, Named, NamedKnown, NamesNothing, TermIs, NoTerm, EntriesHold, EntriesRefuted, ListGives, ListRefuted, premise_entries, access, ambiguous, hidden_type}
 use Rattle.goal_kinds.specs.Headers.{under, AllKnown, Fits, Clashes}
 use Rattle.goal_kinds.specs.Level.{Level, HasHeadForm, HeadFormRefuted}
 use Rattle.goal_kinds.specs.Premises.{Premise, PremisesHold, PremisesRefuted, clauses_under}
 use Rattle.goal_kinds.specs.Words.{Pairs, SomePair}
+use Rattle.goal_kinds.specs.declared.rules.FirstUse.{FirstUse}
 use Rattle.goal_kinds.proofs.EntryLemmas.{iff-chain, iff-both, iff-either, iff-same, of_row-there}
 use Rattle.goal_kinds.proofs.ListWords.{nothing-more, known-same, premises-hold, premises-refuted}
 
@@ -145,6 +148,11 @@ module _ (L : Level) where
   unfolding EntriesHold EntriesRefuted
   fault-says named f es P R says = record { gives = says.gives; refuted = says.refuted }
 
+  pub access-says : (named : List (List Tree)) (a : OpaqueAccess) (es : List Entry) (P : Tree → Type 0) (R : Type 0) → EntriesSay L named es P R →
+      EntriesSay L named (access a ∷ es) P R
+  unfolding EntriesHold EntriesRefuted
+  access-says named a es P R says = record { gives = says.gives; refuted = says.refuted }
+
   -- a last entry with the expected term
   pub term-says : (named : List (List Tree)) (e : ExpectedTerm) → EntriesSay L named (expected e ∷ []) (TermIs L named e) (NoTerm L named e)
   unfolding EntriesHold EntriesRefuted
@@ -175,3 +183,11 @@ module _ (L : Level) where
   pub undecided-says : (named : List (List Tree)) → EntriesSay L named (undecided ∷ []) (λ u. ⊥) ⊥
   unfolding EntriesHold EntriesRefuted
   undecided-says named = record { gives = λ u. iff-same; refuted = iff-same }
+
+  pub ambiguous-says : (named : List (List Tree)) → EntriesSay L named (ambiguous ∷ []) (λ u. ⊥) ⊥
+  unfolding EntriesHold EntriesRefuted
+  ambiguous-says named = record { gives = λ u. iff-same; refuted = iff-same }
+
+  pub hidden_type-says : (named : List (List Tree)) (i : OpaqueId) (ts : List Tree) (f : FirstUse) → EntriesSay L named (hidden_type i ts f ∷ []) (λ u. ⊥) ⊥
+  unfolding EntriesHold EntriesRefuted
+  hidden_type-says named i ts f = record { gives = λ u. iff-same; refuted = iff-same }

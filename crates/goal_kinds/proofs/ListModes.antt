@@ -44,7 +44,7 @@ pub polarity-same : (m : TypingMode) → is_headline m ≡ true → (x : ImplPol
 unfolding list_by_polarity
 polarity-same m e polarity.Positive es = refl
 polarity-same m e polarity.Negative es = refl
-polarity-same m e polarity.Reservation es = reserved-none m e
+polarity-same m e polarity.Reservation es = reserved-none m e es
 
 -- trait goals and host effect goals don't read the mode
 module _ (S : Setting) (m : TypingMode) (headline : is_headline m ≡ true) where
@@ -108,7 +108,7 @@ module _ (S : Setting) (m : TypingMode) (headline : is_headline m ≡ true) wher
     unfolding list_by_polarity accesses_in
     impl-same polarity.Positive h = ap (λ es. Some (whole es)) (said-same h)
     impl-same polarity.Negative h = refl
-    impl-same polarity.Reservation h = reserved-none m headline
+    impl-same polarity.Reservation h = reserved-none m headline (whole (said_entries (in_mode S m) r p itself))
 
   pub projection_list-stands : (p : Projection) (itself : Tree) (c : Candidate) → list_accesses (projection_list (erased_setting S) p itself c) ≡ [] →
       projection_list (in_mode S m) p itself c ≡ projection_list (erased_setting S) p itself c

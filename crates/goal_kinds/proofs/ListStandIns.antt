@@ -73,7 +73,7 @@ module _ (S : Setting) (m : TypingMode) (headline : is_headline m ≡ true) wher
     unfolding list_by_polarity ListStandsIn
     impl-stands_in polarity.Positive = (whole (said_entries (in_mode S m) r p itself), refl, whole-stands_in _ _ said-stands_in)
     impl-stands_in polarity.Negative = refl
-    impl-stands_in polarity.Reservation = reserved-none m headline
+    impl-stands_in polarity.Reservation = reserved-none m headline (whole (said_entries (in_mode S m) r p itself))
 
   pub projection_list-stands_in : (p : Projection) (itself : Tree) (c : Candidate) → ListStandsIn (projection_list (erased_setting S) p itself c) (projection_list (in_mode S m) p itself c)
   unfolding projection_list

@@ -43,20 +43,20 @@ alone-ask_none g [] = tt
 alone-ask_none g (p ∷ ps) = premise-asks_none g p (premise_entries g ps) (alone-ask_none g ps)
 
 -- an impl
-reserved-asks_none : (m : TypingMode) → ListAsksNoTerm (reserved_list m)
+reserved-asks_none : (m : TypingMode) (es : List Entry) → AsksNoTerm es → ListAsksNoTerm (reserved_list m es)
 unfolding AsksNoTerm
-reserved-asks_none mode.Coherence = (tt, tt)
-reserved-asks_none (mode.Analysis ids) = tt
-reserved-asks_none (mode.Borrowck ids) = tt
-reserved-asks_none (mode.PostBorrowckAnalysis ids) = tt
-reserved-asks_none mode.PostAnalysis = tt
-reserved-asks_none mode.ErasedNotCoherence = tt
+reserved-asks_none mode.Coherence es h = (tt, h)
+reserved-asks_none (mode.Analysis ids) es h = tt
+reserved-asks_none (mode.Borrowck ids) es h = tt
+reserved-asks_none (mode.PostBorrowckAnalysis ids) es h = tt
+reserved-asks_none mode.PostAnalysis es h = tt
+reserved-asks_none mode.ErasedNotCoherence es h = tt
 
 polarity-asks_none : (m : TypingMode) (x : ImplPolarity) (es : List Entry) → AsksNoTerm es → ListAsksNoTerm (list_by_polarity m x es)
 unfolding list_by_polarity
 polarity-asks_none m polarity.Positive es h = h
 polarity-asks_none m polarity.Negative es h = tt
-polarity-asks_none m polarity.Reservation es h = reserved-asks_none m
+polarity-asks_none m polarity.Reservation es h = reserved-asks_none m es h
 
 -- the lists of candidates for trait goals
 assumption-asks_none : (i : TraitId) (args : List Tree) (p : PredicateTree) → ListAsksNoTerm (trait_assumption_list i args p)

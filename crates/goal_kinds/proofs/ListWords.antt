@@ -1,18 +1,19 @@
 -- Words on lists of entries: lists behind a test, the lists of impls by their polarity, and premises as entries.
-use Rattle.std.proofs.Common.{◌≡◌, ◌⊎◌, ◌↔◌, Bool, true, false, List, [], ◌∷◌, ◌++◌, Option, Some, None, if◌then◌else◌, inl, inr, refl, sym, ap, ⊎_elim, eq-eqb, eqb-true}
+use Rattle.std.proofs.Common.{◌≡◌, ◌⊎◌, ◌↔◌, Bool, true, false, List, [], ◌∷◌, ◌++◌, Option, Some, None, if◌then◌else◌, inl, inr, refl, sym, ap, ⊎_elim, eq-eqb, eqb-true, ◌||◌, ◌&&◌}
 use Rattle.std.proofs.lemmas.Bool.{false≢true}
 use Rattle.goal_terms.specs.Tree.{Tree}
 use Rattle.goal_terms.specs.declared.answers.GoalSource.{GoalSource}
 use Rattle.goal_terms.specs.declared.ids.TraitId.{TraitId}
 use Rattle.goal_terms.specs.declared.modes.TypingMode.{TypingMode}
 use Rattle.goal_terms.specs.declared.modes.TypingMode.TheVariants as mode
+use Rattle.goal_tables.specs.ImplFaults.{is_reservation}
 use Rattle.goal_tables.specs.SourceFaults.{is_positive}
 use Rattle.goal_tables.specs.declared.rows.ImplPolarity.{ImplPolarity}
 use Rattle.goal_tables.specs.declared.rows.ImplPolarity.TheVariants as polarity
 use Rattle.goal_kinds.specs.Entries.{Entry, EntriesHold, EntriesRefuted, ListHolds, ListGives, ListRefuted, premise_entries}
 use Rattle.goal_kinds.specs.Level.{Level}
 use Rattle.goal_kinds.specs.Premises.{Premise, predicate, equation, PremiseHolds, PremiseRefuted, PremisesHold, PremisesRefuted}
-use Rattle.goal_kinds.specs.Settings.{is_headline}
+use Rattle.goal_kinds.specs.Settings.{is_headline, is_coherence}
 use Rattle.goal_kinds.specs.TraitLists.{is_trait, reserved_list, list_by_polarity}
 use Rattle.goal_kinds.specs.Words.{Each, Exists, Pairs, SomePair}
 use Rattle.goal_kinds.proofs.EntryLemmas.{iff-chain, iff-either, iff-same}
@@ -62,21 +63,39 @@ tested-refuted L true o = (λ h. inr h, λ h. ⊎_elim (λ e. absurd (false≢tr
 tested-refuted L false o = (λ h. inl refl, λ h. tt)
 
 -- in a headline mode a reservation impl has no list
-pub reserved-none : (m : TypingMode) → is_headline m ≡ true → reserved_list m ≡ None
-reserved-none mode.Coherence e = absurd (false≢true e)
-reserved-none (mode.Analysis ids) e = refl
-reserved-none (mode.Borrowck ids) e = refl
-reserved-none (mode.PostBorrowckAnalysis ids) e = refl
-reserved-none mode.PostAnalysis e = refl
-reserved-none mode.ErasedNotCoherence e = absurd (false≢true e)
+pub reserved-none : (m : TypingMode) → is_headline m ≡ true → (es : List Entry) → reserved_list m es ≡ None
+reserved-none mode.Coherence e es = absurd (false≢true e)
+reserved-none (mode.Analysis ids) e es = refl
+reserved-none (mode.Borrowck ids) e es = refl
+reserved-none (mode.PostBorrowckAnalysis ids) e es = refl
+reserved-none mode.PostAnalysis e es = refl
+reserved-none mode.ErasedNotCoherence e es = absurd (false≢true e)
 
--- there only a positive impl has one
-pub by_polarity : (m : TypingMode) → is_headline m ≡ true → (x : ImplPolarity) (es : List Entry) →
-    list_by_polarity m x es ≡ (if is_positive x then Some es else None)
-unfolding list_by_polarity
-by_polarity m e polarity.Positive es = refl
-by_polarity m e polarity.Negative es = refl
-by_polarity m e polarity.Reservation es = reserved-none m e
+-- the list of an impl holds, or gives a term, where the impl is positive and what it asks for does
+pub polarity-holds : (m : TypingMode) (L : Level) (x : ImplPolarity) (es : List Entry) → ListHolds L (list_by_polarity m x es) ↔ ((is_positive x ≡ true) × ListHolds L (Some es))
+unfolding list_by_polarity ListHolds EntriesHold
+polarity-holds m L polarity.Positive es = (λ h. (refl, h), λ h. h.1)
+polarity-holds m L polarity.Negative es = (λ h. absurd h, λ h. absurd (false≢true h.0))
+polarity-holds mode.Coherence L polarity.Reservation es = (λ h. absurd h, λ h. absurd (false≢true h.0))
+polarity-holds m L polarity.Reservation es = (λ h. absurd h, λ h. absurd (false≢true h.0))
+
+pub polarity-gives : (m : TypingMode) (L : Level) (x : ImplPolarity) (es : List Entry) (u : Tree) →
+    ListGives L (list_by_polarity m x es) u ↔ ((is_positive x ≡ true) × ListGives L (Some es) u)
+unfolding list_by_polarity ListGives EntriesHold
+polarity-gives m L polarity.Positive es u = (λ h. (refl, h), λ h. h.1)
+polarity-gives m L polarity.Negative es u = (λ h. absurd h, λ h. absurd (false≢true h.0))
+polarity-gives mode.Coherence L polarity.Reservation es u = (λ h. absurd h, λ h. absurd (false≢true h.0))
+polarity-gives m L polarity.Reservation es u = (λ h. absurd h, λ h. absurd (false≢true h.0))
+
+-- it is refuted where the impl is neither positive nor bars a refutation, or what it asks for is
+pub polarity-refuted : (m : TypingMode) (L : Level) (x : ImplPolarity) (es : List Entry) →
+    ListRefuted L (list_by_polarity m x es) ↔ ((is_positive x || (is_coherence m && is_reservation x) ≡ false) ⊎ ListRefuted L (Some es))
+unfolding list_by_polarity ListRefuted EntriesRefuted
+polarity-refuted m L polarity.Positive es = (λ h. inr h, λ h. ⊎_elim (λ e. absurd (false≢true (sym e))) (λ x. x) h)
+polarity-refuted mode.Coherence L polarity.Negative es = (λ h. inl refl, λ h. tt)
+polarity-refuted m L polarity.Negative es = (λ h. inl refl, λ h. tt)
+polarity-refuted mode.Coherence L polarity.Reservation es = (λ h. inr h, λ h. ⊎_elim (λ e. absurd (false≢true (sym e))) (λ x. x) h)
+polarity-refuted m L polarity.Reservation es = (λ h. inl refl, λ h. tt)
 
 -- premises with entries behind them
 pub premises-hold : (L : Level) (Said : Tree → Type 0) (Unsaid : Type 0) (named : List (List Tree)) (g : GoalSource) (ps : List Premise) (es : List Entry) →

@@ -6,7 +6,8 @@ use Rattle.goal_terms.specs.declared.modes.TypingMode.TheVariants as mode
 use Rattle.goal_tables.specs.declared.rows.OpaqueRow.{OpaqueRow}
 use Rattle.goal_kinds.specs.AliasLists.{opaque_list}
 use Rattle.goal_kinds.specs.Entries.{Entry, access, undecided}
-use Rattle.goal_kinds.specs.RuleModes.{among, opaque_use, first_use}
+use Rattle.goal_kinds.specs.Settings.{among}
+use Rattle.goal_kinds.specs.RuleModes.{opaque_use, first_use}
 use Rattle.goal_kinds.specs.declared.rules.FirstUse.{FirstUse}
 use Rattle.goal_kinds.specs.declared.rules.FirstUse.TheVariants as first
 use Rattle.goal_kinds.specs.declared.rules.aliases.OpaqueUse.{OpaqueUse}

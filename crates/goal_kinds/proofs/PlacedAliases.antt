@@ -21,7 +21,7 @@ use Rattle.goal_tables.specs.declared.rows.Tables.{Tables}
 use Rattle.goal_kinds.specs.Aliases.{ValueGives, FreeGives, self_header, InherentGives, InherentAliasGives, OpaqueGives, AliasGives}
 use Rattle.goal_kinds.specs.Headers.{under, Fits}
 use Rattle.goal_kinds.specs.Level.{Level}
-use Rattle.goal_kinds.specs.Settings.{Setting, reveals}
+use Rattle.goal_kinds.specs.Settings.{Setting, leaves_open, reveals}
 use Rattle.goal_kinds.specs.Words.{Each, OfRow}
 use Rattle.goal_kinds.proofs.ClosedHeaders.{either-out}
 use Rattle.goal_kinds.proofs.PlacedCandidates.{IsPlacedSetting, kind-of_row}
@@ -95,9 +95,10 @@ placed-opaque_gives : (S : Setting) → {L : Level} → KeepsPlaced S.tables L �
     (u : Tree) (r : OpaqueRow) → IsPlacedAs S.tables sorts.Ty (tree_of_ty r.hidden) → OpaqueGives S L i args u r → IsPlacedAs S.tables sorts.Ty u
 unfolding OpaqueGives
 placed-opaque_gives S w i own args all u r e g =
-    either-out (reveals S.mode r)
+    either-out (leaves_open S.mode r) (λ h. absurd h)
+    (either-out (reveals S.mode r)
     (λ h. placed-head_form_as S.tables w sorts.Ty (under args (tree_of_ty r.hidden)) u (placed-under_as S.tables args all sorts.Ty (tree_of_ty r.hidden) e) h)
-    (λ h. subst (IsPlacedAs S.tables sorts.Ty) (sym h) (refl, placed-alias S.tables (OpaqueTy i) args own all)) g
+    (λ h. subst (IsPlacedAs S.tables sorts.Ty) (sym h) (refl, placed-alias S.tables (OpaqueTy i) args own all))) g
 
 placed-opaque_row : (S : Setting) → {L : Level} → KeepsPlaced S.tables L → (i : OpaqueId) → AliasIsPlaced S.tables (OpaqueTy i) → (args : List Tree) → ArePlaced S.tables args →
     (u : Tree) (o : Option OpaqueRow) → ((r : OpaqueRow) → o ≡ Some r → IsPlacedAs S.tables sorts.Ty (tree_of_ty r.hidden)) → OfRow o (OpaqueGives S L i args u) →

@@ -7,6 +7,7 @@ use Rattle.goal_terms.specs.Tree.{Tree}
 use Rattle.goal_terms.specs.declared.ids.DefId.{DefId}
 use Rattle.goal_terms.specs.declared.ids.ImplId.{ImplId}
 use Rattle.goal_terms.specs.declared.ids.ItemId.{ItemId}
+use Rattle.goal_terms.specs.declared.modes.TypingMode.{TypingMode}
 use Rattle.goal_tables.specs.Faults.{IsChecked, applies}
 use Rattle.goal_tables.specs.Options.{option_holds}
 use Rattle.goal_tables.specs.RowFaults.{lies_in_impl}
@@ -26,9 +27,9 @@ use Rattle.goal_tables.specs.declared.rows.SourceRow.{SourceRow}
 use Rattle.goal_tables.specs.declared.rows.Tables.{Tables}
 use Rattle.goal_kinds.specs.Headers.{under, Fits}
 use Rattle.goal_kinds.specs.ImplTerms.{Said, an_error, the_alias, a_value, evaluated, not_said, said_by_value, said_by_definition, said_by_source, said_by_row, said}
-use Rattle.goal_kinds.specs.ImplTerms.{Projection, trait_args, own_args, error_term, header_under, OtherImplHolds, Taken, from_projection, from_impl, from_other, taken, Translated, SaidGives, ImplGives}
+use Rattle.goal_kinds.specs.ImplTerms.{Projection, trait_args, own_args, error_term, header_under, OtherImplHolds, Taken, from_projection, from_impl, from_other, taken, Translated, SaidGives, ImplGives, the_alias_unless}
 use Rattle.goal_kinds.specs.Level.{Level}
-use Rattle.goal_kinds.specs.Settings.{Setting, takes_defaults}
+use Rattle.goal_kinds.specs.Settings.{Setting, takes_defaults, is_coherence, hides_defaults}
 use Rattle.goal_kinds.specs.TraitGoals.{ImplHoldsUnder, header_of}
 use Rattle.goal_kinds.specs.Words.{Each, OfRow}
 use Rattle.goal_kinds.proofs.AcceptedLemmas.{found_fails}
@@ -82,32 +83,33 @@ IsPlacedSaying t b (evaluated c) = Unit {0}
 IsPlacedSaying t b not_said = Unit {0}
 
 -- by a definition's value
-placed-missing : (t : Tables) (b c : Bool) (n : ℕ) → IsPlacedSaying t b (if c then the_alias else an_error n)
-placed-missing t b true n = tt
-placed-missing t b false n = tt
+placed-alias_unless : (t : Tables) (b c : Bool) → IsPlacedSaying t b (the_alias_unless c)
+placed-alias_unless t b true = tt
+placed-alias_unless t b false = tt
 
-placed-said_by_value : (t : Tables) (b : Bool) (r : ImplRow) (d : DefRow) (v : DefValue) → IsPlacedValue t b v → IsPlacedSaying t b (said_by_value r d v)
-placed-said_by_value t b r d value.Missing e = placed-missing t b r.guaranteed_unsized d.id.0
-placed-said_by_value t b r d (value.Term x) e = e
-placed-said_by_value t b r d value.Evaluated e = tt
+placed-choice : (t : Tables) (b c : Bool) (x y : Said) → IsPlacedSaying t b x → IsPlacedSaying t b y → IsPlacedSaying t b (if c then x else y)
+placed-choice t b true x y e f = e
+placed-choice t b false x y e f = f
 
-placed-said_by_definition : (t : Tables) (b : Bool) (r : ImplRow) (o : Option DefRow) → ((d : DefRow) → o ≡ Some d → IsPlacedValue t b d.value) →
-    IsPlacedSaying t b (said_by_definition r o)
-placed-said_by_definition t b r None each = tt
-placed-said_by_definition t b r (Some d) each = placed-said_by_value t b r d d.value (each d refl)
+placed-said_by_value : (t : Tables) (b : Bool) (m : TypingMode) (r : ImplRow) (d : DefRow) (v : DefValue) → IsPlacedValue t b v → IsPlacedSaying t b (said_by_value m r d v)
+placed-said_by_value t b m r d value.Missing e =
+    placed-choice t b r.guaranteed_unsized (the_alias_unless (is_coherence m)) (an_error d.id.0) (placed-alias_unless t b (is_coherence m)) tt
+placed-said_by_value t b m r d (value.Term x) e = e
+placed-said_by_value t b m r d value.Evaluated e = tt
+
+placed-said_by_definition : (t : Tables) (b : Bool) (m : TypingMode) (r : ImplRow) (o : Option DefRow) → ((d : DefRow) → o ≡ Some d → IsPlacedValue t b d.value) →
+    IsPlacedSaying t b (said_by_definition m r o)
+placed-said_by_definition t b m r None each = tt
+placed-said_by_definition t b m r (Some d) each = placed-said_by_value t b m r d d.value (each d refl)
 
 -- by a source
-placed-default : (t : Tables) (b c : Bool) (x : Said) → IsPlacedSaying t b x → IsPlacedSaying t b (if c then the_alias else x)
-placed-default t b true x e = tt
-placed-default t b false x e = e
-
 placed-said_by_source : (S : Setting) (b : Bool) (r : ImplRow) (x : Source) →
     ((d : DefId) (is_default : Bool) → x ≡ source.Def d is_default → (w : DefRow) → definition_of S.tables d ≡ Some w → IsPlacedValue S.tables b w.value) →
     IsPlacedSaying S.tables b (said_by_source S r x)
 placed-said_by_source S b r (source.Broken n) each = tt
 placed-said_by_source S b r (source.Def d is_default) each =
-    placed-default S.tables b (is_default && not (takes_defaults S.mode)) (said_by_definition r (definition_of S.tables d))
-    (placed-said_by_definition S.tables b r (definition_of S.tables d) (λ w e. each d is_default refl w e))
+    placed-choice S.tables b (is_default && not (takes_defaults S.mode)) (the_alias_unless (hides_defaults S.mode)) (said_by_definition S.mode r (definition_of S.tables d))
+    (placed-alias_unless S.tables b (hides_defaults S.mode)) (placed-said_by_definition S.tables b S.mode r (definition_of S.tables d) (λ w e. each d is_default refl w e))
 
 placed-said_by_row : (S : Setting) → IsChecked S.tables → (r : ImplRow) (item : ItemRow) → item_of S.tables item.id ≡ Some item → (o : Option SourceRow) →
     source_of S.tables r.id item.id ≡ o → IsPlacedSaying S.tables item.is_const (said_by_row S r o)

@@ -46,24 +46,23 @@ use Rattle.goal_kinds.proofs.FaceLemmas.{IsSomeGiven, some-given, listed-yes, li
 use Rattle.goal_kinds.proofs.ImplTermKindLemmas.{alias-erased}
 use Rattle.goal_kinds.proofs.ListedRules.{AreGiven, listed-list, some-accepted}
 use Rattle.goal_kinds.proofs.ProjectionKindLaws.{asked-of, found-item}
-use Rattle.goal_kinds.proofs.ProjectionLists.{item-tested, term_candidate-gives, term_candidate-refuted, equation_list-holds, equation_list-refuted}
+use Rattle.goal_kinds.proofs.ProjectionLists.{item-tested, projection_list-gives, projection_list-refuted, equation_list-holds, equation_list-refuted}
 use Rattle.goal_kinds.proofs.RulesAsLists.{rule_list-holds, rule_list-refuted}
 use Rattle.goal_kinds.proofs.TraitFaceLemmas.{or-false, polarity-some}
-use Rattle.goal_kinds.proofs.TraitLists.{ReadsHeadline}
 
 -- the list of a candidate says what it does, by whether the item of the projection has rows
-module _ (S : Setting) (n : ℕ) (itself : Tree) (c : Candidate) (reads : ReadsHeadline S.mode c) where
+module _ (S : Setting) (n : ℕ) (itself : Tree) (c : Candidate) where
   list_for-gives : (o : Option Projection) (u : Tree) →
       ListGives (level S n) (list_for o (λ p. projection_list S p itself c)) u ↔ OfRow o (λ p. CandidateGives S (level S n) p itself u c)
   unfolding OfRow ListGives EntriesHold
   list_for-gives None u = iff-same
-  list_for-gives (Some p) u = term_candidate-gives S (level S n) p itself c u reads
+  list_for-gives (Some p) u = projection_list-gives S (level S n) p itself c u
 
   list_for-refuted : (o : Option Projection) →
       ListRefuted (level S n) (list_for o (λ p. projection_list S p itself c)) ↔ IfSome o (λ p. TermRefuted S (level S n) p c)
   unfolding ListRefuted EntriesRefuted
   list_for-refuted None = (λ h. tt, λ h. tt)
-  list_for-refuted (Some p) = term_candidate-refuted S (level S n) p itself c reads
+  list_for-refuted (Some p) = projection_list-refuted S (level S n) p itself c
 
 -- rules that are listed for a projection
 module _ (S : ListSetting) (t : Tables) (m : TypingMode) (env : List Clause) (a : AliasTerm) (c : Candidate) (rows : S.rows.now ≡ t) (mode : S.mode.now ≡ m) where
@@ -76,14 +75,14 @@ module _ (S : ListSetting) (t : Tables) (m : TypingMode) (env : List Clause) (a 
   abbrev Refuted : Setting → ℕ → Type 0
   Refuted V n = ProjectionCandidateRefuted a V n c
 
-  made-gives : ReadsHeadline m c → (n : ℕ) (u : Tree) → ListGives (level (setting_at S env) n) (asked (setting_at S env)) u ↔ Gives (setting_at S env) n u
-  made-gives reads n u =
-      list_for-gives (setting_at S env) n (alias a.kind (forest (given a.args))) c (subst (λ k. ReadsHeadline k c) (sym mode) reads)
+  made-gives : (n : ℕ) (u : Tree) → ListGives (level (setting_at S env) n) (asked (setting_at S env)) u ↔ Gives (setting_at S env) n u
+  made-gives n u =
+      list_for-gives (setting_at S env) n (alias a.kind (forest (given a.args))) c
       (projection_in S.rows.now a) u
 
-  made-refuted : ReadsHeadline m c → (n : ℕ) → ListRefuted (level (setting_at S env) n) (asked (setting_at S env)) ↔ Refuted (setting_at S env) n
-  made-refuted reads n =
-      list_for-refuted (setting_at S env) n (alias a.kind (forest (given a.args))) c (subst (λ k. ReadsHeadline k c) (sym mode) reads)
+  made-refuted : (n : ℕ) → ListRefuted (level (setting_at S env) n) (asked (setting_at S env)) ↔ Refuted (setting_at S env) n
+  made-refuted n =
+      list_for-refuted (setting_at S env) n (alias a.kind (forest (given a.args))) c
       (projection_in S.rows.now a)
 
   -- a rule whose entries are those of the list
@@ -93,13 +92,13 @@ module _ (S : ListSetting) (t : Tables) (m : TypingMode) (env : List Clause) (a 
   abbrev Listed : Result Rule Fault → Type 0
   Listed r = IfOk r (λ x. IsListed S.rows.now x (asked (setting_at S env)))
 
-  pub projection-gives : (sure : Certainty) (r : Result Rule Fault) → ReadsHeadline m c → ListedThen sure r →
+  pub projection-gives : (sure : Certainty) (r : Result Rule Fault) → ListedThen sure r →
       IfOk r (GivesAs true (setting_of t m env) sure (λ n u. ProjectionCandidateGives a (setting_of t m env) n c u))
-  projection-gives sure r reads h = face-gives true asked Gives Refuted S t m env rows mode sure r (made-gives reads) h
+  projection-gives sure r h = face-gives true asked Gives Refuted S t m env rows mode sure r made-gives h
 
-  pub projection-refuted : (sure : Certainty) (r : Result Rule Fault) → ReadsHeadline m c → ListedThen sure r →
+  pub projection-refuted : (sure : Certainty) (r : Result Rule Fault) → ListedThen sure r →
       IfOk r (RefutedAs (setting_of t m env) (λ n. ProjectionCandidateRefuted a (setting_of t m env) n c))
-  projection-refuted sure r reads h = face-refuted true asked Gives Refuted S t m env rows mode sure r (made-refuted reads) h
+  projection-refuted sure r h = face-refuted true asked Gives Refuted S t m env rows mode sure r made-refuted h
 
   pub projection-told : (sure : Certainty) (r : Result Rule Fault) → ListedThen sure r → IfOk r (IsToldBy t sure (Some (asked_projection_list a (setting_of t m env) c)))
   projection-told sure r h = face-told true asked Gives Refuted S t m env rows mode sure r h
@@ -108,10 +107,10 @@ module _ (S : ListSetting) (t : Tables) (m : TypingMode) (env : List Clause) (a 
   pub sure_projection-told : (r : Result Rule Fault) → Listed r → IfOk r (IsToldBy t certainty.Yes (Some (asked_projection_list a (setting_of t m env) c)))
   sure_projection-told r h = projection-told certainty.Yes r (listed-yes_back S.rows.now (asked (setting_at S env)) r h)
 
-  pub projection-named : (b : Bool) (r : Result Rule Fault) → ReadsHeadline m c → (b ≡ false → r ≡ Err fault.NotForThisKind) → Listed r →
+  pub projection-named : (b : Bool) (r : Result Rule Fault) → (b ≡ false → r ≡ Err fault.NotForThisKind) → Listed r →
       (b ≡ true → IfErr r (IsRefusal (asked (setting_at S env) ≡ None))) →
       IsNamedAnswer b true (setting_of t m env) (λ n u. ProjectionCandidateGives a (setting_of t m env) n c u) (λ n. ProjectionCandidateRefuted a (setting_of t m env) n c) r
-  projection-named b r reads other listed refused_as = face-named true asked Gives Refuted S t m env rows mode b r (made-gives reads) (made-refuted reads) other listed refused_as
+  projection-named b r other listed refused_as = face-named true asked Gives Refuted S t m env rows mode b r made-gives made-refuted other listed refused_as
 
 -- the answer of a function of a built-in rule, by the test that it makes
 pub projection-answer : (S : ListSetting) (t : Tables) (m : TypingMode) (env : List Clause) (a : AliasTerm) → S.rows.now ≡ t → S.mode.now ≡ m →
@@ -120,7 +119,7 @@ pub projection-answer : (S : ListSetting) (t : Tables) (m : TypingMode) (env : L
     (tested ≡ true → IfErr r (IsRefusal (asked_projection_list a (setting_at S env) built_in ≡ None))) →
     IsNamedAnswer b true (setting_of t m env) (λ n u. ProjectionCandidateGives a (setting_of t m env) n built_in u) (λ n. ProjectionCandidateRefuted a (setting_of t m env) n built_in) r
 projection-answer S t m env a rows mode tested b r same other listed refused_as =
-    projection-named S t m env a built_in rows mode b r tt (λ e. other (same ∙ e)) listed (λ e. refused_as (same ∙ e))
+    projection-named S t m env a built_in rows mode b r (λ e. other (same ∙ e)) listed (λ e. refused_as (same ∙ e))
 
 -- the list that is made for an alias, by numbers that stand for it
 pub same-asked : (x : AskedItem) (a : AliasTerm) (ts : List Tree) → ts ≡ given a.args → record { item = x.row.now; trait_params = x.trait_params; args = ts } ≡ asked_by x a

@@ -1,12 +1,11 @@
 -- The list of each candidate for the term of a projection says what the candidate does, and that of a projection goal what the goal does.
-use Rattle.std.proofs.Common.{◌≡◌, ◌⊎◌, ◌↔◌, ℕ, true, List, [], ◌∷◌, Option, Some, None, inl, inr, refl, sym, ap, subst, ⊎_elim, eq-eqb, eqb-true}
+use Rattle.std.proofs.Common.{◌≡◌, ◌⊎◌, ◌↔◌, ℕ, true, List, [], ◌∷◌, Option, Some, None, inl, inr, refl, ap, ⊎_elim, eq-eqb, eqb-true}
 use Rattle.std.proofs.lemmas.Bool.{false≢true}
 use Rattle.goal_terms.specs.PredicateTrees.{PredicateTree, holds, equals, holds_const}
 use Rattle.goal_terms.specs.Tree.{Tree, node, alias, variable, list_of}
 use Rattle.goal_terms.specs.TreeOf.{trees_of}
 use Rattle.goal_terms.specs.declared.answers.GoalSource.TheVariants.{ImplWhereBound}
 use Rattle.goal_terms.specs.declared.ids.ItemId.{ItemId}
-use Rattle.goal_tables.specs.SourceFaults.{is_positive}
 use Rattle.goal_tables.specs.declared.rows.ImplRow.{ImplRow}
 use Rattle.goal_kinds.specs.Builtins.{Listed, nothing_listed, listed, listed_rigid, listed_by_size, term_rule, unit_ty}
 use Rattle.goal_kinds.specs.Candidates.{Candidate, assumption, implied_bound, by_impl, built_in, error}
@@ -19,15 +18,15 @@ use Rattle.goal_kinds.specs.ListLaws.{EquationListHolds, EquationListRefuted}
 use Rattle.goal_kinds.specs.Premises.{PremisesHold, PremisesRefuted, ClauseRefuted, clauses_under}
 use Rattle.goal_kinds.specs.ProjectionLists.{is_item, same_item_list, equation_clause_list, projection_assumption_list, said_entries, projection_impl_list, listed_list, projection_list}
 use Rattle.goal_kinds.specs.Projections.{projected_item, EquationGives, EquationRefuted, AssumptionGives, AssumptionTermRefuted, self_of, ListedGives, ListedRefuted, CandidateGives, TermRefuted}
-use Rattle.goal_kinds.specs.Settings.{Setting, is_headline}
+use Rattle.goal_kinds.specs.Settings.{Setting}
 use Rattle.goal_kinds.specs.TraitGoals.{ImplHoldsUnder, ImplRefuted, header_of}
 use Rattle.goal_kinds.specs.TraitLists.{impl_match}
 use Rattle.goal_kinds.specs.Words.{Pairs, SomePair}
 use Rattle.goal_kinds.proofs.EntryLemmas.{iff-chain, iff-both, iff-either, iff-same}
 use Rattle.goal_kinds.proofs.ListEntries.{EntriesSay, say-gives, say-refuted, given-says, header-says, equal_terms-say, row_clauses-say, premises-say, evaluation-says, term-says, standing-says, head_form-says}
-use Rattle.goal_kinds.proofs.ListWords.{nothing-more, test-fails, tested-gives, tested-refuted, by_polarity}
+use Rattle.goal_kinds.proofs.ListWords.{nothing-more, test-fails, tested-gives, tested-refuted, polarity-gives, polarity-refuted}
 use Rattle.goal_kinds.proofs.SaidLists.{impl-said}
-use Rattle.goal_kinds.proofs.TraitLists.{ReadsHeadline, reads-headline, equation-holds, equation-refuted}
+use Rattle.goal_kinds.proofs.TraitLists.{equation-holds, equation-refuted}
 
 -- whether an item is the one of a number
 pub item-tested : (i : ItemId) (o : Option ItemId) → (is_item i o ≡ true) ↔ (o ≡ Some i)
@@ -89,7 +88,7 @@ module _ (L : Level) (p : Projection) where
   listed-refuted itself (listed_by_size sized) = (term-says L [] (chosen_by (holds sized (self_of p.args)) unit_ty itself)).refuted
 
 -- an impl
-module _ (S : Setting) (headline : is_headline S.mode ≡ true) (L : Level) (p : Projection) (itself : Tree) (r : ImplRow) where
+module _ (S : Setting) (L : Level) (p : Projection) (itself : Tree) (r : ImplRow) where
   -- what it asks for behind its where clauses, and all of that
   abbrev behind : List Entry
   behind = evaluation ∷ arguments (given_arguments p.args) ∷ row_clauses p.item.own_predicates.items 1 ∷ said_entries S r p itself
@@ -110,13 +109,12 @@ module _ (S : Setting) (headline : is_headline S.mode ≡ true) (L : Level) (p :
       (λ s. row_clauses-say L (s ∷ []) r.predicates.items 0 s behind _ _ refl
       (evaluation-says L (s ∷ []) (arguments (given_arguments p.args) ∷ own) _ _
       (given-says L (s ∷ []) p.args own _ _
-      (row_clauses-say L (s ∷ p.args ∷ []) p.item.own_predicates.items 1 p.args (said_entries S r p itself) _ _ refl (impl-said S headline L r s p itself)))))
+      (row_clauses-say L (s ∷ p.args ∷ []) p.item.own_predicates.items 1 p.args (said_entries S r p itself) _ _ refl (impl-said S L r s p itself)))))
 
   impl-gives : (u : Tree) → ListGives L (projection_impl_list S p itself r) u ↔ ImplGives S L p itself r u
   unfolding ImplGives ImplHoldsUnder
   impl-gives u =
-      let list = iff-chain (tested-gives L (is_positive r.polarity) (Some whole) u) (iff-both iff-same (say-gives whole-says u)) in
-      subst (λ o. ListGives L o u ↔ ImplGives S L p itself r u) (sym (by_polarity S.mode headline r.polarity whole)) (
+      let list = iff-chain (polarity-gives S.mode L r.polarity whole u) (iff-both iff-same (say-gives whole-says u)) in (
         λ h. let x = list.0 h in (x.1.0, (x.0, x.1.1, x.1.2.0), x.1.2.1.0, x.1.2.1.1),
         λ h. list.1 (h.1.0, (h.0, h.1.1, (h.1.2, (h.2, h.3)))),
       )
@@ -124,8 +122,7 @@ module _ (S : Setting) (headline : is_headline S.mode ≡ true) (L : Level) (p :
   impl-refuted : ListRefuted L (projection_impl_list S p itself r) ↔ ImplTermRefuted S L p r
   unfolding ImplTermRefuted ImplRefuted
   impl-refuted =
-      let list = iff-chain (tested-refuted L (is_positive r.polarity) (Some whole)) (iff-either iff-same (say-refuted whole-says)) in
-      subst (λ o. ListRefuted L o ↔ ImplTermRefuted S L p r) (sym (by_polarity S.mode headline r.polarity whole)) (
+      let list = iff-chain (polarity-refuted S.mode L r.polarity whole) (iff-either iff-same (say-refuted whole-says)) in (
         λ h. ⊎_elim (λ x. inl (inl x))
             (λ x. ⊎_elim (λ y. inl (inr (inl y))) (λ y. ⊎_elim (λ z. inl (inr (inr (y.0, y.1, z)))) (λ z. inr (y.0, y.1, z)) y.2) x) (list.0 h),
         λ h. list.1 (⊎_elim
@@ -135,28 +132,21 @@ module _ (S : Setting) (headline : is_headline S.mode ≡ true) (L : Level) (p :
 
 -- each candidate
 module _ (S : Setting) (L : Level) (p : Projection) (itself : Tree) where
-  pub term_candidate-gives : (c : Candidate) (u : Tree) → ReadsHeadline S.mode c → ListGives L (projection_list S p itself c) u ↔ CandidateGives S L p itself u c
-  unfolding projection_list CandidateGives ListGives
-  term_candidate-gives (assumption q) u e = assumption-gives L p q u
-  term_candidate-gives (implied_bound b cs) u e = iff-same
-  term_candidate-gives (by_impl r) u e = impl-gives S e L p itself r u
-  term_candidate-gives built_in u e = listed-gives L p itself (term_rule S.tables p.item.id p.args) u
-  term_candidate-gives error u e = iff-same
-
-  pub term_candidate-refuted : (c : Candidate) → ReadsHeadline S.mode c → ListRefuted L (projection_list S p itself c) ↔ TermRefuted S L p c
-  unfolding projection_list TermRefuted ListRefuted
-  term_candidate-refuted (assumption q) e = assumption-refuted L p q
-  term_candidate-refuted (implied_bound b cs) e = iff-same
-  term_candidate-refuted (by_impl r) e = impl-refuted S e L p itself r
-  term_candidate-refuted built_in e = listed-refuted L p itself (term_rule S.tables p.item.id p.args)
-  term_candidate-refuted error e = iff-same
-
-module _ (S : Setting) (headline : is_headline S.mode ≡ true) (L : Level) (p : Projection) (itself : Tree) where
   pub projection_list-gives : (c : Candidate) (u : Tree) → ListGives L (projection_list S p itself c) u ↔ CandidateGives S L p itself u c
-  projection_list-gives c u = term_candidate-gives S L p itself c u (reads-headline S.mode c headline)
+  unfolding projection_list CandidateGives ListGives
+  projection_list-gives (assumption q) u = assumption-gives L p q u
+  projection_list-gives (implied_bound b cs) u = iff-same
+  projection_list-gives (by_impl r) u = impl-gives S L p itself r u
+  projection_list-gives built_in u = listed-gives L p itself (term_rule S.tables p.item.id p.args) u
+  projection_list-gives error u = iff-same
 
   pub projection_list-refuted : (c : Candidate) → ListRefuted L (projection_list S p itself c) ↔ TermRefuted S L p c
-  projection_list-refuted c = term_candidate-refuted S L p itself c (reads-headline S.mode c headline)
+  unfolding projection_list TermRefuted ListRefuted
+  projection_list-refuted (assumption q) = assumption-refuted L p q
+  projection_list-refuted (implied_bound b cs) = iff-same
+  projection_list-refuted (by_impl r) = impl-refuted S L p itself r
+  projection_list-refuted built_in = listed-refuted L p itself (term_rule S.tables p.item.id p.args)
+  projection_list-refuted error = iff-same
 
 -- a projection goal
 pub equation_list-holds : (S : Setting) (n : ℕ) (a t : Tree) → EquationListHolds S n a t

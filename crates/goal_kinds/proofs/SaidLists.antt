@@ -1,10 +1,11 @@
 -- What a list has for a value, and for what an impl says of an item, says what the definitions do.
-use Rattle.std.proofs.Common.{◌≡◌, ◌⊎◌, ◌↔◌, not, ℕ, Bool, true, false, List, [], ◌∷◌, ◌++◌, Option, Some, None, if◌then◌else◌, inl, inr, refl, sym, subst, ⊎_elim}
+use Rattle.std.proofs.Common.{◌≡◌, ◌⊎◌, ◌↔◌, not, ℕ, Bool, true, false, List, [], ◌∷◌, ◌++◌, Option, Some, None, if◌then◌else◌, inl, inr, refl, subst, ⊎_elim}
 use Rattle.std.proofs.lemmas.Bool.{false≢true}
 use Rattle.std.specs.Prelude.{slice_get}
 use Rattle.goal_terms.specs.Tree.{Tree}
 use Rattle.goal_terms.specs.TreeOf.{tree_of_term, trees_of}
 use Rattle.goal_terms.specs.declared.answers.DelayedFault.TheVariants.{MissingItem}
+use Rattle.goal_terms.specs.declared.answers.OpaqueAccess.TheVariants.{Always}
 use Rattle.goal_terms.specs.declared.modes.TypingMode.{TypingMode}
 use Rattle.goal_terms.specs.declared.modes.TypingMode.TheVariants as mode
 use Rattle.goal_tables.specs.Rows.{source_of, definition_of}
@@ -15,16 +16,16 @@ use Rattle.goal_tables.specs.declared.rows.ImplRow.{ImplRow}
 use Rattle.goal_tables.specs.declared.rows.Source.{Source}
 use Rattle.goal_tables.specs.declared.rows.Source.TheVariants as item_source
 use Rattle.goal_tables.specs.declared.rows.SourceRow.{SourceRow}
-use Rattle.goal_kinds.specs.Entries.{Entry, arguments, followed_by, row_clauses, undecided}
+use Rattle.goal_kinds.specs.Entries.{Entry, arguments, followed_by, row_clauses, undecided, ambiguous}
 use Rattle.goal_kinds.specs.Headers.{under, AllKnown, Fits, Clashes}
-use Rattle.goal_kinds.specs.ImplTerms.{Said, an_error, the_alias, not_said, said_by_value, said_by_definition, said_by_source, said_by_row, said, Projection, own_args, error_term, header_under, OtherImplHolds, OtherImplKnown, OtherImplRefuted, Taken, from_projection, from_impl, from_other, taken, Translated, KnownTranslated, TranslationRefuted, SaidGives, SaidRefuted}
+use Rattle.goal_kinds.specs.ImplTerms.{Said, an_error, the_alias, not_said, said_by_value, said_by_definition, said_by_source, said_by_row, said, Projection, own_args, error_term, header_under, OtherImplHolds, OtherImplKnown, OtherImplRefuted, Taken, from_projection, from_impl, from_other, taken, Translated, KnownTranslated, TranslationRefuted, SaidGives, SaidRefuted, the_alias_unless}
 use Rattle.goal_kinds.specs.Level.{Level, HasHeadForm, HeadFormRefuted}
 use Rattle.goal_kinds.specs.Premises.{PremisesHold, PremisesRefuted, clauses_under}
 use Rattle.goal_kinds.specs.ProjectionLists.{standing, definition_value, other_impl_entries, taken_entries, rigid_entries, value_entries, definition_entries, default_entries, source_entries, said_by_row_entries, said_entries}
-use Rattle.goal_kinds.specs.Settings.{Setting, is_headline, takes_defaults}
+use Rattle.goal_kinds.specs.Settings.{Setting, is_headline, takes_defaults, is_coherence, hides_defaults}
 use Rattle.goal_kinds.specs.TraitGoals.{header_of}
 use Rattle.goal_kinds.specs.Words.{OfRow}
-use Rattle.goal_kinds.proofs.ListEntries.{EntriesSay, says-same, followed-says, other-says, row_clauses-say, fault-says, standing-says, value-says, undecided-says}
+use Rattle.goal_kinds.proofs.ListEntries.{EntriesSay, says-same, followed-says, other-says, row_clauses-say, fault-says, standing-says, value-says, undecided-says, access-says, ambiguous-says}
 
 -- a value under arguments has a head form, or has none; a constant to be evaluated has neither
 abbrev FormOfValue : Level → DefValue → List Tree → Tree → Type 0
@@ -111,17 +112,7 @@ rigid-stands (mode.PostBorrowckAnalysis ids) e itself = refl
 rigid-stands mode.PostAnalysis e itself = refl
 rigid-stands mode.ErasedNotCoherence e itself = absurd (false≢true e)
 
--- and a default is taken, or stays hidden
-default-stands : (m : TypingMode) → is_headline m ≡ true → (es : List Entry) (itself : Tree) →
-    default_entries m es itself ≡ (if not (takes_defaults m) then standing itself else es)
-default-stands mode.Coherence e es itself = absurd (false≢true e)
-default-stands (mode.Analysis ids) e es itself = refl
-default-stands (mode.Borrowck ids) e es itself = refl
-default-stands (mode.PostBorrowckAnalysis ids) e es itself = refl
-default-stands mode.PostAnalysis e es itself = refl
-default-stands mode.ErasedNotCoherence e es itself = absurd (false≢true e)
-
-module _ (S : Setting) (headline : is_headline S.mode ≡ true) (L : Level) (r : ImplRow) (s : List Tree) (p : Projection) (itself : Tree) where
+module _ (S : Setting) (L : Level) (r : ImplRow) (s : List Tree) (p : Projection) (itself : Tree) where
   -- the alias as it stands, and an error
   alias-said : SaysSaid S L r s p itself the_alias (standing itself)
   unfolding SaidGives SaidRefuted
@@ -135,6 +126,30 @@ module _ (S : Setting) (headline : is_headline S.mode ≡ true) (L : Level) (r :
   unfolding SaidGives SaidRefuted
   nothing-said = undecided-says L (s ∷ p.args ∷ [])
 
+  -- an entry that decides nothing
+  nothing-ambiguous : SaysSaid S L r s p itself not_said (ambiguous ∷ [])
+  unfolding SaidGives SaidRefuted
+  nothing-ambiguous = ambiguous-says L (s ∷ p.args ∷ [])
+
+  -- the alias as it stands, but where the mode leaves that open
+  rigid-said : (m : TypingMode) → SaysSaid S L r s p itself (the_alias_unless (is_coherence m)) (rigid_entries m itself)
+  rigid-said mode.Coherence = nothing-ambiguous
+  rigid-said (mode.Analysis ids) = alias-said
+  rigid-said (mode.Borrowck ids) = alias-said
+  rigid-said (mode.PostBorrowckAnalysis ids) = alias-said
+  rigid-said mode.PostAnalysis = alias-said
+  rigid-said mode.ErasedNotCoherence = alias-said
+
+  -- a default, by the mode
+  default-said : (m : TypingMode) (x : Said) (es : List Entry) → SaysSaid S L r s p itself x es →
+      SaysSaid S L r s p itself (if not (takes_defaults m) then the_alias_unless (hides_defaults m) else x) (default_entries m es itself)
+  default-said mode.Coherence x es f = nothing-ambiguous
+  default-said (mode.Analysis ids) x es f = alias-said
+  default-said (mode.Borrowck ids) x es f = alias-said
+  default-said (mode.PostBorrowckAnalysis ids) x es f = alias-said
+  default-said mode.PostAnalysis x es f = f
+  default-said mode.ErasedNotCoherence x es f = access-says L (s ∷ p.args ∷ []) Always (undecided ∷ []) _ _ nothing-said
+
   -- one of two, by a test
   either-said : (b : Bool) (x y : Said) (es zs : List Entry) → SaysSaid S L r s p itself x es → SaysSaid S L r s p itself y zs →
       SaysSaid S L r s p itself (if b then x else y) (if b then es else zs)
@@ -142,11 +157,10 @@ module _ (S : Setting) (headline : is_headline S.mode ≡ true) (L : Level) (r :
   either-said false x y es zs f g = g
 
   -- a definition
-  value-said : (d : DefRow) (v : DefValue) → SaysSaid S L r s p itself (said_by_value r d v) (value_entries S r p itself d v)
+  value-said : (d : DefRow) (v : DefValue) → SaysSaid S L r s p itself (said_by_value S.mode r d v) (value_entries S r p itself d v)
   unfolding SaidGives SaidRefuted
   value-said d value.Missing =
-      either-said r.guaranteed_unsized the_alias (an_error d.id.0) (rigid_entries S.mode itself) _
-      (subst (SaysSaid S L r s p itself the_alias) (sym (rigid-stands S.mode headline itself)) alias-said)
+      either-said r.guaranteed_unsized (the_alias_unless (is_coherence S.mode)) (an_error d.id.0) (rigid_entries S.mode itself) _ (rigid-said S.mode)
       (fault-says L (s ∷ p.args ∷ []) (MissingItem d.id) (standing (error_term p.item.is_const d.id.0)) _ _ (error-said d.id.0))
   value-said d (value.Term e) = taken-says L r s p (value.Term e) (taken S r d.container)
   value-said d value.Evaluated =
@@ -154,7 +168,7 @@ module _ (S : Setting) (headline : is_headline S.mode ≡ true) (L : Level) (r :
       (λ h. ⊎_elim (λ x. x) (λ x. absurd x.2) h, λ h. inl h)
       (taken-says L r s p value.Evaluated (taken S r d.container))
 
-  definition-said : (o : Option DefRow) → SaysSaid S L r s p itself (said_by_definition r o) (definition_entries S r p itself o)
+  definition-said : (o : Option DefRow) → SaysSaid S L r s p itself (said_by_definition S.mode r o) (definition_entries S r p itself o)
   definition-said None = nothing-said
   definition-said (Some d) = value-said d d.value
 
@@ -162,10 +176,7 @@ module _ (S : Setting) (headline : is_headline S.mode ≡ true) (L : Level) (r :
   source-said : (x : Source) → SaysSaid S L r s p itself (said_by_source S r x) (source_entries S r p itself x)
   source-said (item_source.Broken n) = error-said n
   source-said (item_source.Def d true) =
-      subst (SaysSaid S L r s p itself (said_by_source S r (item_source.Def d true)))
-      (sym (default-stands S.mode headline (definition_entries S r p itself (definition_of S.tables d)) itself))
-      (either-said (not (takes_defaults S.mode)) the_alias (said_by_definition r (definition_of S.tables d)) (standing itself)
-      (definition_entries S r p itself (definition_of S.tables d)) alias-said (definition-said (definition_of S.tables d)))
+      default-said S.mode (said_by_definition S.mode r (definition_of S.tables d)) (definition_entries S r p itself (definition_of S.tables d)) (definition-said (definition_of S.tables d))
   source-said (item_source.Def d false) = definition-said (definition_of S.tables d)
 
   row-said : (o : Option SourceRow) → SaysSaid S L r s p itself (said_by_row S r o) (said_by_row_entries S r p itself o)

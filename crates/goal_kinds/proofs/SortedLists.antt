@@ -188,16 +188,16 @@ match-sorted : (r : ImplRow) (args : List Tree) → Each IsSorted (impl_match r 
 unfolding Each
 match-sorted r args = (tt, (tt, tt))
 
-reserved-sorted : (m : TypingMode) → ListIsSorted (reserved_list m)
+reserved-sorted : (m : TypingMode) (es : List Entry) → Each IsSorted es → ListIsSorted (reserved_list m es)
 unfolding Each
-reserved-sorted modes.Coherence = (tt, tt)
-reserved-sorted m = tt
+reserved-sorted modes.Coherence es h = (tt, h)
+reserved-sorted m es h = tt
 
 pub polarity-sorted : (m : TypingMode) (p : ImplPolarity) (es : List Entry) → Each IsSorted es → ListIsSorted (list_by_polarity m p es)
 unfolding list_by_polarity
 polarity-sorted m polarity.Positive es h = h
 polarity-sorted m polarity.Negative es h = tt
-polarity-sorted m polarity.Reservation es h = reserved-sorted m
+polarity-sorted m polarity.Reservation es h = reserved-sorted m es h
 
 -- a test of what is one entry
 pub one-sorted : (b : Bool) (ts us : List Tree) → ListIsSorted (if b then Some (equal_terms ts us ∷ []) else None)

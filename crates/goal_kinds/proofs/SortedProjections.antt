@@ -38,9 +38,8 @@ use Rattle.goal_kinds.specs.ProjectionKind.{list_for, asked_projection_list}
 use Rattle.goal_kinds.specs.ProjectionLists.{is_item, same_item_list, equation_clause_list, projection_assumption_list, standing, definition_value, taken_entries, rigid_entries, value_entries, definition_entries, default_entries, source_entries, said_by_row_entries, said_entries, projection_impl_list, listed_list, projection_list}
 use Rattle.goal_kinds.specs.Projections.{projected_item}
 use Rattle.goal_kinds.specs.Rules.{given}
-use Rattle.goal_kinds.specs.RuleModes.{among}
 use Rattle.goal_kinds.specs.RuleWords.{projection_in}
-use Rattle.goal_kinds.specs.Settings.{Setting}
+use Rattle.goal_kinds.specs.Settings.{Setting, among}
 use Rattle.goal_kinds.specs.Words.{Each}
 use Rattle.goal_kinds.specs.declared.rules.FirstUse.{FirstUse}
 use Rattle.goal_kinds.specs.declared.rules.FirstUse.TheVariants as first

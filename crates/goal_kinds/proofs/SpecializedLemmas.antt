@@ -39,7 +39,7 @@ reached-none t (suc n) r e = listed_by_all-none t (reached t n r) (reached-none 
 -- so a candidate that lists none decides
 pub decides-none : (S : Setting) (L : Level) (args : List Tree) (x : Candidate) → listed_in x ≡ [] → Decides S L args x
 unfolding Decides Each
-decides-none S L args (by_impl r) e = λ n. subst (Each (ImplRefuted L args)) (sym (reached-none S.tables n r e)) tt
+decides-none S L args (by_impl r) e = λ n. subst (Each (ImplRefuted S.mode L args)) (sym (reached-none S.tables n r e)) tt
 decides-none S L args (assumption p) e = tt
 decides-none S L args (implied_bound b cs) e = tt
 decides-none S L args built_in e = tt
@@ -80,13 +80,13 @@ contained-some P (x ∷ xs) =
     (All-weaker (λ y. P y → Exists P xs) (λ y. P y → Exists P (x ∷ xs)) (λ y f p. inr (f p)) xs (contained-some P xs))
 
 -- an impl decides where all impls are refuted to which its list leads, in each number of steps
-pub decides-all : (S : Setting) (L : Level) (args : List Tree) (r : ImplRow) → ((n : ℕ) → All (ImplRefuted L args) (reached S.tables n r)) → Decides S L args (by_impl r)
+pub decides-all : (S : Setting) (L : Level) (args : List Tree) (r : ImplRow) → ((n : ℕ) → All (ImplRefuted S.mode L args) (reached S.tables n r)) → Decides S L args (by_impl r)
 unfolding Decides
-decides-all S L args r h = λ n. each-all (ImplRefuted L args) (reached S.tables n r) (h n)
+decides-all S L args r h = λ n. each-all (ImplRefuted S.mode L args) (reached S.tables n r) (h n)
 
-pub all-decides : (S : Setting) (L : Level) (args : List Tree) (r : ImplRow) → Decides S L args (by_impl r) → (n : ℕ) → All (ImplRefuted L args) (reached S.tables n r)
+pub all-decides : (S : Setting) (L : Level) (args : List Tree) (r : ImplRow) → Decides S L args (by_impl r) → (n : ℕ) → All (ImplRefuted S.mode L args) (reached S.tables n r)
 unfolding Decides
-all-decides S L args r h n = all-each (ImplRefuted L args) (reached S.tables n r) (h n)
+all-decides S L args r h n = all-each (ImplRefuted S.mode L args) (reached S.tables n r) (h n)
 
 -- it is passed over where one of them holds
 pub passed_over-one : (S : Setting) (L : Level) (args : List Tree) (r : ImplRow) (n : ℕ) (q : ImplRow) → Contains (reached S.tables n r) q → ImplHolds L args q →
@@ -107,16 +107,16 @@ pub record AreReached (t : Tables) (r : ImplRow) (qs : List ImplRow) : Type 0 wh
 
 -- the impl decides exactly where all of them are refuted
 pub decides-by : (S : Setting) (L : Level) (args : List Tree) (r : ImplRow) (qs : List ImplRow) → AreReached S.tables r qs →
-    Each (ImplRefuted L args) qs → Decides S L args (by_impl r)
+    Each (ImplRefuted S.mode L args) qs → Decides S L args (by_impl r)
 unfolding Decides
-decides-by S L args r qs a h = λ n. each-part_of (ImplRefuted L args) qs (reached S.tables n r) (a.all n) h
+decides-by S L args r qs a h = λ n. each-part_of (ImplRefuted S.mode L args) qs (reached S.tables n r) (a.all n) h
 
 pub decides-of : (S : Setting) (L : Level) (args : List Tree) (r : ImplRow) (qs : List ImplRow) → AreReached S.tables r qs →
-    Decides S L args (by_impl r) → Each (ImplRefuted L args) qs
+    Decides S L args (by_impl r) → Each (ImplRefuted S.mode L args) qs
 unfolding Decides
 decides-of S L args r qs a h =
-    each-by_element (ImplRefuted L args) qs
-    (λ q i. let k = a.each q i in each-element (ImplRefuted L args) (reached S.tables k.0 r) q (h k.0) k.1)
+    each-by_element (ImplRefuted S.mode L args) qs
+    (λ q i. let k = a.each q i in each-element (ImplRefuted S.mode L args) (reached S.tables k.0 r) q (h k.0) k.1)
 
 -- it is passed over exactly where one of them holds
 pub passed_over-by : (S : Setting) (L : Level) (args : List Tree) (r : ImplRow) (qs : List ImplRow) → AreReached S.tables r qs →

@@ -16,7 +16,7 @@ use Rattle.goal_tables.specs.Rows.{impl_of}
 use Rattle.goal_tables.specs.SourceFaults.{is_positive}
 use Rattle.goal_tables.specs.declared.rows.ImplRow.{ImplRow}
 use Rattle.goal_kinds.specs.Builtins.{trait_rule}
-use Rattle.goal_kinds.specs.CandidateRules.{HasNoKindFault, IsAcceptedClause, may_match, only_bars, refuses_row, said_by, TraitCandidateHolds, TraitCandidateRefuted}
+use Rattle.goal_kinds.specs.CandidateRules.{HasNoKindFault, IsAcceptedClause, may_match, refuses_row, said_by, TraitCandidateHolds, TraitCandidateRefuted}
 use Rattle.goal_kinds.specs.Candidates.{Candidate, assumption, implied_bound, by_impl, built_in, error}
 use Rattle.goal_kinds.specs.FastReject.{lists_may_unify}
 use Rattle.goal_kinds.specs.KindedTerms.{IsAcceptedRef}
@@ -26,7 +26,7 @@ use Rattle.goal_kinds.specs.Levels.{level}
 use Rattle.goal_kinds.specs.Premises.{Premise}
 use Rattle.goal_kinds.specs.Rules.{given}
 use Rattle.goal_kinds.specs.Settings.{Setting}
-use Rattle.goal_kinds.specs.TraitGoals.{AssumptionHolds, AssumptionRefuted, ImplHolds, ImplRefuted, TraitRuleHolds, TraitRuleRefuted, CandidateHolds, CandidateRefuted}
+use Rattle.goal_kinds.specs.TraitGoals.{AssumptionHolds, AssumptionRefuted, ImplHolds, ImplRefuted, TraitRuleHolds, TraitRuleRefuted, CandidateHolds, CandidateRefuted, only_bars}
 use Rattle.goal_kinds.specs.Words.{Exists}
 use Rattle.goal_kinds.specs.declared.fast_reject.Parameters.TheVariants.{Rigid, Inferred}
 use Rattle.goal_kinds.proofs.AcceptedLemmas.{accepted-heads, rejected-clashes}
@@ -75,7 +75,7 @@ pub candidate-higher_refuted : (a : TraitRef) (S : Setting) (n m : ℕ) (c : Can
 unfolding CandidateRefuted
 candidate-higher_refuted a S n m (assumption p) le h = assumption-higher_refuted (within-level S n m le) a.def_id (given a.args) p h
 candidate-higher_refuted a S n m (implied_bound b cs) le h = h
-candidate-higher_refuted a S n m (by_impl r) le h = within-impl_refuted (within-level S n m le) (given a.args) r h
+candidate-higher_refuted a S n m (by_impl r) le h = within-impl_refuted (within-level S n m le) S.mode S.mode refl (given a.args) r h
 candidate-higher_refuted a S n m built_in le h = rule-higher_refuted (within-level S n m le) (trait_rule S.tables a.def_id (given a.args)) h
 candidate-higher_refuted a S n m error le h = h
 
@@ -107,21 +107,21 @@ unfolding Exists
 found-among test [] r e = absurd (cc)
 found-among test (q ∷ rows) r e = found-step (test q) (find test rows) r q (IsAmong r rows) e (found-among test rows r)
 
--- an impl that is refused is refuted: its header clashes, or it isn't positive
-pub refused-positive : (b c : Bool) → not (b || c) ≡ true → b ≡ false
-refused-positive true c e = absurd (cc)
-refused-positive false c e = refl
+-- an impl that is refused is refuted: its header clashes, or it isn't positive and bars no refutation
+pub refused-positive : (b : Bool) → not b ≡ true → b ≡ false
+refused-positive true e = absurd (cc)
+refused-positive false e = refl
 
 refused-by : (S : Setting) (m : TypingMode) (a : TraitRef) (r : ImplRow) → IsChecked S.tables → HasNoKindFault (λ f. lies_in_trait_ref S.tables [] f a) →
     IsAmong r S.tables.impls.items → r.trait_id ≡ a.def_id → (b : Bool) → lists_may_unify Inferred (trees_of a.args.items) (trees_of r.trait_args.items) ≡ b →
-    not b || not (is_positive r.polarity || only_bars m r) ≡ true → ImplRefuted (level S 0) (given a.args) r
+    not b || not (is_positive r.polarity || only_bars m r) ≡ true → ImplRefuted m (level S 0) (given a.args) r
 unfolding ImplRefuted
 refused-by S m a r ok x among same false e h =
     inr (inl (rejected-clashes S r [] a.args.items ok among (subst (λ i. IsAcceptedRef S.tables [] i a.args.items) (sym same) x) e))
-refused-by S m a r ok x among same true e h = inl (refused-positive (is_positive r.polarity) (only_bars m r) h)
+refused-by S m a r ok x among same true e h = inl (refused-positive (is_positive r.polarity || only_bars m r) h)
 
 pub refused-impl : (S : Setting) (m : TypingMode) (a : TraitRef) (i : ImplId) (r : ImplRow) → IsChecked S.tables → HasNoKindFault (λ f. lies_in_trait_ref S.tables [] f a) →
-    impl_of S.tables i ≡ Some r → r.trait_id ≡ a.def_id → refuses_row m a r ≡ true → ImplRefuted (level S 0) (given a.args) r
+    impl_of S.tables i ≡ Some r → r.trait_id ≡ a.def_id → refuses_row m a r ≡ true → ImplRefuted m (level S 0) (given a.args) r
 refused-impl S m a i r ok x found same h =
     refused-by S m a r ok x (found-among (λ q. q.id.0 == i.0) S.tables.impls.items r found) same
     (lists_may_unify Inferred (trees_of a.args.items) (trees_of r.trait_args.items)) refl h

@@ -23,7 +23,7 @@ use Rattle.goal_tables.specs.declared.rows.ImplPolarity.TheVariants as polarity
 use Rattle.goal_tables.specs.declared.rows.ImplRow.{ImplRow}
 use Rattle.goal_tables.specs.declared.rows.Tables.{Tables}
 use Rattle.goal_kinds.specs.Answers.{setting_of}
-use Rattle.goal_kinds.specs.CandidateRules.{GivesAs, RefutedAs, IsRefusal, IsNamedAnswer, TraitCandidateHolds, TraitCandidateRefuted, is_coherence, is_of_trait, refuses_row, refuses_impl, said_by, only_given}
+use Rattle.goal_kinds.specs.CandidateRules.{GivesAs, RefutedAs, IsRefusal, IsNamedAnswer, TraitCandidateHolds, TraitCandidateRefuted, is_of_trait, refuses_row, refuses_impl, said_by, only_given}
 use Rattle.goal_kinds.specs.Candidates.{Candidate, by_impl, built_in}
 use Rattle.goal_kinds.specs.Entries.{Entry, equal_terms, undecided, ListHolds, ListRefuted, ListAsksNoTerm}
 use Rattle.goal_kinds.specs.Interned.{AreIn, erased_all}
@@ -32,7 +32,7 @@ use Rattle.goal_kinds.specs.Levels.{level}
 use Rattle.goal_kinds.specs.NamedRows.{ListIsSorted}
 use Rattle.goal_kinds.specs.RuleLists.{list_then, IsListed, IsToldBy}
 use Rattle.goal_kinds.specs.Rules.{given}
-use Rattle.goal_kinds.specs.Settings.{Setting}
+use Rattle.goal_kinds.specs.Settings.{Setting, is_coherence}
 use Rattle.goal_kinds.specs.TraitLists.{impl_match, list_by_polarity, trait_assumption_list, trait_impl_list, trait_list}
 use Rattle.goal_kinds.specs.declared.faults.Fault.{Fault}
 use Rattle.goal_kinds.specs.declared.faults.Fault.TheVariants as fault
@@ -43,7 +43,7 @@ use Rattle.goal_kinds.proofs.AlikeSettings.{found}
 use Rattle.goal_kinds.proofs.FaceLemmas.{IsSomeGiven, one-given, some-given, listed-yes_back, face-gives, face-refuted, face-told, face-refusal, face-named}
 use Rattle.goal_kinds.proofs.ListTerms.{trait_list-asks_none}
 use Rattle.goal_kinds.proofs.SortedLists.{trait_list-sorted}
-use Rattle.goal_kinds.proofs.TraitLists.{ReadsHeadline, candidate_list-holds, candidate_list-refuted}
+use Rattle.goal_kinds.proofs.TraitLists.{trait_list-holds, trait_list-refuted}
 
 -- rules that are listed for a goal's trait
 module _ (S : ListSetting) (t : Tables) (m : TypingMode) (env : List Clause) (a : TraitRef) (c : Candidate) (rows : S.rows.now ≡ t) (mode : S.mode.now ≡ m) where
@@ -56,11 +56,11 @@ module _ (S : ListSetting) (t : Tables) (m : TypingMode) (env : List Clause) (a 
   abbrev Refuted : Setting → ℕ → Type 0
   Refuted V n = TraitCandidateRefuted a V n c
 
-  made-holds : ReadsHeadline m c → (n : ℕ) → ListHolds (level (setting_at S env) n) (asked (setting_at S env)) ↔ Holds (setting_at S env) n
-  made-holds reads n = candidate_list-holds (setting_at S env) (level (setting_at S env) n) a.def_id (given a.args) c (subst (λ k. ReadsHeadline k c) (sym mode) reads)
+  made-holds : (n : ℕ) → ListHolds (level (setting_at S env) n) (asked (setting_at S env)) ↔ Holds (setting_at S env) n
+  made-holds n = trait_list-holds (setting_at S env) (level (setting_at S env) n) a.def_id (given a.args) c
 
-  made-refuted : ReadsHeadline m c → (n : ℕ) → ListRefuted (level (setting_at S env) n) (asked (setting_at S env)) ↔ Refuted (setting_at S env) n
-  made-refuted reads n = candidate_list-refuted (setting_at S env) (level (setting_at S env) n) a.def_id (given a.args) c (subst (λ k. ReadsHeadline k c) (sym mode) reads)
+  made-refuted : (n : ℕ) → ListRefuted (level (setting_at S env) n) (asked (setting_at S env)) ↔ Refuted (setting_at S env) n
+  made-refuted n = trait_list-refuted (setting_at S env) (level (setting_at S env) n) a.def_id (given a.args) c
 
   -- a rule whose entries are those of the list
   abbrev ListedThen : Certainty → Result Rule Fault → Type 0
@@ -69,36 +69,36 @@ module _ (S : ListSetting) (t : Tables) (m : TypingMode) (env : List Clause) (a 
   abbrev Listed : Result Rule Fault → Type 0
   Listed r = IfOk r (λ x. IsListed S.rows.now x (asked (setting_at S env)))
 
-  pub trait-gives : (sure : Certainty) (r : Result Rule Fault) → ReadsHeadline m c → ListedThen sure r →
+  pub trait-gives : (sure : Certainty) (r : Result Rule Fault) → ListedThen sure r →
       IfOk r (GivesAs false (setting_of t m env) sure (λ n u. TraitCandidateHolds a (setting_of t m env) n c))
-  trait-gives sure r reads h = face-gives false asked (λ V n u. Holds V n) Refuted S t m env rows mode sure r (λ n u. made-holds reads n) h
+  trait-gives sure r h = face-gives false asked (λ V n u. Holds V n) Refuted S t m env rows mode sure r (λ n u. made-holds n) h
 
-  pub trait-refuted : (sure : Certainty) (r : Result Rule Fault) → ReadsHeadline m c → ListedThen sure r →
+  pub trait-refuted : (sure : Certainty) (r : Result Rule Fault) → ListedThen sure r →
       IfOk r (RefutedAs (setting_of t m env) (λ n. TraitCandidateRefuted a (setting_of t m env) n c))
-  trait-refuted sure r reads h = face-refuted false asked (λ V n u. Holds V n) Refuted S t m env rows mode sure r (made-refuted reads) h
+  trait-refuted sure r h = face-refuted false asked (λ V n u. Holds V n) Refuted S t m env rows mode sure r made-refuted h
 
   pub trait-told : (sure : Certainty) (r : Result Rule Fault) → ListedThen sure r → IfOk r (IsToldBy t sure (Some (trait_list (setting_of t m env) a.def_id (given a.args) c)))
   trait-told sure r h = face-told false asked (λ V n u. Holds V n) Refuted S t m env rows mode sure r h
 
   -- the same where nothing is left undecided behind the list
-  pub sure-gives : (r : Result Rule Fault) → ReadsHeadline m c → Listed r →
+  pub sure-gives : (r : Result Rule Fault) → Listed r →
       IfOk r (GivesAs false (setting_of t m env) certainty.Yes (λ n u. TraitCandidateHolds a (setting_of t m env) n c))
-  sure-gives r reads h = trait-gives certainty.Yes r reads (listed-yes_back S.rows.now (asked (setting_at S env)) r h)
+  sure-gives r h = trait-gives certainty.Yes r (listed-yes_back S.rows.now (asked (setting_at S env)) r h)
 
-  pub sure-refuted : (r : Result Rule Fault) → ReadsHeadline m c → Listed r → IfOk r (RefutedAs (setting_of t m env) (λ n. TraitCandidateRefuted a (setting_of t m env) n c))
-  sure-refuted r reads h = trait-refuted certainty.Yes r reads (listed-yes_back S.rows.now (asked (setting_at S env)) r h)
+  pub sure-refuted : (r : Result Rule Fault) → Listed r → IfOk r (RefutedAs (setting_of t m env) (λ n. TraitCandidateRefuted a (setting_of t m env) n c))
+  sure-refuted r h = trait-refuted certainty.Yes r (listed-yes_back S.rows.now (asked (setting_at S env)) r h)
 
   pub sure-told : (r : Result Rule Fault) → Listed r → IfOk r (IsToldBy t certainty.Yes (Some (trait_list (setting_of t m env) a.def_id (given a.args) c)))
   sure-told r h = trait-told certainty.Yes r (listed-yes_back S.rows.now (asked (setting_at S env)) r h)
 
-  pub trait-refusal : (r : Result Rule Fault) → ReadsHeadline m c → IfErr r (IsRefusal (asked (setting_at S env) ≡ None)) →
+  pub trait-refusal : (r : Result Rule Fault) → IfErr r (IsRefusal (asked (setting_at S env) ≡ None)) →
       IfErr r (IsRefusal (TraitCandidateRefuted a (setting_of t m env) 0 c))
-  trait-refusal r reads h = face-refusal false asked (λ V n u. Holds V n) Refuted S t m env rows mode r (made-refuted reads) h
+  trait-refusal r h = face-refusal false asked (λ V n u. Holds V n) Refuted S t m env rows mode r made-refuted h
 
-  pub trait-named : (b : Bool) (r : Result Rule Fault) → ReadsHeadline m c → (b ≡ false → r ≡ Err fault.NotForThisKind) → Listed r →
+  pub trait-named : (b : Bool) (r : Result Rule Fault) → (b ≡ false → r ≡ Err fault.NotForThisKind) → Listed r →
       (b ≡ true → IfErr r (IsRefusal (asked (setting_at S env) ≡ None))) →
       IsNamedAnswer b false (setting_of t m env) (λ n u. TraitCandidateHolds a (setting_of t m env) n c) (λ n. TraitCandidateRefuted a (setting_of t m env) n c) r
-  trait-named b r reads other listed refused = face-named false asked (λ V n u. Holds V n) Refuted S t m env rows mode b r (λ n u. made-holds reads n) (made-refuted reads) other listed refused
+  trait-named b r other listed refused = face-named false asked (λ V n u. Holds V n) Refuted S t m env rows mode b r (λ n u. made-holds n) made-refuted other listed refused
 
 -- the list of a clause of the goal's trait
 said-list : (S : Setting) (a : TraitRef) (k : ClauseKind) → is_of_trait a k ≡ true → IsSomeGiven (trait_list S a.def_id (given a.args) (said_by k))
@@ -134,7 +134,7 @@ pub trait-answer : (S : ListSetting) (t : Tables) (m : TypingMode) (env : List C
     (tested ≡ true → IfErr r (IsRefusal (trait_list (setting_at S env) a.def_id (given a.args) built_in ≡ None))) →
     IsNamedAnswer b false (setting_of t m env) (λ n u. TraitCandidateHolds a (setting_of t m env) n built_in) (λ n. TraitCandidateRefuted a (setting_of t m env) n built_in) r
 trait-answer S t m env a rows mode tested b r same other listed refused =
-    trait-named S t m env a built_in rows mode b r tt (λ e. other (same ∙ e)) listed (λ e. refused (same ∙ e))
+    trait-named S t m env a built_in rows mode b r (λ e. other (same ∙ e)) listed (λ e. refused (same ∙ e))
 
 -- a row that is found is the one that was seen
 pub seen_row : {A : Type 0} (o : Option A) (x y : A) → o ≡ Some x → Some y ≡ o → x ≡ y
@@ -152,7 +152,7 @@ unfolding list_by_polarity
 polarity-some m polarity.Positive es e = (es, refl)
 polarity-some modes.Coherence polarity.Negative es e = absurd (cc)
 polarity-some m polarity.Negative es e = absurd (cc)
-polarity-some modes.Coherence polarity.Reservation es e = (undecided ∷ [], refl)
+polarity-some modes.Coherence polarity.Reservation es e = (undecided ∷ es, refl)
 polarity-some m polarity.Reservation es e = absurd (cc)
 
 pub or-false : (a b : Bool) → a || b ≡ false → b ≡ false

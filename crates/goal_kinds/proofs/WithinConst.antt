@@ -1,5 +1,5 @@
 -- Const goals that hold or are refuted above a level are so above another, in an alike setting, if all goals of the one level are of the other.
-use Rattle.std.proofs.Common.{inl, inr, List, [], ◌∷◌, Option, Some, None, Vec, Global, sym, subst}
+use Rattle.std.proofs.Common.{inl, inr, List, [], ◌∷◌, Option, Some, None, Vec, Global, sym, subst, ◌≡◌}
 use Rattle.goal_terms.specs.PredicateTrees.{PredicateTree, holds, equals, holds_const}
 use Rattle.goal_terms.specs.Tree.{Tree}
 use Rattle.goal_terms.specs.declared.ids.TraitId.{TraitId}
@@ -13,7 +13,7 @@ use Rattle.goal_kinds.specs.ConstRules.{const_rule}
 use Rattle.goal_kinds.specs.Laws.{IsWithin, IsAlike, with_impls_and_mode}
 use Rattle.goal_kinds.specs.Level.{Level}
 use Rattle.goal_kinds.specs.Premises.{TraitTree, ConstRule, conditions_as}
-use Rattle.goal_kinds.specs.Settings.{Setting}
+use Rattle.goal_kinds.specs.Settings.{Setting, is_coherence}
 use Rattle.goal_kinds.specs.TraitGoals.{header_of}
 use Rattle.goal_kinds.proofs.AlikeCandidates.{alike-second_group}
 use Rattle.goal_kinds.proofs.Members.{exists-map_same, each-map_same}
@@ -57,12 +57,12 @@ unfolding ConstImplHolds
 within-const_impl_holds w c args r h =
     (h.0, h.1, within-impl_holds_under w r args h.0 h.2, within-premises_hold w (impl_conditions c h.0 r) h.3)
 
-within-const_impl_refuted : {L M : Level} → IsWithin L M → (c : BoundConstness) (args : List Tree) (r : ImplRow) →
-    ConstImplRefuted L c args r → ConstImplRefuted M c args r
+within-const_impl_refuted : {L M : Level} → IsWithin L M → (m k : TypingMode) → is_coherence k ≡ is_coherence m → (c : BoundConstness) (args : List Tree) (r : ImplRow) →
+    ConstImplRefuted m L c args r → ConstImplRefuted k M c args r
 unfolding ConstImplRefuted
-within-const_impl_refuted w c args r (inl n) = inl n
-within-const_impl_refuted w c args r (inr (inl h)) = inr (inl (within-impl_refuted w args r h))
-within-const_impl_refuted w c args r (inr (inr h)) =
+within-const_impl_refuted w m k e c args r (inl n) = inl n
+within-const_impl_refuted w m k e c args r (inr (inl h)) = inr (inl (within-impl_refuted w m k e args r h))
+within-const_impl_refuted w m k e c args r (inr (inr h)) =
     inr (inr (h.0, within-all_known w r.params.items (header_of r) args h.0 h.1, within-premises_refuted w (impl_conditions c h.0 r) h.2))
 
 -- a rule's premises and const conditions
@@ -88,16 +88,16 @@ within-const_candidate_holds {M = M} w S v m c i args built_in h =
     subst (ConstRuleHolds M c) (sym (other_impls-const_rule S.tables v i args)) (within-const_rule_holds w c (const_rule S.tables i args) h)
 within-const_candidate_holds w S v m c i args error h = h
 
-pub within-const_candidate_refuted : {L M : Level} → IsWithin L M → (S : Setting) (v : Vec ImplRow Global) (m : TypingMode) →
+pub within-const_candidate_refuted : {L M : Level} → IsWithin L M → (S : Setting) (v : Vec ImplRow Global) (m : TypingMode) → is_coherence m ≡ is_coherence S.mode →
     (c : BoundConstness) (i : TraitId) (args : List Tree) (d : Candidate) →
     ConstCandidateRefuted S L c i args d → ConstCandidateRefuted (with_impls_and_mode S v m) M c i args d
 unfolding ConstCandidateRefuted
-within-const_candidate_refuted w S v m c i args (assumption p) h = within-const_assumption_refuted w c i args p h
-within-const_candidate_refuted w S v m c i args (implied_bound b conditions) h = within-implied_refuted w c i args b conditions h
-within-const_candidate_refuted w S v m c i args (by_impl r) h = within-const_impl_refuted w c args r h
-within-const_candidate_refuted {M = M} w S v m c i args built_in h =
+within-const_candidate_refuted w S v m e c i args (assumption p) h = within-const_assumption_refuted w c i args p h
+within-const_candidate_refuted w S v m e c i args (implied_bound b conditions) h = within-implied_refuted w c i args b conditions h
+within-const_candidate_refuted w S v m e c i args (by_impl r) h = within-const_impl_refuted w S.mode m e c args r h
+within-const_candidate_refuted {M = M} w S v m e c i args built_in h =
     subst (ConstRuleRefuted M c) (sym (other_impls-const_rule S.tables v i args)) (within-const_rule_refuted w c (const_rule S.tables i args) h)
-within-const_candidate_refuted w S v m c i args error h = h
+within-const_candidate_refuted w S v m e c i args error h = h
 
 -- a candidate shows it and decides, or is ruled out
 within-const_candidate_decides : {L M : Level} {S : Setting} {v : Vec ImplRow Global} {m : TypingMode} → IsWithin L M → IsAlike S v m →
@@ -109,7 +109,7 @@ within-const_candidate_ruled_out : {L M : Level} {S : Setting} {v : Vec ImplRow 
     (c : BoundConstness) (i : TraitId) (args : List Tree) (d : Candidate) →
     ConstCandidateRuledOut S L c i args d → ConstCandidateRuledOut (with_impls_and_mode S v m) M c i args d
 within-const_candidate_ruled_out {S = S} {v} {m} w a c i args d h =
-    sum-map (within-const_candidate_refuted w S v m c i args d) (within-passed_over w a args d) h
+    sum-map (within-const_candidate_refuted w S v m a.same_coherence c i args d) (within-passed_over w a args d) h
 
 -- a trait holds as a const trait, or is refuted as one
 pub within-const_holds : {L M : Level} {S : Setting} {v : Vec ImplRow Global} {m : TypingMode} → IsWithin L M → IsAlike S v m →

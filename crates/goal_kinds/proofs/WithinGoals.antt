@@ -1,10 +1,12 @@
 -- Trait goals that hold or are refuted above a level are so above another, in an alike setting, if all goals of the one level are of the other.
-use Rattle.std.proofs.Common.{inl, inr, List, [], ◌∷◌, Option, Some, None, Vec, Global, sym, subst}
+use Rattle.std.proofs.Common.{inl, inr, List, [], ◌∷◌, Option, Some, None, Vec, Global, sym, subst, ◌≡◌, ◌||◌, ◌&&◌, ◌∙◌, ap}
 use Rattle.goal_terms.specs.PredicateTrees.{PredicateTree, holds, equals, holds_const}
 use Rattle.goal_terms.specs.Tree.{Tree}
 use Rattle.goal_terms.specs.declared.answers.TraitGoalProvenVia.{TraitGoalProvenVia}
 use Rattle.goal_terms.specs.declared.ids.TraitId.{TraitId}
 use Rattle.goal_terms.specs.declared.modes.TypingMode.{TypingMode}
+use Rattle.goal_tables.specs.ImplFaults.{is_reservation}
+use Rattle.goal_tables.specs.SourceFaults.{is_positive}
 use Rattle.goal_tables.specs.Specialized.{reached}
 use Rattle.goal_tables.specs.declared.rows.ImplRow.{ImplRow}
 use Rattle.goal_kinds.specs.Builtins.{trait_rule}
@@ -12,7 +14,7 @@ use Rattle.goal_kinds.specs.Candidates.{Candidate, assumption, implied_bound, by
 use Rattle.goal_kinds.specs.Laws.{IsWithin, IsAlike, with_impls_and_mode}
 use Rattle.goal_kinds.specs.Level.{Level}
 use Rattle.goal_kinds.specs.Premises.{Premise, clauses_under}
-use Rattle.goal_kinds.specs.Settings.{Setting}
+use Rattle.goal_kinds.specs.Settings.{Setting, is_coherence}
 use Rattle.goal_kinds.specs.TraitGoals.{AssumptionHolds, AssumptionRefuted, header_of, ImplHoldsUnder, ImplHolds, ImplRefuted, TraitRuleHolds, TraitRuleRefuted, CandidateHolds, CandidateRefuted, PassedOver, Decides, CandidateDecides, CandidateRuledOut, TraitHolds, TraitRefuted}
 use Rattle.goal_kinds.specs.Words.{Each, Exists}
 use Rattle.goal_kinds.proofs.AlikeCandidates.{alike-class_of, alike-classes_before, alike-all_candidates, alike-reached}
@@ -48,11 +50,12 @@ within-impl_holds : {L M : Level} → IsWithin L M → (args : List Tree) (r : I
 unfolding ImplHolds
 within-impl_holds w args r h = (h.0, within-impl_holds_under w r args h.0 h.1)
 
-pub within-impl_refuted : {L M : Level} → IsWithin L M → (args : List Tree) (r : ImplRow) → ImplRefuted L args r → ImplRefuted M args r
+pub within-impl_refuted : {L M : Level} → IsWithin L M → (m k : TypingMode) → is_coherence k ≡ is_coherence m → (args : List Tree) (r : ImplRow) →
+    ImplRefuted m L args r → ImplRefuted k M args r
 unfolding ImplRefuted
-within-impl_refuted w args r (inl n) = inl n
-within-impl_refuted w args r (inr (inl h)) = inr (inl (within-clashes w r.params.items (header_of r) args h))
-within-impl_refuted w args r (inr (inr h)) =
+within-impl_refuted w m k e args r (inl n) = inl (ap (λ b. is_positive r.polarity || (b && is_reservation r.polarity)) e ∙ n)
+within-impl_refuted w m k e args r (inr (inl h)) = inr (inl (within-clashes w r.params.items (header_of r) args h))
+within-impl_refuted w m k e args r (inr (inr h)) =
     inr (inr (h.0, within-all_known w r.params.items (header_of r) args h.0 h.1, within-premises_refuted w (clauses_under h.0 r.predicates.items) h.2))
 
 -- a rule's premises
@@ -77,15 +80,15 @@ within-candidate_holds {M = M} w S v m i args built_in h =
     subst (TraitRuleHolds M) (sym (other_impls-trait_rule S.tables v i args)) (within-rule_holds w (trait_rule S.tables i args) h)
 within-candidate_holds w S v m i args error h = h
 
-within-candidate_refuted : {L M : Level} → IsWithin L M → (S : Setting) (v : Vec ImplRow Global) (m : TypingMode) (i : TraitId) (args : List Tree) (c : Candidate) →
+within-candidate_refuted : {L M : Level} → IsWithin L M → (S : Setting) (v : Vec ImplRow Global) (m : TypingMode) → is_coherence m ≡ is_coherence S.mode → (i : TraitId) (args : List Tree) (c : Candidate) →
     CandidateRefuted S L i args c → CandidateRefuted (with_impls_and_mode S v m) M i args c
 unfolding CandidateRefuted
-within-candidate_refuted w S v m i args (assumption p) h = within-assumption_refuted w i args p h
-within-candidate_refuted w S v m i args (implied_bound b cs) h = h
-within-candidate_refuted w S v m i args (by_impl r) h = within-impl_refuted w args r h
-within-candidate_refuted {M = M} w S v m i args built_in h =
+within-candidate_refuted w S v m e i args (assumption p) h = within-assumption_refuted w i args p h
+within-candidate_refuted w S v m e i args (implied_bound b cs) h = h
+within-candidate_refuted w S v m e i args (by_impl r) h = within-impl_refuted w S.mode m e args r h
+within-candidate_refuted {M = M} w S v m e i args built_in h =
     subst (TraitRuleRefuted M) (sym (other_impls-trait_rule S.tables v i args)) (within-rule_refuted w (trait_rule S.tables i args) h)
-within-candidate_refuted w S v m i args error h = h
+within-candidate_refuted w S v m e i args error h = h
 
 -- a candidate is passed over, or decides
 pub within-passed_over : {L M : Level} {S : Setting} {v : Vec ImplRow Global} {m : TypingMode} → IsWithin L M → IsAlike S v m →
@@ -101,8 +104,8 @@ within-passed_over w a args error h = h
 pub within-decides : {L M : Level} {S : Setting} {v : Vec ImplRow Global} {m : TypingMode} → IsWithin L M → IsAlike S v m →
     (args : List Tree) (c : Candidate) → Decides S L args c → Decides (with_impls_and_mode S v m) M args c
 unfolding Decides
-within-decides {M = M} {S = S} w a args (by_impl r) h =
-    λ n. subst (Each (ImplRefuted M args)) (sym (alike-reached a n r)) (each-map (within-impl_refuted w args) (reached S.tables n r) (h n))
+within-decides {M = M} {S = S} {m = m} w a args (by_impl r) h =
+    λ n. subst (Each (ImplRefuted m M args)) (sym (alike-reached a n r)) (each-map (within-impl_refuted w S.mode m a.same_coherence args) (reached S.tables n r) (h n))
 within-decides w a args (assumption p) h = h
 within-decides w a args (implied_bound b cs) h = h
 within-decides w a args built_in h = h
@@ -115,7 +118,7 @@ within-candidate_decides {S = S} {v} {m} w a i args c h = (within-candidate_hold
 
 within-candidate_ruled_out : {L M : Level} {S : Setting} {v : Vec ImplRow Global} {m : TypingMode} → IsWithin L M → IsAlike S v m →
     (i : TraitId) (args : List Tree) (c : Candidate) → CandidateRuledOut S L i args c → CandidateRuledOut (with_impls_and_mode S v m) M i args c
-within-candidate_ruled_out {S = S} {v} {m} w a i args c h = sum-map (within-candidate_refuted w S v m i args c) (within-passed_over w a args c) h
+within-candidate_ruled_out {S = S} {v} {m} w a i args c h = sum-map (within-candidate_refuted w S v m a.same_coherence i args c) (within-passed_over w a args c) h
 
 -- a trait goal holds, or is refuted
 pub within-trait_holds : {L M : Level} {S : Setting} {v : Vec ImplRow Global} {m : TypingMode} → IsWithin L M → IsAlike S v m →

@@ -1,10 +1,13 @@
 -- The terms that impls give above a level they give above another, in an alike setting, if all goals of the one level are of the other.
-use Rattle.std.proofs.Common.{◌≡◌, ◌==◌, ◌&&◌, not, inl, inr, true, false, List, Option, Some, None, Vec, Global, refl, sym, ap, subst, if◌then◌else◌}
+use Rattle.std.proofs.Common.{◌≡◌, ◌==◌, ◌&&◌, not, inl, inr, true, false, List, Option, Some, None, Vec, Global, refl, sym, ap, subst, if◌then◌else◌, ◌∙◌}
 use Rattle.goal_terms.specs.Tree.{Tree}
 use Rattle.goal_terms.specs.declared.modes.TypingMode.{TypingMode}
 use Rattle.goal_tables.specs.Rows.{source_of, definition_of}
 use Rattle.goal_tables.specs.declared.rows.Container.{Container}
 use Rattle.goal_tables.specs.declared.rows.Container.TheVariants as container
+use Rattle.goal_tables.specs.declared.rows.DefRow.{DefRow}
+use Rattle.goal_tables.specs.declared.rows.DefValue.{DefValue}
+use Rattle.goal_tables.specs.declared.rows.DefValue.TheVariants as value
 use Rattle.goal_tables.specs.declared.rows.ImplRow.{ImplRow}
 use Rattle.goal_tables.specs.declared.rows.ItemRow.{ItemRow}
 use Rattle.goal_tables.specs.declared.rows.Source.{Source}
@@ -14,11 +17,11 @@ use Rattle.goal_kinds.specs.Headers.{under}
 use Rattle.goal_kinds.specs.ImplTerms.{Said, an_error, the_alias, a_value, evaluated, not_said, said_by_definition, said_by_source, said_by_row, said}
 use Rattle.goal_kinds.specs.ImplTerms.{Projection, trait_args, own_args, header_under, OtherImplHolds, OtherImplKnown, OtherImplRefuted}
 use Rattle.goal_kinds.specs.ImplTerms.{Taken, from_projection, from_impl, from_other, taken, Translated, KnownTranslated, TranslationRefuted}
-use Rattle.goal_kinds.specs.ImplTerms.{SaidGives, SaidRefuted, own_clauses, ImplGives, ImplTermRefuted}
+use Rattle.goal_kinds.specs.ImplTerms.{SaidGives, SaidRefuted, own_clauses, ImplGives, ImplTermRefuted, said_by_value, the_alias_unless}
 use Rattle.goal_kinds.specs.Laws.{IsWithin, IsAlike, with_impls_and_mode}
 use Rattle.goal_kinds.specs.Level.{Level}
 use Rattle.goal_kinds.specs.Premises.{clauses_under}
-use Rattle.goal_kinds.specs.Settings.{Setting}
+use Rattle.goal_kinds.specs.Settings.{Setting, takes_defaults, hides_defaults}
 use Rattle.goal_kinds.specs.TraitGoals.{header_of}
 use Rattle.goal_kinds.proofs.WithinGoals.{within-impl_holds_under, within-impl_refuted}
 use Rattle.goal_kinds.proofs.WithinHeaders.{within-fits, within-clashes, within-all_known}
@@ -27,12 +30,25 @@ use Rattle.goal_kinds.proofs.WithinTerms.{within-has_head_form, within-head_form
 use Rattle.goal_kinds.proofs.WithinWords.{of_row-map, sum-map}
 
 -- what a default says, where the modes agree on whether it is taken
+alike-said_by_value : {S : Setting} {v : Vec ImplRow Global} {m : TypingMode} → IsAlike S v m → (r : ImplRow) (d : DefRow) (x : DefValue) →
+    said_by_value m r d x ≡ said_by_value S.mode r d x
+alike-said_by_value a r d value.Missing = ap (λ b. if r.guaranteed_unsized then the_alias_unless b else an_error d.id.0) a.same_coherence
+alike-said_by_value a r d (value.Term e) = refl
+alike-said_by_value a r d value.Evaluated = refl
+
+alike-said_by_definition : {S : Setting} {v : Vec ImplRow Global} {m : TypingMode} → IsAlike S v m → (r : ImplRow) (o : Option DefRow) →
+    said_by_definition m r o ≡ said_by_definition S.mode r o
+alike-said_by_definition a r None = refl
+alike-said_by_definition a r (Some d) = alike-said_by_value a r d d.value
+
 alike-said_by_source : {S : Setting} {v : Vec ImplRow Global} {m : TypingMode} → IsAlike S v m → (r : ImplRow) (item : ItemRow) (q : SourceRow) →
     source_of S.tables r.id item.id ≡ Some q → (x : Source) → q.source ≡ x → said_by_source (with_impls_and_mode S v m) r x ≡ said_by_source S r x
 alike-said_by_source a r item q found (source.Broken n) e = refl
-alike-said_by_source a r item q found (source.Def d false) e = refl
-alike-said_by_source {S} a r item q found (source.Def d true) e =
-    ap (λ b. if true && not b then the_alias else said_by_definition r (definition_of S.tables d)) (a.same_defaults r.id item.id q d found e)
+alike-said_by_source {S} a r item q found (source.Def d false) e = alike-said_by_definition a r (definition_of S.tables d)
+alike-said_by_source {S} {m = m} a r item q found (source.Def d true) e =
+    ap (λ b. if true && not b then the_alias_unless (hides_defaults m) else said_by_definition m r (definition_of S.tables d)) (a.same_defaults r.id item.id q d found e)
+    ∙ ap (λ b. if true && not (takes_defaults S.mode) then the_alias_unless b else said_by_definition m r (definition_of S.tables d)) (a.same_hidden_defaults r.id item.id q d found e)
+    ∙ ap (λ x. if true && not (takes_defaults S.mode) then the_alias_unless (hides_defaults S.mode) else x) (alike-said_by_definition a r (definition_of S.tables d))
 
 alike-said_by_row : {S : Setting} {v : Vec ImplRow Global} {m : TypingMode} → IsAlike S v m → (r : ImplRow) (item : ItemRow) (o : Option SourceRow) →
     source_of S.tables r.id item.id ≡ o → said_by_row (with_impls_and_mode S v m) r o ≡ said_by_row S r o
@@ -136,7 +152,7 @@ within-impl_gives {M = M} {S = S} {v} {m} w a p itself r u h = (
 pub within-impl_term_refuted : {L M : Level} {S : Setting} {v : Vec ImplRow Global} {m : TypingMode} → IsWithin L M → IsAlike S v m →
     (p : Projection) (r : ImplRow) → ImplTermRefuted S L p r → ImplTermRefuted (with_impls_and_mode S v m) M p r
 unfolding ImplTermRefuted
-within-impl_term_refuted w a p r (inl h) = inl (within-impl_refuted w (trait_args p) r h)
+within-impl_term_refuted {S = S} {m = m} w a p r (inl h) = inl (within-impl_refuted w S.mode m a.same_coherence (trait_args p) r h)
 within-impl_term_refuted {M = M} {S = S} {v} {m} w a p r (inr h) = inr (
   h.0,
   within-all_known w r.params.items (header_of r) (trait_args p) h.0 h.1,

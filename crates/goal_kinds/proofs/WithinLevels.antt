@@ -75,8 +75,11 @@ alike-itself S = record {
   among = λ r h. h;
   among_back = λ r h. h;
   same_impl = λ i. refl;
+  same_coherence = refl;
+  same_opens = λ i r e. refl;
   same_reveals = λ i r e. refl;
   same_defaults = λ i j r d e f. refl;
+  same_hidden_defaults = λ i j r d e f. refl;
 }
 
 -- and the other is alike the one
@@ -85,8 +88,11 @@ alike-back a = record {
   among = a.among_back;
   among_back = a.among;
   same_impl = λ i. sym (a.same_impl i);
+  same_coherence = sym a.same_coherence;
+  same_opens = λ i r e. sym (a.same_opens i r e);
   same_reveals = λ i r e. sym (a.same_reveals i r e);
   same_defaults = λ i j r d e f. sym (a.same_defaults i j r d e f);
+  same_hidden_defaults = λ i j r d e f. sym (a.same_hidden_defaults i j r d e f);
 }
 
 -- a level is within that of its height in an alike setting

@@ -15,8 +15,8 @@ use Rattle.goal_tables.specs.declared.rows.InherentRow.{InherentRow}
 use Rattle.goal_tables.specs.declared.rows.OpaqueRow.{OpaqueRow}
 use Rattle.goal_kinds.specs.Entries.{Entry, arguments, given_arguments, of_header, followed_by, row_clauses, expected, hidden_type, value_under, access, ambiguous, undecided}
 use Rattle.goal_kinds.specs.ProjectionLists.{standing}
-use Rattle.goal_kinds.specs.RuleModes.{among, access_to}
-use Rattle.goal_kinds.specs.Settings.{Setting}
+use Rattle.goal_kinds.specs.RuleModes.{access_to}
+use Rattle.goal_kinds.specs.Settings.{Setting, among}
 use Rattle.goal_kinds.specs.declared.rules.FirstUse.{FirstUse}
 use Rattle.goal_kinds.specs.declared.rules.FirstUse.TheVariants as first
 

@@ -16,7 +16,7 @@ use Rattle.goal_kinds.specs.Headers.{under, AllKnown, Fits, Clashes}
 use Rattle.goal_kinds.specs.Level.{Level, HasHeadForm, HeadFormRefuted}
 use Rattle.goal_kinds.specs.Premises.{PremisesHold, PremisesRefuted, clauses_under}
 use Rattle.goal_kinds.specs.Projections.{ProjectionGives, ProjectionRefuted}
-use Rattle.goal_kinds.specs.Settings.{Setting, reveals}
+use Rattle.goal_kinds.specs.Settings.{Setting, leaves_open, reveals}
 use Rattle.goal_kinds.specs.Words.{OfRow, Either}
 
 -- a row's value under arguments has a head form, or has none; a constant may lack its value
@@ -63,13 +63,13 @@ unfoldable pub InherentAliasRefuted : Setting → Level → Option InherentRow �
 InherentAliasRefuted S L r [] = ⊥
 InherentAliasRefuted S L r (self ∷ own) = OfRow r (λ i. OfRow (inherent_impl_of S.tables i.impl_id) (InherentRefuted L self own i))
 
--- an opaque type: the head form of its hidden type where the mode reveals it, and else itself
+-- an opaque type: nothing where the mode leaves it open, the head form of its hidden type where the mode reveals that, and else itself
 unfoldable pub OpaqueGives : Setting → Level → OpaqueId → List Tree → Tree → OpaqueRow → Type 0
 OpaqueGives S L i args u r =
-    Either (reveals S.mode r) (HasHeadForm L (under args (tree_of_ty r.hidden)) u) (u ≡ alias (OpaqueTy i) (forest args))
+    Either (leaves_open S.mode r) ⊥ (Either (reveals S.mode r) (HasHeadForm L (under args (tree_of_ty r.hidden)) u) (u ≡ alias (OpaqueTy i) (forest args)))
 
 unfoldable pub OpaqueRefuted : Setting → Level → List Tree → OpaqueRow → Type 0
-OpaqueRefuted S L args r = Either (reveals S.mode r) (HeadFormRefuted L (under args (tree_of_ty r.hidden))) ⊥
+OpaqueRefuted S L args r = Either (leaves_open S.mode r) ⊥ (Either (reveals S.mode r) (HeadFormRefuted L (under args (tree_of_ty r.hidden))) ⊥)
 
 -- an alias has a term, by its kind; a constant that would have to be evaluated is undecided
 unfoldable pub AliasGives : Setting → Level → AliasTermKind → List Tree → Tree → Type 0

@@ -16,7 +16,6 @@ use Rattle.goal_terms.specs.declared.terms.GenericArg.{GenericArg}
 use Rattle.goal_terms.specs.declared.terms.GenericArg.TheVariants as arg
 use Rattle.goal_terms.specs.declared.terms.Ty.{Ty}
 use Rattle.goal_tables.specs.Clauses.{lies_in_clause_kind}
-use Rattle.goal_tables.specs.ImplFaults.{is_reservation}
 use Rattle.goal_tables.specs.SourceFaults.{is_positive}
 use Rattle.goal_terms.specs.declared.ids.TraitId.{TraitId}
 use Rattle.goal_tables.specs.Rows.{trait_of}
@@ -35,7 +34,7 @@ use Rattle.goal_kinds.specs.Levels.{level}
 use Rattle.goal_kinds.specs.Premises.{TraitTree, ClauseHolds, ClauseRefuted}
 use Rattle.goal_kinds.specs.Rules.{given, RuleHolds, RuleGives, RuleRefuted}
 use Rattle.goal_kinds.specs.Settings.{Setting}
-use Rattle.goal_kinds.specs.TraitGoals.{any_error, CandidateHolds, CandidateRefuted}
+use Rattle.goal_kinds.specs.TraitGoals.{any_error, only_bars, CandidateHolds, CandidateRefuted}
 use Rattle.goal_kinds.specs.Words.{Each, Exists}
 use Rattle.goal_kinds.specs.declared.fast_reject.Parameters.TheVariants.{Rigid, Inferred}
 use Rattle.goal_kinds.specs.declared.faults.Fault.{Fault}
@@ -93,15 +92,6 @@ HasNoKindFault lies = (lies UnknownItem ≡ false) × (lies WrongArgumentCount �
 -- nor in what a clause says
 abbrev pub IsAcceptedClause : Tables → ClauseKind → Type 0
 IsAcceptedClause t k = HasNoKindFault (λ f. lies_in_clause_kind t [] f k)
-
--- whether a mode is that of coherence
-abbrev pub is_coherence : TypingMode → Bool
-is_coherence mode.Coherence = true
-is_coherence _ = false
-
--- whether an impl only bars a refutation: a reservation impl in coherence
-abbrev pub only_bars : TypingMode → ImplRow → Bool
-only_bars m r = is_coherence m && is_reservation r.polarity
 
 -- whether a clause is of a trait
 abbrev pub is_of_trait : TraitRef → ClauseKind → Bool

@@ -4,6 +4,7 @@ use Rattle.goal_terms.specs.PredicateTrees.{PredicateTree, holds, equals, holds_
 use Rattle.goal_terms.specs.Tree.{Tree}
 use Rattle.goal_terms.specs.declared.answers.TraitGoalProvenVia.{TraitGoalProvenVia}
 use Rattle.goal_terms.specs.declared.ids.TraitId.{TraitId}
+use Rattle.goal_terms.specs.declared.modes.TypingMode.{TypingMode}
 use Rattle.goal_terms.specs.declared.predicates.BoundConstness.{BoundConstness}
 use Rattle.goal_terms.specs.declared.predicates.BoundConstness.TheVariants as constness
 use Rattle.goal_tables.specs.declared.rows.ImplRow.{ImplRow}
@@ -52,10 +53,10 @@ ConstImplHolds L c args r =
     (s : List Tree) × (r.is_const ≡ true) × ImplHoldsUnder L r args s × PremisesHold L (impl_conditions c s r)
 
 -- an impl isn't const, cannot hold, or has its parameters known and a const condition refuted
-unfoldable pub ConstImplRefuted : Level → BoundConstness → List Tree → ImplRow → Type 0
-ConstImplRefuted L c args r =
+unfoldable pub ConstImplRefuted : TypingMode → Level → BoundConstness → List Tree → ImplRow → Type 0
+ConstImplRefuted m L c args r =
     (r.is_const ≡ false)
-    ⊎ ImplRefuted L args r
+    ⊎ ImplRefuted m L args r
     ⊎ ((s : List Tree) × AllKnown L r.params.items (header_of r) args s × PremisesRefuted L (impl_conditions c s r))
 
 -- a rule's premises and const conditions hold; or there is no rule, or one of these is refuted
@@ -79,7 +80,7 @@ ConstCandidateHolds S L c i args error = any_error args ≡ true
 unfoldable pub ConstCandidateRefuted : Setting → Level → BoundConstness → TraitId → List Tree → Candidate → Type 0
 ConstCandidateRefuted S L c i args (assumption p) = ConstAssumptionRefuted L c i args p
 ConstCandidateRefuted S L c i args (implied_bound b conditions) = ImpliedRefuted L c i args b conditions
-ConstCandidateRefuted S L c i args (by_impl r) = ConstImplRefuted L c args r
+ConstCandidateRefuted S L c i args (by_impl r) = ConstImplRefuted S.mode L c args r
 ConstCandidateRefuted S L c i args built_in = ConstRuleRefuted L c (const_rule S.tables i args)
 ConstCandidateRefuted S L c i args error = any_error args ≡ false
 

@@ -3,6 +3,7 @@ use Rattle.std.specs.Prelude.{ℕ, ◌≡◌, ◌⊎◌, ◌==◌, Bool, true, f
 use Rattle.goal_terms.specs.Tree.{Tree}
 use Rattle.goal_terms.specs.TreeOf.{leaf, tree_of_term}
 use Rattle.goal_terms.specs.declared.heads.Head.TheVariants.{TyError, ConstError}
+use Rattle.goal_terms.specs.declared.modes.TypingMode.{TypingMode}
 use Rattle.goal_tables.specs.Rows.{impl_of, source_of, definition_of}
 use Rattle.goal_tables.specs.declared.rows.Container.{Container}
 use Rattle.goal_tables.specs.declared.rows.Container.TheVariants as container
@@ -17,7 +18,7 @@ use Rattle.goal_tables.specs.declared.rows.SourceRow.{SourceRow}
 use Rattle.goal_kinds.specs.Headers.{under, AllKnown, Fits, Clashes}
 use Rattle.goal_kinds.specs.Level.{Level, HasHeadForm, HeadFormRefuted}
 use Rattle.goal_kinds.specs.Premises.{Premise, PremisesHold, PremisesRefuted, clauses_under}
-use Rattle.goal_kinds.specs.Settings.{Setting, takes_defaults}
+use Rattle.goal_kinds.specs.Settings.{Setting, is_coherence, takes_defaults, hides_defaults}
 use Rattle.goal_kinds.specs.TraitGoals.{ImplHoldsUnder, ImplRefuted, header_of}
 use Rattle.goal_kinds.specs.Words.{OfRow}
 
@@ -29,21 +30,25 @@ pub data Said : Type 0 where
   evaluated : Container → Said
   not_said : Said
 
--- by a definition's value; a value is missing for good only in an impl that isn't guaranteed to be unsized
-abbrev pub said_by_value : ImplRow → DefRow → DefValue → Said
-said_by_value r d value.Missing = if r.guaranteed_unsized then the_alias else an_error d.id.0
-said_by_value r d (value.Term e) = a_value d.container (tree_of_term e)
-said_by_value r d value.Evaluated = evaluated d.container
+-- the alias stays as it is, but where that is to be left open
+abbrev pub the_alias_unless : Bool → Said
+the_alias_unless is_open = if is_open then not_said else the_alias
 
-abbrev pub said_by_definition : ImplRow → Option DefRow → Said
-said_by_definition r None = not_said
-said_by_definition r (Some d) = said_by_value r d d.value
+-- by a definition's value; a value is missing for good only in an impl that isn't guaranteed to be unsized, and coherence leaves open what it is in such a one
+abbrev pub said_by_value : TypingMode → ImplRow → DefRow → DefValue → Said
+said_by_value m r d value.Missing = if r.guaranteed_unsized then the_alias_unless (is_coherence m) else an_error d.id.0
+said_by_value m r d (value.Term e) = a_value d.container (tree_of_term e)
+said_by_value m r d value.Evaluated = evaluated d.container
 
--- by a source; a default that the mode doesn't take leaves the alias as it is
+abbrev pub said_by_definition : TypingMode → ImplRow → Option DefRow → Said
+said_by_definition m r None = not_said
+said_by_definition m r (Some d) = said_by_value m r d d.value
+
+-- by a source; a default that the mode doesn't take leaves the alias as it is, or is left open
 abbrev pub said_by_source : Setting → ImplRow → Source → Said
 said_by_source S r (source.Broken n) = an_error n
 said_by_source S r (source.Def d is_default) =
-    if is_default && not (takes_defaults S.mode) then the_alias else said_by_definition r (definition_of S.tables d)
+    if is_default && not (takes_defaults S.mode) then the_alias_unless (hides_defaults S.mode) else said_by_definition S.mode r (definition_of S.tables d)
 
 abbrev pub said_by_row : Setting → ImplRow → Option SourceRow → Said
 said_by_row S r None = not_said
@@ -153,7 +158,7 @@ ImplGives S L p itself r u =
 -- an impl gives no term: it cannot hold; or its parameters are known, and an own where clause or what it says is refuted
 unfoldable pub ImplTermRefuted : Setting → Level → Projection → ImplRow → Type 0
 ImplTermRefuted S L p r =
-    ImplRefuted L (trait_args p) r
+    ImplRefuted S.mode L (trait_args p) r
     ⊎ ((s : List Tree)
     × AllKnown L r.params.items (header_of r) (trait_args p) s
     × (PremisesRefuted L (own_clauses p) ⊎ SaidRefuted S L r s p (said S r p.item)))

@@ -175,14 +175,14 @@ GivesBeside W ks c r = GivesAs W.has_term W.setting certainty.Yes (λ n t. W.giv
 abbrev pub RefutesBeside : GoalWords → List (GoalSource × ClauseKind) → Candidate → Rule → Type 0
 RefutesBeside W ks c r = RefutedAs W.setting (λ n. W.refuted n c ⊎ OneRefuted W.setting n ks) r
 
--- the answer of the rule of the impl with a number, if it is one of the goal's trait: in the modes of the headline the rule says what the impl does
-abbrev pub GivesAsImpl : GoalWords → TypingMode → Certainty → ImplId → Result Rule Fault → Type 0
-GivesAsImpl W m k i x = (row : ImplRow) → is_headline m ≡ true → impl_of W.setting.tables i ≡ Some row → W.is_impl_for row → IfOk x (Gives W k (by_impl row))
+-- the answer of the rule of the impl with a number, if it is one of the goal's trait: the rule says what the impl does
+abbrev pub GivesAsImpl : GoalWords → Certainty → ImplId → Result Rule Fault → Type 0
+GivesAsImpl W k i x = (row : ImplRow) → impl_of W.setting.tables i ≡ Some row → W.is_impl_for row → IfOk x (Gives W k (by_impl row))
 
-abbrev pub RefutesAsImpl : GoalWords → TypingMode → ImplId → Result Rule Fault → Type 0
-RefutesAsImpl W m i x = (row : ImplRow) → is_headline m ≡ true → impl_of W.setting.tables i ≡ Some row → W.is_impl_for row → IfOk x (Refutes W (by_impl row))
+abbrev pub RefutesAsImpl : GoalWords → ImplId → Result Rule Fault → Type 0
+RefutesAsImpl W i x = (row : ImplRow) → impl_of W.setting.tables i ≡ Some row → W.is_impl_for row → IfOk x (Refutes W (by_impl row))
 
--- in every mode its list is the impl's, and a refusal is final
+-- its list is the impl's, and a refusal is final
 abbrev pub HasListOfImpl : GoalWords → Certainty → ImplId → Result Rule Fault → Type 0
 HasListOfImpl W k i x = (row : ImplRow) → impl_of W.setting.tables i ≡ Some row → IfOk x (HasList W k (by_impl row))
 

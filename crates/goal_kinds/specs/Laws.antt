@@ -24,7 +24,7 @@ use Rattle.goal_tables.specs.declared.rows.Tables.{Tables}
 use Rattle.goal_kinds.specs.ConstGoals.{satisfies}
 use Rattle.goal_kinds.specs.Headers.{under}
 use Rattle.goal_kinds.specs.Level.{Level}
-use Rattle.goal_kinds.specs.Settings.{Setting, reveals, takes_defaults}
+use Rattle.goal_kinds.specs.Settings.{Setting, is_coherence, leaves_open, reveals, takes_defaults, hides_defaults}
 use Rattle.goal_kinds.specs.Words.{Exists, Pairs}
 
 -- all that one level proves, another proves as well
@@ -71,10 +71,15 @@ pub record IsAlike (S : Setting) (v : Vec ImplRow Global) (m : TypingMode) : Typ
   pub among : (r : ImplRow) → IsAmong r S.tables.impls.items → IsAmong r v.items
   pub among_back : (r : ImplRow) → IsAmong r v.items → IsAmong r S.tables.impls.items
   pub same_impl : (i : ImplId) → impl_of (record S.tables { impls = v }) i ≡ impl_of S.tables i
+  pub same_coherence : is_coherence m ≡ is_coherence S.mode
+  pub same_opens : (i : OpaqueId) (r : OpaqueRow) → opaque_of S.tables i ≡ Some r → leaves_open m r ≡ leaves_open S.mode r
   pub same_reveals : (i : OpaqueId) (r : OpaqueRow) → opaque_of S.tables i ≡ Some r → reveals m r ≡ reveals S.mode r
   pub same_defaults :
       (i : ImplId) (j : ItemId) (r : SourceRow) (d : DefId)
       → source_of S.tables i j ≡ Some r → r.source ≡ source.Def d true → takes_defaults m ≡ takes_defaults S.mode
+  pub same_hidden_defaults :
+      (i : ImplId) (j : ItemId) (r : SourceRow) (d : DefId)
+      → source_of S.tables i j ≡ Some r → r.source ≡ source.Def d true → hides_defaults m ≡ hides_defaults S.mode
 
 -- two lists have the same rows of impls, in any order
 abbrev pub HaveSameImpls : List ImplRow → List ImplRow → Type 0

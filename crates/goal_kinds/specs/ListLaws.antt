@@ -1,4 +1,4 @@
--- What it means that in a headline mode a list says what its candidate, or its alias, does by the derivation rules, and that a list of the erased mode stands for a headline mode.
+-- What it means that a list says what its candidate, or its alias, does by the derivation rules, and that a list of the erased mode stands for a headline mode.
 use Rattle.std.specs.Prelude.{◌≡◌, ◌↔◌, ℕ, true, List, [], Some, None, suc}
 use Rattle.goal_terms.specs.Tree.{Tree}
 use Rattle.goal_terms.specs.declared.ids.TraitId.{TraitId}
@@ -23,31 +23,31 @@ use Rattle.goal_kinds.specs.TraitLists.{trait_list}
 
 -- of a candidate for a trait goal
 abbrev pub TraitListHolds : Setting → Level → TraitId → List Tree → Candidate → Type 0
-TraitListHolds S L i args c = is_headline S.mode ≡ true → ListHolds L (trait_list S i args c) ↔ CandidateHolds S L i args c
+TraitListHolds S L i args c = ListHolds L (trait_list S i args c) ↔ CandidateHolds S L i args c
 
 abbrev pub TraitListRefuted : Setting → Level → TraitId → List Tree → Candidate → Type 0
-TraitListRefuted S L i args c = is_headline S.mode ≡ true → ListRefuted L (trait_list S i args c) ↔ CandidateRefuted S L i args c
+TraitListRefuted S L i args c = ListRefuted L (trait_list S i args c) ↔ CandidateRefuted S L i args c
 
 -- of a candidate for a host effect goal
 abbrev pub EffectListHolds : Setting → Level → BoundConstness → TraitId → List Tree → Candidate → Type 0
-EffectListHolds S L b i args c = is_headline S.mode ≡ true → ListHolds L (effect_list S b i args c) ↔ ConstCandidateHolds S L b i args c
+EffectListHolds S L b i args c = ListHolds L (effect_list S b i args c) ↔ ConstCandidateHolds S L b i args c
 
 abbrev pub EffectListRefuted : Setting → Level → BoundConstness → TraitId → List Tree → Candidate → Type 0
-EffectListRefuted S L b i args c = is_headline S.mode ≡ true → ListRefuted L (effect_list S b i args c) ↔ ConstCandidateRefuted S L b i args c
+EffectListRefuted S L b i args c = ListRefuted L (effect_list S b i args c) ↔ ConstCandidateRefuted S L b i args c
 
 -- of a candidate for the term of a projection
 abbrev pub ProjectionListGives : Setting → Level → Projection → Tree → Candidate → Tree → Type 0
-ProjectionListGives S L p itself c t = is_headline S.mode ≡ true → ListGives L (projection_list S p itself c) t ↔ CandidateGives S L p itself t c
+ProjectionListGives S L p itself c t = ListGives L (projection_list S p itself c) t ↔ CandidateGives S L p itself t c
 
 abbrev pub ProjectionListRefuted : Setting → Level → Projection → Tree → Candidate → Type 0
-ProjectionListRefuted S L p itself c = is_headline S.mode ≡ true → ListRefuted L (projection_list S p itself c) ↔ TermRefuted S L p c
+ProjectionListRefuted S L p itself c = ListRefuted L (projection_list S p itself c) ↔ TermRefuted S L p c
 
 -- of an alias that is no projection
 abbrev pub AliasListGives : Setting → Level → AliasTermKind → List Tree → Tree → Type 0
-AliasListGives S L k args t = is_headline S.mode ≡ true → projected_item k ≡ None → ListGives L (Some (alias_list S k args)) t ↔ AliasGives S L k args t
+AliasListGives S L k args t = projected_item k ≡ None → ListGives L (Some (alias_list S k args)) t ↔ AliasGives S L k args t
 
 abbrev pub AliasListRefuted : Setting → Level → AliasTermKind → List Tree → Type 0
-AliasListRefuted S L k args = is_headline S.mode ≡ true → projected_item k ≡ None → ListRefuted L (Some (alias_list S k args)) ↔ AliasRefuted S L k args
+AliasListRefuted S L k args = projected_item k ≡ None → ListRefuted L (Some (alias_list S k args)) ↔ AliasRefuted S L k args
 
 -- of a projection goal, which is decided one height above its list
 abbrev pub EquationListHolds : Setting → ℕ → Tree → Tree → Type 0

@@ -17,7 +17,8 @@ use Rattle.goal_tables.specs.declared.lang.LangItem.TheVariants as lang
 use Rattle.goal_tables.specs.declared.rows.ImplRow.{ImplRow}
 use Rattle.goal_tables.specs.declared.rows.Tables.{Tables}
 use Rattle.goal_kinds.specs.Builtins.{lang_of_item}
-use Rattle.goal_kinds.specs.CandidateRules.{NamedRule, trait_alias, sizedness, copy_clone, fn_ptr_trait, fn_trait, tuple, pointee, discriminant_kind, destruct, field, only_bars}
+use Rattle.goal_kinds.specs.TraitGoals.{only_bars}
+use Rattle.goal_kinds.specs.CandidateRules.{NamedRule, trait_alias, sizedness, copy_clone, fn_ptr_trait, fn_trait, tuple, pointee, discriminant_kind, destruct, field}
 use Rattle.goal_kinds.specs.Candidates.{Candidate}
 use Rattle.goal_kinds.specs.Entries.{Entry, refused}
 use Rattle.goal_kinds.specs.FastReject.{lists_may_unify}

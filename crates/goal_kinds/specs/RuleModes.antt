@@ -12,7 +12,7 @@ use Rattle.goal_terms.specs.declared.terms.AliasTermKind.TheVariants.{OpaqueTy}
 use Rattle.goal_tables.specs.Rows.{opaque_of}
 use Rattle.goal_tables.specs.declared.rows.OpaqueRow.{OpaqueRow}
 use Rattle.goal_tables.specs.declared.rows.Tables.{Tables}
-use Rattle.goal_kinds.specs.Settings.{is_headline}
+use Rattle.goal_kinds.specs.Settings.{is_headline, among}
 use Rattle.goal_kinds.specs.declared.rules.aliases.OpaqueUse.{OpaqueUse}
 use Rattle.goal_kinds.specs.declared.rules.aliases.OpaqueUse.TheVariants as uses
 use Rattle.goal_kinds.specs.declared.rules.FirstUse.{FirstUse}
@@ -38,10 +38,6 @@ StandFor k es m = (is_headline m ≡ true) × ((k ≡ m) ⊎ ((k ≡ mode.Erased
 -- the same of a rule
 abbrev pub IsRuleIn : TypingMode → Rule → TypingMode → Type 0
 IsRuleIn k r m = StandFor k r.entries.items m
-
--- whether an opaque type is local and among these
-abbrev pub among : List OpaqueId → OpaqueRow → Bool
-among ids r = r.is_local && list_any (λ i. i.0 == r.id.0) ids
 
 -- the access to an opaque type
 abbrev pub access_to : OpaqueRow → OpaqueAccess

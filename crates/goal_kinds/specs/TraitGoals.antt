@@ -1,5 +1,5 @@
 -- Trait goals: when a candidate holds or is refuted, and when the goal does, one height above a level.
-use Rattle.std.specs.Prelude.{◌≡◌, ◌≢◌, ◌⊎◌, ℕ, Bool, true, false, List, [], ◌∷◌, map, Option, Some, None}
+use Rattle.std.specs.Prelude.{◌≡◌, ◌≢◌, ◌⊎◌, ◌&&◌, ◌||◌, ℕ, Bool, true, false, List, [], ◌∷◌, map, Option, Some, None}
 use Rattle.std.specs.List.{list_any}
 use Rattle.goal_terms.specs.Occurrences.{has_error}
 use Rattle.goal_terms.specs.PredicateTrees.{PredicateTree, holds, equals, holds_const}
@@ -8,6 +8,8 @@ use Rattle.goal_terms.specs.TreeOf.{trees_of}
 use Rattle.goal_terms.specs.Erased.{erased}
 use Rattle.goal_terms.specs.declared.answers.TraitGoalProvenVia.{TraitGoalProvenVia}
 use Rattle.goal_terms.specs.declared.ids.TraitId.{TraitId}
+use Rattle.goal_terms.specs.declared.modes.TypingMode.{TypingMode}
+use Rattle.goal_tables.specs.ImplFaults.{is_reservation}
 use Rattle.goal_tables.specs.SourceFaults.{is_positive}
 use Rattle.goal_tables.specs.Specialized.{reached}
 use Rattle.goal_tables.specs.declared.rows.ImplRow.{ImplRow}
@@ -16,7 +18,7 @@ use Rattle.goal_kinds.specs.Candidates.{Candidate, assumption, implied_bound, by
 use Rattle.goal_kinds.specs.Headers.{AllKnown, Fits, Clashes}
 use Rattle.goal_kinds.specs.Level.{Level, HasHeadForm, HeadFormRefuted}
 use Rattle.goal_kinds.specs.Premises.{Premise, PremisesHold, PremisesRefuted, clauses_under}
-use Rattle.goal_kinds.specs.Settings.{Setting}
+use Rattle.goal_kinds.specs.Settings.{Setting, is_coherence}
 use Rattle.goal_kinds.specs.Words.{Each, Exists, Pairs, SomePair}
 
 -- a clause says that the trait holds for equal arguments
@@ -46,10 +48,14 @@ ImplHoldsUnder L r args s =
 unfoldable pub ImplHolds : Level → List Tree → ImplRow → Type 0
 ImplHolds L args r = (s : List Tree) × ImplHoldsUnder L r args s
 
--- an impl cannot hold: it isn't positive, its header clashes, or its parameters are known and a where clause is refuted
-unfoldable pub ImplRefuted : Level → List Tree → ImplRow → Type 0
-ImplRefuted L args r =
-    (is_positive r.polarity ≡ false)
+-- whether an impl only bars a refutation: a reservation impl in coherence
+abbrev pub only_bars : TypingMode → ImplRow → Bool
+only_bars m r = is_coherence m && is_reservation r.polarity
+
+-- an impl cannot hold: it isn't positive, and bars no refutation; its header clashes; or its parameters are known and a where clause is refuted
+unfoldable pub ImplRefuted : TypingMode → Level → List Tree → ImplRow → Type 0
+ImplRefuted m L args r =
+    (is_positive r.polarity || only_bars m r ≡ false)
     ⊎ Clashes L r.params.items (header_of r) args
     ⊎ ((s : List Tree) × AllKnown L r.params.items (header_of r) args s × PremisesRefuted L (clauses_under s r.predicates.items))
 
@@ -78,7 +84,7 @@ CandidateHolds S L i args error = any_error args ≡ true
 unfoldable pub CandidateRefuted : Setting → Level → TraitId → List Tree → Candidate → Type 0
 CandidateRefuted S L i args (assumption p) = AssumptionRefuted L i args p
 CandidateRefuted S L i args (implied_bound b cs) = Unit {0}
-CandidateRefuted S L i args (by_impl r) = ImplRefuted L args r
+CandidateRefuted S L i args (by_impl r) = ImplRefuted S.mode L args r
 CandidateRefuted S L i args built_in = TraitRuleRefuted L (trait_rule S.tables i args)
 CandidateRefuted S L i args error = any_error args ≡ false
 
@@ -89,7 +95,7 @@ PassedOver S L args _ = ⊥
 
 -- a candidate decides where it holds: it is no impl, or all more special impls are refuted
 unfoldable pub Decides : Setting → Level → List Tree → Candidate → Type 0
-Decides S L args (by_impl r) = (n : ℕ) → Each (ImplRefuted L args) (reached S.tables n r)
+Decides S L args (by_impl r) = (n : ℕ) → Each (ImplRefuted S.mode L args) (reached S.tables n r)
 Decides S L args _ = Unit {0}
 
 -- a candidate shows that the trait holds, and decides

@@ -29,16 +29,16 @@ is_trait j i = j.0 == i.0
 abbrev pub impl_match : ImplRow → List Tree → List Entry → List Entry
 impl_match r args es = arguments (of_header r.params.items (trees_of r.trait_args.items) args) ∷ row_clauses r.predicates.items 0 ∷ es
 
--- a reservation impl bars a refutation in coherence, and says nothing elsewhere
-abbrev pub reserved_list : TypingMode → Option (List Entry)
-reserved_list mode.Coherence = Some (undecided ∷ [])
-reserved_list _ = None
+-- a reservation impl never holds, but bars a refutation in coherence as long as what it asks for isn't refuted; elsewhere it is refused
+abbrev pub reserved_list : TypingMode → List Entry → Option (List Entry)
+reserved_list mode.Coherence es = Some (undecided ∷ es)
+reserved_list _ es = None
 
 -- the list of an impl, by its polarity: a negative impl has none
 unfoldable pub list_by_polarity : TypingMode → ImplPolarity → List Entry → Option (List Entry)
 list_by_polarity m polarity.Positive es = Some es
 list_by_polarity m polarity.Negative es = None
-list_by_polarity m polarity.Reservation es = reserved_list m
+list_by_polarity m polarity.Reservation es = reserved_list m es
 
 -- a clause of the trait: its arguments are the goal's
 unfoldable pub trait_assumption_list : TraitId → List Tree → PredicateTree → Option (List Entry)

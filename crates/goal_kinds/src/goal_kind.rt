@@ -111,8 +111,8 @@ pub trait GoalKind: PredicateTerms {
         ensures expected { IfOk result (λ r. TermsAreFor (words.expected goal.now.predicate) r.entries.items) }
         ensures source { IfOk result (λ r. r.source ≡ CandidateSource.Impl impl_id) }
         ensures list { HasListOfImpl (words_for words tables.now goal.now mode.now) then impl_id result }
-        ensures gives { GivesAsImpl (words_for words tables.now goal.now mode.now) mode.now then impl_id result }
-        ensures refuted { RefutesAsImpl (words_for words tables.now goal.now mode.now) mode.now impl_id result }
+        ensures gives { GivesAsImpl (words_for words tables.now goal.now mode.now) then impl_id result }
+        ensures refuted { RefutesAsImpl (words_for words tables.now goal.now mode.now) impl_id result }
         ensures fault { RefusesFinally (words_for words tables.now goal.now mode.now) impl_id result };
 
     /// The rule of an error that stands in the goal. A refusal says that an error shows nothing.

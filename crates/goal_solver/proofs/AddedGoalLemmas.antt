@@ -16,14 +16,14 @@ use Rattle.goal_infer.proofs.UndoLemmas.{item-within}
 use Rattle.goal_kinds.specs.Answers.{setting_of}
 use Rattle.goal_kinds.specs.Levels.{level}
 use Rattle.goal_kinds.specs.Premises.{ClauseHolds, ClauseRefuted}
-use Rattle.goal_kinds.specs.Settings.{Setting, is_headline}
+use Rattle.goal_kinds.specs.Settings.{Setting}
 use Rattle.goal_kinds.proofs.ConsistentLemmas.{each_level_is_consistent}
 use Rattle.goal_kinds.proofs.PremiseLemmas.{no_clause_refuted}
 use Rattle.goal_solver.specs.AddedGoals.{GoalHolds, GoalRefuted, HoldsIn, IsRefutedIn, IsClosedGoal, IsGoalAnswer, IsVerdict, IsPending, ArePendingClosed, IsPendingAnswer, ArePendingUndecided, ChangesTaken}
 use Rattle.goal_solver.specs.AddedGoals.{same_place, count_of, AreSplit, AreClosedAt, AllHoldAt, SomeRefutedAt, LeavesUndecided, IsAnswerAt}
 use Rattle.goal_solver.specs.Answers.{IsOwed, level_over}
 use Rattle.goal_solver.specs.GoingBack.{BeginsWith, GoesBack, restored}
-use Rattle.goal_eval.specs.Outcomes.{StandsFor, Says}
+use Rattle.goal_eval.specs.Outcomes.{Says}
 use Rattle.goal_solver.specs.Relating.{ChangesInference, ChangesRecords, LeavesOpen, IsFaultFor}
 use Rattle.goal_solver.specs.State.{State}
 use Rattle.goal_kinds.specs.declared.faults.Fault.{Fault}
@@ -64,7 +64,7 @@ goes_back-bound a b e g =
 pub restored-owed : (s b z : State) (m : TypingMode) → z ≡ restored s b → GoesBack s b → IsOwed z m → IsOwed b m
 restored-owed s b z m e g owed =
     let there : IsOwed (restored s b) m = subst (λ (x : State). IsOwed x m) e owed in
-    (there.0, elim there.1 [ inl h ↦ inl (g.typing_mode ∙ h) | inr h ↦ inr (g.typing_mode ∙ h.0, h.1) ])
+    elim there [ inl h ↦ inl (g.typing_mode ∙ h.0, h.1) | inr h ↦ inr (g.typing_mode ∙ h.0, h.1, h.2) ]
 
 pub restored-alone : (s b z : State) → z ≡ restored s b → ChangesTaken s z
 restored-alone s b z e = e ∙ sym (ap (λ (x : State). record s { terms = x.terms; inference = x.inference; taken = x.taken; accesses = x.accesses; delayed_faults = x.delayed_faults }) e)
@@ -88,17 +88,8 @@ none-before [] ys g e = refl
 none-before (x ∷ xs) ys g e = sym g ∙ ap (take (suc (length xs))) e
 
 pub owed-before : (a b : State) (m : TypingMode) → GoesBack a b → IsOwed b m → IsOwed a m
-owed-before a b m g owed = (
-  owed.0,
-  elim owed.1 [
-    | inl h ↦ inl (sym g.typing_mode ∙ h)
-    | inr h ↦ inr (sym g.typing_mode ∙ h.0, none-before a.accesses b.accesses g.accesses h.1)
-  ],
-)
-
--- a mode that is owed an answer is one that the run stands for
-pub owed-stands_for : (s : State) (m : TypingMode) → IsOwed s m → StandsFor s.typing_mode m
-owed-stands_for s m owed = (owed.0, elim owed.1 [ inl h ↦ inl h | inr h ↦ inr (ap is_headline h.0) ])
+owed-before a b m g (inl h) = inl (sym g.typing_mode ∙ h.0, h.1)
+owed-before a b m g (inr h) = inr (sym g.typing_mode ∙ h.0, h.1, none-before a.accesses b.accesses g.accesses h.2)
 
 -- a fault of a later part is one of the whole
 pub fault-before : (T U : Type 0) (a b c : State) (f : Fault) → GoesBack a b → IsFaultFor {T = T} b c (Err f) → IsFaultFor {T = U} a c (Err f)

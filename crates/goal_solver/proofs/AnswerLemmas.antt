@@ -17,11 +17,10 @@ use Rattle.goal_kinds.specs.Premises.{ClauseHolds, ClauseRefuted}
 use Rattle.goal_kinds.specs.Settings.{Setting, is_headline}
 use Rattle.goal_kinds.specs.Level.{Level}
 use Rattle.goal_kinds.proofs.AnswerLaws.{answers-agree}
-use Rattle.goal_solver.specs.Answers.{IsOwed, level_over, IsMaybe, IsOpen, IsUndecided, IsAliasOpen, IsTraitResponse, IsTraitAnswer, IsAliasResponse, IsAliasAnswer, IsHoldingResponse, IsPredicateAnswer, IsConclusion}
+use Rattle.goal_solver.specs.Answers.{IsOwed, level_over, IsMaybe, IsOpen, IsUndecided, IsAliasOpen, IsTraitResponse, IsTraitAnswer, IsAliasResponse, IsAliasAnswer, IsHoldingResponse, IsPredicateAnswer, IsConclusion, IsFinalIn}
 use Rattle.goal_solver.specs.Evaluations.{SaysOf}
 use Rattle.goal_solver.specs.GoingBack.{BeginsWith, GoesBack, restored}
-use Rattle.goal_eval.specs.Outcomes.{RunsAs, StandsFor, Says}
-use Rattle.goal_solver.specs.Relating.{IsFinalIn}
+use Rattle.goal_eval.specs.Outcomes.{RunsAs, Says}
 use Rattle.goal_kinds.specs.declared.faults.Fault.{Fault}
 use Rattle.goal_kinds.specs.declared.faults.Fault.TheVariants as fault
 use Rattle.goal_eval.specs.declared.eval.outcomes.OnAccess.{OnAccess}
@@ -77,63 +76,17 @@ begins-empty (x ∷ xs) [] b e = absurd (cc)
 begins-empty (x ∷ xs) (y ∷ ys) b e = absurd (cc)
 
 pub owed-before : (b z : State) (m : TypingMode) → GoesBack b z → IsOwed z m → IsOwed b m
-owed-before b z m g owed = (
-  owed.0,
-  elim owed.1 [
-    | inl h ↦ inl (sym g.typing_mode ∙ h)
-    | inr h ↦ inr (sym g.typing_mode ∙ h.0, begins-empty b.accesses z.accesses g.accesses h.1)
-  ],
-)
+owed-before b z m g (inl h) = inl (sym g.typing_mode ∙ h.0, h.1)
+owed-before b z m g (inr h) = inr (sym g.typing_mode ∙ h.0, h.1, begins-empty b.accesses z.accesses g.accesses h.2)
 
 -- a mode that is owed an answer is final in the run's
 owed-final : (run : TypingMode) (z : State) (m : TypingMode) → z.typing_mode ≡ run → IsOwed z m → IsFinalIn run m
-owed-final run z m e owed = (
-  owed.0,
-  elim owed.1 [
-    | inl h ↦ inl (sym e ∙ h)
-    | inr h ↦ inr (sym e ∙ h.0)
-  ],
-)
+owed-final run z m e (inl h) = inl (sym e ∙ h.0, h.1)
+owed-final run z m e (inr h) = inr (sym e ∙ h.0, h.1)
 
--- what only added terms stops at accesses
-pub owed-grown : (a b : State) (m : TypingMode) → b ≡ record a { terms = b.terms } → IsOwed b m → StandsFor a.typing_mode m
-owed-grown a b m e owed =
-    let final : IsFinalIn a.typing_mode m = owed-final a.typing_mode b m (ap (λ (s : State). s.typing_mode) e) owed in (
-      final.0,
-      elim final.1 [
-        | inl h ↦ inl h
-        | inr h ↦ inr (ap is_headline h)
-      ],
-    )
-
--- a run that stops where it has to stands for each mode that is owed an answer
-pub owed-runs : (a z : State) (on : OnAccess) (m : TypingMode) → ((k : TypingMode) → IsFinalIn a.typing_mode k → on ≡ on_access.Stop) → z ≡ restored a z → IsOwed z m → RunsAs on a.typing_mode m
-owed-runs a z on m stops e owed =
-    let final : IsFinalIn a.typing_mode m = owed-final a.typing_mode z m (ap (λ (s : State). s.typing_mode) e) owed in (
-      final.0,
-      elim final.1 [
-        | inl h ↦ inl h
-        | inr h ↦ inr (ap is_headline h, stops m final)
-      ],
-    )
-
--- so does a run that stops at accesses
-pub stops-runs : (on : OnAccess) (run m : TypingMode) → on ≡ on_access.Stop → StandsFor run m → RunsAs on run m
-stops-runs on run m e s = (
-  s.0,
-  elim s.1 [
-    | inl h ↦ inl h
-    | inr h ↦ inr (h, e)
-  ],
-)
-
--- one that records stands for none that is owed an answer
-pub never-owed : (a b z : State) (m : TypingMode) (A : Type 0) → ((k : TypingMode) → IsOwed b k → ⊥) → GoesBack b z → IsOwed z m → A
-never-owed a b z m A never g owed = absurd (never m (owed-before b z m g owed))
-
-pub none-final : (a z : State) (on : OnAccess) (m : TypingMode) (A : Type 0) → ((k : TypingMode) → IsFinalIn a.typing_mode k → on ≡ on_access.Stop) → on ≡ on_access.Record → z ≡ restored a z → IsOwed z m → A
-none-final a z on m A stops records e owed =
-    let stop : on ≡ on_access.Stop = stops m (owed-final a.typing_mode z m (ap (λ (s : State). s.typing_mode) e) owed) in absurd (cc)
+-- a run that speaks for the modes that may be final speaks for each mode that is owed an answer
+pub owed-runs : (a z : State) (on : OnAccess) (m : TypingMode) → ((k : TypingMode) → IsFinalIn a.typing_mode k → RunsAs on a.typing_mode k) → z ≡ restored a z → IsOwed z m → RunsAs on a.typing_mode m
+owed-runs a z on m speaks e owed = speaks m (owed-final a.typing_mode z m (ap (λ (s : State). s.typing_mode) e) owed)
 
 yes_is_not_maybe : certainty.Yes ≡ certainty.Maybe → ⊥
 yes_is_not_maybe e = absurd (cc)

@@ -43,17 +43,15 @@ use Rattle.goal_kinds.specs.Answers.{setting_of, IsAnswer, maybe, which_term}
 use Rattle.goal_kinds.specs.Interned.{erased_at}
 use Rattle.goal_kinds.specs.KindedTerms.{NoKindFault, NoKindFaultInEnv}
 use Rattle.goal_kinds.specs.Levels.{level}
-use Rattle.goal_kinds.specs.Settings.{is_headline}
 use Rattle.goal_kinds.specs.declared.faults.Fault.{Fault}
 use Rattle.goal_kinds.proofs.ClosedLevels.{closed-public_given}
 use Rattle.goal_kinds.proofs.PlacedLevels.{placed-given}
 use Rattle.goal_eval.specs.ErasedArgs.{erased_args}
-use Rattle.goal_solver.specs.Answers.{IsQuiet, IsQuietAside, AnswersQuietly, AnswersAside, ListsNothing, GivesTo, expected_variable, is_closed_alias, IsAliasOpen}
+use Rattle.goal_solver.specs.Answers.{IsQuiet, IsQuietAside, AnswersQuietly, AnswersAside, ListsNothing, GivesTo, expected_variable, is_closed_alias, IsAliasOpen, IsFinalIn}
 use Rattle.goal_solver.specs.Binding.{IsApplicable, IsFreeFor, CanBeListed, bound_term}
 use Rattle.goal_solver.specs.FreeVariables.{general_variable, reaches, is_bound, stands_in_storage, is_taken, lacks_free_variable}
 use Rattle.goal_solver.specs.GoingBack.{restored}
 use Rattle.goal_solver.specs.Goals.{IsAcceptedNormalization}
-use Rattle.goal_eval.specs.Outcomes.{StandsFor}
 use Rattle.goal_solver.specs.Recording.{FitsKind}
 use Rattle.goal_eval.specs.declared.eval.outcomes.Found.TheVariants as founds
 use Rattle.goal_solver.specs.State.{State, kinds_in, kinds_of}
@@ -324,7 +322,11 @@ pub nothing-applies-later : (a b z : State) (r : Result Response Fault) → b �
     AnswersQuietly (length (kinds_of b)) r → IfOk r (λ x. x.var_values.items ≡ []) → IfOk r (IsApplicable z)
 nothing-applies-later a b z r e f keyed quiet empty = unvalued-applies-later a b z r e f keyed (answers-aside (length (kinds_of b)) r quiet) empty
 
--- each run stands for some mode
-pub stands-for-some : (run : TypingMode) (b : Bool) → is_headline run ≡ b → (m : TypingMode) × StandsFor run m
-stands-for-some run true e = (run, (e, inl refl))
-stands-for-some run false e = (modes.PostAnalysis, (refl, inr e))
+-- each run may be final for some mode
+pub final-for-some : (run : TypingMode) → (m : TypingMode) × IsFinalIn run m
+final-for-some modes.Coherence = (modes.Coherence, inl (refl, refl))
+final-for-some (modes.Analysis ids) = (modes.Analysis ids, inl (refl, refl))
+final-for-some (modes.Borrowck ids) = (modes.Borrowck ids, inl (refl, refl))
+final-for-some (modes.PostBorrowckAnalysis ids) = (modes.PostBorrowckAnalysis ids, inl (refl, refl))
+final-for-some modes.PostAnalysis = (modes.PostAnalysis, inl (refl, refl))
+final-for-some modes.ErasedNotCoherence = (modes.PostAnalysis, inr (refl, refl))

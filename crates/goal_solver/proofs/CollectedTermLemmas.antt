@@ -73,7 +73,7 @@ itself-copied a b e = tree_of_arg-Ty (types.Alias b) ∙ tree_of_ty-Alias b ∙ 
 pub speaks-same : (W : GoalWords) (r : Rule) (c : Candidate) → HasList W certainty.Yes c r → SaysTheSame W r c → Speaks W r c
 speaks-same W r (assumption p) l h = (l, h)
 speaks-same W r (implied_bound q cs) l h = (l, h)
-speaks-same W r (by_impl i) l h = (l, λ headline. h)
+speaks-same W r (by_impl i) l h = (l, h)
 speaks-same W r built_in l h = (l, (λ n t g. ((h.0 n t).0 g).1, λ n g. (h.1 n).0 g))
 speaks-same W r error l h = (l, h)
 

@@ -30,7 +30,7 @@ use Rattle.goal_kinds.specs.Interned.{erased_at}
 use Rattle.goal_kinds.specs.Laws.{IsAlike, IsWithin}
 use Rattle.goal_kinds.specs.Level.{Level}
 use Rattle.goal_kinds.specs.Levels.{level}
-use Rattle.goal_kinds.specs.Settings.{Setting, is_empty, is_headline, reveals, takes_defaults}
+use Rattle.goal_kinds.specs.Settings.{Setting, is_empty, is_headline, is_coherence, is_erased, among, leaves_open, reveals, takes_defaults, hides_defaults}
 use Rattle.goal_kinds.proofs.AlikeSettings.{alike-reordered}
 use Rattle.goal_kinds.proofs.AnswerLaws.{answer-same, answers-agree, impls-not_doubled}
 use Rattle.goal_kinds.proofs.WithinLevels.{within-alike_level, within-alike_level_back}
@@ -94,8 +94,16 @@ question-closed (predicate.NormalizesTo q) env e h = absurd (cc)
 question-closed predicate.Ambiguous env e h = h
 
 -- a headline mode is owed an answer
+headline-unerased : (m : TypingMode) → is_headline m ≡ true → is_erased m ≡ false
+headline-unerased mode.Coherence h = refl
+headline-unerased (mode.Analysis ids) h = refl
+headline-unerased (mode.Borrowck ids) h = refl
+headline-unerased (mode.PostBorrowckAnalysis ids) h = refl
+headline-unerased mode.PostAnalysis h = refl
+headline-unerased mode.ErasedNotCoherence h = sym h
+
 pub owed-itself : (before after : State) → after.typing_mode ≡ before.typing_mode → is_headline before.typing_mode ≡ true → IsOwed after before.typing_mode
-owed-itself before after same h = (h, inl same)
+owed-itself before after same h = inl (same, headline-unerased before.typing_mode h)
 
 -- the goal of an alias's term
 is_normalization : (p : Predicate) (q : NormalizesTo) → normalization_of p ≡ Some q → p ≡ predicate.NormalizesTo q
@@ -183,14 +191,18 @@ ids-same [] (y ∷ ys) h = absurd h
 ids-same (x ∷ xs) [] h = absurd h
 ids-same (x ∷ xs) (y ∷ ys) h = ap (λ z. z ∷ ys) h.0 ∙ ap (λ zs. x ∷ zs) (ids-same xs ys h.1)
 
-mode-same : (m k : TypingMode) → is_mode_clone.it m k → (is_headline k ≡ is_headline m) × ((r : OpaqueRow) → reveals m r ≡ reveals k r) × (takes_defaults m ≡ takes_defaults k)
-mode-same mode.Coherence mode.Coherence r = (refl, λ q. refl, refl)
-mode-same (mode.Analysis xs) (mode.Analysis ys) r = (ap is_empty (ids-same xs.items ys.items r.0), λ q. refl, refl)
-mode-same (mode.Borrowck xs) (mode.Borrowck ys) r = (ap is_empty (ids-same xs.items ys.items r.0), λ q. refl, refl)
+mode-same : (m k : TypingMode) → is_mode_clone.it m k →
+    (is_headline k ≡ is_headline m) × (is_coherence m ≡ is_coherence k) × ((r : OpaqueRow) → leaves_open m r ≡ leaves_open k r) × ((r : OpaqueRow) → reveals m r ≡ reveals k r)
+    × (takes_defaults m ≡ takes_defaults k) × (hides_defaults m ≡ hides_defaults k)
+mode-same mode.Coherence mode.Coherence r = (refl, refl, λ q. refl, λ q. refl, refl, refl)
+mode-same (mode.Analysis xs) (mode.Analysis ys) r =
+    (ap is_empty (ids-same xs.items ys.items r.0), refl, λ q. ap (λ zs. among zs q) (sym (ids-same xs.items ys.items r.0)), λ q. refl, refl, refl)
+mode-same (mode.Borrowck xs) (mode.Borrowck ys) r =
+    (ap is_empty (ids-same xs.items ys.items r.0), refl, λ q. ap (λ zs. among zs q) (sym (ids-same xs.items ys.items r.0)), λ q. refl, refl, refl)
 mode-same (mode.PostBorrowckAnalysis xs) (mode.PostBorrowckAnalysis ys) r =
-    (refl, λ q. ap (λ zs. q.is_local && list_any (λ i. i.0 == q.id.0) zs) (sym (ids-same xs.items ys.items r.0)), refl)
-mode-same mode.PostAnalysis mode.PostAnalysis r = (refl, λ q. refl, refl)
-mode-same mode.ErasedNotCoherence mode.ErasedNotCoherence r = (refl, λ q. refl, refl)
+    (refl, refl, λ q. refl, λ q. ap (λ zs. among zs q) (sym (ids-same xs.items ys.items r.0)), refl, refl)
+mode-same mode.PostAnalysis mode.PostAnalysis r = (refl, refl, λ q. refl, λ q. refl, refl, refl)
+mode-same mode.ErasedNotCoherence mode.ErasedNotCoherence r = (refl, refl, λ q. refl, λ q. refl, refl, refl)
 mode-same m k r = absurd r
 
 pub clone-headline : (m k : TypingMode) → is_mode_clone.it m k → is_headline m ≡ true → is_headline k ≡ true
@@ -203,8 +215,11 @@ clone-answer t m k g n x r h =
       among = λ r i. i;
       among_back = λ r i. i;
       same_impl = λ i. refl;
-      same_reveals = λ i q e. same.1 q;
-      same_defaults = λ i j q d e f. same.2;
+      same_coherence = same.1;
+      same_opens = λ i q e. same.2 q;
+      same_reveals = λ i q e. same.3 q;
+      same_defaults = λ i j q d e f. same.4;
+      same_hidden_defaults = λ i j q d e f. same.5;
     } in
     answer_to-same (within-alike_level alike n) (within-alike_level_back alike n) g.predicate x h
 

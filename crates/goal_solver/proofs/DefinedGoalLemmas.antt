@@ -1,5 +1,5 @@
 -- Goals of opaque types that are being defined: no answer is owed, and the response names no class.
-use Rattle.std.proofs.Common.{◌≡◌, ◌&&◌, ℕ, zero, suc, Bool, true, false, List, [], ◌∷◌, Option, Some, None, Result, Ok, Err, arith, refl, sym, ap, ◌∙◌, subst, ⊎_elim}
+use Rattle.std.proofs.Common.{◌≡◌, ◌&&◌, ℕ, zero, suc, Bool, true, false, List, [], ◌∷◌, Option, Some, None, Result, Ok, Err, arith, refl, sym, ap, ◌∙◌, subst, ⊎_elim, inl, inr}
 use Rattle.std.proofs.lemmas.Bool.{false≢true, lt-ltb}
 use Rattle.std.specs.Prelude.{IfOk, is_some, nat_lt, if◌then◌else◌}
 use Rattle.std.specs.Option.{option_and_then}
@@ -15,14 +15,14 @@ use Rattle.goal_tables.specs.Rows.{opaque_of}
 use Rattle.goal_tables.specs.declared.rows.OpaqueRow.{OpaqueRow}
 use Rattle.goal_tables.specs.declared.rows.Tables.{Tables}
 use Rattle.goal_kinds.specs.Projections.{projected_item}
-use Rattle.goal_kinds.specs.RuleModes.{among, first_use, first_use_of}
-use Rattle.goal_kinds.specs.Settings.{is_empty, is_headline}
+use Rattle.goal_kinds.specs.RuleModes.{first_use, first_use_of}
+use Rattle.goal_kinds.specs.Settings.{is_empty, is_headline, among}
 use Rattle.goal_kinds.specs.declared.faults.Fault.{Fault}
 use Rattle.goal_kinds.specs.declared.rules.FirstUse.{FirstUse}
 use Rattle.goal_kinds.specs.declared.rules.FirstUse.TheVariants as first
 use Rattle.goal_solver.specs.Answers.{IsOwed, is_closed_alias, expected_variable}
 use Rattle.goal_solver.specs.OpenGoals.{WhenAnswered}
-use Rattle.goal_solver.specs.Promises.{AnswersAlias, DefinesAlias, NamesNoClass, RunsHidden, is_defined}
+use Rattle.goal_solver.specs.Promises.{AnswersAlias, DefinesAlias, NamesNoClass, RunsHidden, is_defined, IsNotDefined}
 use Rattle.goal_solver.specs.Recording.{is_ambiguous}
 use Rattle.goal_solver.specs.State.{State}
 
@@ -97,11 +97,13 @@ other-mode t m (FreeTy i) x e = absurd (cc)
 other-mode t m (FreeConst i) x e = absurd (cc)
 other-mode t m (UnevaluatedConst i) x e = absurd (cc)
 
--- so no answer is owed
-pub defined-unowed : (s z : State) (k : AliasTermKind) (x : FirstUse) (m : TypingMode) → first_use_of s.tables s.typing_mode k ≡ Some x → z.typing_mode ≡ s.typing_mode → IsOwed z m → ⊥
-defined-unowed s z k x m e same owed =
-    let other = other-mode s.tables s.typing_mode k x e in
-    ⊎_elim (λ h. false≢true (sym other.0 ∙ ap is_headline (sym same ∙ h) ∙ owed.0)) (λ h. other.1 (sym same ∙ h.0)) owed.1
+-- so no answer of a headline mode is owed
+pub defined-unowed : (s z : State) (p : NormalizesTo) (x : FirstUse) (m : TypingMode) → first_use_of s.tables s.typing_mode p.alias.kind ≡ Some x → z.typing_mode ≡ s.typing_mode →
+    IsOwed z m → IsNotDefined s p m → ⊥
+defined-unowed s z p x m e same owed (inl headline) =
+    let other = other-mode s.tables s.typing_mode p.alias.kind x e in
+    ⊎_elim (λ h. false≢true (sym other.0 ∙ ap is_headline (sym same ∙ h.0) ∙ headline)) (λ h. other.1 (sym same ∙ h.0)) owed
+defined-unowed s z p x m e same owed (inr none) = absurd (cc (sym none ∙ e))
 
 -- nor is the goal ambiguous by its mode
 ambiguous-mode : (m : TypingMode) (k : AliasTermKind) → is_ambiguous m k ≡ true → m ≡ mode.Coherence
@@ -134,8 +136,8 @@ runs-unnamed g f s u (Err e) h = tt
 -- such a goal is answered
 pub defined-answers : (s z : State) (g : Goal NormalizesTo) (r : Result Response Fault) → DefinedGoal s g → z.typing_mode ≡ s.typing_mode → IfOk r NamesNoClass → AnswersAlias s z g.param_env.items g.predicate r
 defined-answers s z g r d same unnamed = record {
-  exact = λ ok m owed. absurd (defined-unowed s z g.predicate.alias.kind d.taken m d.first same owed);
-  lasts = λ m n owed le. absurd (defined-unowed s z g.predicate.alias.kind d.taken m d.first same owed);
+  exact = λ ok m owed other. absurd (defined-unowed s z g.predicate d.taken m d.first same owed other);
+  lasts = λ m n owed other le. absurd (defined-unowed s z g.predicate d.taken m d.first same owed other);
   quiet = λ none. absurd (cc (sym none ∙ d.first));
   no_class = unnamed;
 }

@@ -107,7 +107,7 @@ module _ (a z : State) (env : List Clause) (ts us : List Tree) (valid : IsValid 
 
     equated-yes : IsRelated a b env (map erased ts) (map erased us) a.remaining_depth outcome.Holds → IsEquated a z env ts us (Ok certainty.Yes)
     equated-yes rel = record {
-      sound = λ m owed sides. (rel.closed sides m (earlier m owed)).0;
+      sound = λ m owed sides. (rel.closed sides m (owed.0, earlier m owed.1)).0;
       decided = λ m owed sides x. absurd x;
       equal = λ m owed x ρ agrees. rel.equal refl m (earlier m owed) ρ ((later ρ).0 agrees);
       never = λ x. absurd x;
@@ -122,7 +122,7 @@ module _ (a z : State) (env : List Clause) (ts us : List Tree) (valid : IsValid 
     equated-maybe : IsRelated a b env (map erased ts) (map erased us) a.remaining_depth outcome.Undecided → IsEquated a z env ts us (Ok certainty.Maybe)
     equated-maybe rel = record {
       sound = λ m owed sides. tt;
-      decided = λ m owed sides x. (rel.closed sides m (earlier m owed)).0;
+      decided = λ m owed sides x. (rel.closed sides m (owed.0, earlier m owed.1)).0;
       equal = λ m owed x. absurd x;
       never = λ x. absurd x;
       agreed = λ ρ agrees. rel.agreed ρ ((later ρ).0 agrees);
@@ -141,7 +141,7 @@ module _ (a z : State) (env : List Clause) (ts us : List Tree) (valid : IsValid 
   -- lists that were refuted
   pub equated-refuted : (b : State) → ((m : TypingMode) → IsOwed z m → IsOwed b m) → IsRelated a b env (map erased ts) (map erased us) a.remaining_depth outcome.Refuted → IsEquated a z env ts us (Err fault.NoSolution)
   equated-refuted b earlier rel = record {
-    sound = λ m owed sides. (rel.closed sides m (earlier m owed)).0;
+    sound = λ m owed sides. (rel.closed sides m (owed.0, earlier m owed.1)).0;
     decided = λ m owed sides x. absurd x;
     equal = λ m owed x. absurd x;
     never = λ x ρ kinds agrees same. rel.never refl ρ kinds agrees same;
@@ -183,7 +183,7 @@ module _ (a z : State) (env : List Clause) (ts us : List Tree) (valid : IsValid 
   equated-stopped s (Ok certainty.Yes) undone owed memory undecided stops settles = absurd (undecided (inl tt))
   equated-stopped s (Ok certainty.Maybe) undone owed memory undecided stops settles = record {
     sound = λ m o sides. tt;
-    decided = λ m o sides x. let never : Ok certainty.Maybe ≡ Err fault.OutOfMemory = owed m o stops in absurd (cc);
+    decided = λ m o sides x. let never : Ok certainty.Maybe ≡ Err fault.OutOfMemory = owed m o.1 stops in absurd (cc);
     equal = λ m o x. absurd x;
     never = λ x. absurd x;
     agreed = agreed-back a z valid back;

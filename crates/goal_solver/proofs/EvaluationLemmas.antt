@@ -13,11 +13,11 @@ use Rattle.goal_tables.specs.Faults.{IsChecked}
 use Rattle.goal_kinds.specs.Answers.{setting_of}
 use Rattle.goal_kinds.specs.Settings.{Setting, is_headline}
 use Rattle.goal_solver.specs.Accesses.{RecordsCaused, EndsFor}
-use Rattle.goal_solver.specs.Answers.{IsOwed, level_over}
+use Rattle.goal_solver.specs.Answers.{IsOwed, level_over, IsFinalIn}
 use Rattle.goal_eval.specs.Effects.{EndsIn}
 use Rattle.goal_solver.specs.Evaluations.{SaysOf, SaysTermAt, StopsForMemory}
 use Rattle.goal_solver.specs.GoingBack.{restored}
-use Rattle.goal_eval.specs.Outcomes.{RunsAs, RunsOver, StandsFor, SaysWhich}
+use Rattle.goal_eval.specs.Outcomes.{RunsAs, RunsOver, SaysWhich}
 use Rattle.goal_solver.specs.State.{State}
 use Rattle.goal_eval.specs.declared.eval.outcomes.Found.{Found}
 use Rattle.goal_eval.specs.declared.eval.outcomes.OnAccess.{OnAccess}
@@ -38,10 +38,10 @@ term-interned a b z env k ts us r e f h m owed =
     subst (λ (xs : List Tree). SaysTermAt (level_over a m env) k xs z.terms r) f (subst (λ (s : State). SaysTermAt (level_over s m env) k ts z.terms r) e (h m owed))
 
 pub run-interned : (a b z : State) (env : List Clause) (k : AliasTermKind) (ts us : List Tree) (r : Result Found Stop) → b ≡ record a { terms = b.terms } → ts ≡ us →
-    ((m : TypingMode) → StandsFor b.typing_mode m → SaysTermAt (level_over b m env) k ts z.terms r) → (m : TypingMode) → StandsFor a.typing_mode m → SaysTermAt (level_over a m env) k us z.terms r
+    ((m : TypingMode) → IsFinalIn b.typing_mode m → SaysTermAt (level_over b m env) k ts z.terms r) → (m : TypingMode) → IsFinalIn a.typing_mode m → SaysTermAt (level_over a m env) k us z.terms r
 run-interned a b z env k ts us r e f h m stands =
     subst (λ (xs : List Tree). SaysTermAt (level_over a m env) k xs z.terms r) f
-    (subst (λ (s : State). StandsFor s.typing_mode m → SaysTermAt (level_over s m env) k ts z.terms r) e (h m) stands)
+    (subst (λ (s : State). IsFinalIn s.typing_mode m → SaysTermAt (level_over s m env) k ts z.terms r) e (h m) stands)
 
 -- the rest is as before
 pub interned-unchanged : (a b z : State) → b ≡ record a { terms = b.terms } → z ≡ restored b z → z ≡ restored a z
@@ -64,7 +64,7 @@ run-says P t k here e o s z env on U checked same h a b c d q m st =
     let stands : RunsAs here k m = subst (λ x. RunsAs x k m) (sym c) (subst (λ x. RunsAs on x m) (sym b) st) in
     subst (λ V. P (setting_of s.tables m env) s.remaining_depth s.terms V) (sym q)
     (subst (λ S. P S s.remaining_depth s.terms U) (ap (λ x. setting_of x m e) a ∙ ap (setting_of s.tables m) d)
-    (subst (λ (x : State). P (setting_of t m e) x.remaining_depth x.terms U) same (h m (stands.0, stands.1, checked))))
+    (subst (λ (x : State). P (setting_of t m e) x.remaining_depth x.terms U) same (h m (stands, checked))))
 
 -- in a headline mode a run ends for want of memory alone
 pub memory-ends : {T : Type 0} (t : Tables) (m : TypingMode) (r : Result T Stop) → IfErr r (EndsIn t m) → is_headline m ≡ true → IfErr r (λ s. s ≡ stop.OutOfMemory)

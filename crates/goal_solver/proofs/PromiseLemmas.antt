@@ -279,10 +279,10 @@ pub answers-alias : (before after : State) (env : List Clause) (p : NormalizesTo
     IfOk r (λ x. x.certainty ≡ certainty.Maybe → x.var_values.items ≡ []) → IfOk r NamesNoClass → AnswersAlias before after env p r
 answers-alias before after env p r sound whole quiet given values unnamed =
     record {
-      exact = λ ok m o.
+      exact = λ ok m o other.
           let expected : (n : ℕ) × (expected_variable p.term ≡ Some n) = accepted-expected before p env ok in
           term-right (level_over before m env) p.alias.kind (erased_args p.alias.args.items) p.term r (sound m o) (whole m expected.0 o ok expected.1);
-      lasts = λ m n stands le. term-lasts (within-level (setting_of before.tables m env) before.remaining_depth n le) p.alias.kind (erased_args p.alias.args.items) p.term r (sound m stands);
+      lasts = λ m n stands other le. term-lasts (within-level (setting_of before.tables m env) before.remaining_depth n le) p.alias.kind (erased_args p.alias.args.items) p.term r (sound m stands);
       quiet = λ none. gives-alone before p.term r quiet given values;
       no_class = unnamed;
     }

@@ -40,13 +40,13 @@ use Rattle.goal_kinds.specs.Equality.{Unequal, RowUnequal}
 use Rattle.goal_kinds.specs.Interned.{IsIn, AreIn, erased_at, erased_all}
 use Rattle.goal_kinds.specs.Level.{Level, nothing}
 use Rattle.goal_kinds.specs.Levels.{level}
-use Rattle.goal_kinds.specs.Settings.{Setting, is_headline}
+use Rattle.goal_kinds.specs.Settings.{Setting, is_headline, is_coherence}
 use Rattle.goal_kinds.specs.Words.{Pairs, SomePair}
-use Rattle.goal_solver.specs.Answers.{IsOwed}
+use Rattle.goal_solver.specs.Answers.{IsOwed, IsFinalIn}
 use Rattle.goal_solver.specs.GoingBack.{GoesBack, restored}
 use Rattle.goal_eval.specs.Outcomes.{RunsAs, RunsFor}
 use Rattle.goal_eval.specs.Pending.{IsOfKind, AreListsOfOneKind}
-use Rattle.goal_solver.specs.Relating.{IsRelated, ChangesRecords, AgreesWith, Identifies, all_replaced, all_bound, SaysEqual, IsFinalIn}
+use Rattle.goal_solver.specs.Relating.{IsRelated, ChangesRecords, AgreesWith, Identifies, all_replaced, all_bound, SaysEqual}
 use Rattle.goal_solver.specs.Settled.{AreSettled, AreSettledIn, outcome_in, IsPlainOrSame}
 use Rattle.goal_solver.specs.State.{State, IsValid, kinds_of}
 use Rattle.goal_eval.specs.declared.eval.outcomes.OnAccess.{OnAccess}
@@ -185,7 +185,7 @@ settled-in c s env on b n ts us xs ys (Ok o) checked a e f w g h p q =
     λ m. ap (λ t. setting_of t m c.environment.now) e ∙ ap (setting_of s.tables m) g in
     let stands : (m : TypingMode) → RunsAs on s.typing_mode m → RunsFor c m = λ m st.
     let run : RunsAs c.on_access c.typing_mode.now m = subst (λ k. RunsAs k c.typing_mode.now m) (sym w) (subst (λ r. RunsAs on r m) (sym f) st) in
-    (run.0, run.1, checked) in
+    (run, checked) in
     let z : AreSettled c b n ts us o = subst (λ z. AreSettled c b n z us o) p (subst (λ z. AreSettled c b n xs z o) q a) in
     record {
       holds = λ held m st ρ. subst (λ S. Pairs (level S n).equal (all_replaced ρ ts) (all_replaced ρ us)) (alike m) (z.holds held m (stands m st) ρ);
@@ -383,19 +383,19 @@ holding-in (mode.PostBorrowckAnalysis i) x e = e
 holding-in mode.PostAnalysis x e = e
 holding-in mode.ErasedNotCoherence x e = e
 
-final-in : (run m : TypingMode) (x : Outcome) → IsFinalIn run m → outcome_in run x ≡ x
-final-in mode.Coherence m x (h, inl e) = absurd (false≢true (ap is_headline e ∙ h))
-final-in mode.Coherence m x (h, inr e) = absurd (cc)
-final-in (mode.Analysis i) m x f = refl
-final-in (mode.Borrowck i) m x f = refl
-final-in (mode.PostBorrowckAnalysis i) m x f = refl
-final-in mode.PostAnalysis m x f = refl
-final-in mode.ErasedNotCoherence m x f = refl
+final-in : (run m : TypingMode) (x : Outcome) → is_coherence m ≡ false → IsFinalIn run m → outcome_in run x ≡ x
+final-in mode.Coherence m x h (inl e) = absurd (false≢true (sym h ∙ sym (ap is_coherence e.0)))
+final-in mode.Coherence m x h (inr e) = absurd (cc (e.0))
+final-in (mode.Analysis i) m x h f = refl
+final-in (mode.Borrowck i) m x h f = refl
+final-in (mode.PostBorrowckAnalysis i) m x h f = refl
+final-in mode.PostAnalysis m x h f = refl
+final-in mode.ErasedNotCoherence m x h f = refl
 
 -- what is owed after a call is final in the mode of its run
 pub owed-final : (run : TypingMode) (z : State) (m : TypingMode) → z.typing_mode ≡ run → IsOwed z m → IsFinalIn run m
-owed-final run z m e (h, inl f) = (h, inl (sym e ∙ f))
-owed-final run z m e (h, inr f) = (h, inr (sym e ∙ f.0))
+owed-final run z m e (inl f) = inl (sym e ∙ f.0, f.1)
+owed-final run z m e (inr f) = inr (sym e ∙ f.0, f.1)
 
 -- both steps of equating are in one mode
 pub mode-same : (a b z : State) → b ≡ record a { inference = b.inference } → z ≡ restored b z → z.typing_mode ≡ a.typing_mode
@@ -474,10 +474,10 @@ module _ (a b z : State) (env : List Clause) (n : ℕ) (ls rs : List TermId) (u 
         closed = λ sides m owed.
             let left : all_bound b ts ≡ ts = closed-bound b ts sides.1 in
             let right : all_bound b us ≡ us = closed-bound b us sides.2 in (
-              subst (SaysEqual (level (setting_of a.tables m env) n) ts us) (sym (final-in a.typing_mode m x (owed-final a.typing_mode z m mode owed)))
+              subst (SaysEqual (level (setting_of a.tables m env) n) ts us) (sym (final-in a.typing_mode m x owed.0 (owed-final a.typing_mode z m mode owed.1)))
                   (subst (λ zs. SaysEqual (level (setting_of a.tables m env) n) zs us x) left
                   (subst (λ zs. SaysEqual (level (setting_of a.tables m env) n) (all_bound b ts) zs x) right
-                  (in_a.closed (sides.0, subst AllClosed (sym left) sides.1, subst AllClosed (sym right) sides.2) m owed))),
+                  (in_a.closed (sides.0, subst AllClosed (sym left) sides.1, subst AllClosed (sym right) sides.2) m owed.1))),
               state ∙ un.closed (closed-resolved a ls sides.1) (closed-resolved a rs sides.2),
             );
       }

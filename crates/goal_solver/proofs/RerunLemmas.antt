@@ -1,20 +1,32 @@
 -- A context in which a run was stopped, and another one is to go on.
-use Rattle.std.proofs.Common.{◌≡◌, ◌<◌, ℕ, true, List, [], length, Result, Ok, Err, refl, sym, ap, ◌∙◌, subst, ⊎_elim, true≢false, arith}
+use Rattle.std.proofs.Common.{◌≡◌, ◌<◌, ℕ, true, List, [], length, Result, Ok, Err, refl, sym, ap, ◌∙◌, subst, ⊎_elim, true≢false, arith, Option, Some, None, inl, inr, suc, zero}
 use Rattle.std.specs.List.{Contains}
 use Rattle.std.specs.Prelude.{OnOk}
+use Rattle.goal_terms.specs.Tree.{Tree}
 use Rattle.goal_terms.specs.declared.answers.OpaqueAccess.{OpaqueAccess}
+use Rattle.goal_terms.specs.declared.ids.OpaqueId.{OpaqueId}
 use Rattle.goal_terms.specs.declared.modes.TypingMode.{TypingMode}
 use Rattle.goal_terms.specs.declared.modes.TypingMode.TheVariants as mode
+use Rattle.goal_terms.specs.declared.predicates.Clause.{Clause}
 use Rattle.goal_terms.specs.declared.terms.AliasTermKind.{AliasTermKind}
-use Rattle.goal_kinds.specs.Settings.{is_headline}
+use Rattle.goal_terms.specs.declared.terms.AliasTermKind.TheVariants.{ProjectionTy, ProjectionConst, InherentTy, InherentConst, OpaqueTy, FreeTy, FreeConst, UnevaluatedConst}
+use Rattle.goal_kinds.specs.Aliases.{OpaqueGives, OpaqueRefuted, AliasGives, AliasRefuted}
+use Rattle.goal_kinds.specs.Answers.{setting_of, which_term, maybe, IsAnswer}
+use Rattle.goal_kinds.specs.Level.{Level}
+use Rattle.goal_kinds.specs.Levels.{level}
+use Rattle.goal_kinds.specs.Settings.{is_headline, is_erased}
+use Rattle.goal_kinds.specs.Words.{OfRow, Either}
 use Rattle.goal_solver.specs.Added.{RecordsAccess}
-use Rattle.goal_solver.specs.Answers.{IsOwed}
+use Rattle.goal_solver.specs.Answers.{IsOwed, level_over, IsAliasOpen}
 use Rattle.goal_solver.specs.GoingBack.{restored}
 use Rattle.goal_solver.specs.Recording.{is_ambiguous}
 use Rattle.goal_solver.specs.State.{State}
 use Rattle.goal_solver.proofs.FoundAnswers.{sort-erased}
 use Rattle.goal_solver.proofs.RecordedLemmas.{entered-contains}
 use Rattle.goal_solver.proofs.SettledLemmas.{closed-erased}
+use Rattle.goal_tables.specs.Rows.{opaque_of}
+use Rattle.goal_tables.specs.declared.rows.OpaqueRow.{OpaqueRow}
+use Rattle.goal_tables.specs.declared.rows.Tables.{Tables}
 
 -- lifetimes change neither what a term is nor which variables stand in it
 pub ruleset sorts = (sort-erased, closed-erased)
@@ -32,8 +44,8 @@ empty-contains xs x e h = nothing x (subst (λ ys. Contains ys x) e h) where
 pub recorded-never : (a z : State) (x : OpaqueAccess) → a.typing_mode ≡ mode.ErasedNotCoherence → RecordsAccess x a z → (m : TypingMode) → IsOwed z m → ⊥
 recorded-never a z x e r m owed =
     ⊎_elim
-    (λ h. absurd (true≢false (sym owed.0 ∙ ap is_headline (sym h ∙ ap (λ (s : State). s.typing_mode) r.1 ∙ e))))
-    (λ h. empty-contains z.accesses x h.1 (entered-contains x a.accesses z.accesses r.0)) owed.1
+    (λ h. absurd (true≢false (sym (ap is_erased (ap (λ (s : State). s.typing_mode) r.1 ∙ e)) ∙ ap is_erased h.0 ∙ h.1)))
+    (λ h. empty-contains z.accesses x h.2 (entered-contains x a.accesses z.accesses r.0)) owed
 
 pub recorded-never_on : {T E : Type 0} (r : Result T E) (a z : State) (x : OpaqueAccess) → a.typing_mode ≡ mode.ErasedNotCoherence → OnOk r (RecordsAccess x a z) →
     OnOk r ((m : TypingMode) → IsOwed z m → ⊥)
@@ -51,16 +63,55 @@ restored-twice a b c e f = f ∙ ap (λ (s : State). restored s c) e
 pub restored-between : (a b c d : State) → b ≡ restored a b → c ≡ record b { accesses = c.accesses } → d ≡ restored c d → d ≡ restored a d
 restored-between a b c d e f g = restored-twice a c d (restored-twice a b c e (f ∙ sym (ap (λ (s : State). restored b s) f))) g
 
--- no answer is owed in coherence
-ambiguous-coherence : (run : TypingMode) (k : AliasTermKind) → is_ambiguous run k ≡ true → run ≡ mode.Coherence
-ambiguous-coherence mode.Coherence k e = refl
-ambiguous-coherence (mode.Analysis ids) k e = absurd (cc)
-ambiguous-coherence (mode.Borrowck ids) k e = absurd (cc)
-ambiguous-coherence (mode.PostBorrowckAnalysis ids) k e = absurd (cc)
-ambiguous-coherence mode.PostAnalysis k e = absurd (cc)
-ambiguous-coherence mode.ErasedNotCoherence k e = absurd (cc)
+-- in coherence an opaque type has no term, and isn't refuted to have one
+coherent-gives : (t : Tables) (env : List Clause) (L : Level) (i : OpaqueId) (ts : List Tree) (u : Tree) (o : Option OpaqueRow) →
+    OfRow o (OpaqueGives (setting_of t mode.Coherence env) L i ts u) → ⊥
+unfolding OfRow OpaqueGives Either
+coherent-gives t env L i ts u None h = h
+coherent-gives t env L i ts u (Some r) h = h
 
-pub ambiguous-never : (z : State) (k : AliasTermKind) (m : TypingMode) (A : Type 0) → is_ambiguous z.typing_mode k ≡ true → IsOwed z m → A
-ambiguous-never z k m A e owed =
-    let run : z.typing_mode ≡ mode.Coherence = ambiguous-coherence z.typing_mode k e in
-    ⊎_elim (λ h. absurd (true≢false (sym owed.0 ∙ ap is_headline (sym h ∙ run)))) (λ h. absurd (cc)) owed.1
+coherent-refuted : (t : Tables) (env : List Clause) (L : Level) (ts : List Tree) (o : Option OpaqueRow) → OfRow o (OpaqueRefuted (setting_of t mode.Coherence env) L ts) → ⊥
+unfolding OfRow OpaqueRefuted Either
+coherent-refuted t env L ts None h = h
+coherent-refuted t env L ts (Some r) h = h
+
+coherent-open : (t : Tables) (env : List Clause) (n : ℕ) (i : OpaqueId) (ts : List Tree) → IsAnswer (level (setting_of t mode.Coherence env) n) (which_term (OpaqueTy i) ts) maybe
+unfolding level AliasGives AliasRefuted IsAnswer
+coherent-open t env zero i ts = (λ u h. h, λ h. h)
+coherent-open t env (suc n) i ts =
+    let L = level (setting_of t mode.Coherence env) n in
+    (λ u h. coherent-gives t env L i ts u (opaque_of t i) h, λ h. coherent-refuted t env L ts (opaque_of t i) h)
+
+-- an alias whose goal is ambiguous is an opaque type in coherence
+ambiguous-opaque : (run : TypingMode) (k : AliasTermKind) → is_ambiguous run k ≡ true → (run ≡ mode.Coherence) × ((i : OpaqueId) × (k ≡ OpaqueTy i))
+ambiguous-opaque mode.Coherence (OpaqueTy i) e = (refl, (i, refl))
+ambiguous-opaque mode.Coherence (ProjectionTy i) e = absurd (cc)
+ambiguous-opaque mode.Coherence (ProjectionConst i) e = absurd (cc)
+ambiguous-opaque mode.Coherence (InherentTy i) e = absurd (cc)
+ambiguous-opaque mode.Coherence (InherentConst i) e = absurd (cc)
+ambiguous-opaque mode.Coherence (FreeTy i) e = absurd (cc)
+ambiguous-opaque mode.Coherence (FreeConst i) e = absurd (cc)
+ambiguous-opaque mode.Coherence (UnevaluatedConst n) e = absurd (cc)
+ambiguous-opaque (mode.Analysis ids) k e = absurd (cc)
+ambiguous-opaque (mode.Borrowck ids) k e = absurd (cc)
+ambiguous-opaque (mode.PostBorrowckAnalysis ids) k e = absurd (cc)
+ambiguous-opaque mode.PostAnalysis k e = absurd (cc)
+ambiguous-opaque mode.ErasedNotCoherence k e = absurd (cc)
+
+-- so undecided is its answer
+pub ambiguous-answer : (s : State) (k : AliasTermKind) (m : TypingMode) (env : List Clause) (ts : List Tree) → is_ambiguous s.typing_mode k ≡ true → IsOwed s m →
+    IsAnswer (level_over s m env) (which_term k ts) maybe
+ambiguous-answer s k m env ts e (inl h) =
+    let is = ambiguous-opaque s.typing_mode k e in
+    subst (λ x. IsAnswer (level (setting_of s.tables x env) s.remaining_depth) (which_term k ts) maybe) (sym is.0 ∙ h.0)
+    (subst (λ x. IsAnswer (level (setting_of s.tables mode.Coherence env) s.remaining_depth) (which_term x ts) maybe) (sym is.1.1)
+    (coherent-open s.tables env s.remaining_depth is.1.0 ts))
+ambiguous-answer s k m env ts e (inr h) = let both : mode.Coherence ≡ mode.ErasedNotCoherence = sym (ambiguous-opaque s.typing_mode k e).0 ∙ h.0 in absurd (cc)
+
+-- nothing is given then, and nothing is refuted
+pub ambiguous-open : (s : State) (k : AliasTermKind) (m : TypingMode) (env : List Clause) (ts : List Tree) → is_ambiguous s.typing_mode k ≡ true → IsOwed s m →
+    IsAliasOpen (level_over s m env) k ts
+unfolding IsAnswer
+ambiguous-open s k m env ts e owed =
+    let neither : IsAnswer (level_over s m env) (which_term k ts) maybe = ambiguous-answer s k m env ts e owed in
+    (λ t is h. neither.0 t h, neither.1)

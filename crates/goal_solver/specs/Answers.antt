@@ -25,7 +25,7 @@ use Rattle.goal_kinds.specs.Answers.{setting_of}
 use Rattle.goal_kinds.specs.Level.{Level}
 use Rattle.goal_kinds.specs.Levels.{level}
 use Rattle.goal_kinds.specs.Premises.{ClauseHolds, ClauseRefuted}
-use Rattle.goal_kinds.specs.Settings.{is_headline}
+use Rattle.goal_kinds.specs.Settings.{is_headline, is_coherence, is_erased}
 use Rattle.goal_solver.specs.State.{State}
 use Rattle.goal_kinds.specs.declared.faults.Fault.{Fault}
 use Rattle.goal_kinds.specs.declared.outcomes.Outcome.{Outcome}
@@ -33,9 +33,19 @@ use Rattle.goal_kinds.specs.declared.outcomes.Outcome.TheVariants as outcome
 use Rattle.goal_eval.specs.declared.eval.outcomes.Stop.{Stop}
 use Rattle.goal_kinds.specs.declared.faults.Fault.TheVariants as fault
 
--- the headline modes whose answers a call owes, by what it leaves: the context's own, or each in the erased mode as long as nothing was recorded
+-- a mode for which what is found may be final: that of the run, if it isn't the erased one; in that each of the headline
+abbrev pub IsFinalIn : TypingMode → TypingMode → Type 0
+IsFinalIn run m = ((run ≡ m) × (is_erased m ≡ false)) ⊎ ((run ≡ mode.ErasedNotCoherence) × (is_headline m ≡ true))
+
+-- the modes whose answers a call owes, by what it leaves: the context's own, but for the erased one; in that each of the headline as long as nothing was recorded
 abbrev pub IsOwed : State → TypingMode → Type 0
-IsOwed s m = (is_headline m ≡ true) × ((s.typing_mode ≡ m) ⊎ ((s.typing_mode ≡ mode.ErasedNotCoherence) × (s.accesses ≡ [])))
+IsOwed s m =
+    ((s.typing_mode ≡ m) × (is_erased m ≡ false))
+    ⊎ ((s.typing_mode ≡ mode.ErasedNotCoherence) × (is_headline m ≡ true) × (s.accesses ≡ []))
+
+-- those outside of coherence, where a refusal by head forms isn't final for equations
+abbrev pub IsOwedBeyond : State → TypingMode → Type 0
+IsOwedBeyond s m = (is_coherence m ≡ false) × IsOwed s m
 
 -- what trees no higher than the depth that is left prove over an environment in a mode, by the definitions of `goal_kinds`
 abbrev pub level_over : State → TypingMode → List Clause → Level

@@ -35,7 +35,6 @@ use Rattle.goal_kinds.specs.Levels.{level}
 use Rattle.goal_kinds.specs.Premises.{TraitTree}
 use Rattle.goal_kinds.specs.RuleWords.{TermsAreFor}
 use Rattle.goal_kinds.specs.Rules.{RuleRefuted}
-use Rattle.goal_kinds.specs.Settings.{is_headline}
 use Rattle.goal_kinds.specs.declared.rules.Rule.{Rule}
 
 -- a rule says what a candidate does, if it is sure: it gives a term at a height where the candidate does, and is refuted where that is
@@ -51,15 +50,15 @@ abbrev pub SaysNoMore : GoalWords → Rule → Candidate → Type 0
 SaysNoMore W r c =
     ((n : ℕ) (t : Tree) → RuleSays W.has_term W.setting n r t → W.gives n c t) × ((n : ℕ) → RuleRefuted W.setting (level W.setting n) r → W.refuted n c)
 
--- what a rule says of a candidate: that of the built-in one may say less than it, and that of an impl is told of in the modes of the headline
+-- what a rule says of a candidate: that of the built-in one may say less than it
 abbrev pub Says : GoalWords → Rule → Candidate → Type 0
 Says W r (assumption p) = SaysTheSame W r (assumption p)
 Says W r (implied_bound q cs) = SaysTheSame W r (implied_bound q cs)
-Says W r (by_impl i) = is_headline W.setting.mode ≡ true → SaysTheSame W r (by_impl i)
+Says W r (by_impl i) = SaysTheSame W r (by_impl i)
 Says W r built_in = SaysNoMore W r built_in
 Says W r error = SaysTheSame W r error
 
--- a rule speaks for a candidate: in every mode its list is the candidate's
+-- a rule speaks for a candidate: its list is the candidate's, and says what the candidate does
 abbrev pub Speaks : GoalWords → Rule → Candidate → Type 0
 Speaks W r c = HasList W certainty.Yes c r × Says W r c
 

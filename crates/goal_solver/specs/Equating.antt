@@ -10,7 +10,7 @@ use Rattle.goal_terms.specs.declared.predicates.Clause.{Clause}
 use Rattle.goal_infer.specs.ListUnification.{lists_are_plain}
 use Rattle.goal_infer.specs.Replacement.{OfKinds}
 use Rattle.goal_kinds.specs.Words.{Pairs}
-use Rattle.goal_solver.specs.Answers.{IsOwed, level_over}
+use Rattle.goal_solver.specs.Answers.{IsOwed, IsOwedBeyond, level_over}
 use Rattle.goal_solver.specs.Relating.{AgreesWith, Identifies, all_replaced, all_bound, AreDefinite, AreClosedSides, IsEqualAnswer, AreUndecided, LeavesOpen, SaysYes, Refuses, all_equated, AreIdentical}
 use Rattle.goal_solver.specs.State.{State, kinds_of}
 use Rattle.goal_kinds.specs.declared.faults.Fault.{Fault}
@@ -25,8 +25,8 @@ certainty_of outcome.Undecided = certainty.Maybe
 
 -- what an answer says of two lists of terms, and of the replacements that agree with the context before and after
 pub record IsEquated (old new : State) (env : List Clause) (ts us : List Tree) (r : Result Certainty Fault) : Type 0 where
-  pub sound : (m : TypingMode) → IsOwed new m → AreClosedSides env (map erased ts) (map erased us) → IsEqualAnswer (level_over old m env) (map erased ts) (map erased us) r
-  pub decided : (m : TypingMode) → IsOwed new m → AreClosedSides env (map erased ts) (map erased us) → LeavesOpen r → AreUndecided (level_over old m env) (map erased ts) (map erased us)
+  pub sound : (m : TypingMode) → IsOwedBeyond new m → AreClosedSides env (map erased ts) (map erased us) → IsEqualAnswer (level_over old m env) (map erased ts) (map erased us) r
+  pub decided : (m : TypingMode) → IsOwedBeyond new m → AreClosedSides env (map erased ts) (map erased us) → LeavesOpen r → AreUndecided (level_over old m env) (map erased ts) (map erased us)
   pub equal : (m : TypingMode) → IsOwed new m → SaysYes r → (ρ : Variable → Tree) → AgreesWith new ρ →
       Pairs (level_over old m env).equal (all_replaced ρ (map erased ts)) (all_replaced ρ (map erased us))
   pub never : Refuses r → (ρ : Variable → Tree) → OfKinds ρ → AgreesWith old ρ → Identifies ρ (map erased ts) (map erased us) → ⊥

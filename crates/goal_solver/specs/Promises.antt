@@ -1,5 +1,5 @@
 -- What the calls that answer goals promise of their answers.
-use Rattle.std.specs.Prelude.{◌≡◌, ◌≤◌, ◌<◌, ◌||◌, ◌&&◌, nat_lt, is_some, ℕ, suc, Bool, true, false, List, [], ◌∷◌, Option, Some, None, Result, Ok, Err, IfOk, IfSome, length}
+use Rattle.std.specs.Prelude.{◌≡◌, ◌≤◌, ◌<◌, ◌||◌, ◌&&◌, nat_lt, is_some, ℕ, suc, Bool, true, false, List, [], ◌∷◌, Option, Some, None, Result, Ok, Err, IfOk, IfSome, length, ◌⊎◌}
 use Rattle.goal_terms.specs.Erased.{erased}
 use Rattle.goal_terms.specs.NodeTests.{is_any_infer}
 use Rattle.goal_terms.specs.PredicateTrees.{PredicateTree, holds, equals, holds_const}
@@ -30,12 +30,13 @@ use Rattle.goal_kinds.specs.declared.faults.Fault.{Fault}
 use Rattle.goal_kinds.specs.declared.faults.Fault.TheVariants as fault
 use Rattle.goal_kinds.specs.RuleModes.{first_use_of}
 use Rattle.goal_kinds.specs.RuleWords.{DefinesHidden}
+use Rattle.goal_kinds.specs.Settings.{is_headline}
 use Rattle.goal_kinds.specs.declared.goal_kind.MergeRule.{MergeRule}
 use Rattle.goal_kinds.specs.declared.goal_kind.MergeRule.TheVariants as merge
 use Rattle.goal_kinds.specs.declared.rules.FirstUse.{FirstUse}
 use Rattle.goal_kinds.specs.declared.rules.RuleEntry.{RuleEntry}
 use Rattle.goal_eval.specs.ErasedArgs.{erased_args}
-use Rattle.goal_solver.specs.Answers.{IsOwed, level_over, AreClosed, is_closed_alias, IsClosedEquation, IsMaybe, IsAliasOpen, IsQuiet, IsQuietAside, expected_variable, IsTraitAnswer, IsAliasAnswer, IsOpen}
+use Rattle.goal_solver.specs.Answers.{IsOwed, IsOwedBeyond, level_over, AreClosed, is_closed_alias, IsClosedEquation, IsMaybe, IsAliasOpen, IsQuiet, IsQuietAside, expected_variable, IsTraitAnswer, IsAliasAnswer, IsOpen, IsFinalIn}
 use Rattle.goal_solver.specs.Assembled.{level_above, level_through, HoldsThrough}
 use Rattle.goal_solver.specs.Binding.{IsApplicable}
 use Rattle.goal_solver.specs.Goals.{IsAcceptedNormalization}
@@ -43,7 +44,6 @@ use Rattle.goal_solver.specs.OpenAnswers.{MergesProjection, MergesTrait}
 use Rattle.goal_solver.specs.OpenGoals.{WhenAnswered, at_depth}
 use Rattle.goal_solver.specs.OpenHostGoals.{MergesHostEffect}
 use Rattle.goal_solver.specs.OpenProjections.{RunsEquation, AnswersRun}
-use Rattle.goal_eval.specs.Outcomes.{StandsFor}
 use Rattle.goal_solver.specs.State.{State, kinds_of}
 
 -- what a result says of a goal: nothing, where memory ran out, or where it is to be asked again in another mode
@@ -89,6 +89,10 @@ IsYes (Err f) = ⊥
 -- so it is at the remaining depth, in each mode that is owed an answer
 abbrev pub WhereOwed : State → State → List Clause → (Level → Type 0) → Type 0
 WhereOwed before after env P = (m : TypingMode) → IsOwed after m → P (level_over before m env)
+
+-- and in those outside of coherence
+abbrev pub WhereOwedBeyond : State → State → List Clause → (Level → Type 0) → Type 0
+WhereOwedBeyond before after env P = (m : TypingMode) → IsOwedBeyond after m → P (level_over before m env)
 
 -- so it is at every depth from the remaining one on
 abbrev pub FromHereOn : State → State → List Clause → (Level → Type 0) → Type 0
@@ -181,10 +185,15 @@ pub record GivesTermAlone (s : State) (e : Term) (r : Response) : Type 0 where
   pub quiet : IsQuietAside (length (kinds_of s)) r
   pub values : ListsTerm e r.certainty r.var_values.items
 
--- a closed goal of an alias's term is answered: exactly, if `check_goal` accepts it; what is decided lasts; and nothing is changed but lifetimes and the term's variable, if it is no opaque type that is being defined
+-- a mode is one of the headline, or the goal's alias is no opaque type that the context's mode defines
+abbrev pub IsNotDefined : State → NormalizesTo → TypingMode → Type 0
+IsNotDefined s p m = (is_headline m ≡ true) ⊎ (first_use_of s.tables s.typing_mode p.alias.kind ≡ None)
+
+-- a closed goal of an alias's term is answered, if it is no opaque type that is being defined: exactly, if `check_goal` accepts it; what is decided lasts; and nothing is changed but lifetimes and the term's variable
 pub record AnswersAlias (before after : State) (env : List Clause) (p : NormalizesTo) (r : Result Response Fault) : Type 0 where
-  pub exact : IsAcceptedNormalization before p env → WhereOwed before after env (λ L. IfSome (term_answered r) (IsAnswer L (term_asked p)))
-  pub lasts : FromHereOn before after env (λ L. IfSome (decided_in (term_answered r)) (IsAnswer L (term_asked p)))
+  pub exact : IsAcceptedNormalization before p env → (m : TypingMode) → IsOwed after m → IsNotDefined before p m → IfSome (term_answered r) (IsAnswer (level_over before m env) (term_asked p))
+  pub lasts : (m : TypingMode) (n : ℕ) → IsOwed after m → IsNotDefined before p m → before.remaining_depth ≤ n →
+      IfSome (decided_in (term_answered r)) (IsAnswer (level (setting_of before.tables m env) n) (term_asked p))
   pub quiet : first_use_of before.tables before.typing_mode p.alias.kind ≡ None → IfOk r (GivesTermAlone before p.term)
   pub no_class : IfOk r NamesNoClass
 
@@ -300,7 +309,7 @@ AnswersGiven before after env (Some a) r = is_closed_alias a.asked.alias env ≡
 
 -- the response to such an alias can be applied, where its trait goal does hold and the goal is accepted, and where other inference variables stand in it
 pub record AppliesProven (before after : State) (env : List Clause) (a : Through) (r : Result Response Fault) : Type 0 where
-  pub proven : (m : TypingMode) → StandsFor before.typing_mode m → IsProven before m env a → IsAcceptedNormalization before a.asked env → IfOk r (IsApplicable after)
+  pub proven : (m : TypingMode) → IsFinalIn before.typing_mode m → IsProven before m env a → IsAcceptedNormalization before a.asked env → IfOk r (IsApplicable after)
   pub variables : (n : ℕ) → is_closed_alias a.asked.alias env ≡ false → expected_variable a.asked.term ≡ Some n → IfOk r (IsApplicable after)
 
 abbrev pub AppliesGiven : State → State → List Clause → Option Through → Result Response Fault → Type 0

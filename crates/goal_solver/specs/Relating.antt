@@ -20,9 +20,8 @@ use Rattle.goal_infer.specs.Unification.{is_open}
 use Rattle.goal_kinds.specs.Answers.{setting_of}
 use Rattle.goal_kinds.specs.Level.{Level}
 use Rattle.goal_kinds.specs.Levels.{level}
-use Rattle.goal_kinds.specs.Settings.{is_headline}
 use Rattle.goal_kinds.specs.Words.{Pairs, SomePair}
-use Rattle.goal_solver.specs.Answers.{IsOwed}
+use Rattle.goal_solver.specs.Answers.{IsOwed, IsOwedBeyond}
 use Rattle.goal_eval.specs.Outcomes.{Says}
 use Rattle.goal_solver.specs.State.{State, kinds_of}
 use Rattle.goal_kinds.specs.declared.faults.Fault.{Fault}
@@ -57,10 +56,6 @@ AreDefinite s ts = list_any (some_node (is_open (kinds_of s))) (all_bound s ts) 
 abbrev pub AreClosedSides : List Clause → List Tree → List Tree → Type 0
 AreClosedSides env ts us = (some_in_env is_any_infer env ≡ false) × AllClosed ts × AllClosed us
 
--- a headline mode for which what is found is final: that of the run, or each if the run is in the erased mode
-abbrev pub IsFinalIn : TypingMode → TypingMode → Type 0
-IsFinalIn run m = (is_headline m ≡ true) × ((run ≡ m) ⊎ (run ≡ mode.ErasedNotCoherence))
-
 -- what two lists of terms come to: that they are equal in pairs, that a pair is unequal, or neither
 abbrev pub SaysEqual : Level → List Tree → List Tree → Outcome → Type 0
 SaysEqual L ts us o = Says (Pairs L.equal ts us) (SomePair L.unequal ts us) o
@@ -76,7 +71,7 @@ pub record IsRelated (old new : State) (env : List Clause) (ts us : List Tree) (
   pub identified : o ≡ outcome.Holds → AreDefinite old ts → AreDefinite old us → (ρ : Variable → Tree) → AgreesWith new ρ → Identifies ρ ts us
   pub plain : lists_are_plain (kinds_of old) (all_bound old ts) (all_bound old us) ≡ true → o ≢ outcome.Undecided
   pub same : all_bound old ts ≡ all_bound old us → (o ≡ outcome.Holds) × (new.inference ≡ old.inference)
-  pub closed : AreClosedSides env ts us → (m : TypingMode) → IsOwed new m → SaysEqual (level (setting_of old.tables m env) n) ts us o × (new.inference ≡ old.inference)
+  pub closed : AreClosedSides env ts us → (m : TypingMode) → IsOwedBeyond new m → SaysEqual (level (setting_of old.tables m env) n) ts us o × (new.inference ≡ old.inference)
 
 -- only terms and inference state change
 abbrev pub ChangesInference : State → State → Type 0

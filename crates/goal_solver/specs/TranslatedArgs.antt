@@ -38,7 +38,7 @@ use Rattle.goal_kinds.specs.declared.faults.Fault.{Fault}
 use Rattle.goal_kinds.specs.declared.faults.Fault.TheVariants as fault
 use Rattle.goal_solver.specs.Added.{with_goals}
 use Rattle.goal_eval.specs.ErasedArgs.{erased_args}
-use Rattle.goal_solver.specs.Answers.{IsOwed, level_over}
+use Rattle.goal_solver.specs.Answers.{IsOwed, IsOwedBeyond, level_over}
 use Rattle.goal_solver.specs.Equating.{IsEquated}
 use Rattle.goal_solver.specs.Relating.{AgreesWith, Identifies, SaysYes, Refuses, LeavesOpen, all_bound, all_replaced}
 use Rattle.goal_solver.specs.State.{State, kinds_of}
@@ -194,11 +194,11 @@ IsClosedFor s o = AreClosedIn o.environment (bound_ref s o.trait_ref)
 
 -- what is answered where neither hold one: a yes says that the header fits under the arguments, and a refusal that it clashes
 abbrev pub ReadsSoundly : State → State → OtherAsked → Result (Vec GenericArg Global × Certainty) Fault → Type 0
-ReadsSoundly old new o r = (m : TypingMode) → IsOwed new m → IsClosedFor old o → IsTranslation (level_over old m o.environment) o.row (bound_ref old o.trait_ref) (map erased o.own) r
+ReadsSoundly old new o r = (m : TypingMode) → IsOwedBeyond new m → IsClosedFor old o → IsTranslation (level_over old m o.environment) o.row (bound_ref old o.trait_ref) (map erased o.own) r
 
 -- where it stays open, the header neither fits nor clashes
 abbrev pub LeavesHeaderOpen : State → State → OtherAsked → Result (Vec GenericArg Global × Certainty) Fault → Type 0
-LeavesHeaderOpen old new o r = (m : TypingMode) → IsOwed new m → IsClosedFor old o → LeavesOpen (certainty_in r) → IsHeaderOpen (level_over old m o.environment) o.row (bound_ref old o.trait_ref)
+LeavesHeaderOpen old new o r = (m : TypingMode) → IsOwedBeyond new m → IsClosedFor old o → LeavesOpen (certainty_in r) → IsHeaderOpen (level_over old m o.environment) o.row (bound_ref old o.trait_ref)
 
 -- not all of the header's parameters are known
 abbrev pub IsNotKnown : Level → ImplRow → List Tree → Type 0
@@ -213,7 +213,7 @@ FreshIfUnknown L old new q gs r = IsNotKnown L q gs → AnswersFresh old new q [
 
 -- they are where not all are known
 abbrev pub MakesFresh : State → State → OtherAsked → Result (Vec GenericArg Global × Certainty) Fault → Type 0
-MakesFresh old new o r = (m : TypingMode) → IsOwed new m → IsClosedFor old o → IsNotKnown (level_over old m o.environment) o.row (bound_ref old o.trait_ref) → AnswersFresh old new o.row o.own r
+MakesFresh old new o r = (m : TypingMode) → IsOwedBeyond new m → IsClosedFor old o → IsNotKnown (level_over old m o.environment) o.row (bound_ref old o.trait_ref) → AnswersFresh old new o.row o.own r
 
 -- no variable is bound
 abbrev pub BindsNone : State → State → OtherAsked → Result (Vec GenericArg Global × Certainty) Fault → Type 0
@@ -250,9 +250,9 @@ SaysHeader L q gs T r = IfOk r (SaysMatch L q.params.items (header_of q) gs T)
 
 -- then the arguments are read off where the header's parameters stand, and no variable is bound
 pub record ReadsOff (old new : State) (o : OtherAsked) (r : Result (Vec GenericArg Global × Certainty) Fault) : Type 0 where
-  pub sound : (m : TypingMode) → IsOwed new m → IsTranslation (level_over old m o.environment) o.row (bound_ref old o.trait_ref) (map erased o.own) r
-  pub decided : (m : TypingMode) → IsOwed new m → LeavesOpen (certainty_in r) → IsHeaderOpen (level_over old m o.environment) o.row (bound_ref old o.trait_ref)
-  pub fresh : (m : TypingMode) → IsOwed new m →
+  pub sound : (m : TypingMode) → IsOwedBeyond new m → IsTranslation (level_over old m o.environment) o.row (bound_ref old o.trait_ref) (map erased o.own) r
+  pub decided : (m : TypingMode) → IsOwedBeyond new m → LeavesOpen (certainty_in r) → IsHeaderOpen (level_over old m o.environment) o.row (bound_ref old o.trait_ref)
+  pub fresh : (m : TypingMode) → IsOwedBeyond new m →
       ((s : List Tree) → AllKnown (level_over old m o.environment) o.row.params.items (header_of o.row) (bound_ref old o.trait_ref) s → ⊥) →
       IfOk r (λ x. IsFresh old new o.row o.own (trees_of x.0.items))
   pub binds_nothing : IfOk r (λ x. BindsNothing old new o.row o.own (trees_of x.0.items))

@@ -955,12 +955,12 @@ eval::premises::equation_outcome-returns-clause-says t c =
 
 pub eval::lists::run_list-returns-in-None-clause-says : goal.eval::lists::run_list-returns-in-None-clause-says
 eval::lists::run_list-returns-in-None-clause-says t c = λ m s q f.
-    none-says (level_in c.args.setting.now m c.args.depth) c.args.setting.now.typing_mode.now c.args.terms.now q
-    (subst (λ l. IsListFor c.args.setting.now.typing_mode.now (list_at c.args.terms.now l) q) c.in-None.is f)
+    none-says (level_in c.args.setting.now m c.args.depth) c.args.setting.now c.args.terms.now q
+    (subst (λ l. IsListFor c.args.setting.now (list_at c.args.terms.now l) q) c.in-None.is f)
 
 pub eval::lists::run_list-returns-in_ok-outcome-in-Some-clause-says : goal.eval::lists::run_list-returns-in_ok-outcome-in-Some-clause-says
 eval::lists::run_list-returns-in_ok-outcome-in-Some-clause-says t c = λ m s.
-    list-says (level_in c.args.setting.now m c.args.depth) c.args.setting.now.typing_mode.now c.args.terms.now c.run_entries.new.terms c.args.list.now c.in-Some.entries
+    list-says (level_in c.args.setting.now m c.args.depth) c.args.setting.now c.args.terms.now c.run_entries.new.terms c.args.list.now c.in-Some.entries
     c.deref.result.now (Ok c.in_ok-outcome-in-Some.outcome) c.in-Some.is c.deref.ensures.value (c.in_ok-outcome-in-Some.ensures.says m s)
 
 pub eval::lists::run_entries-loop-entry-preserved : goal.eval::lists::run_entries-loop-entry-preserved
@@ -1196,7 +1196,7 @@ pub assembly::candidates::listed_outcome-returns-clause-says : goal.assembly::ca
 assembly::candidates::listed_outcome-returns-clause-says t c m s =
     subst (SaysListed (setting_in c.args.setting.now m) (level_in c.args.setting.now m c.args.depth) c.args.terms.now c.args.asked.now (candidate_at c.args.terms.now c.args.candidate.now))
     (sym c.held.ensures)
-    (asked-says (setting_in c.args.setting.now m) s.0 (level_in c.args.setting.now m c.args.depth) c.args.terms.now c.run_list.new.terms c.args.asked.now
+    (asked-says (setting_in c.args.setting.now m) (level_in c.args.setting.now m c.args.depth) c.args.terms.now c.run_list.new.terms c.args.asked.now
     (candidate_at c.args.terms.now c.args.candidate.now) c.in_ok-found.found
     (c.in_ok-found.ensures.says m s (candidate_list (setting_in c.args.setting.now m) c.args.terms.now c.args.asked.now (candidate_at c.args.terms.now c.args.candidate.now))
     (c.in_ok-list.ensures.list m s)))
@@ -1213,7 +1213,7 @@ assembly::candidates::consider_candidate-returns-clause-says t c m s =
 
 pub assembly::specialized::impl_outcome-returns-clause-says : goal.assembly::specialized::impl_outcome-returns-clause-says
 assembly::specialized::impl_outcome-returns-clause-says t c m s =
-    impl-says (setting_in c.args.setting.now m) s.0 (level_in c.args.setting.now m c.args.depth) c.run_list.new.terms (erased_all c.args.terms.now c.args.args.now) c.args.row.now
+    impl-says (setting_in c.args.setting.now m) (level_in c.args.setting.now m c.args.depth) c.run_list.new.terms (erased_all c.args.terms.now c.args.args.now) c.args.row.now
     c.in_ok-found.found c.held.result c.held.ensures
     (c.in_ok-found.ensures.says m s (trait_list (setting_in c.args.setting.now m) c.args.row.now.trait_id (erased_all c.args.terms.now c.args.args.now) (by_impl c.args.row.now)) (c.in_ok-list.ensures.list m s))
 
@@ -1253,12 +1253,12 @@ assembly::specialized::impls_outcome-returns-in-Holds-clause-says t c m s =
     impls-shown c.args.setting.now c.args.depth c.args.terms.now c.args.args.now c.args.row.now c.more_special-places.result.now (c.loop-i.i + 1) c.or-found.result c.in-Holds.is
     (impls-more c.args.setting.now c.args.depth c.args.terms.now c.loop-i.terms c.args.args.now c.more_special-places.result.now c.loop-i.i (get_or c.more_special-places.result.now c.loop-i.i 0) c.impl_at-other.result.now
     c.loop-i.found c.in_ok-next.next c.or-found.result c.loop-i.invariant.kept c.requires.args (omega arith) refl c.impl_at-other.ensures c.or-found.ensures
-    c.loop-i.invariant.so_far c.in_ok-next.ensures.says) m s (c.more_special-places.ensures.listed c.args.row.now (c.requires.row s.2))
+    c.loop-i.invariant.so_far c.in_ok-next.ensures.says) m s (c.more_special-places.ensures.listed c.args.row.now (c.requires.row s.1))
 
 pub assembly::specialized::impls_outcome-returns-clause-says : goal.assembly::specialized::impls_outcome-returns-clause-says
 assembly::specialized::impls_outcome-returns-clause-says t c m s =
     impls-end c.args.setting.now c.args.depth c.args.terms.now c.args.args.now c.args.row.now c.more_special-places.result.now c.loop-i.i c.loop-i.found (omega arith)
-    c.loop-i.invariant.so_far m s (c.more_special-places.ensures.listed c.args.row.now (c.requires.row s.2))
+    c.loop-i.invariant.so_far m s (c.more_special-places.ensures.listed c.args.row.now (c.requires.row s.1))
 
 pub assembly::candidates::candidates_outcome-loop-candidate-init : goal.assembly::candidates::candidates_outcome-loop-candidate-init
 assembly::candidates::candidates_outcome-loop-candidate-init t c = record {
@@ -1476,7 +1476,7 @@ normalizes_to::alias_terms::fresh_alias_term-returns-in-ProjectionTy-clause-says
 pub normalizes_to::alias_terms::fresh_alias_term-returns-in_ok-outcome-in_default-clause-says : goal.normalizes_to::alias_terms::fresh_alias_term-returns-in_ok-outcome-in_default-clause-says
 normalizes_to::alias_terms::fresh_alias_term-returns-in_ok-outcome-in_default-clause-says t c = λ m s.
     let args = erased_all c.args.terms.now c.args.args.now in
-    alias-says (setting_in c.args.setting.now m) s.0 (c.args.depth - 1) c.args.depth (omega arith) c.args.kind (no_item c.args.kind c.in_default.not-ProjectionTy c.in_default.not-ProjectionConst)
+    alias-says (setting_in c.args.setting.now m) (c.args.depth - 1) c.args.depth (omega arith) c.args.kind (no_item c.args.kind c.in_default.not-ProjectionTy c.in_default.not-ProjectionConst)
     args c.run_list.new.terms c.in_ok-outcome-in_default.outcome c.term.result c.term.ensures
     (c.in_ok-outcome-in_default.ensures.says m s (Some (alias_list (setting_in c.args.setting.now m) c.args.kind args)) (c.in_ok-list-in_default.ensures.list m s))
 
@@ -1485,7 +1485,7 @@ normalizes_to::projection_candidates::candidate_term-returns-clause-says t c = �
     let p = projection_at c.args.terms.now c.args.projection.now in
     let itself = erased_at c.args.terms.now c.args.projection.now.rigid_alias in
     let candidate = candidate_at c.args.terms.now c.args.candidate.now in
-    candidate-says (setting_in c.args.setting.now m) s.0 c.args.depth p itself candidate c.run_list.new.terms c.in_ok-outcome.outcome c.term.result c.term.ensures
+    candidate-says (setting_in c.args.setting.now m) c.args.depth p itself candidate c.run_list.new.terms c.in_ok-outcome.outcome c.term.result c.term.ensures
     (c.in_ok-outcome.ensures.says m s (projection_list (setting_in c.args.setting.now m) p itself candidate) (c.in_ok-list.ensures.list m s))
 
 pub normalizes_to::projection_candidates::consider_term-returns-in-Refuted-clause-says : goal.normalizes_to::projection_candidates::consider_term-returns-in-Refuted-clause-says

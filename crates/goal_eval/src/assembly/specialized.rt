@@ -97,7 +97,7 @@ fn impl_outcome(
     ensures effects { AreSound setting.now terms.new effects.new }
     ensures kept { Keeps terms.old terms.new }
     ensures stops { IfErr result (IsStop setting.now) }
-    ensures says { ForEachMode setting.now depth (λ _ L. IfOk result (SaysImpl L (erased_all terms.old args.now) row.now)) }
+    ensures says { ForEachMode setting.now depth (λ S L. IfOk result (SaysImpl S L (erased_all terms.old args.now) row.now)) }
 {
     let list = impl_list(&*setting, terms, args, &*row)?;
     let found = run_list(setting, terms, effects, &list, depth)?;

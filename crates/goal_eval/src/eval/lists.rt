@@ -121,7 +121,7 @@ fn run_entries(
     ensures kept { Keeps terms.old terms.new }
     ensures within { IfOk result (ListTermIn terms.new) }
     ensures stops { IfErr result (IsStop setting.now) }
-    ensures says { AtEachLevel setting.now depth (λ L. IfOk result (SaysEntries setting.now.typing_mode.now (entries_at terms.old entries.now) L terms.new)) }
+    ensures says { AtEachLevel setting.now depth (λ L. IfOk result (SaysEntries setting.now (entries_at terms.old entries.now) L terms.new)) }
 {
     let mut run = ListRun::new(setting.allocator());
     for entry in entries {

@@ -189,19 +189,21 @@ pub(crate) fn impl_match<'t>(
     Ok(vec![in alloc; matched, clauses]?)
 }
 
-/// The list of a reservation impl: it bars a refutation in coherence, and says nothing elsewhere. Want of
-/// memory is the only refusal.
+/// The list of a reservation impl: in coherence it bars a refutation as long as what the impl asks for isn't
+/// refuted, and elsewhere there is none. Want of memory is the only refusal.
 fn reserved_list<'t>(
     alloc: Global,
     mode: &TypingMode,
+    mut asked: Vec<InternedEntry<'t>>,
 ) -> Result<Option<Vec<InternedEntry<'t>>>, OutOfMemory>
-    ensures within { (T : List Tree) → IfOk result (ListIn T) }
-    ensures list { (T : List Tree) → IfOk result (λ o. list_at T o ≡ reserved_list mode.now) }
-    ensures named { (t : Tables) → IfOk result (ListNamesItsRows t) }
+    ensures within { (T : List Tree) → EntriesIn T asked.entry.items → IfOk result (ListIn T) }
+    ensures list { (T : List Tree) → IfOk result (λ o. list_at T o ≡ reserved_list mode.now (entries_at T asked.entry.items)) }
+    ensures named { (t : Tables) → All (NamesItsRows t) asked.entry.items → IfOk result (ListNamesItsRows t) }
 {
     match mode {
         TypingMode::Coherence => {
-            let entries = undecided(alloc)?;
+            let mut entries = undecided(alloc)?;
+            entries.append(&mut asked)?;
             Ok(Some(entries))
         }
         TypingMode::Analysis { .. }
@@ -227,7 +229,7 @@ pub(crate) fn list_by_polarity<'t>(
     match polarity {
         ImplPolarity::Positive => Ok(Some(entries)),
         ImplPolarity::Negative => Ok(None),
-        ImplPolarity::Reservation => reserved_list(alloc, mode),
+        ImplPolarity::Reservation => reserved_list(alloc, mode, entries),
     }
 }
 

@@ -17,9 +17,9 @@ ghost use Rattle.goal_kinds.specs.Projections.{projected_item};
 ghost use Rattle.goal_kinds.specs.RuleClauses.{asked_alias_list, MeansAlias, GivesNot, IsCoherence, DefinesAsked};
 ghost use Rattle.goal_kinds.specs.RuleLists.{IsListed};
 ghost use Rattle.goal_kinds.specs.Rules.{given};
-ghost use Rattle.goal_kinds.specs.RuleModes.{IsRuleIn, opaque_use, first_use_of, among, accesses_of, accesses_for};
+ghost use Rattle.goal_kinds.specs.RuleModes.{IsRuleIn, opaque_use, first_use_of, accesses_of, accesses_for};
 ghost use Rattle.goal_kinds.specs.RuleWords.{TermsAreFor};
-ghost use Rattle.goal_kinds.specs.Settings.{Setting};
+ghost use Rattle.goal_kinds.specs.Settings.{Setting, among};
 
 use crate::faults::Fault;
 use crate::lists::aliases::alias_list;

@@ -2,7 +2,9 @@
 ghost use Rattle.std.specs.Prelude.{◌≡◌, List, Err, true, false, IfOk, IsOkUnless};
 ghost use Rattle.goal_terms.specs.declared.predicates.Clause.{Clause as clause};
 ghost use Rattle.goal_tables.specs.Rows.{impl_of};
-ghost use Rattle.goal_kinds.specs.CandidateRules.{is_coherence, is_of_trait, may_match, only_bars, only_given, refuses_impl, said_by};
+ghost use Rattle.goal_kinds.specs.Settings.{is_coherence};
+ghost use Rattle.goal_kinds.specs.TraitGoals.{only_bars};
+ghost use Rattle.goal_kinds.specs.CandidateRules.{is_of_trait, may_match, only_given, refuses_impl, said_by};
 ghost use Rattle.goal_kinds.specs.Candidates.{built_in, error};
 ghost use Rattle.goal_kinds.specs.Interned.{CandidateIn, candidate_at};
 ghost use Rattle.goal_kinds.specs.InternedEntries.{setting_at};

@@ -46,7 +46,8 @@ impl EvalCtxt<'_> {
     }
 
     /// What equating terms answers where its evaluation was stopped, as `stopped` does for a goal: that it is
-    /// undecided, or to be run again in another mode. Inference state, added goals and storage are as before.
+    /// undecided, or to be run again in another mode. Only a run in the erased mode is stopped by an access.
+    /// Inference state, added goals and storage are as before.
     pub(crate) fn undecided_by(&mut self, stop: Stop) -> Result<Certainty, Fault>
         ensures owed { (m : modes) → IsOwed self.new m → (is_headline self.old.typing_mode ≡ true → stop ≡ Stop.OutOfMemory) → result ≡ Err Fault.OutOfMemory }
         ensures memory { stop ≡ Stop.OutOfMemory → result ≡ Err Fault.OutOfMemory }
@@ -60,7 +61,7 @@ impl EvalCtxt<'_> {
             return Err(Fault::OutOfMemory);
         };
         if !self.is_erased() {
-            return Ok(Certainty::Maybe);
+            return Err(Fault::OutOfMemory);
         }
         self.record_access(access)?;
         if self.is_stopped_by(access) {

@@ -6,7 +6,7 @@ ghost use Rattle.goal_solver.specs.Accesses.{RecordsCaused, EndsFor, RecordsCaus
 ghost use Rattle.goal_eval.specs.ErasedArgs.{erased_args};
 ghost use Rattle.goal_solver.specs.Answers.{IsOwed};
 ghost use Rattle.goal_kinds.specs.Interned.{AreIn, PredicateIn, erased_all, predicate_at};
-ghost use Rattle.goal_solver.specs.Evaluations.{RunSays, SaysOf, SaysTermAt, StopsForMemory, predicate_seen, SaysTraitAt, level_at, SaysAliasTerm, WhereStands, WhereRun};
+ghost use Rattle.goal_solver.specs.Evaluations.{RunSays, SaysOf, SaysTermAt, StopsForMemory, predicate_seen, SaysTraitAt, level_at, SaysAliasTerm, WhereFinal, WhereRun};
 ghost use Rattle.goal_solver.specs.GoingBack.{GoesBack, restored};
 ghost use Rattle.goal_solver.specs.Recording.{FitsKind, IsFitting};
 ghost use Rattle.goal_eval.specs.Outcomes.{RunsAs, FoundIn};
@@ -187,7 +187,7 @@ impl EvalCtxt<'_> {
         ensures goes_back { GoesBack self.old self.new }
         ensures within { IfOk result (FoundIn self.new.terms) }
         ensures says { WhereOwed self.old self.new environment.now (λ L. SaysAliasTerm L alias.now self.new.terms result) }
-        ensures fits { IsFitting alias.now.kind self.new.terms result ⊎ WhereStands self.old environment.now (λ L. SaysAliasTerm L alias.now self.new.terms result) }
+        ensures fits { IsFitting alias.now.kind self.new.terms result ⊎ WhereFinal self.old environment.now (λ L. SaysAliasTerm L alias.now self.new.terms result) }
         ensures caused { RecordsCaused self.old self.new }
         ensures faults { RecordsCausedFaults self.old self.new }
         ensures ends { IfErr result (EndsFor self.old) }
@@ -214,15 +214,13 @@ impl EvalCtxt<'_> {
         ensures goes_back { GoesBack self.old self.new }
         ensures within { IfOk result (FoundIn self.new.terms) }
         ensures says { WhereOwed self.old self.new environment.now (λ L. SaysTermAt L kind (erased_all self.old.terms args.now) self.new.terms result) }
-        ensures fits { IsFitting kind self.new.terms result ⊎ WhereStands self.old environment.now (λ L. SaysTermAt L kind (erased_all self.old.terms args.now) self.new.terms result) }
+        ensures fits { IsFitting kind self.new.terms result ⊎ WhereFinal self.old environment.now (λ L. SaysTermAt L kind (erased_all self.old.terms args.now) self.new.terms result) }
         ensures caused { RecordsCaused self.old self.new }
         ensures ends { IfErr result (EndsFor self.old) }
         ensures stops { StopsForMemory self.old result }
     {
-        if let OnAccess::Record = self.first_access() {
-            return self.alias_recorded(kind, args, environment, listed);
-        }
-        let first = self.alias_run(OnAccess::Stop, kind, args, environment, listed);
+        let on_access = self.first_access();
+        let first = self.alias_run(on_access, kind, args, environment, listed);
         if let Some(found) = self.first_answer(first)? {
             return Ok(found);
         }

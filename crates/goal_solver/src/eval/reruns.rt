@@ -2,12 +2,11 @@
 ghost use Rattle.std.specs.Prelude.{◌≡◌, true, false, None, Ok, OnOk, IfOk, IfErr, IfSome};
 ghost use Rattle.goal_terms.specs.declared.modes.TypingMode.{TypingMode as modes};
 ghost use Rattle.goal_solver.specs.Accesses.{RecordsCaused, EndsFor};
-ghost use Rattle.goal_solver.specs.Answers.{IsOwed};
+ghost use Rattle.goal_solver.specs.Answers.{IsOwed, IsFinalIn};
 ghost use Rattle.goal_kinds.specs.Interned.{IsIn};
 ghost use Rattle.goal_solver.specs.GoingBack.{GoesBack};
-ghost use Rattle.goal_eval.specs.Outcomes.{FoundIn};
+ghost use Rattle.goal_eval.specs.Outcomes.{FoundIn, RunsAs};
 ghost use Rattle.goal_solver.specs.Recording.{FitsKind, is_ambiguous};
-ghost use Rattle.goal_solver.specs.Relating.{IsFinalIn};
 
 use crate::context::EvalCtxt;
 use goal_eval::eval::mode_tests::is_headline;
@@ -23,8 +22,9 @@ impl EvalCtxt<'_> {
     /// What the first run of an evaluation does at an access. In the erased mode it ends there: what it finds
     /// without one is right in every headline mode. In coherence and where opaque types are being defined the
     /// only run goes on.
+    #[tactic(auto, unfolding(goal_eval::specs::Outcomes::RunsAs))]
     pub(crate) fn first_access(&self) -> OnAccess
-        ensures stops_in { (m : modes) → IsFinalIn self.now.typing_mode m → result ≡ OnAccess.Stop }
+        ensures runs_for { (m : modes) → IsFinalIn self.now.typing_mode m → RunsAs result self.now.typing_mode m }
     {
         if self.is_erased() || is_headline(&self.typing_mode) {
             OnAccess::Stop

@@ -37,7 +37,6 @@ use crate::faults::Fault;
 use goal_eval::eval::effects::Effects;
 use goal_eval::eval::lists::ListOutcome;
 use goal_eval::eval::lists::progress::{ListRun, Reached};
-use goal_eval::eval::mode_tests::is_headline;
 use goal_eval::eval::outcomes::{OnAccess, Setting, Stop};
 use goal_eval::eval::region_constraints::RegionConstraints;
 use goal_kinds::rules::{Candidate, Rule, RuleEntry};
@@ -220,8 +219,8 @@ impl EvalCtxt<'_> {
         }
     }
 
-    /// Records that a rule reads the mode. Where the context stops then, or the rule has no answer without a
-    /// mode, the run is stopped, but not in a headline mode.
+    /// Records that a rule reads the mode. In the erased mode the run is stopped where the context stops then, or
+    /// the rule has no answer without a mode.
     pub(crate) fn read_mode(&mut self, access: OpaqueAccess) -> Result<(), Stop>
         ensures entered { OnOk result (RecordsAccess access self.old self.new) }
         ensures recorded { OnOk result (Contains self.new.accesses access) }
@@ -230,7 +229,7 @@ impl EvalCtxt<'_> {
         ensures stops { is_of_headline self.old.typing_mode ≡ true → IfErr result (λ s. s ≡ Stop.OutOfMemory) }
     {
         let stops = self.stop_on_rerun || matches!(access, OpaqueAccess::Always);
-        if stops && !is_headline(&self.typing_mode) {
+        if stops && self.is_erased() {
             return Err(Stop::ReadsMode(access));
         }
         let Ok(()) = self.record_access(access) else {

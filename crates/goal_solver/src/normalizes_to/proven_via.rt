@@ -11,7 +11,7 @@ ghost use Rattle.goal_solver.specs.Recording.{FitsKind, IsFitting};
 ghost use Rattle.goal_eval.specs.Outcomes.{RunsAs, RunsFor, setting_in, level_in, FoundIn};
 ghost use Rattle.goal_solver.specs.Promises.{ListsTerm};
 ghost use Rattle.goal_solver.specs.State.{kinds_of};
-ghost use Rattle.goal_solver.specs.ThroughClasses.{SaysTermThrough, SaysClassTerm, SaysWhereStands, SoundThrough, DecidesThrough, AppliesThrough};
+ghost use Rattle.goal_solver.specs.ThroughClasses.{SaysTermThrough, SaysClassTerm, SaysWhereFinal, SoundThrough, DecidesThrough, AppliesThrough};
 ghost use Rattle.goal_eval.specs.Effects.{AreSound, IsStop};
 
 use crate::context::EvalCtxt;
@@ -93,13 +93,11 @@ impl EvalCtxt<'_> {
         ensures goes_back { GoesBack self.old self.new }
         ensures within { IfOk result (FoundIn self.new.terms) }
         ensures says { (m : TypingMode) → IsOwed self.new m → SaysClassTerm self.old self.new m environment.now class alias.now result }
-        ensures fits { IsFitting alias.now.kind self.new.terms result ⊎ SaysWhereStands self.old self.new environment.now class alias.now result }
+        ensures fits { IsFitting alias.now.kind self.new.terms result ⊎ SaysWhereFinal self.old self.new environment.now class alias.now result }
         ensures stops { is_headline self.old.typing_mode ≡ true → IfErr result (λ s. s ≡ Stop.OutOfMemory) }
     {
-        if let OnAccess::Record = self.first_access() {
-            return self.class_recorded(class, alias, environment, listed);
-        }
-        let first = self.class_run(OnAccess::Stop, class, alias, environment, listed);
+        let on_access = self.first_access();
+        let first = self.class_run(on_access, class, alias, environment, listed);
         if let Some(found) = self.first_answer(first)? {
             return Ok(found);
         }

@@ -16,14 +16,14 @@ ghost use Rattle.goal_kinds.specs.Interned.{AreIn, erased_all};
 ghost use Rattle.goal_kinds.specs.Settings.{is_headline};
 ghost use Rattle.goal_tables.specs.declared.rows.ImplRow.{ImplRow as impls};
 ghost use Rattle.goal_eval.specs.ErasedArgs.{erased_args};
-ghost use Rattle.goal_solver.specs.Answers.{IsOwed};
+ghost use Rattle.goal_solver.specs.Answers.{IsOwedBeyond};
 ghost use Rattle.goal_solver.specs.GoingBack.{GoesBack, restored};
 ghost use Rattle.goal_eval.specs.Outcomes.{MatchIn};
 ghost use Rattle.goal_solver.specs.Relating.{AgreesWith, LeavesOpen, ChangesRecords, IsFaultFor, all_bound};
 ghost use Rattle.goal_solver.specs.State.{kinds_of};
 ghost use Rattle.goal_solver.specs.TranslatedArgs.{taken_by, own_after, certainty_in, AnswersJust, IsTranslation, IsHeaderOpen, IsFresh, BindsNothing, IsMadeEqual, IsAdded, AddsClauses, MakesVariables, ChangesGoals, MatchCounts, Takes, args_asked, TranslatesOther, asked_of, asked_for, ReadsSoundly, LeavesHeaderOpen, MakesFresh, BindsNone, EquatesHeader, IsHeaderEqual, IsNeverEqual, AddsItsGoals, FreshIfUnknown, EqualsWhereYes, NeverEquals, SaysHeader};
 ghost use Rattle.goal_solver.specs.Variables.{fresh_args};
-ghost use Rattle.goal_solver.specs.Promises.{WhereOwed};
+ghost use Rattle.goal_solver.specs.Promises.{WhereOwed, WhereOwedBeyond};
 ghost use Rattle.goal_solver.specs.Evaluations.{WhereRun};
 
 use crate::context::EvalCtxt;
@@ -257,9 +257,9 @@ impl EvalCtxt<'_> {
         given: &[TermId],
     ) -> Result<(Vec<GenericArg>, Certainty), Fault>
         requires { AreIn self.old.terms given.now }
-        ensures sound { WhereOwed self.old self.new environment.now (λ L. IsTranslation L other.now (erased_all self.old.terms given.now) [] result) }
-        ensures decided { WhereOwed self.old self.new environment.now (λ L. LeavesOpen (certainty_in result) → IsHeaderOpen L other.now (erased_all self.old.terms given.now)) }
-        ensures fresh { WhereOwed self.old self.new environment.now (λ L. FreshIfUnknown L self.old self.new other.now (erased_all self.old.terms given.now) result) }
+        ensures sound { WhereOwedBeyond self.old self.new environment.now (λ L. IsTranslation L other.now (erased_all self.old.terms given.now) [] result) }
+        ensures decided { WhereOwedBeyond self.old self.new environment.now (λ L. LeavesOpen (certainty_in result) → IsHeaderOpen L other.now (erased_all self.old.terms given.now)) }
+        ensures fresh { WhereOwedBeyond self.old self.new environment.now (λ L. FreshIfUnknown L self.old self.new other.now (erased_all self.old.terms given.now) result) }
         ensures binds_nothing { IfOk result (λ r. BindsNothing self.old self.new other.now [] (trees_of r.0.items)) }
         ensures count { IfOk result (λ r. length r.0.items ≡ length other.now.params.items) }
         ensures alone { ChangesRecords self.old self.new }
@@ -359,7 +359,7 @@ impl EvalCtxt<'_> {
 
     /// What is answered where an impl's header clashes. In coherence no refusal is final.
     fn clashing_args(&mut self, other: &ImplRow) -> Result<(Vec<GenericArg>, Certainty), Fault>
-        ensures owed { (m : modes) → IsOwed self.new m → result ≡ Err Fault.NoSolution }
+        ensures owed { (m : modes) → IsOwedBeyond self.new m → result ≡ Err Fault.NoSolution }
         ensures fresh { IfOk result (λ r. IsFresh self.old self.new other.now [] (trees_of r.0.items)) }
         ensures count { IfOk result (λ r. length r.0.items ≡ length other.now.params.items) }
         ensures made { MakesVariables self.old self.new }

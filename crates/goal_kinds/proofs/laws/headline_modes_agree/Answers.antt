@@ -1,6 +1,6 @@
 use Rattle.std.proofs.Common.{refl}
 use Rattle.goal_kinds.specs.Laws.{is_default_source}
-use Rattle.goal_kinds.proofs.AlikeSettings.{alike-any_mode}
+use Rattle.goal_kinds.proofs.AlikeSettings.{alike-any_mode, headlines-coherent}
 use Rattle.goal_kinds.proofs.AnswerLaws.{answer-same}
 use Rattle.goal_kinds.proofs.WithinLevels.{within-alike_level, within-alike_level_back}
 use Rattle.goal_kinds.proofs.laws.headline_modes_agree.Goals as goal
@@ -8,6 +8,6 @@ use Rattle.goal_kinds.proofs.laws.headline_modes_agree.Goals as goal
 pub returns : goal.returns
 returns c = record {
   same_answers = λ t m k env n q a r h i x.
-      let alike = alike-any_mode (record { tables = t; mode = m; env = env }) k is_default_source (λ d. refl) r.0 r.1 in
+      let alike = alike-any_mode (record { tables = t; mode = m; env = env }) k is_default_source (headlines-coherent m k h i) (λ d. refl) r.0 r.1 in
       answer-same (within-alike_level alike n) (within-alike_level_back alike n) q a x;
 }

@@ -20,7 +20,7 @@ returns-clause-list c = λ m s.
     let args = c.args.args.now in
     let same : erased_all U args ≡ erased_all T args = all_same-grown T U c.in_ok-rigid_alias.ensures.kept args c.requires in
     ok-map (λ es. entries_at U es.items ≡ alias_list (setting_at c.of_lists.result run.environment.now) c.args.kind (erased_all U args))
-    (λ es. IsListFor run.typing_mode.now (Some (entries_at U es.items)) (Some (alias_list (setting_in run m) c.args.kind (erased_all T args))))
+    (λ es. IsListFor run (Some (entries_at U es.items)) (Some (alias_list (setting_in run m) c.args.kind (erased_all T args))))
     c.alias_list.result
     (λ es is. alias-for run m s c.args.kind (erased_all T args) (entries_at U es.items)
     (is ∙ ap₂ (λ x ts. alias_list x c.args.kind ts) (made-for run c.of_lists.result c.of_lists.ensures.rows c.of_lists.ensures.mode) same))

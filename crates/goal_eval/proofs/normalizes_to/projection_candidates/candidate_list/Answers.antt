@@ -17,7 +17,7 @@ returns-clause-list c = λ m s.
     let itself = erased_at c.args.terms.now c.args.projection.now.rigid_alias in
     let candidate = candidate_at c.args.terms.now c.args.candidate.now in
     ok-map (λ o. list_at c.projection_list.new.terms o ≡ projection_list (setting_at c.of_lists.result run.environment.now) p itself candidate)
-    (λ o. IsListFor run.typing_mode.now (list_at c.projection_list.new.terms o) (projection_list (setting_in run m) p itself candidate))
+    (λ o. IsListFor run (list_at c.projection_list.new.terms o) (projection_list (setting_in run m) p itself candidate))
     c.projection_list.result
     (λ o is. candidate-for run m s p itself candidate (list_at c.projection_list.new.terms o)
     (is ∙ ap (λ x. projection_list x p itself candidate) (made-for run c.of_lists.result c.of_lists.ensures.rows c.of_lists.ensures.mode)))

@@ -8,6 +8,6 @@ returns-in_ok-push_rule-in-Ok-clause-adds g c found own =
       c.in_ok-push_rule-in-Ok.ensures,
       (
         c.in-Ok.ensures.list c.args.row.now found,
-        (λ headline. (c.in-Ok.ensures.gives c.args.row.now headline found own, c.in-Ok.ensures.refuted c.args.row.now headline found own)),
+        (c.in-Ok.ensures.gives c.args.row.now found own, c.in-Ok.ensures.refuted c.args.row.now found own),
       ),
     )

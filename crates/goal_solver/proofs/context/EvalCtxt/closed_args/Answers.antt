@@ -17,7 +17,7 @@ pub returns-in-Ok-Fits-clause-sound : goal.returns-in-Ok-Fits-clause-sound
 returns-in-Ok-Fits-clause-sound c = λ m owed.
     fits-answered (level_over c.args.self.now m c.args.environment.now) c.args.other.now (erased_all c.args.self.now.terms c.args.given.now) c.header_outcome.new.self.terms
     c.in-Ok-Fits.field-0 c.in-Ok-Fits.found c.deref.result.now
-    (c.in-Ok-Fits.ensures.says m owed)
+    (c.in-Ok-Fits.ensures.says m owed.1)
     c.found_args.result c.in-Ok-Fits.field-0-is c.deref.ensures.value c.found_args.ensures
 
 pub returns-in-Ok-Fits-clause-count : goal.returns-in-Ok-Fits-clause-count
@@ -34,7 +34,7 @@ pub returns-in-Ok-Known-clause-sound : goal.returns-in-Ok-Known-clause-sound
 returns-in-Ok-Known-clause-sound c = λ m owed.
     known-answered (level_over c.args.self.now m c.args.environment.now) c.args.other.now (erased_all c.args.self.now.terms c.args.given.now) c.header_outcome.new.self.terms
     c.in-Ok-Known.field-0 c.in-Ok-Known.found c.deref-in-Ok-Known.result.now
-    (c.in-Ok-Known.ensures.says m owed)
+    (c.in-Ok-Known.ensures.says m owed.1)
     (each_level_is_consistent (setting_of c.args.self.now.tables m c.args.environment.now) c.args.self.now.remaining_depth)
     c.found_args-in-Ok-Known.result c.in-Ok-Known.field-0-is c.deref-in-Ok-Known.ensures.value c.found_args-in-Ok-Known.ensures
 
@@ -42,7 +42,7 @@ pub returns-in-Ok-Known-clause-decided : goal.returns-in-Ok-Known-clause-decided
 returns-in-Ok-Known-clause-decided c = λ m owed left.
     known-undecided (level_over c.args.self.now m c.args.environment.now) c.args.other.now (erased_all c.args.self.now.terms c.args.given.now) c.header_outcome.new.self.terms
     c.in-Ok-Known.field-0 c.in-Ok-Known.found c.deref-in-Ok-Known.result.now
-    (c.in-Ok-Known.ensures.says m owed)
+    (c.in-Ok-Known.ensures.says m owed.1)
     (each_level_is_consistent (setting_of c.args.self.now.tables m c.args.environment.now) c.args.self.now.remaining_depth)
     c.in-Ok-Known.field-0-is
 
@@ -65,7 +65,7 @@ returns-in-Ok-Unknown-clause-decided c = λ m owed left.
     unknown-open (level_over c.args.self.now m c.args.environment.now) c.args.other.now (erased_all c.args.self.now.terms c.args.given.now) c.header_outcome.new.self.terms
     (subst (SaysMatch (level_over c.args.self.now m c.args.environment.now) c.args.other.now.params.items (header_of c.args.other.now) (erased_all c.args.self.now.terms c.args.given.now) c.header_outcome.new.self.terms)
     c.in-Ok-Unknown.field-0-is
-    (c.in-Ok-Unknown.ensures.says m (owed-made c.header_outcome.new.self c.unknown_args.new.self m c.unknown_args.ensures.made owed)))
+    (c.in-Ok-Unknown.ensures.says m (owed-made c.header_outcome.new.self c.unknown_args.new.self m c.unknown_args.ensures.made owed.1)))
 
 pub returns-in-Ok-Unknown-clause-goes_back : goal.returns-in-Ok-Unknown-clause-goes_back
 returns-in-Ok-Unknown-clause-goes_back c =
@@ -81,4 +81,4 @@ pub returns-in-Ok-Fits-clause-fresh : goal.returns-in-Ok-Fits-clause-fresh
 returns-in-Ok-Fits-clause-fresh c = λ m owed none.
     absurd (fits-known (level_over c.args.self.now m c.args.environment.now) c.args.other.now (erased_all c.args.self.now.terms c.args.given.now) c.header_outcome.new.self.terms
     c.in-Ok-Fits.field-0 c.in-Ok-Fits.found c.deref.result.now
-    (c.in-Ok-Fits.ensures.says m owed) c.in-Ok-Fits.field-0-is none)
+    (c.in-Ok-Fits.ensures.says m owed.1) c.in-Ok-Fits.field-0-is none)

@@ -6,7 +6,7 @@ use Rattle.goal_eval.specs.Outcomes.{FoundIn, SaysWhich}
 use Rattle.goal_eval.specs.ErasedArgs.{erased_args}
 use Rattle.goal_solver.specs.Answers.{level_over, IsAliasOpen}
 use Rattle.goal_solver.specs.Promises.{term_asked}
-use Rattle.goal_solver.proofs.RerunLemmas.{ambiguous-never}
+use Rattle.goal_solver.proofs.RerunLemmas.{ambiguous-answer, ambiguous-open}
 use Rattle.goal_solver.proofs.AnswerLemmas.{alias-unsure, alias_open-ground}
 use Rattle.goal_solver.proofs.FoundAnswers.{found-sound, found-open}
 use Rattle.goal_kinds.proofs.ConsistentLemmas.{each_level_is_consistent}
@@ -15,13 +15,11 @@ use Rattle.std.specs.Prelude.{Ok, length}
 use Rattle.std.proofs.Common.{refl}
 use Rattle.goal_terms.specs.declared.modes.TypingMode.{TypingMode}
 use Rattle.goal_kinds.specs.Answers.{IsAnswer, maybe}
-use Rattle.goal_kinds.specs.Settings.{is_headline}
 use Rattle.goal_solver.specs.Answers.{AnswersAside, is_closed_alias}
-use Rattle.goal_eval.specs.Outcomes.{StandsFor}
 use Rattle.goal_solver.specs.Recording.{FitsKind}
 use Rattle.goal_solver.specs.State.{State, kinds_of}
-use Rattle.goal_solver.proofs.ApplicableLemmas.{nothing-applies, nothing-applies-later, nothing-listed, accepted-open, fitting-applies, given-fits, stands-for-some}
-use Rattle.goal_solver.specs.Answers.{expected_variable}
+use Rattle.goal_solver.proofs.ApplicableLemmas.{nothing-applies, nothing-applies-later, nothing-listed, accepted-open, fitting-applies, given-fits, final-for-some}
+use Rattle.goal_solver.specs.Answers.{expected_variable, IsFinalIn}
 use Rattle.goal_solver.proofs.PromiseLemmas.{found-lists, unsure-lists, maybe-lists, leaves-undecided, not-at_once, nothing-named, empty-maybe}
 use Rattle.goal_solver.proofs.AccessLemmas.{none-recorded, recorded-stopped}
 use Rattle.goal_solver.proofs.EvaluationLemmas.{says-under}
@@ -116,7 +114,7 @@ returns-in-Ok-Is-clause-applies c = λ ok.
     (subst (FoundIn c.alias_outcome.new.self.terms) c.in-Ok-Is.field-0-is c.in-Ok-Is.ensures.within).0
     (⊎_elim (λ fits. subst (FitsKind c.args.goal.now.predicate.alias.kind c.alias_outcome.new.self.terms) c.in-Ok-Is.field-0-is fits)
     (λ says.
-    let some : (m : TypingMode) × StandsFor c.args.self.now.typing_mode m = stands-for-some c.args.self.now.typing_mode (is_headline c.args.self.now.typing_mode) refl in
+    let some : (m : TypingMode) × IsFinalIn c.args.self.now.typing_mode m = final-for-some c.args.self.now.typing_mode in
     given-fits c.args.self.now some.0 c.args.self.now.remaining_depth c.args.goal.now.predicate c.args.goal.now.param_env.items c.alias_outcome.new.self.terms c.in-Ok-Is.id c.is_well_formed.ensures.tables
     (sym (c.is_closed_alias.ensures ∙ ap (is_closed_alias c.args.goal.now.predicate.alias) c.deref.ensures.value) ∙ c.if-not-is_closed_alias.false) ok
     (subst (SaysWhich ((level_over c.args.self.now some.0 c.args.goal.now.param_env.items).gives c.args.goal.now.predicate.alias.kind (erased_args c.args.goal.now.predicate.alias.args.items)) ((level_over c.args.self.now some.0 c.args.goal.now.param_env.items).gives_refuted c.args.goal.now.predicate.alias.kind (erased_args c.args.goal.now.predicate.alias.args.items)) c.alias_outcome.new.self.terms) c.in-Ok-Is.field-0-is
@@ -195,14 +193,12 @@ returns-then-is_ambiguous-clause-goes_back c = goes_back-same c.args.self.now
 
 pub returns-then-is_ambiguous-clause-decided : goal.returns-then-is_ambiguous-clause-decided
 returns-then-is_ambiguous-clause-decided c = λ m n owed closed expected undecided.
-    ambiguous-never c.args.self.now c.args.goal.now.predicate.alias.kind m
-    (IsAliasOpen (level_over c.args.self.now m c.args.goal.now.param_env.items) c.args.goal.now.predicate.alias.kind (erased_args c.args.goal.now.predicate.alias.args.items))
+    ambiguous-open c.args.self.now c.args.goal.now.predicate.alias.kind m c.args.goal.now.param_env.items (erased_args c.args.goal.now.predicate.alias.args.items)
     (sym c.is_ambiguous.ensures ∙ c.if-is_ambiguous.true) owed
 
 pub returns-then-is_ambiguous-clause-whole : goal.returns-then-is_ambiguous-clause-whole
 returns-then-is_ambiguous-clause-whole c = λ m n owed ok closed expected undecided.
-    ambiguous-never c.args.self.now c.args.goal.now.predicate.alias.kind m
-    (IsAnswer (level_over c.args.self.now m c.args.goal.now.param_env.items) (term_asked c.args.goal.now.predicate) maybe)
+    ambiguous-answer c.args.self.now c.args.goal.now.predicate.alias.kind m c.args.goal.now.param_env.items (erased_args c.args.goal.now.predicate.alias.args.items)
     (sym c.is_ambiguous.ensures ∙ c.if-is_ambiguous.true) owed
 
 pub returns-then-is_ambiguous-clause-applies : goal.returns-then-is_ambiguous-clause-applies

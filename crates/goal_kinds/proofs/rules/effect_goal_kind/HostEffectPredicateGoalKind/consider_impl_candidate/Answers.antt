@@ -10,15 +10,15 @@ use Rattle.goal_kinds.proofs.TraitKindLemmas.{refusal-of}
 use Rattle.goal_kinds.proofs.rules.effect_goal_kind.HostEffectPredicateGoalKind.consider_impl_candidate.Goals as goal
 
 pub returns-clause-gives : goal.returns-clause-gives
-returns-clause-gives c row head found same =
+returns-clause-gives c row found same =
     effect-gives c.setting_of-setting.result c.args.tables.now c.args.mode.now c.args.goal.now.param_env.items c.args.goal.now.predicate (by_impl row)
-    c.setting_of-setting.ensures.rows c.setting_of-setting.ensures.mode c.args.then c.const_impl_rule.result head
+    c.setting_of-setting.ensures.rows c.setting_of-setting.ensures.mode c.args.then c.const_impl_rule.result
     (c.const_impl_rule.ensures.listed c.args.goal.now.param_env.items row (ap (λ t. impl_of t c.args.impl_id) c.setting_of-setting.ensures.rows ∙ found))
 
 pub returns-clause-refuted : goal.returns-clause-refuted
-returns-clause-refuted c row head found same =
+returns-clause-refuted c row found same =
     effect-refuted c.setting_of-setting.result c.args.tables.now c.args.mode.now c.args.goal.now.param_env.items c.args.goal.now.predicate (by_impl row)
-    c.setting_of-setting.ensures.rows c.setting_of-setting.ensures.mode c.args.then c.const_impl_rule.result head
+    c.setting_of-setting.ensures.rows c.setting_of-setting.ensures.mode c.args.then c.const_impl_rule.result
     (c.const_impl_rule.ensures.listed c.args.goal.now.param_env.items row (ap (λ t. impl_of t c.args.impl_id) c.setting_of-setting.ensures.rows ∙ found))
 
 pub returns-clause-fault : goal.returns-clause-fault
