@@ -5,17 +5,27 @@ use Rattle.goal_terms.specs.declared.modes.TypingMode.{TypingMode}
 use Rattle.goal_terms.specs.declared.modes.TypingMode.TheVariants as mode
 use Rattle.goal_kinds.specs.Entries.{Entry}
 use Rattle.goal_kinds.specs.ListModes.{ListStandsIn}
-use Rattle.goal_kinds.specs.Settings.{is_headline}
+use Rattle.goal_kinds.specs.Settings.{is_erased, is_headline}
 use Rattle.goal_eval.specs.Lists.{mode_of_lists, list_mode, IsListFor}
 use Rattle.goal_eval.specs.Outcomes.{RunsAs, RunsFor, GoesByOwn}
 use Rattle.goal_eval.specs.declared.eval.outcomes.OnAccess.{OnAccess}
 use Rattle.goal_eval.specs.declared.eval.outcomes.OnAccess.TheVariants as on_access
 use Rattle.goal_eval.specs.declared.eval.outcomes.Setting as over
 
--- some runs go by the lists of their own mode
+-- some runs go by the lists of their own mode: those of the erased one do
+erased-own : (run : TypingMode) → is_erased run ≡ true → mode_of_lists on_access.Stop run ≡ run
+erased-own mode.Coherence e = absurd (cc)
+erased-own (mode.Analysis ids) e = absurd (cc)
+erased-own (mode.Borrowck ids) e = absurd (cc)
+erased-own (mode.PostBorrowckAnalysis ids) e = absurd (cc)
+erased-own mode.PostAnalysis e = absurd (cc)
+erased-own mode.ErasedNotCoherence e = refl
+
+-- so do those of the headline, and those that go on
 own-lists : (on : OnAccess) (run : TypingMode) → GoesByOwn on run → mode_of_lists on run ≡ run
 own-lists on_access.Stop run (inl e) = ap (λ b. if b then run else mode.ErasedNotCoherence) e
-own-lists on_access.Stop run (inr e) = absurd (cc)
+own-lists on_access.Stop run (inr (inl e)) = erased-own run e
+own-lists on_access.Stop run (inr (inr e)) = absurd (cc)
 own-lists on_access.Record run e = refl
 
 -- one that stops at modes goes by those of the erased mode

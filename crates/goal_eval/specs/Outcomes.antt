@@ -21,7 +21,7 @@ use Rattle.goal_kinds.specs.ImplTerms as terms
 use Rattle.goal_kinds.specs.Interned.{erased_at, erased_all, IsIn, AreIn}
 use Rattle.goal_kinds.specs.Level.{Level, HasHeadForm, HeadFormRefuted}
 use Rattle.goal_kinds.specs.Levels.{level}
-use Rattle.goal_kinds.specs.Settings.{Setting, is_headline}
+use Rattle.goal_kinds.specs.Settings.{Setting, is_erased, is_headline}
 use Rattle.goal_kinds.specs.Words.{Pairs, SomePair}
 use Rattle.goal_eval.specs.declared.eval.outcomes.OnAccess.{OnAccess}
 use Rattle.goal_eval.specs.declared.eval.outcomes.OnAccess.TheVariants as on_access
@@ -40,9 +40,9 @@ use Rattle.goal_eval.specs.declared.eval.outcomes.HeaderMatch.TheVariants as mat
 abbrev pub StopsAtModes : OnAccess → TypingMode → Type 0
 StopsAtModes on run = (is_headline run ≡ false) × (on ≡ on_access.Stop)
 
--- a run in a mode goes by the lists of that mode: it is of the headline, or goes on where a rule reads the mode
+-- a run in a mode goes by the lists of that mode: it is of the headline or the erased one, or goes on where a rule reads the mode
 abbrev pub GoesByOwn : OnAccess → TypingMode → Type 0
-GoesByOwn on run = (is_headline run ≡ true) ⊎ (on ≡ on_access.Record)
+GoesByOwn on run = (is_headline run ≡ true) ⊎ (is_erased run ≡ true) ⊎ (on ≡ on_access.Record)
 
 -- a run in a mode stands for a mode: for its own, by whose lists it goes; or for one of the headline, where it stops at modes
 unfoldable pub RunsAs : OnAccess → TypingMode → TypingMode → Type 0

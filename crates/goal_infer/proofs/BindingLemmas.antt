@@ -2,24 +2,26 @@
 use Rattle.std.proofs.Common.{◌≡◌, ◌≢◌, ℕ, zero, suc, ◌<◌, Bool, true, false, List, [], ◌∷◌, ◌++◌, length, map, Some, None, refl, sym, ap, ◌∙◌, subst, eq-eqb}
 use Rattle.std.specs.Prelude.{slice_get, slice_set, IsTrue, if◌then◌else◌, ◌==◌}
 use Rattle.std.proofs.lemmas.Bool.{false≢true, eqb-true}
-use Rattle.goal_terms.specs.Tree.{Tree, node_of}
+use Rattle.goal_terms.specs.Tree.{Tree, node, alias, variable, node_of}
+use Rattle.goal_terms.specs.Erased.{erased}
 use Rattle.goal_terms.specs.NodeTests.{is_made, same_var_kind}
 use Rattle.goal_terms.specs.TableMeaning.{tree_at}
 use Rattle.goal_terms.specs.declared.answers.VarKind.{VarKind}
 use Rattle.goal_terms.specs.declared.answers.VarKind.TheVariants as kind
+use Rattle.goal_terms.specs.declared.heads.Node.{Node}
 use Rattle.goal_terms.specs.declared.heads.Variable.{Variable}
 use Rattle.goal_terms.specs.declared.term_nodes.TermId.{TermId}
 use Rattle.goal_infer.specs.Binding.{bound_to, IsBound}
 use Rattle.goal_infer.specs.Inference.{Inference}
 use Rattle.goal_infer.specs.Occurrence.{place_of}
 use Rattle.goal_infer.specs.Replacement.{number_of, kind_of_variable, replaced, takes}
-use Rattle.goal_infer.specs.Resolution.{term_at, binding_in, binding_of, binding_at, resolved, Agrees, IsSolved}
+use Rattle.goal_infer.specs.Resolution.{term_at, binding_in, binding_of, binding_at, resolution, resolved, Agrees, IsSolved}
 use Rattle.goal_infer.specs.Unification.{Becomes, is_made_in, IsUnified, Advances}
 use Rattle.goal_infer.specs.declared.occurs.Occurrence.TheVariants.{Nowhere}
 use Rattle.goal_infer.specs.declared.undo.InferVariable.{InferVariable}
 use Rattle.goal_infer.specs.declared.unify.Unified.TheVariants.{Yes}
 use Rattle.goal_infer.proofs.BindLemmas.{with_binding, IsBindable, set-here, set-elsewhere}
-use Rattle.goal_infer.proofs.KindLemmas.{same_var_kind-true, variable-is}
+use Rattle.goal_infer.proofs.KindLemmas.{same_var_kind-true, variable-is, takes-erased}
 use Rattle.goal_infer.proofs.UnifyLemmas.{IsFree, free-variable, ended-variable, advances-binding, yes-bound, bound-as, agrees-resolved, answer-as}
 
 -- what a call that binds was asked for, and where the bindings before lead
@@ -69,17 +71,18 @@ module _ (T : List Tree) (s : Inference) (v : Variable) (id root : TermId) (b : 
     pub answer-rooted : IsUnified T s z (Becomes T v id) Yes
     answer-rooted = subst (λ y. IsUnified T s y (Becomes T v id) Yes) (sym state-is) yes-rooted
 
+    rooted-state : z ≡ bound_to s v root
+    rooted-state =
+        state-is
+        ∙ ap (λ k. record s { variables = slice_set s.variables (number_of v) (record { kind = k; binding = Some root }); trail = s.trail ++ number_of v ∷ [] })
+        (same_var_kind-true slot.0.kind (kind_of_variable v) slot.2)
+
     pub bound-rooted : IsBound T s z v id
-    bound-rooted = record {
-      root = root;
-      within = b.within;
-      same = b.same;
-      ended = b.ended;
-      state =
-          state-is
-          ∙ ap (λ k. record s { variables = slice_set s.variables (number_of v) (record { kind = k; binding = Some root }); trail = s.trail ++ number_of v ∷ [] })
-          (same_var_kind-true slot.0.kind (kind_of_variable v) slot.2);
-    }
+    bound-rooted = record { root = root; within = b.within; same = b.same; ended = b.ended; state = rooted-state }
+
+    -- so it is bound to the term itself, where the bindings don't lead on from that
+    pub itself-rooted : root ≡ id → z ≡ bound_to s v id
+    itself-rooted same = rooted-state ∙ ap (bound_to s v) same
 
 -- a variable that was made stands at its number, with its kind
 made-slot : (vs : List InferVariable) (n : ℕ) (k : VarKind) → is_made (map (λ (x : InferVariable). x.kind) vs) n k ≡ true →
@@ -96,7 +99,7 @@ same_var_kind-self kind.Const = refl
 same_var_kind-self kind.Region = refl
 
 -- what was bound is bound
-own-after : (s : Inference) (v : Variable) (id : TermId) → IsTrue (is_made_in s v) → binding_of (bound_to s v id) v ≡ Some id
+pub own-after : (s : Inference) (v : Variable) (id : TermId) → IsTrue (is_made_in s v) → binding_of (bound_to s v id) v ≡ Some id
 unfolding binding_of is_made_in
 own-after s v id made =
     let x : (y : InferVariable) × (slice_get s.variables (number_of v) ≡ Some y) × (y.kind ≡ kind_of_variable v) =
@@ -144,3 +147,22 @@ module _ (T : List Tree) (before after : Inference) (v : Variable) (id : TermId)
 
   pub bindings-others : (w : Variable) → w ≢ v → binding_of after w ≡ binding_of before w
   bindings-others w differ = ap (λ s. binding_of s w) b.state ∙ others-after before v b.root made w differ
+
+-- what may stand for a variable that ends is what its bindings make of it
+takes-resolved : (T : List Tree) (s : Inference) → IsSolved T s → (v : Variable) (t : Tree) → ((w : Variable) → t ≡ variable w → binding_of s w ≡ None) →
+    takes v (node_of (replaced (resolution T s) t)) ≡ takes v (node_of t)
+unfolding replaced
+takes-resolved T s solved v (node h ts) e = refl
+takes-resolved T s solved v (alias k ts) e = refl
+takes-resolved T s solved v (variable w) e = ap (λ t. takes v (node_of t)) (solved.free w (e w refl))
+
+pub takes-ended : (T : List Tree) (s : Inference) → IsSolved T s → (v : Variable) (id : TermId) → binding_at s (node_of (tree_at T id)) ≡ None →
+    takes v (node_of (resolved T s id)) ≡ takes v (node_of (tree_at T id))
+unfolding resolved term_at
+takes-ended T s solved v id e = takes-resolved T s solved v (erased (tree_at T id)) (ended-variable T s id e) ∙ takes-erased v (tree_at T id)
+
+-- so it is of the node to which the bindings lead from a term
+pub takes-rooted : (T : List Tree) (s : Inference) → IsSolved T s → (v : Variable) (id root : TermId) (n : Node) → binding_at s (node_of (tree_at T root)) ≡ None →
+    resolved T s root ≡ resolved T s id → n ≡ node_of (tree_at T root) → takes v (node_of (resolved T s id)) ≡ takes v n
+takes-rooted T s solved v id root n ended same e =
+    ap (λ t. takes v (node_of t)) (sym same) ∙ takes-ended T s solved v root ended ∙ ap (takes v) (sym e)

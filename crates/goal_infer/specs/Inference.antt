@@ -1,5 +1,6 @@
 -- What a state of inference is, and when one goes back to another.
-use Rattle.std.specs.Prelude.{◌≡◌, ℕ, List, length, take, drop}
+use Rattle.std.specs.Prelude.{◌≡◌, ◌++◌, ◌∷◌, [], ℕ, List, Some, length, take, drop, slice_set}
+use Rattle.goal_terms.specs.declared.term_nodes.TermId.{TermId}
 use Rattle.goal_terms.specs.declared.terms.Region.{Region}
 use Rattle.goal_infer.specs.Undo.{unbound}
 use Rattle.goal_infer.specs.declared.state.Snapshot.{Snapshot}
@@ -22,6 +23,10 @@ rolled_back to s = record {
   trail = take to.trail s.trail;
   equations = take to.equations s.equations;
 }
+
+-- a state in which a variable was bound, last of all, to the term of a number
+abbrev pub with_binding : ℕ → TermId → InferVariable → Inference → Inference
+with_binding number term v s = record s { variables = slice_set s.variables number (record v { binding = Some term }); trail = s.trail ++ number ∷ [] }
 
 -- the changes recorded since, undone, give the state before
 unfoldable pub GoesBack : Inference → Inference → Type 0

@@ -50,6 +50,10 @@ is_type_sort sorts.Const = false
 is_type_sort sorts.Lifetime = false
 is_type_sort sorts.Clause = false
 
+-- whether a term is a type
+abbrev pub is_type : Tree → Bool
+is_type t = is_type_sort (sort_of (node_of t))
+
 -- whether a sort is that of constants
 abbrev pub is_const_sort : Sort → Bool
 is_const_sort sorts.Ty = false

@@ -1,6 +1,6 @@
 //! Variables of all kinds under one numbering, with their bindings and the equations of regions.
-ghost use Rattle.std.specs.Prelude.{◌≡◌, ◌<◌, ◌^◌, ◌++◌, ◌∷◌, [], length, slice_get, slice_set, IfOk, OnOk, OnErr, Some, None};
-ghost use Rattle.goal_infer.specs.Inference.{Inference, GoesBack, lengths_of, rolled_back};
+ghost use Rattle.std.specs.Prelude.{◌≡◌, ◌<◌, ◌^◌, ◌++◌, ◌∷◌, [], length, slice_get, IfOk, OnOk, OnErr, Some, None};
+ghost use Rattle.goal_infer.specs.Inference.{Inference, GoesBack, lengths_of, rolled_back, with_binding};
 
 use crate::undo::{InferVariable, unbind_from};
 use goal_terms::answers::VarKind;
@@ -109,7 +109,7 @@ impl InferState {
     /// Binds an unbound variable to the term of a number. Where that is refused nothing changes.
     pub fn bind(&mut self, number: u32, term: TermId) -> Result<(), OutOfMemory>
         requires unbound { (v : InferVariable) × (slice_get self.old.variables number ≡ Some v) × (v.binding ≡ None) }
-        ensures bound { (v : InferVariable) → slice_get self.old.variables number ≡ Some v → OnOk result (self.new ≡ record self.old { variables = slice_set self.old.variables number (record v { binding = Some term }); trail = self.old.trail ++ number ∷ [] }) }
+        ensures bound { (v : InferVariable) → slice_get self.old.variables number ≡ Some v → OnOk result (self.new ≡ with_binding number term v self.old) }
         ensures unchanged { OnErr result (self.new ≡ self.old) }
         ensures goes_back { GoesBack self.old self.new }
     {

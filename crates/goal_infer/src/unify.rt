@@ -51,7 +51,7 @@ fn is_floating_type(node: Node) -> bool
 
 /// Whether a variable may stand for what has this node at its top.
 #[tactic(auto, unfolding(crate::specs::Replacement::takes))]
-fn may_be(variable: Variable, node: Node) -> bool
+pub(crate) fn may_be(variable: Variable, node: Node) -> bool
     ensures { result ≡ takes variable node }
 {
     match variable {
@@ -63,7 +63,7 @@ fn may_be(variable: Variable, node: Node) -> bool
 }
 
 /// Whether a variable was made, with its kind.
-fn was_made(state: &InferState, variable: Variable) -> bool
+pub(crate) fn was_made(state: &InferState, variable: Variable) -> bool
     ensures { result ≡ is_made_in state.now variable }
 {
     let place = number(variable);

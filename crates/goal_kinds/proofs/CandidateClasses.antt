@@ -1,29 +1,16 @@
 -- Lists of candidates, put together.
-use Rattle.std.proofs.Common.{◌≡◌, ◌≢◌, ◌<◌, ◌+◌, ℕ, List, [], ◌∷◌, ◌++◌, length, map, get_or, take, Some, refl, sym, ap, ◌∙◌, append_assoc, arith}
-use Rattle.std.specs.Prelude.{slice_get}
+use Rattle.std.proofs.Common.{◌≡◌, ◌≢◌, ◌+◌, List, [], ◌∷◌, ◌++◌, map, refl, sym, ap, ◌∙◌, append_assoc, arith}
 use Rattle.std.proofs.lemmas.List.Elements.{filter-append}
 use Rattle.goal_terms.specs.Tree.{Tree}
 use Rattle.goal_terms.specs.declared.answers.TraitGoalProvenVia.{TraitGoalProvenVia}
 use Rattle.goal_terms.specs.declared.answers.TraitGoalProvenVia.TheVariants as class
 use Rattle.goal_terms.specs.declared.ids.TraitId.{TraitId}
-use Rattle.goal_tables.specs.declared.rows.ImplRow.{ImplRow}
-use Rattle.goal_tables.specs.declared.rows.Tables.{Tables}
 use Rattle.goal_kinds.specs.Candidates.{Candidate, by_impl, built_in, error, impls_for, environment, alias_bounds, object_bounds, rest, class_of, second_group}
 use Rattle.goal_kinds.specs.Fitting.{may_fit, fitting}
 use Rattle.goal_kinds.specs.Interned.{candidate_at}
 use Rattle.goal_kinds.specs.Settings.{Setting}
 use Rattle.goal_kinds.specs.declared.candidates.interned.InternedCandidate.{InternedCandidate}
 use Rattle.goal_kinds.proofs.FittingLemmas.{fitting-environment, fitting-bounds, fitting-rest}
-use Rattle.goal_kinds.proofs.GrowingLists.{one-more}
-use Rattle.goal_kinds.proofs.PlaceLists.{places-length, at-place}
-
--- the impl at the next place of a trait's impls
-pub next-impl : (t : Tables) (i : TraitId) (places : List ℕ) (front so_far : List Candidate) (r : ImplRow) (n : ℕ) →
-    map (slice_get t.impls.items) places ≡ map Some (impls_for t i) → n < length places → slice_get t.impls.items (get_or places n 0) ≡ Some r →
-    so_far ≡ front ++ map by_impl (take n (impls_for t i)) → so_far ++ by_impl r ∷ [] ≡ front ++ map by_impl (take (n + 1) (impls_for t i))
-next-impl t i places front so_far r n h l here so =
-    one-more by_impl front so_far (impls_for t i) r n (by_impl r) (omega (arith, places-length t.impls.items places (impls_for t i) h))
-    (at-place t.impls.items places (impls_for t i) n r h l here) so refl
 
 -- the rest, one after the other
 pub rest-made : (args : List Tree) (S : Setting) (i : TraitId) (s : Tree) (front impls with_rule with_objects all : List Candidate) →

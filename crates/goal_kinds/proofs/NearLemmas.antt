@@ -89,6 +89,21 @@ near-fitting t i (node h gs ∷ ts) n e =
 near-fitting t i (alias k gs ∷ ts) n e = absurd (cc)
 near-fitting t i (variable v ∷ ts) n e = absurd (cc)
 
+-- and an impl of another head may not fit
+not_both : (b c : Bool) → (b ≡ true → c ≡ true) → c ≡ false → b ≡ false
+not_both true c h e = absurd (false≢true (sym e ∙ h refl))
+not_both false c h e = refl
+
+pub other_head-unfit : (args : List Tree) (n : Node) (r : ImplRow) → first_constructor args ≡ Some n → may_be (compared_node Forgotten n) (self_head r) ≡ false →
+    may_fit args (by_impl r) ≡ false
+other_head-unfit [] n r e other = absurd (cc)
+other_head-unfit (node h gs ∷ ts) n r e other =
+    let same : nodes.Head h ≡ n = cc in
+    not_both (may_fit (node h gs ∷ ts) (by_impl r)) (may_be (compared_node Forgotten (nodes.Head h)) (self_head r)) (first-near h gs ts (trees_of r.trait_args.items))
+    (ap (λ m. may_be (compared_node Forgotten m) (self_head r)) same ∙ other)
+other_head-unfit (alias k gs ∷ ts) n r e other = absurd (cc)
+other_head-unfit (variable v ∷ ts) n r e other = absurd (cc)
+
 -- places of rows are within these
 pub all-within : {X : Type 0} (rows : List X) (places : List ℕ) (found : List X) → map (slice_get rows) places ≡ map Some found → All (λ p. p < length rows) places
 all-within rows [] found e = All-nil (λ p. p < length rows)

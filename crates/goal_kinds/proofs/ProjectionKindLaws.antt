@@ -21,17 +21,20 @@ use Rattle.goal_tables.specs.Clauses.{kinds_differ, lies_in_equation, lies_in_cl
 use Rattle.goal_tables.specs.Faults.{IsChecked}
 use Rattle.goal_tables.specs.Rows.{item_of, trait_of}
 use Rattle.goal_tables.specs.Sites.{kind_of_value, kind_of_row, is_of_other_kind, is_misplaced, lies_in, lies_in_row, lies_here}
+use Rattle.goal_tables.specs.declared.rows.ImplRow.{ImplRow}
 use Rattle.goal_tables.specs.declared.rows.ItemRow.{ItemRow}
 use Rattle.goal_tables.specs.declared.rows.Tables.{Tables}
 use Rattle.goal_tables.specs.declared.sites.TermFault.{TermFault}
 use Rattle.goal_tables.specs.declared.sites.TermFault.TheVariants.{UnknownItem, WrongArgumentCount, WrongArgumentKind}
 use Rattle.goal_kinds.specs.CandidateRules.{HasNoKindFault, IsAcceptedClause, said_by}
-use Rattle.goal_kinds.specs.Candidates.{Candidate}
+use Rattle.goal_kinds.specs.Candidates.{Candidate, by_impl}
 use Rattle.goal_kinds.specs.FastReject.{lists_may_unify, heads_agree}
+use Rattle.goal_kinds.specs.Fitting.{may_fit}
 use Rattle.goal_kinds.specs.ImplTerms.{Projection, trait_args}
 use Rattle.goal_kinds.specs.KindedTerms.{NoKindFault}
 use Rattle.goal_kinds.specs.Level.{nothing}
 use Rattle.goal_kinds.specs.Levels.{level}
+use Rattle.goal_kinds.specs.Premises.{TraitTree}
 use Rattle.goal_kinds.specs.ProjectionKind.{ProjectionCandidateGives, ProjectionCandidateRefuted, projected_trait, same_kind_of_alias, may_match_term}
 use Rattle.goal_kinds.specs.Projections.{projected_item, EquationRefuted, AssumptionTermRefuted, TermRefuted, asked}
 use Rattle.goal_kinds.specs.RuleWords.{projection_in, asked_by}
@@ -43,6 +46,7 @@ use Rattle.goal_kinds.specs.declared.fast_reject.Parameters.TheVariants.{Rigid}
 use Rattle.goal_kinds.proofs.AcceptedAliases.{accepted_projection-heads}
 use Rattle.goal_kinds.proofs.CandidateTerms.{list-erased}
 use Rattle.goal_kinds.proofs.EntryLemmas.{given-take}
+use Rattle.goal_kinds.proofs.FittingLemmas.{term_refuted}
 use Rattle.goal_kinds.proofs.OtherHeadLemmas.{lists_unequal}
 use Rattle.goal_kinds.proofs.TableKindLemmas.{both_fail, not_false}
 use Rattle.goal_kinds.proofs.WithinLevels.{within-level, alike-itself}
@@ -189,6 +193,16 @@ rejected-projection S a e (clause.Projection q) ok x y r =
     (is_of_item (projected_item q.projection_term.kind) its.0) (lists_may_unify Rigid (trees_of q.projection_term.args.items) (trees_of a.args.items)) refl refl r))
 rejected-projection S a e (clause.Trait q) ok x y r = if_some-found (projection_in S.tables a) (λ p found. tt)
 rejected-projection S a e (clause.HostEffect q) ok x y r = if_some-found (projection_in S.tables a) (λ p found. tt)
+
+-- an impl whose header has another head gives no term, with no height
+pub other-head : (S : Setting) (args : List Tree) (r : ImplRow) (q : TraitTree) (a : AliasTerm) → projected_trait S.tables a ≡ Some q → q.args ≡ map erased args →
+    may_fit args (by_impl r) ≡ false → ProjectionCandidateRefuted a S 0 (by_impl r)
+other-head S args r q a sought same other =
+    if_some-found (projection_in S.tables a) (λ p found.
+    let found_trait : Some (record { def_id = p.item.trait_id; args = trait_args p }) ≡ Some q =
+    sym (ap (option_map (λ p. record { def_id = p.item.trait_id; args = trait_args p })) found) ∙ sought in
+    let its : trait_args p ≡ q.args = cc in
+    term_refuted S 0 p args (sym (its ∙ same)) (by_impl r) other)
 
 -- the trait of a projection, as it is seen in the alias
 pub seen-projected : (t : Tables) (a : AliasTerm) (x : AskedItem) (args : List GenericArg) → projection_in t a ≡ Some (asked_by x a) → args ≡ take x.trait_params a.args.items →

@@ -1,6 +1,7 @@
 -- What a kind of goals says of its goals and of their candidates, and what the rules of candidates say by it.
-use Rattle.std.specs.Prelude.{◌≡◌, ◌⊎◌, ℕ, Bool, true, false, List, [], Option, Some, None, Result, IfOk, IfErr}
+use Rattle.std.specs.Prelude.{◌≡◌, ◌⊎◌, ℕ, Bool, true, false, List, [], map, Option, Some, None, Result, IfOk, IfErr}
 use Rattle.std.specs.List.{AllZip}
+use Rattle.goal_terms.specs.Erased.{erased}
 use Rattle.goal_terms.specs.Tree.{Tree}
 use Rattle.goal_terms.specs.TreeOf.{tree_of_term}
 use Rattle.goal_terms.specs.declared.answers.Certainty.{Certainty}
@@ -26,11 +27,12 @@ use Rattle.goal_kinds.specs.CandidateRules.{NamedRule, IsNamedAnswer, GivesAs, R
 use Rattle.goal_kinds.specs.Candidates.{Candidate, by_impl, built_in, IsNoImpl}
 use Rattle.goal_kinds.specs.EffectKind.{asked_effect_list, EffectCandidateHolds, EffectCandidateRefuted, implied_bounds_for, IsEffectWithSelf, is_effect_rule_for, may_match_effect}
 use Rattle.goal_kinds.specs.Entries.{Entry}
+use Rattle.goal_kinds.specs.Fitting.{may_fit}
 use Rattle.goal_kinds.specs.Premises.{TraitTree}
 use Rattle.goal_kinds.specs.ProjectionKind.{asked_projection_list, ProjectionCandidateGives, ProjectionCandidateRefuted, projected_trait, IsAliasWithSelf, IsImplForItem, lang_of_alias, is_for_alias, may_match_term}
 use Rattle.goal_kinds.specs.RuleLists.{IsToldBy}
 use Rattle.goal_kinds.specs.Rules.{given}
-use Rattle.goal_kinds.specs.Settings.{Setting, is_headline}
+use Rattle.goal_kinds.specs.Settings.{Setting}
 use Rattle.goal_kinds.specs.TraitLists.{trait_list}
 use Rattle.goal_kinds.specs.declared.faults.Fault.{Fault}
 use Rattle.goal_kinds.specs.declared.goal_kind.MergeRule.{MergeRule}
@@ -216,3 +218,9 @@ abbrev pub RejectionIsFinal : {P : Type 0} → KindWords P → (P → Tables →
 RejectionIsFinal {P} K has_fault =
     (p : P) (S : Setting) (k : ClauseKind) → IsChecked S.tables → HasNoKindFault (λ f. has_fault p S.tables f) → IsAcceptedClause S.tables k →
     K.passes p k ≡ false → K.refuted p S 0 (said_by k)
+
+-- an impl whose header has another head than the goal's arguments, which are given with their lifetimes, is refuted with no height
+abbrev pub OtherHeadsAreRefuted : {P : Type 0} → KindWords P → Type 0
+OtherHeadsAreRefuted {P} K =
+    (p : P) (S : Setting) (q : TraitTree) (args : List Tree) (r : ImplRow) → K.asked p S.tables ≡ Some q → q.args ≡ map erased args →
+    may_fit args (by_impl r) ≡ false → K.refuted p S 0 (by_impl r)

@@ -7,7 +7,7 @@ ghost use Rattle.goal_kinds.specs.CandidateRules.{HoldsError, HasNoKindFault, sa
 ghost use Rattle.goal_kinds.specs.CandidateRules.{trait_alias, sizedness, copy_clone, fn_ptr_trait, fn_trait, tuple, pointee, discriminant_kind, destruct, field};
 ghost use Rattle.goal_kinds.specs.Candidates.{Candidate as candidate, built_in, error};
 ghost use Rattle.goal_kinds.specs.KindWords.{KindWords, words_for, Gives, Refutes, HasList, GivesBeside, RefutesBeside, GivesAsImpl, RefutesAsImpl, HasListOfImpl, IsRefusalOf, RefusesFinally};
-ghost use Rattle.goal_kinds.specs.KindWords.{GiveAdditional, RefuteAdditional, ListAdditional, AddNoImpl, AnswersBy, RejectionIsFinal};
+ghost use Rattle.goal_kinds.specs.KindWords.{GiveAdditional, RefuteAdditional, ListAdditional, AddNoImpl, AnswersBy, OtherHeadsAreRefuted, RejectionIsFinal};
 ghost use Rattle.goal_kinds.specs.Premises.{TraitTree as trait_tree};
 ghost use Rattle.goal_kinds.specs.RuleWords.{TermsAreFor, auto_trait_entries};
 ghost use Rattle.goal_kinds.specs.Settings.{Setting as setting};
@@ -334,4 +334,8 @@ pub trait GoalKind: PredicateTerms {
     /// height. It does nothing.
     fn rejected_clauses_are_refuted()
         ensures { RejectionIsFinal words Self.has_fault };
+
+    /// An impl whose header has another head than the goal's arguments is refuted with no height. It does nothing.
+    fn other_heads_are_refuted()
+        ensures { OtherHeadsAreRefuted words };
 }

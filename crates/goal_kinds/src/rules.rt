@@ -118,14 +118,14 @@ impl Drop for RuleArguments {
 }
 
 /// A row whose header is matched.
-#[derive(Clone, Copy, PartialEq, Eq)]
+#[derive(Clone, Copy)]
 pub enum RuleHeader {
     Impl(ImplId),
     InherentImpl(InherentImplId),
 }
 
 /// A row whose clauses are asked for.
-#[derive(Clone, Copy, PartialEq, Eq)]
+#[derive(Clone, Copy)]
 pub enum RowClauses {
     Impl(ImplId),
     /// The item's own where clauses.
@@ -158,7 +158,7 @@ impl Drop for RuleTerm {
 }
 
 /// What the first use of an opaque type that is being defined takes as its hidden type.
-#[derive(Clone, Copy, Debug)]
+#[derive(Clone, Copy)]
 pub enum FirstUse {
     /// The expected term, whatever that comes to be.
     Expected,
@@ -167,7 +167,7 @@ pub enum FirstUse {
 }
 
 /// A row whose value is taken.
-#[derive(Clone, Copy, PartialEq, Eq)]
+#[derive(Clone, Copy)]
 pub enum RowValue {
     Definition(DefId),
     Free(FreeId),

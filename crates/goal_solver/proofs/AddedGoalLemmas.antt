@@ -1,10 +1,9 @@
 -- What evaluating the goals that were added says, goal by goal.
-use Rattle.std.proofs.Common.{◌≡◌, inl, inr, ℕ, zero, suc, ◌+◌, ◌<◌, List, [], ◌∷◌, ◌++◌, length, take, Some, Result, Ok, Err, refl, sym, ap, ◌∙◌, subst, arith}
+use Rattle.std.proofs.Common.{◌≡◌, inl, inr, ℕ, zero, suc, ◌+◌, ◌<◌, List, [], ◌∷◌, ◌++◌, length, Some, Result, Ok, Err, refl, sym, ap, ◌∙◌, subst, arith}
 use Rattle.std.specs.Prelude.{IfErr, IfOk, slice_get}
 use Rattle.goal_terms.specs.declared.answers.Certainty.{Certainty}
 use Rattle.goal_terms.specs.declared.answers.Certainty.TheVariants as certainty
 use Rattle.goal_terms.specs.declared.answers.GoalSource.{GoalSource}
-use Rattle.goal_terms.specs.declared.answers.OpaqueAccess.{OpaqueAccess}
 use Rattle.goal_terms.specs.declared.modes.TypingMode.{TypingMode}
 use Rattle.goal_terms.specs.declared.predicates.Clause.{Clause}
 use Rattle.goal_terms.specs.declared.predicates.Goal.{Goal}
@@ -19,10 +18,10 @@ use Rattle.goal_kinds.specs.Premises.{ClauseHolds, ClauseRefuted}
 use Rattle.goal_kinds.specs.Settings.{Setting}
 use Rattle.goal_kinds.proofs.ConsistentLemmas.{each_level_is_consistent}
 use Rattle.goal_kinds.proofs.PremiseLemmas.{no_clause_refuted}
-use Rattle.goal_solver.specs.AddedGoals.{GoalHolds, GoalRefuted, HoldsIn, IsRefutedIn, IsClosedGoal, IsGoalAnswer, IsVerdict, IsPending, ArePendingClosed, IsPendingAnswer, ArePendingUndecided, ChangesTaken}
+use Rattle.goal_solver.specs.AddedGoals.{GoalHolds, GoalRefuted, HoldsIn, IsRefutedIn, IsGoalAnswer, IsVerdict, IsPending, ArePendingClosed, IsPendingAnswer, ArePendingUndecided, ChangesTaken}
 use Rattle.goal_solver.specs.AddedGoals.{same_place, count_of, AreSplit, AreClosedAt, AllHoldAt, SomeRefutedAt, LeavesUndecided, IsAnswerAt}
-use Rattle.goal_solver.specs.Answers.{IsOwed, level_over}
-use Rattle.goal_solver.specs.GoingBack.{BeginsWith, GoesBack, restored}
+use Rattle.goal_solver.specs.Answers.{IsOwed, IsStopped, level_over}
+use Rattle.goal_solver.specs.GoingBack.{GoesBack, restored}
 use Rattle.goal_eval.specs.Outcomes.{Says}
 use Rattle.goal_solver.specs.Relating.{ChangesInference, ChangesRecords, LeavesOpen, IsFaultFor}
 use Rattle.goal_solver.specs.State.{State}
@@ -64,7 +63,7 @@ goes_back-bound a b e g =
 pub restored-owed : (s b z : State) (m : TypingMode) → z ≡ restored s b → GoesBack s b → IsOwed z m → IsOwed b m
 restored-owed s b z m e g owed =
     let there : IsOwed (restored s b) m = subst (λ (x : State). IsOwed x m) e owed in
-    elim there [ inl h ↦ inl (g.typing_mode ∙ h.0, h.1) | inr h ↦ inr (g.typing_mode ∙ h.0, h.1, h.2) ]
+    elim there [ inl h ↦ inl (g.typing_mode ∙ h) | inr h ↦ inr (g.typing_mode ∙ h.0, h.1, h.2) ]
 
 pub restored-alone : (s b z : State) → z ≡ restored s b → ChangesTaken s z
 restored-alone s b z e = e ∙ sym (ap (λ (x : State). record s { terms = x.terms; inference = x.inference; taken = x.taken; accesses = x.accesses; delayed_faults = x.delayed_faults }) e)
@@ -82,15 +81,6 @@ restored-fault s b z r e h = subst (λ (x : State). IsFaultFor s x r) (sym e) (r
 pub restored-itself : (s b z : State) → z ≡ restored s b → z ≡ restored s z
 restored-itself s b z e = e ∙ sym (ap (restored s) e)
 
--- what is owed later is owed before
-none-before : (xs ys : List OpaqueAccess) → BeginsWith ys xs → ys ≡ [] → xs ≡ []
-none-before [] ys g e = refl
-none-before (x ∷ xs) ys g e = sym g ∙ ap (take (suc (length xs))) e
-
-pub owed-before : (a b : State) (m : TypingMode) → GoesBack a b → IsOwed b m → IsOwed a m
-owed-before a b m g (inl h) = inl (sym g.typing_mode ∙ h.0, h.1)
-owed-before a b m g (inr h) = inr (sym g.typing_mode ∙ h.0, h.1, none-before a.accesses b.accesses g.accesses h.2)
-
 -- a fault of a later part is one of the whole
 pub fault-before : (T U : Type 0) (a b c : State) (f : Fault) → GoesBack a b → IsFaultFor {T = T} b c (Err f) → IsFaultFor {T = U} a c (Err f)
 fault-before T U a b c fault.NoSolution g h = tt
@@ -107,13 +97,21 @@ pub refused-fault : (a b : State) (r : Result Certainty Fault) → IfErr r (λ f
 refused-fault a b (Ok c) h = tt
 refused-fault a b (Err f) h = subst (λ x. IsFaultFor {T = Certainty} a b (Err x)) (sym h) tt
 
+-- where the evaluation was stopped nothing is said
+stopped-goal : (s : State) (m : TypingMode) (g : Goal Predicate) (r : Result Certainty Fault) → IsStopped r → IsGoalAnswer s m g r
+stopped-goal s m g (Ok c) h = absurd h
+stopped-goal s m g (Err fault.NoSolution) h = absurd h
+stopped-goal s m g (Err fault.RerunNonErased) h = tt
+stopped-goal s m g (Err fault.OutOfMemory) h = tt
+stopped-goal s m g (Err fault.NotForThisKind) h = tt
+
 -- a verdict is as sound as the outcome
 pub goal-verdict : (s : State) (m : TypingMode) (g : Goal Predicate) (o : Result Outcome Stop) (r : Result Certainty Fault) →
     IfOk o (Says (HoldsIn s m g) (IsRefutedIn s m g)) → IsVerdict o r → IsGoalAnswer s m g r
 goal-verdict s m g (Ok outcome.Holds) r h v = subst (IsGoalAnswer s m g) (sym v) h
 goal-verdict s m g (Ok outcome.Refuted) r h v = subst (IsGoalAnswer s m g) (sym v) h
 goal-verdict s m g (Ok outcome.Undecided) r h v = subst (IsGoalAnswer s m g) (sym v) h
-goal-verdict s m g (Err e) r h v = subst (IsGoalAnswer s m g) (sym v) tt
+goal-verdict s m g (Err e) r h v = stopped-goal s m g r v
 
 -- what an answer says does not depend on what changes
 pub answer-before : (a b : State) (m : TypingMode) (g : Goal Predicate) (r : Result Certainty Fault) → ChangesRecords a b → IsGoalAnswer b m g r → IsGoalAnswer a m g r
@@ -132,16 +130,16 @@ said-before a b m env p q o e f h =
     subst (λ (t : PredicateTree). IfOk o (Says (ClauseHolds (level_over a m env) t) (ClauseRefuted (level_over a m env) t))) f
     (subst (λ (s : State). IfOk o (Says (ClauseHolds (level_over s m env) p) (ClauseRefuted (level_over s m env) p))) e h)
 
--- a closed goal that holds isn't refuted
-apart-as : (S : Setting) (n : ℕ) (env : List Clause) (p : Predicate) → IsClosedGoal p env → GoalHolds (level S n) p → GoalRefuted (level S n) p → ⊥
-apart-as S n env (predicate.Trait q) c h k = no_clause_refuted (level S n) (each_level_is_consistent S n) _ h k
-apart-as S n env (predicate.Projection q) c h k = no_clause_refuted (level S n) (each_level_is_consistent S n) _ h k
-apart-as S n env (predicate.HostEffect q) c h k = no_clause_refuted (level S n) (each_level_is_consistent S n) _ h k
-apart-as S n env (predicate.NormalizesTo q) c h k = c
-apart-as S n env predicate.Ambiguous c h k = h
+-- a goal that holds isn't refuted
+apart-as : (S : Setting) (n : ℕ) (p : Predicate) → GoalHolds (level S n) p → GoalRefuted (level S n) p → ⊥
+apart-as S n (predicate.Trait q) h k = no_clause_refuted (level S n) (each_level_is_consistent S n) _ h k
+apart-as S n (predicate.Projection q) h k = no_clause_refuted (level S n) (each_level_is_consistent S n) _ h k
+apart-as S n (predicate.HostEffect q) h k = no_clause_refuted (level S n) (each_level_is_consistent S n) _ h k
+apart-as S n (predicate.NormalizesTo q) h k = (each_level_is_consistent S n).no_term_refuted q.alias.kind _ h.0 h.2 k
+apart-as S n predicate.Ambiguous h k = h
 
-pub goal-apart : (s : State) (m : TypingMode) (g : Goal Predicate) → IsClosedGoal g.predicate g.param_env.items → HoldsIn s m g → IsRefutedIn s m g → ⊥
-goal-apart s m g c h k = apart-as (setting_of s.tables m g.param_env.items) s.remaining_depth g.param_env.items g.predicate c h k
+pub goal-apart : (s : State) (m : TypingMode) (g : Goal Predicate) → HoldsIn s m g → IsRefutedIn s m g → ⊥
+goal-apart s m g h k = apart-as (setting_of s.tables m g.param_env.items) s.remaining_depth g.predicate h k
 
 -- before a round nothing is settled
 pub round-begins : (s : State) (m : TypingMode) (goals : List (GoalSource × Goal Predicate)) (places : List ℕ) → LeavesUndecided s m goals places places []
@@ -196,13 +194,13 @@ goal-at (g ∷ gs) zero l = (g, refl)
 goal-at (g ∷ gs) (suc i) l = goal-at gs i (omega (arith, l))
 
 pub some-left : (s : State) (m : TypingMode) (goals : List (GoalSource × Goal Predicate)) (taken places left : List ℕ) (x : ℕ) → 0 < count_of x left → AreSplit (length goals) taken left →
-    AreClosedAt goals places → LeavesUndecided s m goals places [] left → (AllHoldAt s m goals places → ⊥) × (SomeRefutedAt s m goals places → ⊥)
-some-left s m goals taken places left x l split closed h = (
+    LeavesUndecided s m goals places [] left → (AllHoldAt s m goals places → ⊥) × (SomeRefutedAt s m goals places → ⊥)
+some-left s m goals taken places left x l split h = (
   λ all. let at = goal-at goals x (is-below x (length goals) (omega (arith, l, split x))) in (h.undecided x at.0 at.1 l).0 (all x at.0 at.1 (h.among x l)),
   λ one. refuted one.0 one.1 one.2 one.3 one.4 (count_of one.0 left) refl,
 ) where
   refuted : (i : ℕ) (p : GoalSource × Goal Predicate) → slice_get goals i ≡ Some p → 0 < count_of i places → IsRefutedIn s m p.1 → (n : ℕ) → count_of i left ≡ n → ⊥
-  refuted i p at c r zero e = goal-apart s m p.1 (closed i p at c) (h.settled i p at c e (count-none i)) r
+  refuted i p at c r zero e = goal-apart s m p.1 (h.settled i p at c e (count-none i)) r
   refuted i p at c r (suc n) e = (h.undecided i p at (omega (arith, e))).1 r
 
 -- the goals that are pending are those that are listed

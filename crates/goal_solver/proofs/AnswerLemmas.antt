@@ -1,6 +1,6 @@
 -- What the calls answer at depth 0, and that no two answers disagree.
-use Rattle.std.proofs.Common.{◌≡◌, ◌≢◌, inl, inr, ℕ, zero, true, List, [], ◌∷◌, Result, Ok, Err, refl, subst, sym, ap, ◌∙◌}
-use Rattle.std.specs.Prelude.{IfOk, IfErr}
+use Rattle.std.proofs.Common.{◌≡◌, ◌≢◌, inl, inr, ℕ, zero, List, [], ◌∷◌, Result, Ok, Err, refl, subst, sym, ◌∙◌}
+use Rattle.std.specs.Prelude.{IfOk}
 use Rattle.goal_terms.specs.declared.answers.Certainty.{Certainty}
 use Rattle.goal_terms.specs.declared.answers.Certainty.TheVariants as certainty
 use Rattle.goal_terms.specs.declared.answers.Response.{Response}
@@ -14,21 +14,18 @@ use Rattle.goal_terms.specs.declared.terms.AliasTermKind.{AliasTermKind}
 use Rattle.goal_terms.specs.declared.terms.Term.{Term}
 use Rattle.goal_kinds.specs.Levels.{level}
 use Rattle.goal_kinds.specs.Premises.{ClauseHolds, ClauseRefuted}
-use Rattle.goal_kinds.specs.Settings.{Setting, is_headline}
+use Rattle.goal_kinds.specs.Settings.{Setting}
 use Rattle.goal_kinds.specs.Level.{Level}
 use Rattle.goal_kinds.proofs.AnswerLaws.{answers-agree}
-use Rattle.goal_solver.specs.Answers.{IsOwed, level_over, IsMaybe, IsOpen, IsUndecided, IsAliasOpen, IsTraitResponse, IsTraitAnswer, IsAliasResponse, IsAliasAnswer, IsHoldingResponse, IsPredicateAnswer, IsConclusion, IsFinalIn}
+use Rattle.goal_solver.specs.Answers.{IsOwed, level_over, IsMaybe, IsOpen, IsUndecided, IsAliasOpen, IsTraitResponse, IsTraitAnswer, IsAliasResponse, IsAliasAnswer, IsHoldingResponse, IsPredicateAnswer, IsConclusion}
 use Rattle.goal_solver.specs.Evaluations.{SaysOf}
-use Rattle.goal_solver.specs.GoingBack.{BeginsWith, GoesBack, restored}
-use Rattle.goal_eval.specs.Outcomes.{RunsAs, Says}
+use Rattle.goal_solver.specs.GoingBack.{BeginsWith, GoesBack}
+use Rattle.goal_eval.specs.Outcomes.{Says}
 use Rattle.goal_kinds.specs.declared.faults.Fault.{Fault}
 use Rattle.goal_kinds.specs.declared.faults.Fault.TheVariants as fault
-use Rattle.goal_eval.specs.declared.eval.outcomes.OnAccess.{OnAccess}
-use Rattle.goal_eval.specs.declared.eval.outcomes.OnAccess.TheVariants as on_access
 use Rattle.goal_kinds.specs.declared.outcomes.Outcome.{Outcome}
 use Rattle.goal_kinds.specs.declared.outcomes.Outcome.TheVariants as outcome
 use Rattle.goal_eval.specs.declared.eval.outcomes.Stop.{Stop}
-use Rattle.goal_eval.specs.declared.eval.outcomes.Stop.TheVariants as stop
 use Rattle.goal_solver.specs.State.{State}
 use Rattle.goal_solver.proofs.GoingBackLemmas.{goes_back-same}
 
@@ -76,17 +73,8 @@ begins-empty (x ∷ xs) [] b e = absurd (cc)
 begins-empty (x ∷ xs) (y ∷ ys) b e = absurd (cc)
 
 pub owed-before : (b z : State) (m : TypingMode) → GoesBack b z → IsOwed z m → IsOwed b m
-owed-before b z m g (inl h) = inl (sym g.typing_mode ∙ h.0, h.1)
+owed-before b z m g (inl h) = inl (sym g.typing_mode ∙ h)
 owed-before b z m g (inr h) = inr (sym g.typing_mode ∙ h.0, h.1, begins-empty b.accesses z.accesses g.accesses h.2)
-
--- a mode that is owed an answer is final in the run's
-owed-final : (run : TypingMode) (z : State) (m : TypingMode) → z.typing_mode ≡ run → IsOwed z m → IsFinalIn run m
-owed-final run z m e (inl h) = inl (sym e ∙ h.0, h.1)
-owed-final run z m e (inr h) = inr (sym e ∙ h.0, h.1)
-
--- a run that speaks for the modes that may be final speaks for each mode that is owed an answer
-pub owed-runs : (a z : State) (on : OnAccess) (m : TypingMode) → ((k : TypingMode) → IsFinalIn a.typing_mode k → RunsAs on a.typing_mode k) → z ≡ restored a z → IsOwed z m → RunsAs on a.typing_mode m
-owed-runs a z on m speaks e owed = speaks m (owed-final a.typing_mode z m (ap (λ (s : State). s.typing_mode) e) owed)
 
 yes_is_not_maybe : certainty.Yes ≡ certainty.Maybe → ⊥
 yes_is_not_maybe e = absurd (cc)
@@ -135,16 +123,8 @@ concluded-open L p (Ok outcome.Holds) (Ok x) h c e = absurd (yes_is_not_maybe (s
 concluded-open L p (Ok outcome.Holds) (Err f) h c e = absurd e
 concluded-open L p (Ok outcome.Refuted) r h c e = absurd (subst IsMaybe c e)
 concluded-open L p (Ok outcome.Undecided) r h c e = h
-concluded-open L p (Err s) r h c e = absurd (subst IsMaybe c e)
-
--- a conclusion is owed
-abbrev pub IsConcluded : State → State → Result Outcome Stop → Result Response Fault → Type 0
-IsConcluded b z o r = (m : TypingMode) → IsOwed z m → (is_headline b.typing_mode ≡ true → IfErr o (λ s. s ≡ stop.OutOfMemory)) → IsConclusion o r
-
--- the run is only stopped for want of memory, where its mode is one of the headline
-pub stops-later : (a b : State) (o : Result Outcome Stop) → b ≡ restored a b → (is_headline a.typing_mode ≡ true → IfErr o (λ s. s ≡ stop.OutOfMemory)) →
-    is_headline b.typing_mode ≡ true → IfErr o (λ s. s ≡ stop.OutOfMemory)
-stops-later a b o e h k = h (ap (λ (s : State). is_headline s.typing_mode) (sym e) ∙ k)
+concluded-open L p (Err s) (Ok x) h c e = absurd c
+concluded-open L p (Err s) (Err f) h c e = absurd e
 
 -- the call answers soundly where it owes an answer, and leaves undecided only what is so
 pub predicate-sound : (a b z : State) (env : List Clause) (p : PredicateTree) (o : Result Outcome Stop) (r : Result Response Fault) → GoesBack b z → SaysOf a b env p o →
@@ -152,11 +132,9 @@ pub predicate-sound : (a b z : State) (env : List Clause) (p : PredicateTree) (o
     (m : TypingMode) → IsOwed z m → IsPredicateAnswer (level_over a m env) p r
 predicate-sound a b z env p o r g says sure never m owed = answered-soundly (level_over a m env) p o r (says m (owed-before b z m g owed)) sure never
 
-pub predicate-decided : (a b z : State) (env : List Clause) (p : PredicateTree) (o : Result Outcome Stop) (r : Result Response Fault) → b ≡ restored a b → GoesBack b z →
-    SaysOf a b env p o → (is_headline a.typing_mode ≡ true → IfErr o (λ s. s ≡ stop.OutOfMemory)) → IsConcluded b z o r →
-    (m : TypingMode) → IsOwed z m → IsMaybe r → IsUndecided (level_over a m env) p
-predicate-decided a b z env p o r e g says stops concluded m owed =
-    concluded-open (level_over a m env) p o r (says m (owed-before b z m g owed)) (concluded m owed (stops-later a b o e stops))
+pub predicate-decided : (a b z : State) (env : List Clause) (p : PredicateTree) (o : Result Outcome Stop) (r : Result Response Fault) → GoesBack b z →
+    SaysOf a b env p o → IsConclusion o r → (m : TypingMode) → IsOwed z m → IsMaybe r → IsUndecided (level_over a m env) p
+predicate-decided a b z env p o r g says concluded m owed = concluded-open (level_over a m env) p o r (says m (owed-before b z m g owed)) concluded
 
 -- no two answers disagree
 pub ruleset answering = (answers-agree)

@@ -1,5 +1,5 @@
 -- What a computing call answers to an accepted goal can be applied.
-use Rattle.std.proofs.Common.{◌≡◌, ℕ, Bool, true, false, ◌||◌, not, List, [], ◌∷◌, ◌++◌, length, replicate, ◌<◌, Option, Some, None, Result, Ok, Err, inl, inr, refl, sym, ap, ◌∙◌, subst}
+use Rattle.std.proofs.Common.{◌≡◌, ℕ, Bool, true, false, ◌||◌, not, List, [], ◌∷◌, ◌++◌, length, replicate, ◌<◌, Option, Some, None, Result, Ok, Err, refl, sym, ap, ◌∙◌, subst}
 use Rattle.std.specs.Prelude.{IsTrue, is_some, IfOk}
 use Rattle.goal_terms.specs.Erased.{erased}
 use Rattle.goal_terms.specs.Kinds.{same_kind, kind_of, kind_of_alias}
@@ -17,7 +17,6 @@ use Rattle.goal_terms.specs.declared.heads.Node.TheVariants as nodes
 use Rattle.goal_terms.specs.declared.heads.Variable.{Variable}
 use Rattle.goal_terms.specs.declared.heads.Variable.TheVariants as variables
 use Rattle.goal_terms.specs.declared.modes.TypingMode.{TypingMode}
-use Rattle.goal_terms.specs.declared.modes.TypingMode.TheVariants as modes
 use Rattle.goal_terms.specs.declared.predicates.Clause.{Clause}
 use Rattle.goal_terms.specs.declared.predicates.NormalizesTo.{NormalizesTo}
 use Rattle.goal_terms.specs.declared.term_nodes.TermId.{TermId}
@@ -47,7 +46,7 @@ use Rattle.goal_kinds.specs.declared.faults.Fault.{Fault}
 use Rattle.goal_kinds.proofs.ClosedLevels.{closed-public_given}
 use Rattle.goal_kinds.proofs.PlacedLevels.{placed-given}
 use Rattle.goal_eval.specs.ErasedArgs.{erased_args}
-use Rattle.goal_solver.specs.Answers.{IsQuiet, IsQuietAside, AnswersQuietly, AnswersAside, ListsNothing, GivesTo, expected_variable, is_closed_alias, IsAliasOpen, IsFinalIn}
+use Rattle.goal_solver.specs.Answers.{IsQuiet, IsQuietAside, AnswersQuietly, AnswersAside, ListsNothing, GivesTo, expected_variable, is_closed_alias, IsAliasOpen}
 use Rattle.goal_solver.specs.Binding.{IsApplicable, IsFreeFor, CanBeListed, bound_term}
 use Rattle.goal_solver.specs.FreeVariables.{general_variable, reaches, is_bound, stands_in_storage, is_taken, lacks_free_variable}
 use Rattle.goal_solver.specs.GoingBack.{restored}
@@ -176,7 +175,7 @@ takes-by (variables.Const n) k false m e g h i = cc
 mutual
   unfolding some_node replaced
 
-  closed-replaced : (ρ : Variable → Tree) (t : Tree) → some_node is_any_infer t ≡ false → replaced ρ t ≡ t
+  pub closed-replaced : (ρ : Variable → Tree) (t : Tree) → some_node is_any_infer t ≡ false → replaced ρ t ≡ t
   closed-replaced ρ (node h ts) e = ap (node h) (closed_row-replaced ρ ts e)
   closed-replaced ρ (alias k ts) e = ap (alias k) (closed_row-replaced ρ ts e)
   closed-replaced ρ (variable v) e = absurd (cc)
@@ -192,7 +191,7 @@ mutual
 mutual
   unfolding some_node place_of
 
-  closed-nowhere : (v : Variable) (t : Tree) → some_node is_any_infer t ≡ false → place_of v t ≡ Nowhere
+  pub closed-nowhere : (v : Variable) (t : Tree) → some_node is_any_infer t ≡ false → place_of v t ≡ Nowhere
   closed-nowhere v (node h ts) e = closed_row-nowhere v ts e
   closed-nowhere v (alias k ts) e = ap within_alias (closed_row-nowhere v ts e)
   closed-nowhere v (variable w) e = absurd (cc)
@@ -321,12 +320,3 @@ unvalued-applies-later a b z r e f keyed quiet empty = unvalued-applies-of b z r
 pub nothing-applies-later : (a b z : State) (r : Result Response Fault) → b ≡ restored a b → z ≡ restored b z → HasOneTypeAKey a.storage →
     AnswersQuietly (length (kinds_of b)) r → IfOk r (λ x. x.var_values.items ≡ []) → IfOk r (IsApplicable z)
 nothing-applies-later a b z r e f keyed quiet empty = unvalued-applies-later a b z r e f keyed (answers-aside (length (kinds_of b)) r quiet) empty
-
--- each run may be final for some mode
-pub final-for-some : (run : TypingMode) → (m : TypingMode) × IsFinalIn run m
-final-for-some modes.Coherence = (modes.Coherence, inl (refl, refl))
-final-for-some (modes.Analysis ids) = (modes.Analysis ids, inl (refl, refl))
-final-for-some (modes.Borrowck ids) = (modes.Borrowck ids, inl (refl, refl))
-final-for-some (modes.PostBorrowckAnalysis ids) = (modes.PostBorrowckAnalysis ids, inl (refl, refl))
-final-for-some modes.PostAnalysis = (modes.PostAnalysis, inl (refl, refl))
-final-for-some modes.ErasedNotCoherence = (modes.PostAnalysis, inr (refl, refl))

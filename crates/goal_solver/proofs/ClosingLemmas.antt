@@ -9,6 +9,7 @@ use Rattle.goal_terms.specs.declared.answers.Response.{Response}
 use Rattle.goal_terms.specs.declared.predicates.Clause.{Clause}
 use Rattle.goal_kinds.specs.declared.faults.Fault.{Fault}
 use Rattle.goal_kinds.specs.declared.rules.RuleEntry.{RuleEntry}
+use Rattle.goal_solver.specs.Answers.{level_over}
 use Rattle.goal_solver.specs.GoingBack.{GoesBack}
 use Rattle.goal_solver.specs.OpenRuns.{OpenProgress, open_start, Closes, Evaluates, RunsThrough}
 use Rattle.goal_solver.specs.Responses.{both_certain, ListsSinceMark}
@@ -16,6 +17,7 @@ use Rattle.goal_solver.specs.RunRules.{AreRecorded, IsRecordedAnswer}
 use Rattle.goal_solver.specs.State.{State}
 use Rattle.goal_solver.proofs.AnswerLemmas.{goes_back-grown}
 use Rattle.goal_solver.proofs.GoingBackLemmas.{goes_back-through}
+use Rattle.goal_solver.proofs.NormalizingLemmas.{its-later}
 use Rattle.goal_solver.proofs.OpenRecordLemmas.{both-yes}
 use Rattle.goal_solver.proofs.RecordedLemmas.{stays-recorded}
 use Rattle.std.proofs.lemmas.List.Elements.{All-weaker}
@@ -25,6 +27,8 @@ evaluates-more : (a s : State) (U : List Tree) (c : Certainty) → Keeps s.terms
 evaluates-more a s U c keeps h = record {
   sound = h.sound;
   decided = h.decided;
+  given = λ m owed ok says i p at.
+      its-later (level_over a m p.1.param_env.items) p.1.predicate s (record s { terms = U }) (goes_back-grown s (record s { terms = U }) refl keeps) (h.given m owed ok says i p at);
   closed = h.closed;
   taken = h.taken;
   alone = ap (λ (x : State). record x { terms = U }) h.alone;

@@ -1,18 +1,23 @@
 -- Lists of rules that are collected from candidates.
-use Rattle.std.proofs.Common.{◌≡◌, ◌==◌, inl, inr, ℕ, ◌+◌, ◌<◌, ◌≤◌, true, Some, List, [], ◌∷◌, ◌++◌, length, map, take, get_or, refl, sym, ap, subst, ◌∙◌, append_assoc, append-nil, arith}
+use Rattle.std.proofs.Common.{◌≡◌, ◌==◌, ◌&&◌, inl, inr, ℕ, ◌+◌, ◌<◌, ◌≤◌, Bool, true, false, if◌then◌else◌, Some, List, [], ◌∷◌, ◌++◌, length, map, filter, take, get_or, refl, sym, ap, subst, append_assoc, append-nil, arith}
 use Rattle.std.specs.Prelude.{slice_get}
+use Rattle.std.proofs.lemmas.Bool.{false≢true}
 use Rattle.std.proofs.lemmas.Bool.Decides.{eqb_tells}
 use Rattle.std.proofs.lemmas.List.{take_all}
-use Rattle.std.proofs.lemmas.List.Elements.{All-get_or, filter_passes}
+use Rattle.std.specs.List.{All}
+use Rattle.std.proofs.lemmas.List.Elements.{All-get_or, All-weaker, filter_passes}
 use Rattle.std.proofs.lemmas.Option.{get_or_from_slice_get}
+use Rattle.goal_terms.specs.Erased.{compared_node}
+use Rattle.goal_terms.specs.declared.compare.Regions.TheVariants.{Forgotten}
+use Rattle.goal_terms.specs.declared.heads.Node.{Node}
 use Rattle.goal_terms.specs.declared.ids.TraitId.{TraitId}
 use Rattle.goal_tables.specs.Faults.{IsChecked}
+use Rattle.goal_tables.specs.ImplsByHead.{self_head, may_be, impls_with_head}
 use Rattle.goal_tables.specs.Rows.{impl_of}
 use Rattle.goal_tables.specs.declared.rows.ImplRow.{ImplRow}
 use Rattle.goal_tables.specs.declared.rows.Tables.{Tables}
 use Rattle.goal_kinds.specs.Candidates.{Candidate, by_impl, impls_for}
 use Rattle.goal_kinds.specs.declared.rules.Rule.{Rule}
-use Rattle.goal_kinds.proofs.CandidateClasses.{next-impl}
 use Rattle.goal_kinds.proofs.GrowingLists.{one-more}
 use Rattle.goal_kinds.proofs.PlaceLists.{places-length, place-within, at-place}
 use Rattle.goal_eval.proofs.CandidateRowLemmas.{impl-found}
@@ -95,20 +100,26 @@ pub collects-all : {X : Type 0} (P : Rule → Candidate → Type 0) (L : Candida
     length xs ≤ i → Collects P L (map f (take i xs)) before after → Collects P L (map f xs) before after
 collects-all P L f xs i before after l h = subst (λ ys. Collects P L (map f ys) before after) (take_all i xs l) h
 
--- the impl at the next place of a trait's impls
-pub collects-impl : (P : Rule → Candidate → Type 0) (L : Candidate → Type 0) (t : Tables) (i : TraitId) (places : List ℕ) (n : ℕ) (r : ImplRow) (before rs after : List Rule) →
-    map (slice_get t.impls.items) places ≡ map Some (impls_for t i) → n < length places → slice_get t.impls.items (get_or places n 0) ≡ Some r → Adds P L (by_impl r) rs after →
-    Collects P L (map by_impl (take n (impls_for t i))) before rs → Collects P L (map by_impl (take (n + 1) (impls_for t i))) before after
-collects-impl P L t i places n r before rs after h l here a so es collected =
-    subst (AreCollected P L after) (next-impl t i places es (es ++ map by_impl (take n (impls_for t i))) r n h l here refl)
-    (collected-adds P L rs after (es ++ map by_impl (take n (impls_for t i))) (by_impl r) a (so es collected))
+-- the impl at the next of some places
+pub collects-at : (P : Rule → Candidate → Type 0) (L : Candidate → Type 0) (rows impls : List ImplRow) (places : List ℕ) (n : ℕ) (r : ImplRow) (before rs after : List Rule) →
+    map (slice_get rows) places ≡ map Some impls → n < length places → slice_get rows (get_or places n 0) ≡ Some r → Adds P L (by_impl r) rs after →
+    Collects P L (map by_impl (take n impls)) before rs → Collects P L (map by_impl (take (n + 1) impls)) before after
+collects-at P L rows impls places n r before rs after h l here a so =
+    collects-more P L by_impl impls n r before rs after (omega (arith, places-length rows places impls h)) (at-place rows places impls n r h l here) a so
 
--- all impls of a trait
-pub collects-impls : (P : Rule → Candidate → Type 0) (L : Candidate → Type 0) (t : Tables) (i : TraitId) (places : List ℕ) (n : ℕ) (before after : List Rule) →
-    map (slice_get t.impls.items) places ≡ map Some (impls_for t i) → length places ≤ n →
-    Collects P L (map by_impl (take n (impls_for t i))) before after → Collects P L (map by_impl (impls_for t i)) before after
-collects-impls P L t i places n before after h l so =
-    collects-all P L by_impl (impls_for t i) n before after (omega (arith, places-length t.impls.items places (impls_for t i) h)) so
+-- all of them
+pub collects-places : (P : Rule → Candidate → Type 0) (L : Candidate → Type 0) (rows impls : List ImplRow) (places : List ℕ) (n : ℕ) (before after : List Rule) →
+    map (slice_get rows) places ≡ map Some impls → length places ≤ n →
+    Collects P L (map by_impl (take n impls)) before after → Collects P L (map by_impl impls) before after
+collects-places P L rows impls places n before after h l so =
+    collects-all P L by_impl impls n before after (omega (arith, places-length rows places impls h)) so
+
+-- each impl at a place passes what all of them do
+pub passes-at : (P : ImplRow → Type 0) (rows impls : List ImplRow) (places : List ℕ) (n : ℕ) (r : ImplRow) →
+    map (slice_get rows) places ≡ map Some impls → n < length places → slice_get rows (get_or places n 0) ≡ Some r → All P impls → P r
+passes-at P rows impls places n r h l here all =
+    let within : n < length impls = omega (arith, places-length rows places impls h) in
+    subst P (sym (at-place rows places impls n r h l here)) (All-get_or P impls n r within all)
 
 -- traits of one number are one
 same_trait : (i j : TraitId) → i.0 ≡ j.0 → i ≡ j
@@ -120,19 +131,68 @@ same_trait i j e = ap (λ (n : ℕ). numbered n) e where
 tells-same : (a b : ℕ) → a == b ≡ true → a ≡ b
 tells-same a b e = elim (eqb_tells a b) [ inl p ↦ p.1 | inr p ↦ absurd (cc) ]
 
--- an impl at a place of a trait's impls is of that trait
-pub impl-of_trait : (t : Tables) (i : TraitId) (places : List ℕ) (n : ℕ) (r : ImplRow) →
-    map (slice_get t.impls.items) places ≡ map Some (impls_for t i) → n < length places → slice_get t.impls.items (get_or places n 0) ≡ Some r → r.trait_id ≡ i
-impl-of_trait t i places n r h l here =
-    let within : n < length (impls_for t i) = omega (arith, places-length t.impls.items places (impls_for t i) h) in
-    same_trait r.trait_id i
-    (tells-same r.trait_id.0 i.0
-    (ap (λ (q : ImplRow). q.trait_id.0 == i.0) (at-place t.impls.items places (impls_for t i) n r h l here)
-    ∙ All-get_or (λ q. (q.trait_id.0 == i.0) ≡ true) (impls_for t i) n r within (filter_passes (λ q. q.trait_id.0 == i.0) t.impls.items)))
+-- rows that pass a test, each of which is of a trait
+own-rows : (P : ImplRow → Type 0) (i : TraitId) (p : ImplRow → Bool) → ((r : ImplRow) → p r ≡ true → r.trait_id.0 == i.0 ≡ true) → ((r : ImplRow) → r.trait_id ≡ i → P r) →
+    (rows : List ImplRow) → All P (filter p rows)
+own-rows P i p of own rows =
+    All-weaker (λ r. p r ≡ true) P (λ r e. own r (same_trait r.trait_id i (tells-same r.trait_id.0 i.0 (of r e)))) (filter p rows) (filter_passes p rows)
 
--- and over accepted tables it is the row of its id
-pub impl-at_place : (t : Tables) → IsChecked t → (i : TraitId) (places : List ℕ) (n : ℕ) (r : ImplRow) →
-    map (slice_get t.impls.items) places ≡ map Some (impls_for t i) → n < length places → slice_get t.impls.items (get_or places n 0) ≡ Some r → impl_of t r.id ≡ Some r
-impl-at_place t checked i places n r h l here =
-    impl-found t checked (get_or places n 0) r (place-within t.impls.items places (impls_for t i) n h l)
+-- over accepted tables an impl at a place is the row of its id
+pub impl-at_place : (t : Tables) → IsChecked t → (impls : List ImplRow) (places : List ℕ) (n : ℕ) (r : ImplRow) →
+    map (slice_get t.impls.items) places ≡ map Some impls → n < length places → slice_get t.impls.items (get_or places n 0) ≡ Some r → impl_of t r.id ≡ Some r
+impl-at_place t checked impls places n r h l here =
+    impl-found t checked (get_or places n 0) r (place-within t.impls.items places impls n h l)
     (sym (get_or_from_slice_get t.impls.items (get_or places n 0) r r here))
+
+-- rules that are collected from rows that pass a test are collected from those that pass a weaker one, if the others have none
+passed-over : (P : Rule → Candidate → Type 0) (L : Candidate → Type 0) (b c : Bool) (r : ImplRow) (xs ys : List ImplRow) (rs : List Rule) →
+    (b ≡ true → c ≡ true) → (c ≡ true → b ≡ false → L (by_impl r)) → ((qs : List Rule) → AreCollected P L qs (map by_impl xs) → AreCollected P L qs (map by_impl ys)) →
+    AreCollected P L rs (map by_impl (if b then r ∷ xs else xs)) → AreCollected P L rs (map by_impl (if c then r ∷ ys else ys))
+unfolding AreCollected
+passed-over P L true true r xs ys rs f g rest (inl h) = inl (h.0, rest rs h.1)
+passed-over P L true true r xs ys rs f g rest (inr h) = inr (h.0, h.1, h.2, h.3, rest h.1 h.4)
+passed-over P L true false r xs ys rs f g rest h = absurd (false≢true (f refl))
+passed-over P L false true r xs ys rs f g rest h = inl (g refl refl, rest rs h)
+passed-over P L false false r xs ys rs f g rest h = rest rs h
+
+collected-thinner : (P : Rule → Candidate → Type 0) (L : Candidate → Type 0) (p q : ImplRow → Bool) → ((r : ImplRow) → p r ≡ true → q r ≡ true) →
+    ((r : ImplRow) → q r ≡ true → p r ≡ false → L (by_impl r)) → (rows : List ImplRow) (rs : List Rule) →
+    AreCollected P L rs (map by_impl (filter p rows)) → AreCollected P L rs (map by_impl (filter q rows))
+collected-thinner P L p q f g [] rs h = h
+collected-thinner P L p q f g (r ∷ rows) rs h =
+    passed-over P L (p r) (q r) r (filter p rows) (filter q rows) rs (f r) (g r) (collected-thinner P L p q f g rows) h
+
+collected-behind : (P : Rule → Candidate → Type 0) (L : Candidate → Type 0) (xs ys : List Candidate) →
+    ((rs : List Rule) → AreCollected P L rs xs → AreCollected P L rs ys) → (cs : List Candidate) (rs : List Rule) → AreCollected P L rs (cs ++ xs) → AreCollected P L rs (cs ++ ys)
+unfolding AreCollected
+collected-behind P L xs ys f [] rs h = f rs h
+collected-behind P L xs ys f (c ∷ cs) rs (inl h) = inl (h.0, collected-behind P L xs ys f cs rs h.1)
+collected-behind P L xs ys f (c ∷ cs) rs (inr h) = inr (h.0, h.1, h.2, h.3, collected-behind P L xs ys f cs h.1 h.4)
+
+and-left : (b c : Bool) → b && c ≡ true → b ≡ true
+and-left true c e = refl
+and-left false c e = e
+
+and-failed : (b c : Bool) → b ≡ true → b && c ≡ false → c ≡ false
+and-failed true c e f = f
+and-failed false c e f = absurd (false≢true e)
+
+-- all impls of a trait, by those of one head
+pub collects-by_head : (P : Rule → Candidate → Type 0) (L : Candidate → Type 0) (t : Tables) (i : TraitId) (n : Node) (before after : List Rule) →
+    ((r : ImplRow) → may_be (compared_node Forgotten n) (self_head r) ≡ false → L (by_impl r)) →
+    Collects P L (map by_impl (impls_with_head t i n)) before after → Collects P L (map by_impl (impls_for t i)) before after
+collects-by_head P L t i n before after lacks h cs collected =
+    collected-behind P L (map by_impl (impls_with_head t i n)) (map by_impl (impls_for t i))
+    (collected-thinner P L (λ r. (r.trait_id.0 == i.0) && may_be (compared_node Forgotten n) (self_head r)) (λ r. r.trait_id.0 == i.0)
+    (λ r e. and-left (r.trait_id.0 == i.0) (may_be (compared_node Forgotten n) (self_head r)) e)
+    (λ r e f. lacks r (and-failed (r.trait_id.0 == i.0) (may_be (compared_node Forgotten n) (self_head r)) e f)) t.impls.items)
+    cs after (h cs collected)
+
+-- each impl that may have a head is of the trait
+pub of-trait : (t : Tables) (i : TraitId) (P : ImplRow → Type 0) → ((r : ImplRow) → r.trait_id ≡ i → P r) → All P (impls_for t i)
+of-trait t i P own = own-rows P i (λ r. r.trait_id.0 == i.0) (λ r e. e) own t.impls.items
+
+pub of-trait_and_head : (t : Tables) (i : TraitId) (n : Node) (P : ImplRow → Type 0) → ((r : ImplRow) → r.trait_id ≡ i → P r) → All P (impls_with_head t i n)
+of-trait_and_head t i n P own =
+    own-rows P i (λ r. (r.trait_id.0 == i.0) && may_be (compared_node Forgotten n) (self_head r))
+    (λ r e. and-left (r.trait_id.0 == i.0) (may_be (compared_node Forgotten n) (self_head r)) e) own t.impls.items

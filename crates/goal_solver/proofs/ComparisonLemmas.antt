@@ -1,7 +1,7 @@
 -- What two runs of one goal come to.
-use Rattle.std.proofs.Common.{◌≡◌, ◌≢◌, ◌<◌, ◌==◌, ◌&&◌, ℕ, true, false, Bool, List, [], ◌∷◌, length, Some, None, Result, Ok, Err, refl, sym, ap, ◌∙◌, subst, inl}
+use Rattle.std.proofs.Common.{◌≡◌, ◌≢◌, ◌<◌, ℕ, true, false, Bool, List, [], ◌∷◌, length, Some, None, Result, Ok, Err, refl, sym, ap, ◌∙◌, subst, inl}
 use Rattle.std.specs.Prelude.{IsTrue, IfOk}
-use Rattle.std.specs.List.{AllZip, list_any}
+use Rattle.std.specs.List.{AllZip}
 use Rattle.goal_terms.specs.Erased.{erased}
 use Rattle.goal_terms.specs.SameLaws.{same_tree-is}
 use Rattle.goal_terms.specs.SameTree.{same_tree}
@@ -30,7 +30,7 @@ use Rattle.goal_kinds.specs.Interned.{erased_at}
 use Rattle.goal_kinds.specs.Laws.{IsAlike, IsWithin}
 use Rattle.goal_kinds.specs.Level.{Level}
 use Rattle.goal_kinds.specs.Levels.{level}
-use Rattle.goal_kinds.specs.Settings.{Setting, is_empty, is_headline, is_coherence, is_erased, among, leaves_open, reveals, takes_defaults, hides_defaults}
+use Rattle.goal_kinds.specs.Settings.{Setting, is_empty, is_headline, is_coherence, among, leaves_open, reveals, takes_defaults, hides_defaults}
 use Rattle.goal_kinds.proofs.AlikeSettings.{alike-reordered}
 use Rattle.goal_kinds.proofs.AnswerLaws.{answer-same, answers-agree, impls-not_doubled}
 use Rattle.goal_kinds.proofs.WithinLevels.{within-alike_level, within-alike_level_back}
@@ -94,16 +94,8 @@ question-closed (predicate.NormalizesTo q) env e h = absurd (cc)
 question-closed predicate.Ambiguous env e h = h
 
 -- a headline mode is owed an answer
-headline-unerased : (m : TypingMode) → is_headline m ≡ true → is_erased m ≡ false
-headline-unerased mode.Coherence h = refl
-headline-unerased (mode.Analysis ids) h = refl
-headline-unerased (mode.Borrowck ids) h = refl
-headline-unerased (mode.PostBorrowckAnalysis ids) h = refl
-headline-unerased mode.PostAnalysis h = refl
-headline-unerased mode.ErasedNotCoherence h = sym h
-
 pub owed-itself : (before after : State) → after.typing_mode ≡ before.typing_mode → is_headline before.typing_mode ≡ true → IsOwed after before.typing_mode
-owed-itself before after same h = inl (same, headline-unerased before.typing_mode h)
+owed-itself before after same h = inl same
 
 -- the goal of an alias's term
 is_normalization : (p : Predicate) (q : NormalizesTo) → normalization_of p ≡ Some q → p ≡ predicate.NormalizesTo q

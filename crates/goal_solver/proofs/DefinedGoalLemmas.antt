@@ -102,7 +102,7 @@ pub defined-unowed : (s z : State) (p : NormalizesTo) (x : FirstUse) (m : Typing
     IsOwed z m → IsNotDefined s p m → ⊥
 defined-unowed s z p x m e same owed (inl headline) =
     let other = other-mode s.tables s.typing_mode p.alias.kind x e in
-    ⊎_elim (λ h. false≢true (sym other.0 ∙ ap is_headline (sym same ∙ h.0) ∙ headline)) (λ h. other.1 (sym same ∙ h.0)) owed
+    ⊎_elim (λ h. false≢true (sym other.0 ∙ ap is_headline (sym same ∙ h) ∙ headline)) (λ h. other.1 (sym same ∙ h.0)) owed
 defined-unowed s z p x m e same owed (inr none) = absurd (cc (sym none ∙ e))
 
 -- nor is the goal ambiguous by its mode

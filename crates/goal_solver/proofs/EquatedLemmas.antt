@@ -1,5 +1,5 @@
 -- What equating terms in a context answers.
-use Rattle.std.proofs.Common.{◌≡◌, ◌≢◌, ◌↔◌, ◌⊎◌, inl, inr, ℕ, zero, suc, ◌<◌, Bool, true, false, List, [], ◌∷◌, ◌++◌, length, map, Some, None, Result, Ok, Err, refl, sym, ap, ◌∙◌, subst, ⊎_elim}
+use Rattle.std.proofs.Common.{◌≡◌, ◌≢◌, ◌↔◌, ◌⊎◌, ℕ, zero, suc, ◌<◌, Bool, true, false, List, [], ◌∷◌, ◌++◌, length, map, Some, None, Result, Ok, Err, refl, sym, ap, ◌∙◌, subst, ⊎_elim}
 use Rattle.std.specs.Prelude.{if◌then◌else◌, slice_get, replicate, IsOk, OnErr}
 use Rattle.goal_terms.specs.Erased.{erased}
 use Rattle.std.specs.List.{list_any}
@@ -26,9 +26,8 @@ use Rattle.goal_infer.proofs.SolvedLemmas.{agrees-forth, agrees-back, agrees-kep
 use Rattle.goal_kinds.specs.Interned.{AreIn, erased_at, erased_all}
 use Rattle.goal_kinds.proofs.InternedLemmas.{are_in-grown}
 use Rattle.goal_kinds.proofs.UnderLemmas.{are_in-below}
-use Rattle.goal_kinds.specs.Settings.{is_headline}
 use Rattle.goal_solver.specs.Accesses.{RecordsCausedFaults}
-use Rattle.goal_solver.specs.Answers.{IsOwed, level_over}
+use Rattle.goal_solver.specs.Answers.{IsOwed, level_over, IsStopped}
 use Rattle.goal_solver.specs.Equating.{IsEquated, certainty_of}
 use Rattle.goal_solver.specs.GoingBack.{GoesBack, restored}
 use Rattle.goal_solver.specs.Relating.{IsRelated, ChangesInference, ChangesRecords, AgreesWith, all_replaced, all_bound, AreDefinite, IsEqualAnswer, LeavesOpen, SaysYes, Refuses, IsFaultFor, all_equated, AreIdentical}
@@ -38,11 +37,10 @@ use Rattle.goal_kinds.specs.declared.faults.Fault.{Fault}
 use Rattle.goal_kinds.specs.declared.faults.Fault.TheVariants as fault
 use Rattle.goal_kinds.specs.declared.outcomes.Outcome.{Outcome}
 use Rattle.goal_kinds.specs.declared.outcomes.Outcome.TheVariants as outcome
-use Rattle.goal_eval.specs.declared.eval.outcomes.Stop.{Stop}
-use Rattle.goal_eval.specs.declared.eval.outcomes.Stop.TheVariants as stop
 use Rattle.goal_solver.proofs.BindingLemmas.{goes_back-interned}
 use Rattle.goal_solver.proofs.GoingBackLemmas.{goes_back-restored, goes_back-through}
-use Rattle.goal_solver.proofs.AddedGoalLemmas.{owed-before, restored-owed}
+use Rattle.goal_solver.proofs.AddedGoalLemmas.{restored-owed}
+use Rattle.goal_solver.proofs.AnswerLemmas.{owed-before}
 use Rattle.goal_solver.proofs.RelatedLemmas.{agreed-back}
 
 -- region variables that came to a state are bound to nothing
@@ -176,27 +174,12 @@ module _ (a z : State) (env : List Clause) (ts us : List Tree) (valid : IsValid 
   equated-fault fault.NotForThisKind n = equated-silent (Err fault.NotForThisKind) (λ m. tt) (λ x. x) (λ x. x) (λ x. x) (no_error fault.NotForThisKind)
 
   -- an evaluation that was stopped, whose changes were undone
-  pub equated-stopped : (s : Stop) (r : Result Certainty Fault) → z.inference ≡ a.inference →
-      ((m : TypingMode) → IsOwed z m → (is_headline a.typing_mode ≡ true → s ≡ stop.OutOfMemory) → r ≡ Err fault.OutOfMemory) →
-      (s ≡ stop.OutOfMemory → r ≡ Err fault.OutOfMemory) → (SaysYes r ⊎ Refuses r → ⊥) → (is_headline a.typing_mode ≡ true → s ≡ stop.OutOfMemory) →
-      (IsPlainOrSame a (map erased ts) (map erased us) → s ≡ stop.OutOfMemory) → IsEquated a z env ts us r
-  equated-stopped s (Ok certainty.Yes) undone owed memory undecided stops settles = absurd (undecided (inl tt))
-  equated-stopped s (Ok certainty.Maybe) undone owed memory undecided stops settles = record {
-    sound = λ m o sides. tt;
-    decided = λ m o sides x. let never : Ok certainty.Maybe ≡ Err fault.OutOfMemory = owed m o.1 stops in absurd (cc);
-    equal = λ m o x. absurd x;
-    never = λ x. absurd x;
-    agreed = agreed-back a z valid back;
-    most_general = λ x ρ agrees same. subst (λ (i : Inference). Agrees z.terms i ρ) (sym undone) ((agrees-kept a.terms z.terms a.inference back.terms valid.solved ρ).1 agrees);
-    identified = λ x. absurd x;
-    plain = λ p x. let never : Ok certainty.Maybe ≡ Err fault.OutOfMemory = memory (settles (inl p)) in absurd (cc);
-    regions = λ e x. let never : Ok certainty.Maybe ≡ Err fault.OutOfMemory = memory (settles (inr (bound-alike e))) in absurd (cc);
-    same = λ e x. let never : Ok certainty.Maybe ≡ Err fault.OutOfMemory = memory (settles (inr (bound-alike e))) in absurd (cc);
-  }
-  equated-stopped s (Err fault.NoSolution) undone owed memory undecided stops settles = absurd (undecided (inr tt))
-  equated-stopped s (Err fault.RerunNonErased) undone owed memory undecided stops settles = equated-fault fault.RerunNonErased (λ e. absurd (cc))
-  equated-stopped s (Err fault.OutOfMemory) undone owed memory undecided stops settles = equated-fault fault.OutOfMemory (λ e. absurd (cc))
-  equated-stopped s (Err fault.NotForThisKind) undone owed memory undecided stops settles = equated-fault fault.NotForThisKind (λ e. absurd (cc))
+  pub equated-stopped : (r : Result Certainty Fault) → IsStopped r → IsEquated a z env ts us r
+  equated-stopped (Ok c) ends = absurd ends
+  equated-stopped (Err fault.NoSolution) ends = absurd ends
+  equated-stopped (Err fault.RerunNonErased) ends = equated-fault fault.RerunNonErased (λ e. absurd (cc))
+  equated-stopped (Err fault.OutOfMemory) ends = equated-fault fault.OutOfMemory (λ e. absurd (cc))
+  equated-stopped (Err fault.NotForThisKind) ends = equated-fault fault.NotForThisKind (λ e. absurd (cc))
 
 -- the same of a context in which more terms got their numbers first
 module _ (a : State) (T : List Tree) (kept : Keeps a.terms T) (solved : IsSolved a.terms a.inference) where
@@ -272,16 +255,10 @@ pub unchanged-undone : (a b y z : State) → y ≡ restored a b → z ≡ record
 unchanged-undone a b y z undone alone = let e = undone-is a b y z undone alone in e ∙ ap (restored a) (sym e)
 
 -- an evaluation that was stopped
-pub equated-undone : (a b y z : State) (env : List Clause) (ls rs : List TermId) (s : Stop) (r : Result Certainty Fault) → IsValid a → GoesBack a b → y ≡ restored a b →
-    z ≡ record y { accesses = z.accesses } → GoesBack y z →
-    ((m : TypingMode) → IsOwed z m → (is_headline y.typing_mode ≡ true → s ≡ stop.OutOfMemory) → r ≡ Err fault.OutOfMemory) →
-    (s ≡ stop.OutOfMemory → r ≡ Err fault.OutOfMemory) → (SaysYes r ⊎ Refuses r → ⊥) → (is_headline a.typing_mode ≡ true → s ≡ stop.OutOfMemory) →
-    (IsPlainOrSame a (erased_all a.terms ls) (erased_all a.terms rs) → s ≡ stop.OutOfMemory) → IsEquated a z env (map (tree_at a.terms) ls) (map (tree_at a.terms) rs) r
-equated-undone a b y z env ls rs s r valid back undone alone further owed memory undecided stops settles =
-    equated-stopped a z env (map (tree_at a.terms) ls) (map (tree_at a.terms) rs) valid (back-undone a b y z back undone further) s r
-    (ap (λ (x : State). x.inference) (undone-is a b y z undone alone))
-    (λ m o h. owed m o (λ e. h (sym (ap (λ (x : State). is_headline x.typing_mode) undone) ∙ e)))
-    memory undecided stops (λ p. settles (plain-trees a ls rs p))
+pub equated-undone : (a b y z : State) (env : List Clause) (ls rs : List TermId) (r : Result Certainty Fault) → IsValid a → GoesBack a b → y ≡ restored a b →
+    z ≡ record y { accesses = z.accesses } → GoesBack y z → IsStopped r → IsEquated a z env (map (tree_at a.terms) ls) (map (tree_at a.terms) rs) r
+equated-undone a b y z env ls rs r valid back undone alone further ends =
+    equated-stopped a z env (map (tree_at a.terms) ls) (map (tree_at a.terms) rs) valid (back-undone a b y z back undone further) r ends
 
 -- lists that were refuted, or whose equations found no memory
 pub refuted-undone : (a b z : State) (env : List Clause) (ls rs : List TermId) (n : ℕ) (o : Outcome) → IsValid a → GoesBack a b → z ≡ restored a b → n ≡ a.remaining_depth → o ≡ outcome.Refuted →

@@ -13,7 +13,7 @@ use Rattle.goal_tables.specs.Faults.{IsChecked}
 use Rattle.goal_kinds.specs.Answers.{setting_of}
 use Rattle.goal_kinds.specs.Settings.{Setting, is_headline}
 use Rattle.goal_solver.specs.Accesses.{RecordsCaused, EndsFor}
-use Rattle.goal_solver.specs.Answers.{IsOwed, level_over, IsFinalIn}
+use Rattle.goal_solver.specs.Answers.{IsOwed, level_over}
 use Rattle.goal_eval.specs.Effects.{EndsIn}
 use Rattle.goal_solver.specs.Evaluations.{SaysOf, SaysTermAt, StopsForMemory}
 use Rattle.goal_solver.specs.GoingBack.{restored}
@@ -31,17 +31,11 @@ use Rattle.goal_solver.proofs.AnswerLemmas.{goes_back-grown}
 pub says-interned : (a b z : State) (env : List Clause) (p q : PredicateTree) (r : Result Outcome Stop) → b ≡ record a { terms = b.terms } → p ≡ q → SaysOf b z env p r → SaysOf a z env q r
 says-interned a b z env p q r e f h = subst (λ (x : PredicateTree). SaysOf a z env x r) f (subst (λ (s : State). SaysOf s z env p r) e h)
 
--- and so with an alias's arguments, where an answer is owed, and where a run stands for a mode
+-- and so with an alias's arguments
 pub term-interned : (a b z : State) (env : List Clause) (k : AliasTermKind) (ts us : List Tree) (r : Result Found Stop) → b ≡ record a { terms = b.terms } → ts ≡ us →
     ((m : TypingMode) → IsOwed z m → SaysTermAt (level_over b m env) k ts z.terms r) → (m : TypingMode) → IsOwed z m → SaysTermAt (level_over a m env) k us z.terms r
 term-interned a b z env k ts us r e f h m owed =
     subst (λ (xs : List Tree). SaysTermAt (level_over a m env) k xs z.terms r) f (subst (λ (s : State). SaysTermAt (level_over s m env) k ts z.terms r) e (h m owed))
-
-pub run-interned : (a b z : State) (env : List Clause) (k : AliasTermKind) (ts us : List Tree) (r : Result Found Stop) → b ≡ record a { terms = b.terms } → ts ≡ us →
-    ((m : TypingMode) → IsFinalIn b.typing_mode m → SaysTermAt (level_over b m env) k ts z.terms r) → (m : TypingMode) → IsFinalIn a.typing_mode m → SaysTermAt (level_over a m env) k us z.terms r
-run-interned a b z env k ts us r e f h m stands =
-    subst (λ (xs : List Tree). SaysTermAt (level_over a m env) k xs z.terms r) f
-    (subst (λ (s : State). IsFinalIn s.typing_mode m → SaysTermAt (level_over s m env) k ts z.terms r) e (h m) stands)
 
 -- the rest is as before
 pub interned-unchanged : (a b z : State) → b ≡ record a { terms = b.terms } → z ≡ restored b z → z ≡ restored a z

@@ -1,7 +1,7 @@
 -- What the candidates of a host effect goal answer, where its plain goal holds through a class.
-use Rattle.std.proofs.Common.{◌≡◌, suc, true, List, [], Option, Some, None, length, Result, Ok, Err, sym, ◌∙◌, ap, subst, arith}
+use Rattle.std.proofs.Common.{◌≡◌, suc, List, [], Option, Some, None, length, Result, Ok, Err, sym, ◌∙◌, ap, subst, arith}
 use Rattle.std.specs.Option.{option_map}
-use Rattle.std.specs.Prelude.{IfOk, IfErr}
+use Rattle.std.specs.Prelude.{IfOk}
 use Rattle.goal_terms.specs.declared.answers.Certainty.TheVariants as certainty
 use Rattle.goal_terms.specs.declared.answers.Response.{Response}
 use Rattle.goal_terms.specs.declared.answers.TraitGoalProvenVia.{TraitGoalProvenVia}
@@ -11,14 +11,13 @@ use Rattle.goal_terms.specs.declared.predicates.Clause.{Clause}
 use Rattle.goal_kinds.specs.Answers.{setting_of}
 use Rattle.goal_kinds.specs.CandidateRules.{seen_trait}
 use Rattle.goal_kinds.specs.Premises.{TraitTree, ClauseHolds, ClauseRefuted}
-use Rattle.goal_kinds.specs.Settings.{is_headline}
 use Rattle.goal_kinds.specs.declared.faults.Fault.{Fault}
 use Rattle.goal_kinds.specs.declared.faults.Fault.TheVariants as fault
 use Rattle.goal_kinds.specs.declared.goal_kind.TraitView.{TraitView}
 use Rattle.goal_kinds.proofs.WithinLevels.{within-level}
-use Rattle.goal_solver.specs.Answers.{IsOwed, level_over, IsPredicateAnswer, IsUndecided, IsMaybe, AnswersAside}
+use Rattle.goal_solver.specs.Answers.{IsConclusion, IsOwed, level_over, IsPredicateAnswer, IsUndecided, IsMaybe, AnswersAside}
 use Rattle.goal_solver.specs.Assembled.{level_above}
-use Rattle.goal_solver.specs.GoingBack.{GoesBack, restored}
+use Rattle.goal_solver.specs.GoingBack.{GoesBack}
 use Rattle.goal_solver.specs.HostGoals.{HostThrough, HoldsThroughClass, SaysHostAt, host_asked, AnswersHostThrough, AnswersHostGiven, host_with, host_through}
 use Rattle.goal_eval.specs.Outcomes.{Says}
 use Rattle.goal_solver.specs.Promises.{LeavesUndecided, NamesNoClass}
@@ -26,8 +25,7 @@ use Rattle.goal_solver.specs.State.{State, kinds_of}
 use Rattle.goal_kinds.specs.declared.outcomes.Outcome.{Outcome}
 use Rattle.goal_kinds.specs.declared.outcomes.Outcome.TheVariants as outcome
 use Rattle.goal_eval.specs.declared.eval.outcomes.Stop.{Stop}
-use Rattle.goal_eval.specs.declared.eval.outcomes.Stop.TheVariants as stop
-use Rattle.goal_solver.proofs.AnswerLemmas.{owed-before, answered-soundly, concluded-open, stops-later, IsConcluded}
+use Rattle.goal_solver.proofs.AnswerLemmas.{owed-before, answered-soundly, concluded-open}
 use Rattle.goal_solver.proofs.PromiseLemmas.{whether-right, whether-lasts, changes-lifetimes}
 
 -- an evaluation, and what is concluded from it
@@ -42,9 +40,9 @@ module _ (a b z : State) (env : List Clause) (q : HostThrough) (o : Result Outco
       (m : TypingMode) → IsOwed z m → HoldsThroughClass (level_over a m env) q → IsPredicateAnswer (level_above a m env) (host_asked q) r
   host-sound sure never m owed h = answered-soundly (level_above a m env) (host_asked q) o r (said m owed h) sure never
 
-  pub host-decided : b ≡ restored a b → (is_headline a.typing_mode ≡ true → IfErr o (λ s. s ≡ stop.OutOfMemory)) → IsConcluded b z o r →
+  pub host-decided : IsConclusion o r →
       (m : TypingMode) → IsOwed z m → HoldsThroughClass (level_over a m env) q → IsMaybe r → IsUndecided (level_above a m env) (host_asked q)
-  host-decided e stops concluded m owed h = concluded-open (level_above a m env) (host_asked q) o r (said m owed h) (concluded m owed (stops-later a b o e stops))
+  host-decided concluded m owed h = concluded-open (level_above a m env) (host_asked q) o r (said m owed h) concluded
 
 -- so the goal is answered
 pub answers-host_through : (before after : State) (env : List Clause) (q : HostThrough) (r : Result Response Fault) →

@@ -26,6 +26,7 @@ pub mod RegionLemmas
 pub mod ApplicableLemmas
 pub mod PlaceLemmas
 pub mod AddedGoalLemmas
+pub mod NormalizingLemmas
 pub mod RoundLemmas
 pub mod AsideLemmas
 pub mod GoalOutcomeLemmas
@@ -63,3 +64,5 @@ pub mod OpenFormLemmas
 pub mod OpenedSelfLemmas
 pub mod HiddenTypeLemmas
 pub mod DefinedGoalLemmas
+mod AmbiguousLemmas
+pub mod ChosenLemmas

@@ -105,7 +105,7 @@ refuses-pending s b y gs ts places e f split h = (
   h.0,
   h.1,
   listed-pending s places h.0 h.1 split h.2 h.3,
-  record { refuted = λ m owed closed. h.4.refuted m (elim owed [ inl k ↦ inl (sym e ∙ k.0, k.1) | inr k ↦ inr (sym e ∙ k.0, k.1, sym f ∙ k.2) ]) closed },
+  record { refuted = λ m owed closed. h.4.refuted m (elim owed [ inl k ↦ inl (sym e ∙ k) | inr k ↦ inr (sym e ∙ k.0, k.1, sym f ∙ k.2) ]) closed },
 )
 
 pub aside-refused : (o s b y : State) (gs hs : List (GoalSource × Goal Predicate)) (ts places : List ℕ) (r : Result Certainty Fault) → o ≡ s → hs ≡ s.goals →

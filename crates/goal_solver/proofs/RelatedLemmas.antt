@@ -40,7 +40,7 @@ use Rattle.goal_kinds.specs.Equality.{Unequal, RowUnequal}
 use Rattle.goal_kinds.specs.Interned.{IsIn, AreIn, erased_at, erased_all}
 use Rattle.goal_kinds.specs.Level.{Level, nothing}
 use Rattle.goal_kinds.specs.Levels.{level}
-use Rattle.goal_kinds.specs.Settings.{Setting, is_headline, is_coherence}
+use Rattle.goal_kinds.specs.Settings.{Setting, is_coherence}
 use Rattle.goal_kinds.specs.Words.{Pairs, SomePair}
 use Rattle.goal_solver.specs.Answers.{IsOwed, IsFinalIn}
 use Rattle.goal_solver.specs.GoingBack.{GoesBack, restored}
@@ -384,7 +384,7 @@ holding-in mode.PostAnalysis x e = e
 holding-in mode.ErasedNotCoherence x e = e
 
 final-in : (run m : TypingMode) (x : Outcome) → is_coherence m ≡ false → IsFinalIn run m → outcome_in run x ≡ x
-final-in mode.Coherence m x h (inl e) = absurd (false≢true (sym h ∙ sym (ap is_coherence e.0)))
+final-in mode.Coherence m x h (inl e) = absurd (false≢true (sym h ∙ sym (ap is_coherence e)))
 final-in mode.Coherence m x h (inr e) = absurd (cc (e.0))
 final-in (mode.Analysis i) m x h f = refl
 final-in (mode.Borrowck i) m x h f = refl
@@ -393,8 +393,8 @@ final-in mode.PostAnalysis m x h f = refl
 final-in mode.ErasedNotCoherence m x h f = refl
 
 -- what is owed after a call is final in the mode of its run
-pub owed-final : (run : TypingMode) (z : State) (m : TypingMode) → z.typing_mode ≡ run → IsOwed z m → IsFinalIn run m
-owed-final run z m e (inl f) = inl (sym e ∙ f.0, f.1)
+owed-final : (run : TypingMode) (z : State) (m : TypingMode) → z.typing_mode ≡ run → IsOwed z m → IsFinalIn run m
+owed-final run z m e (inl f) = inl (sym e ∙ f)
 owed-final run z m e (inr f) = inr (sym e ∙ f.0, f.1)
 
 -- both steps of equating are in one mode

@@ -1,5 +1,5 @@
 -- A context in which a run was stopped, and another one is to go on.
-use Rattle.std.proofs.Common.{◌≡◌, ◌<◌, ℕ, true, List, [], length, Result, Ok, Err, refl, sym, ap, ◌∙◌, subst, ⊎_elim, true≢false, arith, Option, Some, None, inl, inr, suc, zero}
+use Rattle.std.proofs.Common.{◌≡◌, ◌<◌, ℕ, true, List, [], length, Result, Ok, Err, refl, sym, ap, ◌∙◌, subst, arith, Option, Some, None, inl, inr, suc, zero}
 use Rattle.std.specs.List.{Contains}
 use Rattle.std.specs.Prelude.{OnOk}
 use Rattle.goal_terms.specs.Tree.{Tree}
@@ -14,13 +14,15 @@ use Rattle.goal_kinds.specs.Aliases.{OpaqueGives, OpaqueRefuted, AliasGives, Ali
 use Rattle.goal_kinds.specs.Answers.{setting_of, which_term, maybe, IsAnswer}
 use Rattle.goal_kinds.specs.Level.{Level}
 use Rattle.goal_kinds.specs.Levels.{level}
-use Rattle.goal_kinds.specs.Settings.{is_headline, is_erased}
 use Rattle.goal_kinds.specs.Words.{OfRow, Either}
+use Rattle.goal_eval.specs.Outcomes.{RunsAs}
+use Rattle.goal_eval.specs.declared.eval.outcomes.OnAccess.TheVariants as on_access
 use Rattle.goal_solver.specs.Added.{RecordsAccess}
 use Rattle.goal_solver.specs.Answers.{IsOwed, level_over, IsAliasOpen}
-use Rattle.goal_solver.specs.GoingBack.{restored}
+use Rattle.goal_solver.specs.GoingBack.{GoesBack, restored}
 use Rattle.goal_solver.specs.Recording.{is_ambiguous}
 use Rattle.goal_solver.specs.State.{State}
+use Rattle.goal_solver.proofs.AnswerLemmas.{owed-before}
 use Rattle.goal_solver.proofs.FoundAnswers.{sort-erased}
 use Rattle.goal_solver.proofs.RecordedLemmas.{entered-contains}
 use Rattle.goal_solver.proofs.SettledLemmas.{closed-erased}
@@ -40,17 +42,15 @@ empty-contains xs x e h = nothing x (subst (λ ys. Contains ys x) e h) where
   nothing : {A : Type 0} (x : A) → Contains [] x → ⊥
   nothing x h = none x h.0 h.1
 
--- where an access was recorded in the erased mode no answer is owed
-pub recorded-never : (a z : State) (x : OpaqueAccess) → a.typing_mode ≡ mode.ErasedNotCoherence → RecordsAccess x a z → (m : TypingMode) → IsOwed z m → ⊥
-recorded-never a z x e r m owed =
-    ⊎_elim
-    (λ h. absurd (true≢false (sym (ap is_erased (ap (λ (s : State). s.typing_mode) r.1 ∙ e)) ∙ ap is_erased h.0 ∙ h.1)))
-    (λ h. empty-contains z.accesses x h.2 (entered-contains x a.accesses z.accesses r.0)) owed
+-- where an access was recorded in the erased mode only its own answer is owed, for which a run that goes on speaks
+recorded-own : (a z : State) (x : OpaqueAccess) → RecordsAccess x a z → (m : TypingMode) → IsOwed z m → RunsAs on_access.Record z.typing_mode m
+unfolding RunsAs
+recorded-own a z x r m (inl h) = inl (h, inr (inr refl))
+recorded-own a z x r m (inr h) = absurd (empty-contains z.accesses x h.2 (entered-contains x a.accesses z.accesses r.0))
 
-pub recorded-never_on : {T E : Type 0} (r : Result T E) (a z : State) (x : OpaqueAccess) → a.typing_mode ≡ mode.ErasedNotCoherence → OnOk r (RecordsAccess x a z) →
-    OnOk r ((m : TypingMode) → IsOwed z m → ⊥)
-recorded-never_on (Ok y) a z x e r = recorded-never a z x e r
-recorded-never_on (Err f) a z x e r = tt
+pub recorded-own_on : {T E : Type 0} (r : Result T E) (a z : State) (x : OpaqueAccess) → OnOk r (RecordsAccess x a z) → OnOk r ((m : TypingMode) → IsOwed z m → RunsAs on_access.Record z.typing_mode m)
+recorded-own_on (Ok y) a z x r = recorded-own a z x r
+recorded-own_on (Err f) a z x r = tt
 
 -- only accesses are more
 pub accesses-alone : (a b c : State) → b ≡ record a { accesses = b.accesses } → c ≡ record b { accesses = c.accesses } → c ≡ record a { accesses = c.accesses }
@@ -62,6 +62,15 @@ restored-twice a b c e f = f ∙ ap (λ (s : State). restored s c) e
 
 pub restored-between : (a b c d : State) → b ≡ restored a b → c ≡ record b { accesses = c.accesses } → d ≡ restored c d → d ≡ restored a d
 restored-between a b c d e f g = restored-twice a c d (restored-twice a b c e (f ∙ sym (ap (λ (s : State). restored b s) f))) g
+
+-- what is so over what the first run and its access leave is so over the context before
+pub rerun-over : (P : Tables → ℕ → Type 0) (a f b : State) → f ≡ restored a f → b ≡ record f { accesses = b.accesses } → P b.tables b.remaining_depth → P a.tables a.remaining_depth
+rerun-over P a f b e g h = subst (λ (s : State). P s.tables s.remaining_depth) e (subst (λ (s : State). P s.tables s.remaining_depth) g h)
+
+-- so what the second run says of each mode for which it speaks is said of each one that is owed an answer
+pub rerun-says : (P : Tables → ℕ → Type 0) (a f b z : State) (m : TypingMode) → f ≡ restored a f → b ≡ record f { accesses = b.accesses } → GoesBack b z →
+    ((k : TypingMode) → IsOwed b k → RunsAs on_access.Record b.typing_mode k) → (RunsAs on_access.Record b.typing_mode m → P b.tables b.remaining_depth) → IsOwed z m → P a.tables a.remaining_depth
+rerun-says P a f b z m e g back on says owed = rerun-over P a f b e g (says (on m (owed-before b z m back owed)))
 
 -- in coherence an opaque type has no term, and isn't refuted to have one
 coherent-gives : (t : Tables) (env : List Clause) (L : Level) (i : OpaqueId) (ts : List Tree) (u : Tree) (o : Option OpaqueRow) →
@@ -103,7 +112,7 @@ pub ambiguous-answer : (s : State) (k : AliasTermKind) (m : TypingMode) (env : L
     IsAnswer (level_over s m env) (which_term k ts) maybe
 ambiguous-answer s k m env ts e (inl h) =
     let is = ambiguous-opaque s.typing_mode k e in
-    subst (λ x. IsAnswer (level (setting_of s.tables x env) s.remaining_depth) (which_term k ts) maybe) (sym is.0 ∙ h.0)
+    subst (λ x. IsAnswer (level (setting_of s.tables x env) s.remaining_depth) (which_term k ts) maybe) (sym is.0 ∙ h)
     (subst (λ x. IsAnswer (level (setting_of s.tables mode.Coherence env) s.remaining_depth) (which_term x ts) maybe) (sym is.1.1)
     (coherent-open s.tables env s.remaining_depth is.1.0 ts))
 ambiguous-answer s k m env ts e (inr h) = let both : mode.Coherence ≡ mode.ErasedNotCoherence = sym (ambiguous-opaque s.typing_mode k e).0 ∙ h.0 in absurd (cc)

@@ -18,7 +18,7 @@ abbrev is_something : {A : Type 0} → Option A → Type 0
 is_something None = ⊥
 is_something (Some x) = Unit {0}
 
-none-is-some : {A : Type 0} (x : A) → None ≡ Some x → ⊥
+pub none-is-some : {A : Type 0} (x : A) → None ≡ Some x → ⊥
 none-is-some x e = subst is_something (sym e) tt
 
 -- what an option holds

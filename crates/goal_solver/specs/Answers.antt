@@ -25,7 +25,7 @@ use Rattle.goal_kinds.specs.Answers.{setting_of}
 use Rattle.goal_kinds.specs.Level.{Level}
 use Rattle.goal_kinds.specs.Levels.{level}
 use Rattle.goal_kinds.specs.Premises.{ClauseHolds, ClauseRefuted}
-use Rattle.goal_kinds.specs.Settings.{is_headline, is_coherence, is_erased}
+use Rattle.goal_kinds.specs.Settings.{is_headline, is_coherence}
 use Rattle.goal_solver.specs.State.{State}
 use Rattle.goal_kinds.specs.declared.faults.Fault.{Fault}
 use Rattle.goal_kinds.specs.declared.outcomes.Outcome.{Outcome}
@@ -33,14 +33,14 @@ use Rattle.goal_kinds.specs.declared.outcomes.Outcome.TheVariants as outcome
 use Rattle.goal_eval.specs.declared.eval.outcomes.Stop.{Stop}
 use Rattle.goal_kinds.specs.declared.faults.Fault.TheVariants as fault
 
--- a mode for which what is found may be final: that of the run, if it isn't the erased one; in that each of the headline
+-- a mode for which what is found may be final: that of the run; in the erased one also each of the headline
 abbrev pub IsFinalIn : TypingMode → TypingMode → Type 0
-IsFinalIn run m = ((run ≡ m) × (is_erased m ≡ false)) ⊎ ((run ≡ mode.ErasedNotCoherence) × (is_headline m ≡ true))
+IsFinalIn run m = (run ≡ m) ⊎ ((run ≡ mode.ErasedNotCoherence) × (is_headline m ≡ true))
 
--- the modes whose answers a call owes, by what it leaves: the context's own, but for the erased one; in that each of the headline as long as nothing was recorded
+-- the modes whose answers a call owes, by what it leaves: the context's own; in the erased one also each of the headline, as long as nothing was recorded
 abbrev pub IsOwed : State → TypingMode → Type 0
 IsOwed s m =
-    ((s.typing_mode ≡ m) × (is_erased m ≡ false))
+    (s.typing_mode ≡ m)
     ⊎ ((s.typing_mode ≡ mode.ErasedNotCoherence) × (is_headline m ≡ true) × (s.accesses ≡ []))
 
 -- those outside of coherence, where a refusal by head forms isn't final for equations
@@ -60,6 +60,12 @@ is_closed_alias a env = is_closed (tree_of_alias a) && not (some_in_env is_any_i
 
 abbrev pub IsClosedEquation : AliasTerm → Term → List Clause → Type 0
 IsClosedEquation a e env = (some_in_equation is_any_infer a e || some_in_env is_any_infer env) ≡ false
+
+-- where an evaluation was stopped there is a fault, and no answer
+abbrev pub IsStopped : {T : Type 0} → Result T Fault → Type 0
+IsStopped (Ok x) = ⊥
+IsStopped (Err fault.NoSolution) = ⊥
+IsStopped (Err f) = Unit {0}
 
 -- an answer that leaves its goal undecided
 abbrev pub IsMaybe : Result Response Fault → Type 0
@@ -153,4 +159,4 @@ abbrev pub IsConclusion : Result Outcome Stop → Result Response Fault → Type
 IsConclusion (Ok outcome.Holds) r = IfOk r (λ x. x.certainty ≡ certainty.Yes) × IsOk r
 IsConclusion (Ok outcome.Refuted) r = r ≡ Err fault.NoSolution
 IsConclusion (Ok outcome.Undecided) r = IsMaybe r
-IsConclusion (Err s) r = r ≡ Err fault.OutOfMemory
+IsConclusion (Err s) r = IsStopped r

@@ -1,5 +1,5 @@
 -- Which candidates of a goal the rules of a list speak for.
-use Rattle.std.specs.Prelude.{◌≡◌, ◌⊎◌, ◌||◌, ℕ, Bool, true, false, List, [], ◌∷◌, ◌++◌, map, Option, Some, None}
+use Rattle.std.specs.Prelude.{◌≡◌, ◌⊎◌, ◌||◌, ℕ, Bool, false, List, [], ◌∷◌, ◌++◌, map, Option, Some, None}
 use Rattle.std.specs.List.{All}
 use Rattle.goal_terms.specs.Erased.{erased}
 use Rattle.goal_terms.specs.Tree.{Tree}
@@ -30,6 +30,7 @@ use Rattle.goal_tables.specs.declared.sites.TermFault.{TermFault}
 use Rattle.goal_kinds.specs.Answers.{setting_of}
 use Rattle.goal_kinds.specs.CandidateRules.{RuleSays, HoldsError, IsAcceptedClause, NamedRule, trait_alias, sizedness, copy_clone, fn_ptr_trait, fn_trait, tuple, pointee, discriminant_kind, destruct, field, said_by}
 use Rattle.goal_kinds.specs.Candidates.{Candidate, assumption, implied_bound, by_impl, built_in, error, bounds_under, object_bounds, impls_for, environment, rest}
+use Rattle.goal_kinds.specs.CandidateWords.{ForImplsAt}
 use Rattle.goal_kinds.specs.KindWords.{KindWords, trait_words, GoalWords, words_for, Gives, Refutes, HasList}
 use Rattle.goal_kinds.specs.Levels.{level}
 use Rattle.goal_kinds.specs.Premises.{TraitTree}
@@ -126,6 +127,11 @@ CollectsMore W cs before after = Collects (Speaks W) (Lacks W) cs before after
 abbrev pub CollectsClauses : GoalWords → List Clause → List Rule → List Rule → Type 0
 CollectsClauses W clauses before after =
     All (λ c. IsAcceptedClause W.setting.tables c.kind) clauses → Collects (Speaks W) (λ c. W.refuted 0 c) (environment W.setting) before after
+
+-- of the impls at some places, if each of them is for the goal
+abbrev pub CollectsAt : GoalWords → List ℕ → List Rule → List Rule → Type 0
+CollectsAt W places before after =
+    ForImplsAt W.setting.tables places (λ impls. All (λ r. W.is_impl_for r) impls → CollectsMore W (map by_impl impls) before after)
 
 -- of a trait's impls, and of the rest, if each impl of the trait is for the goal
 abbrev pub CollectsImpls : GoalWords → TraitId → List Rule → List Rule → Type 0

@@ -9,7 +9,7 @@ use Rattle.goal_kinds.specs.Level.{Level}
 use Rattle.goal_kinds.specs.Premises.{ClauseHolds, ClauseRefuted}
 use Rattle.goal_kinds.specs.Settings.{is_headline}
 use Rattle.goal_eval.specs.ErasedArgs.{erased_args}
-use Rattle.goal_solver.specs.Answers.{IsOwed, level_over, IsFinalIn}
+use Rattle.goal_solver.specs.Answers.{IsOwed, level_over}
 use Rattle.goal_eval.specs.Outcomes.{RunsAs, Says, SaysWhich, SaysThrough}
 use Rattle.goal_solver.specs.Promises.{const_asked, equation_asked}
 use Rattle.goal_solver.specs.State.{State}
@@ -54,10 +54,6 @@ StopsForMemory s r = is_headline s.typing_mode ≡ true → IfErr r (λ e. e ≡
 -- so it is at the remaining depth, in each mode for which a run speaks
 abbrev pub WhereRun : OnAccess → State → List Clause → (Level → Type 0) → Type 0
 WhereRun on before env P = (m : TypingMode) → RunsAs on before.typing_mode m → P (level_over before m env)
-
--- and in each mode for which it may be final
-abbrev pub WhereFinal : State → List Clause → (Level → Type 0) → Type 0
-WhereFinal before env P = (m : TypingMode) → IsFinalIn before.typing_mode m → P (level_over before m env)
 
 -- what trees no higher than a depth prove
 abbrev pub level_at : State → TypingMode → List Clause → ℕ → Level

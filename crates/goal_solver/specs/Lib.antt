@@ -13,6 +13,7 @@ pub mod Binding
 pub mod Settled
 pub mod Equating
 pub mod FreeVariables
+pub mod Normalizing
 pub mod AddedGoals
 pub mod Responses
 pub mod HeadForms

@@ -1,5 +1,5 @@
 -- What running a list of entries with inference variables does: one step for each entry, in order, and a closing evaluation.
-use Rattle.std.specs.Prelude.{◌≡◌, ◌⊎◌, true, false, List, [], ◌∷◌, ◌++◌, length, map, Option, Some, None, option_map, slice_get, Ok, Vec, ℕ}
+use Rattle.std.specs.Prelude.{◌≡◌, ◌⊎◌, Bool, true, false, List, [], ◌∷◌, ◌++◌, length, map, Option, Some, None, option_map, slice_get, Result, Ok, Err, Vec, ℕ}
 use Rattle.std.specs.Global.{Global}
 use Rattle.std.specs.List.{AllZip}
 use Rattle.goal_terms.specs.Folding.{instance, instantiating}
@@ -32,6 +32,8 @@ use Rattle.goal_tables.specs.declared.rows.ImplRow.{ImplRow}
 use Rattle.goal_tables.specs.declared.rows.Tables.{Tables}
 use Rattle.goal_kinds.specs.Rules.{MatchedHeader, clauses_in, conditions_in, value_in}
 use Rattle.goal_kinds.specs.Settings.{is_headline}
+use Rattle.goal_kinds.specs.declared.faults.Fault.{Fault}
+use Rattle.goal_kinds.specs.declared.faults.Fault.TheVariants as fault
 use Rattle.goal_kinds.specs.declared.rules.FirstUse.{FirstUse}
 use Rattle.goal_kinds.specs.declared.rules.FirstUse.TheVariants as first
 use Rattle.goal_kinds.specs.declared.rules.RowClauses.{RowClauses}
@@ -45,16 +47,18 @@ use Rattle.goal_kinds.specs.declared.rules.RuleHeader.TheVariants as header
 use Rattle.goal_kinds.specs.declared.rules.RuleTerm.{RuleTerm}
 use Rattle.goal_kinds.specs.declared.rules.RuleTerm.TheVariants as term
 use Rattle.goal_solver.specs.Added.{has_goals, with_goals, RecordsAccess, RecordsFault}
-use Rattle.goal_solver.specs.AddedGoals.{ArePendingClosed, ArePendingUndecided, IsPendingAnswer, ChangesTaken}
+use Rattle.goal_solver.specs.AddedGoals.{IsAnswerable, IsGoalAnswer, AllPendingTake, ArePendingAnswerable, ArePendingClosed, ArePendingUndecided, IsPendingAnswer, ChangesTaken}
 use Rattle.goal_solver.specs.Answers.{IsOwed}
 use Rattle.goal_solver.specs.Binding.{AddsNormalization}
 use Rattle.goal_solver.specs.Equating.{IsEquated}
 use Rattle.goal_solver.specs.GoingBack.{GoesBack, restored, begun}
 use Rattle.goal_solver.specs.HiddenTypes.{NormalizesArgs, EntersHidden, bounds_in, checked_in}
 use Rattle.goal_eval.specs.Pending.{is_alias}
+use Rattle.goal_solver.specs.OpenForms.{is_sure}
 use Rattle.goal_solver.specs.Relating.{ChangesRecords, LeavesOpen, SaysYes}
 use Rattle.goal_solver.specs.Responses.{ListsSinceMark, both_certain}
 use Rattle.goal_solver.specs.State.{State, kinds_of}
+use Rattle.goal_solver.specs.TranslatedArgs.{Asks, IsSameEnvironment}
 use Rattle.goal_solver.specs.Variables.{with_variables, kind_for, fresh_args}
 use Rattle.goal_solver.specs.declared.eval.run_rule.open_arguments.OpenRun.{OpenRun}
 use Rattle.goal_terms.specs.declared.answers.ParamKind.{ParamKind}
@@ -93,8 +97,9 @@ pub record Equates (env : List Clause) (ts us : List Tree) (old new : State) (c 
 
 -- the goals that are pending are evaluated, as `try_evaluate_added_goals` does it
 pub record Evaluates (old new : State) (c : Certainty) : Type 0 where
-  pub sound : (m : TypingMode) → IsOwed new m → ArePendingClosed old → IsPendingAnswer old m (Ok c)
-  pub decided : (m : TypingMode) → IsOwed new m → ArePendingClosed old → LeavesOpen (Ok c) → ArePendingUndecided old m
+  pub sound : (m : TypingMode) → IsOwed new m → ArePendingAnswerable old → IsPendingAnswer old m (Ok c)
+  pub decided : (m : TypingMode) → IsOwed new m → ArePendingAnswerable old → LeavesOpen (Ok c) → ArePendingUndecided old m
+  pub given : (m : TypingMode) → IsOwed new m → ArePendingAnswerable old → SaysYes (Ok c) → AllPendingTake old m new
   pub closed : ArePendingClosed old → new.inference ≡ old.inference
   pub taken : SaysYes (Ok c) → has_goals new ≡ false
   pub alone : ChangesTaken old new
@@ -192,12 +197,50 @@ GivesValue env v (Some t) (Some ts) s c u = GivesForm env v (instance ts t) s c 
 GivesValue env v (Some t) None s c u = StaysUndecided s c u
 GivesValue env v None o s c u = StaysUndecided s c u
 
--- the expected term is given what an entry says; a term as it stands is made equal to it, and one that a clause chooses stays undecided
+-- a goal asks in an environment what a clause says
+pub record AsksFor (env : List Clause) (k : ClauseKind) (g : Goal Predicate) : Type 0 where
+  pub environment : IsSameEnvironment env g.param_env.items
+  pub asks : Asks g.predicate (tree_of_kind k)
+
+-- a clause is asked as a goal by itself, which is answered as one that was added: exactly, if it is closed. Only a yes binds
+pub record AnswersAlone (env : List Clause) (k : ClauseKind) (old new : State) (r : Result Certainty Fault) : Type 0 where
+  pub goal : Goal Predicate
+  pub asks : AsksFor env k goal
+  pub answer : (m : TypingMode) → IsOwed new m → IsAnswerable old goal.predicate goal.param_env.items → IsGoalAnswer old m goal r
+  pub alone : ChangesRecords old new
+  pub undone : is_sure r ≡ false → new ≡ restored old new
+  pub back : GoesBack old new
+
+-- what is said of an answer to a clause, and of a refusal of it; of other faults nothing is
+abbrev pub WhenAsked : Result Certainty Fault → Type 0 → Type 0
+WhenAsked (Ok c) A = A
+WhenAsked (Err fault.NoSolution) A = A
+WhenAsked (Err f) A = Unit {0}
+
+-- the expected term is given the one of two terms that a clause chooses: the first where it holds, the second where it is refuted, and so far none where it is undecided
+abbrev pub Chooses : List Clause → Tree → ClauseKind → Tree → Tree → State → Certainty → State → Type 0
+Chooses env v k held refuted s c u =
+    ((z : State) × AnswersAlone env k s z (Ok certainty.Yes) × Equates env (v ∷ []) (held ∷ []) z u c)
+    ⊎ ((z : State) × AnswersAlone env k s z (Err fault.NoSolution) × Equates env (v ∷ []) (refuted ∷ []) z u c)
+    ⊎ (AnswersAlone env k s u (Ok certainty.Maybe) × (c ≡ certainty.Maybe))
+
+-- whether a clause chooses a term
+abbrev pub is_chosen : RuleTerm → Bool
+is_chosen (term.ChosenBy k a b) = true
+is_chosen _ = false
+
+-- whether the step of an entry may evaluate goals
+abbrev pub evaluates : RuleEntry → Bool
+evaluates entry.Evaluation = true
+evaluates (entry.Term v e) = true
+evaluates _ = false
+
+-- the expected term is given what an entry says; a term as it stands is made equal to it
 abbrev pub GivesTerm : List Clause → List (List Tree) → Tree → RuleTerm → State → Certainty → State → Type 0
 GivesTerm env named v (term.AsItStands e) s c u = Equates env (v ∷ []) (tree_of_term e ∷ []) s u c
 GivesTerm env named v (term.Normalized e) s c u = GivesForm env v (tree_of_term e) s c u
 GivesTerm env named v (term.Value w n) s c u = GivesValue env v (value_in s.tables w) (slice_get named n) s c u
-GivesTerm env named v (term.ChosenBy k a b) s c u = StaysUndecided s c u
+GivesTerm env named v (term.ChosenBy k a b) s c u = Chooses env v k (tree_of_term a) (tree_of_term b) s c u
 
 -- the first use of an opaque type that is being defined takes its hidden type: the expected term as it is, or the type that type checking found, under the arguments as they are given
 abbrev pub TakesFirst : List Clause → Tree → FirstUse → Option Tree → List Tree → State → Certainty → State → Type 0

@@ -36,7 +36,7 @@ use Rattle.goal_kinds.specs.declared.goal_kind.MergeRule.TheVariants as merge
 use Rattle.goal_kinds.specs.declared.rules.FirstUse.{FirstUse}
 use Rattle.goal_kinds.specs.declared.rules.RuleEntry.{RuleEntry}
 use Rattle.goal_eval.specs.ErasedArgs.{erased_args}
-use Rattle.goal_solver.specs.Answers.{IsOwed, IsOwedBeyond, level_over, AreClosed, is_closed_alias, IsClosedEquation, IsMaybe, IsAliasOpen, IsQuiet, IsQuietAside, expected_variable, IsTraitAnswer, IsAliasAnswer, IsOpen, IsFinalIn}
+use Rattle.goal_solver.specs.Answers.{IsOwed, IsOwedBeyond, level_over, AreClosed, is_closed_alias, IsClosedEquation, IsMaybe, IsAliasOpen, IsQuiet, IsQuietAside, expected_variable, IsTraitAnswer, IsAliasAnswer, IsOpen}
 use Rattle.goal_solver.specs.Assembled.{level_above, level_through, HoldsThrough}
 use Rattle.goal_solver.specs.Binding.{IsApplicable}
 use Rattle.goal_solver.specs.Goals.{IsAcceptedNormalization}
@@ -44,6 +44,7 @@ use Rattle.goal_solver.specs.OpenAnswers.{MergesProjection, MergesTrait}
 use Rattle.goal_solver.specs.OpenGoals.{WhenAnswered, at_depth}
 use Rattle.goal_solver.specs.OpenHostGoals.{MergesHostEffect}
 use Rattle.goal_solver.specs.OpenProjections.{RunsEquation, AnswersRun}
+use Rattle.goal_solver.specs.Recording.{is_ambiguous}
 use Rattle.goal_solver.specs.State.{State, kinds_of}
 
 -- what a result says of a goal: nothing, where memory ran out, or where it is to be asked again in another mode
@@ -232,6 +233,10 @@ abbrev pub MergesOpenProjection : State → State → Goal NormalizesTo → Resu
 MergesOpenProjection before after g r =
     (n k : ℕ) → expected_variable g.predicate.term ≡ Some k → before.remaining_depth ≡ suc n → WhenAnswered r (MergesProjection g (at_depth n before) r (at_depth n after))
 
+-- in coherence an opaque type's goal is never answered yes
+abbrev pub NeverYes : State → Goal NormalizesTo → Result Response Fault → Type 0
+NeverYes s g r = is_ambiguous s.typing_mode g.predicate.alias.kind ≡ true → IfOk r (λ x. x.certainty ≡ certainty.Maybe)
+
 -- the list of an opaque type that is being defined is run, and what comes of it is answered
 abbrev pub RunsHidden : Goal NormalizesTo → FirstUse → State → Result Response Fault → State → Type 0
 RunsHidden g f s r u = (es : List RuleEntry) × DefinesHidden (tree_of_term g.predicate.term) g.predicate.alias f es × AnswersRun g.param_env.items es s r u
@@ -309,7 +314,7 @@ AnswersGiven before after env (Some a) r = is_closed_alias a.asked.alias env ≡
 
 -- the response to such an alias can be applied, where its trait goal does hold and the goal is accepted, and where other inference variables stand in it
 pub record AppliesProven (before after : State) (env : List Clause) (a : Through) (r : Result Response Fault) : Type 0 where
-  pub proven : (m : TypingMode) → IsFinalIn before.typing_mode m → IsProven before m env a → IsAcceptedNormalization before a.asked env → IfOk r (IsApplicable after)
+  pub proven : (m : TypingMode) → IsOwed after m → IsProven before m env a → IsAcceptedNormalization before a.asked env → IfOk r (IsApplicable after)
   pub variables : (n : ℕ) → is_closed_alias a.asked.alias env ≡ false → expected_variable a.asked.term ≡ Some n → IfOk r (IsApplicable after)
 
 abbrev pub AppliesGiven : State → State → List Clause → Option Through → Result Response Fault → Type 0

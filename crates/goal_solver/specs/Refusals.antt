@@ -1,12 +1,14 @@
 -- What refusals rest on: those of the goals that are pending, of the steps of a list of entries with inference variables, and of such a list.
-use Rattle.std.specs.Prelude.{◌≡◌, ◌⊎◌, ◌<◌, ℕ, false, List, [], ◌∷◌, ◌++◌, length, map, Option, Some, None, slice_get, Result, Err, IfErr}
+use Rattle.std.specs.Prelude.{◌≡◌, ◌⊎◌, ◌<◌, ℕ, false, List, [], ◌∷◌, ◌++◌, length, map, Option, Some, None, slice_get, Result, Ok, Err, IfErr}
 use Rattle.goal_terms.specs.Folding.{instance}
 use Rattle.goal_terms.specs.Tree.{Tree, node_of}
 use Rattle.goal_terms.specs.TreeOf.{trees_of, tree_of_ty, tree_of_term}
+use Rattle.goal_terms.specs.declared.answers.Certainty.TheVariants as certainty
 use Rattle.goal_terms.specs.declared.answers.GoalSource.{GoalSource}
 use Rattle.goal_terms.specs.declared.answers.OpaqueTypeKey.{OpaqueTypeKey}
 use Rattle.goal_terms.specs.declared.modes.TypingMode.{TypingMode}
 use Rattle.goal_terms.specs.declared.predicates.Clause.{Clause}
+use Rattle.goal_terms.specs.declared.predicates.ClauseKind.{ClauseKind}
 use Rattle.goal_terms.specs.declared.predicates.Goal.{Goal}
 use Rattle.goal_terms.specs.declared.predicates.Predicate.{Predicate}
 use Rattle.goal_terms.specs.declared.terms.Term.{Term}
@@ -30,7 +32,7 @@ use Rattle.goal_solver.specs.Answers.{IsOwed}
 use Rattle.goal_solver.specs.Equating.{IsEquated}
 use Rattle.goal_solver.specs.GoingBack.{GoesBack, restored, begun}
 use Rattle.goal_solver.specs.HiddenTypes.{NormalizesArgs, RefusesArgs, EntersHidden, checked_in}
-use Rattle.goal_solver.specs.OpenRuns.{OpenProgress, open_start, open_header, other_header, RunsThrough}
+use Rattle.goal_solver.specs.OpenRuns.{OpenProgress, open_start, open_header, other_header, AnswersAlone, RunsThrough}
 use Rattle.goal_eval.specs.Pending.{is_alias}
 use Rattle.goal_solver.specs.State.{State, kinds_of}
 use Rattle.goal_solver.specs.Variables.{with_variables, kind_for, fresh_args}
@@ -91,12 +93,18 @@ RefusesValue env v (Some t) (Some ts) s u = RefusesForm env v (instance ts t) s 
 RefusesValue env v (Some t) None s u = ⊥
 RefusesValue env v None o s u = ⊥
 
+-- the term that a clause chooses is refused for an expected one: the clause is decided, and the two can't be made equal
+abbrev pub RefusesChoice : List Clause → Tree → ClauseKind → Tree → Tree → State → State → Type 0
+RefusesChoice env v k held refuted s u =
+    ((z : State) × AnswersAlone env k s z (Ok certainty.Yes) × RefusesEqual env (v ∷ []) (held ∷ []) z u)
+    ⊎ ((z : State) × AnswersAlone env k s z (Err fault.NoSolution) × RefusesEqual env (v ∷ []) (refuted ∷ []) z u)
+
 -- what an entry says is refused for its expected term
 abbrev pub RefusesTerm : List Clause → List (List Tree) → Tree → RuleTerm → State → State → Type 0
 RefusesTerm env named v (term.AsItStands e) s u = RefusesEqual env (v ∷ []) (tree_of_term e ∷ []) s u
 RefusesTerm env named v (term.Normalized e) s u = RefusesForm env v (tree_of_term e) s u
 RefusesTerm env named v (term.Value w n) s u = RefusesValue env v (value_in s.tables w) (slice_get named n) s u
-RefusesTerm env named v (term.ChosenBy k a b) s u = ⊥
+RefusesTerm env named v (term.ChosenBy k a b) s u = RefusesChoice env v k (tree_of_term a) (tree_of_term b) s u
 
 -- the hidden type of an opaque type is refused: it can't be made equal to the type that was entered, or to the type that type checking found
 abbrev pub RefusesFirst : List Clause → Tree → FirstUse → Option Tree → List Tree → State → State → Type 0

@@ -15,7 +15,7 @@ use Rattle.goal_eval.specs.ErasedArgs.{erased_args}
 use Rattle.goal_eval.specs.Outcomes.{SaysWhich}
 use Rattle.goal_eval.specs.declared.eval.outcomes.Found.{Found}
 use Rattle.goal_eval.specs.declared.eval.outcomes.Stop.{Stop}
-use Rattle.goal_solver.specs.Answers.{IsOwed, level_over, is_closed_alias, IsAliasAnswer, IsAliasOpen, expected_variable, IsMaybe, IsFinalIn}
+use Rattle.goal_solver.specs.Answers.{IsOwed, level_over, is_closed_alias, IsAliasAnswer, IsAliasOpen, expected_variable, IsMaybe}
 use Rattle.goal_solver.specs.Assembled.{HoldsThrough, level_through}
 use Rattle.goal_solver.specs.Binding.{IsApplicable}
 use Rattle.goal_solver.specs.Goals.{IsAcceptedNormalization}
@@ -44,9 +44,5 @@ DecidesThrough a z c q env r =
 -- the answer to an accepted goal can be applied, where the trait goal does hold through the class
 abbrev pub AppliesThrough : State → State → TraitGoalProvenVia → NormalizesTo → List Clause → Result Response Fault → Type 0
 AppliesThrough a z c q env r =
-    (m : TypingMode) → IsFinalIn a.typing_mode m → IsAcceptedNormalization a q env →
+    (m : TypingMode) → IsOwed z m → IsAcceptedNormalization a q env →
     HoldsThrough (setting_of a.tables m env) (level_over a m env) c q.alias.kind (erased_args q.alias.args.items) → IfOk r (IsApplicable z)
-
--- in each mode for which it may be final
-abbrev pub SaysWhereFinal : State → State → List Clause → TraitGoalProvenVia → AliasTerm → Result Found Stop → Type 0
-SaysWhereFinal before after env c a r = (m : TypingMode) → IsFinalIn before.typing_mode m → SaysClassTerm before after m env c a r

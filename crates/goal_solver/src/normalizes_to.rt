@@ -10,7 +10,7 @@ ghost use Rattle.goal_solver.specs.Answers.{is_closed_alias, GivesTo, expected_v
 ghost use Rattle.goal_solver.specs.Binding.{IsApplicable};
 ghost use Rattle.goal_solver.specs.Goals.{IsAcceptedNormalization};
 ghost use Rattle.goal_solver.specs.GoingBack.{GoesBack, restored};
-ghost use Rattle.goal_solver.specs.Promises.{AnswersAlias, DefinesAlias, IsClosedNormalization, LeavesUndecided, ListsTerm, MergesOpenProjection, NoTwoDisagree, is_defined, term_asked, WhereOwed, IsTermAnswer, LeavesTermOpen, LeavesTermMaybe, MergesWhereOpen};
+ghost use Rattle.goal_solver.specs.Promises.{AnswersAlias, DefinesAlias, IsClosedNormalization, LeavesUndecided, ListsTerm, MergesOpenProjection, NeverYes, NoTwoDisagree, is_defined, term_asked, WhereOwed, IsTermAnswer, LeavesTermOpen, LeavesTermMaybe, MergesWhereOpen};
 ghost use Rattle.goal_solver.specs.Recording.{is_ambiguous};
 ghost use Rattle.goal_solver.specs.State.{kinds_of};
 
@@ -39,7 +39,7 @@ impl EvalCtxt<'_> {
     ///
     /// In the erased mode an access is recorded where a rule reads the mode, and an opaque type stays as it is. In
     /// coherence, and where opaque types are being defined, the goal goes by what its candidates say in that mode;
-    /// that of an opaque type is `Maybe` in coherence.
+    /// that of an opaque type is `Maybe` in coherence, and never `Yes`, also with inference variables.
     ///
     /// An opaque type that the mode defines is answered at one less of the depth by running the list of
     /// [`goal_kinds::rules::aliases::alias_rule`]: its hidden type under its normalized arguments is the expected
@@ -70,6 +70,7 @@ impl EvalCtxt<'_> {
         ensures at_once { (self.old.remaining_depth ≡ 0) ⊎ (expected_variable goal.now.predicate.term ≡ None) → LeavesUndecided self.old result }
         ensures agrees { NoTwoDisagree self.old.tables goal.now.param_env.items (term_asked goal.now.predicate) }
         ensures ambiguous { IsClosedNormalization goal.now → is_ambiguous self.old.typing_mode goal.now.predicate.alias.kind ≡ true → LeavesUndecided self.old result }
+        ensures never { NeverYes self.old goal.now result }
         ensures unchanged { self.new ≡ restored self.old self.new }
         ensures goes_back { GoesBack self.old self.new }
         ensures fault { IsFaultOf self.old self.new result }
@@ -98,6 +99,7 @@ impl EvalCtxt<'_> {
         ensures gives { IsClosedNormalization goal.now → IfOk result (λ r. r.certainty ≡ certainty.Yes → ListsTerm goal.now.predicate.term certainty.Yes r.var_values.items) }
         ensures no_class { IsClosedNormalization goal.now → IfOk result (λ r. r.proven_via ≡ None) }
         ensures ambiguous { IsClosedNormalization goal.now → is_ambiguous self.old.typing_mode goal.now.predicate.alias.kind ≡ true → LeavesUndecided self.old result }
+        ensures never { NeverYes self.old goal.now result }
         ensures at_once { (self.old.remaining_depth ≡ 0) ⊎ (expected_variable goal.now.predicate.term ≡ None) → LeavesUndecided self.old result }
         ensures whole { LeavesTermMaybe self.old self.new goal.now result }
         ensures applies { IsAcceptedNormalization self.old goal.now.predicate goal.now.param_env.items → IfOk result (IsApplicable self.new) }

@@ -82,6 +82,10 @@ AreSpecialLists t [] (l ∷ ls) = ⊥
 AreSpecialLists t (r ∷ rs) [] = ⊥
 AreSpecialLists t (r ∷ rs) (l ∷ ls) = AreMoreSpecial t r l.items × AreSpecialLists t rs ls
 
+-- if they are listed so, by an index of the impls' numbers
+abbrev pub IfSpecialLists : {A : Type 0} → Tables → RowIndex → List (Vec ℕ A) → Type 0 → Type 0
+IfSpecialLists t index lists P = IsRowIndex (map (λ q. q.id.0) t.impls.items) index → AreSpecialLists t t.impls.items lists → P
+
 -- the places of traits and items are right, and those of the items in their traits' lists
 pub record IsTraitIndex (t : Tables) (i : TraitIndex) : Type 0 where
   pub traits : IsRowIndex (map (λ r. r.id.0) t.traits.items) i.traits

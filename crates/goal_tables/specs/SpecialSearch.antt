@@ -18,6 +18,10 @@ pub record IsSearch (n : ℕ) (s : Search) : Type 0 where
   pub length : length s.marks.items ≡ n
   pub marked : (p : ℕ) → slice_index_or s.marks.items p false ≡ true → Contains s.found.items p
 
+-- for the impl at a place, while a search goes on
+abbrev pub IfSearchedAt : Tables → ℕ → Search → (ImplRow → Type 0) → Type 0
+IfSearchedAt t p s P = (q : ImplRow) → IsSearch (length t.impls.items) s → slice_get t.impls.items p ≡ Some q → P q
+
 -- the impl of a list stands at a place
 abbrev pub IsOfList : Tables → List ImplRow → ℕ → Type 0
 IsOfList t qs p = (q : ImplRow) × (slice_get t.impls.items p ≡ Some q) × Contains qs q

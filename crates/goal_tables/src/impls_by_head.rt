@@ -1,9 +1,6 @@
 //! Where the impls of each trait stand, by the head of their self type.
-ghost use Rattle.std.specs.Prelude.{◌≡◌, ◌++◌, ◌∷◌, ◌==◌, ◌&&◌, ◌||◌, ◌<◌, ◌≤◌, [], Bool, true, false, List, length, get_or, IfOk, if◌then◌else◌};
-ghost use Rattle.std.specs.HashMap.{get};
-ghost use Rattle.goal_terms.specs.Erased.{compared_node};
-ghost use Rattle.goal_terms.specs.declared.compare.Regions.TheVariants.{Forgotten};
-ghost use Rattle.goal_tables.specs.ImplsByHead.{known_head, self_head, may_be, key_of, same_key, places_at, places_of, AreKeyLists};
+ghost use Rattle.std.specs.Prelude.{◌≡◌, ◌++◌, ◌∷◌, ◌||◌, ◌<◌, ◌≤◌, [], true, false, List, length, get_or, IfOk, if◌then◌else◌};
+ghost use Rattle.goal_tables.specs.ImplsByHead.{known_head, self_head, may_have_head, same_key, places_for, places_of, AreKeyLists, IfPlacesApart};
 ghost use Rattle.goal_tables.specs.declared.impls_by_head.ImplKey.{ImplKey as impl_key};
 ghost use Rattle.goal_tables.specs.declared.rows.ImplRow.{ImplRow as impl_row};
 
@@ -51,7 +48,7 @@ fn add_place(
     key: ImplKey,
     place: usize,
 ) -> Result<IndexMap<ImplKey, Vec<usize>>, AllocError>
-    ensures { IfOk result (λ made. (k : impl_key) → places_at (get same_key made k) ≡ (if same_key key k then places_at (get same_key lists k) ++ place ∷ [] else places_at (get same_key lists k))) }
+    ensures { IfOk result (λ made. (k : impl_key) → places_for made k ≡ (if same_key key k then places_for lists k ++ place ∷ [] else places_for lists k)) }
 {
     let mut lists = lists;
     let mut list = match lists.swap_remove(&key) {
@@ -92,7 +89,7 @@ fn is_less_at(numbers: &[usize], place: usize, other: usize) -> bool
 /// Two lists of places as one that rises, if they are those of elements that never pass both of two tests.
 /// Want of memory is the only refusal.
 fn merged(alloc: Global, left: &[usize], right: &[usize]) -> Result<Vec<usize>, AllocError>
-    ensures { (p q : impl_row → Bool) (rows : List impl_row) → ((r : impl_row) → p r && q r ≡ false) → left.now ≡ places_of p rows → right.now ≡ places_of q rows → IfOk result (λ made. made.items ≡ places_of (λ r. p r || q r) rows) }
+    ensures { IfPlacesApart left.now right.now (λ p q rows. IfOk result (λ made. made.items ≡ places_of (λ r. p r || q r) rows)) }
 {
     let mut made = Vec::new(alloc);
     let mut i = 0;
@@ -112,7 +109,7 @@ fn merged(alloc: Global, left: &[usize], right: &[usize]) -> Result<Vec<usize>, 
 
 /// The list that a map has for a key.
 fn list_of(lists: &IndexMap<ImplKey, Vec<usize>>, key: ImplKey) -> &[usize]
-    ensures { result.now ≡ places_at (get same_key lists.now key) }
+    ensures { result.now ≡ places_for lists.now key }
 {
     match lists.get(&key) {
         None => &[],
@@ -128,7 +125,7 @@ pub(crate) fn places_with_head(
     trait_id: TraitId,
     head: Node,
 ) -> Result<Vec<usize>, AllocError>
-    ensures { (rows : List impl_row) → AreKeyLists rows lists.now → IfOk result (λ places. places.items ≡ places_of (λ r. (r.trait_id.0 == trait_id.0) && may_be (compared_node Forgotten head) (self_head r)) rows) }
+    ensures { (rows : List impl_row) → AreKeyLists rows lists.now → IfOk result (λ places. places.items ≡ places_of (λ r. may_have_head trait_id head r) rows) }
 {
     let head = Some(head.compared(Regions::Forgotten));
     let known = list_of(lists, ImplKey { trait_id, head });

@@ -33,7 +33,7 @@ pub enum LangTarget {
 }
 
 /// Which row a lang item names.
-#[derive(Clone, Copy, PartialEq, Eq)]
+#[derive(Clone, Copy)]
 pub struct LangRow {
     pub item: LangItem,
     pub target: LangTarget,

@@ -10,7 +10,7 @@ ghost use Rattle.goal_tables.specs.Specialized.{specialization_cycle};
 ghost use Rattle.goal_tables.specs.declared.rows.ImplRow.{ImplRow as impl_row};
 ghost use Rattle.goal_tables.specs.declared.rows.Tables.{Tables as tables_of};
 ghost use Rattle.goal_tables.specs.Places.{same_pair};
-ghost use Rattle.goal_tables.specs.Indexed.{IsRowIndex, IsSourceIndex, IsLangIndex, AreListings, AreMoreSpecial, AreSpecialLists, list_at, lists_number as lists_item_number, lists_twice};
+ghost use Rattle.goal_tables.specs.Indexed.{IsRowIndex, IsSourceIndex, IsLangIndex, AreListings, AreMoreSpecial, AreSpecialLists, IfSpecialLists, list_at, lists_number as lists_item_number, lists_twice};
 ghost use Rattle.goal_tables.specs.Rows.{trait_of, item_of, impl_of, definition_of, free_of, inherent_impl_of, inherent_of, opaque_of, adt_of, function_of, closure_of, source_of, impls_of, items_of, impl_of_inherent, same_lang_item, same_lang_target, lang_of, lang_naming, lang_trait_of, lang_item_of, lang_adt_of, doubled_id, doubled_source, doubled_lang};
 
 use crate::impls_by_head::places_with_head;
@@ -383,7 +383,7 @@ impl IndexedTables {
 
 /// The list that stands for the impl of an id, if it has a row.
 fn special_list_of<'a>(index: &RowIndex, lists: &'a [Vec<usize>], id: ImplId) -> &'a [usize]
-    ensures listed { (t : tables_of) (r : impl_row) → IsRowIndex (map (λ q. q.id.0) t.impls.items) index.now → AreSpecialLists t t.impls.items lists.now → impl_of t id ≡ Some r → AreMoreSpecial t r result.now }
+    ensures listed { (t : tables_of) (r : impl_row) → IfSpecialLists t index.now lists.now (impl_of t id ≡ Some r → AreMoreSpecial t r result.now) }
     ensures within { (t : tables_of) → AreSpecialLists t t.impls.items lists.now → All (λ p. p < length t.impls.items) result.now }
 {
     match place_of(&index.places, id.0) {

@@ -78,7 +78,7 @@ impl Drop for ItemRow {
 }
 
 /// Whether an impl says that its trait holds. A reservation impl only bars a refutation, in coherence.
-#[derive(Clone, Copy, PartialEq, Eq)]
+#[derive(Clone, Copy)]
 pub enum ImplPolarity {
     Positive,
     Negative,
@@ -117,7 +117,7 @@ impl Drop for ImplRow {
 }
 
 /// Where a definition stands.
-#[derive(Clone, Copy, PartialEq, Eq)]
+#[derive(Clone, Copy)]
 pub enum Container {
     Impl(ImplId),
     Trait(TraitId),
@@ -154,7 +154,7 @@ impl Drop for DefRow {
 }
 
 /// What an impl uses for an item. `Broken` has the number of the error that stands for the value.
-#[derive(Clone, Copy, PartialEq, Eq)]
+#[derive(Clone, Copy)]
 pub enum Source {
     Def { def_id: DefId, is_default: bool },
     Broken(u32),
@@ -266,7 +266,7 @@ impl Drop for OpaqueRow {
 }
 
 /// What sort of type a declaration makes.
-#[derive(Clone, Copy, PartialEq, Eq)]
+#[derive(Clone, Copy)]
 pub enum AdtKind {
     Struct,
     Enum,
@@ -334,7 +334,7 @@ impl Drop for FnRow {
 }
 
 /// How a closure may be called.
-#[derive(Clone, Copy, PartialEq, Eq)]
+#[derive(Clone, Copy)]
 pub enum ClosureKind {
     Fn,
     FnMut,

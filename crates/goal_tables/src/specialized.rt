@@ -3,7 +3,7 @@ ghost use Rattle.std.specs.Prelude.{◌≡◌, ◌<◌, ◌==◌, [], ◌∷◌,
 ghost use Rattle.std.specs.List.{list_any};
 ghost use Rattle.goal_tables.specs.Indexed.{IsRowIndex, AreMoreSpecial, AreSpecialLists};
 ghost use Rattle.goal_tables.specs.Rows.{impl_of};
-ghost use Rattle.goal_tables.specs.SpecialSearch.{unmarked, IsSearch, Finds};
+ghost use Rattle.goal_tables.specs.SpecialSearch.{unmarked, IfSearchedAt, IsSearch, Finds};
 ghost use Rattle.goal_tables.specs.Options.{option_holds};
 ghost use Rattle.goal_tables.specs.Specialized.{if_row, listed_by, leads_back, specialization_cycle};
 ghost use Rattle.goal_tables.specs.declared.rows.ImplRow.{ImplRow as impl_row};
@@ -42,7 +42,7 @@ impl Search {
     /// Adds the impl at a place, unless it was found. Want of memory is the only refusal.
     fn add_place(&mut self, place: usize) -> Result<(), AllocError>
         requires within { place < length self.old.marks.items }
-        ensures finds { (t : tables_of) (q : impl_row) → IsSearch (length t.impls.items) self.old → slice_get t.impls.items place ≡ Some q → IfOk result (λ _. Finds t (q ∷ []) self.old self.new) }
+        ensures finds { (t : tables_of) → IfSearchedAt t place self.old (λ q. IfOk result (λ _. Finds t (q ∷ []) self.old self.new)) }
     {
         if self.marks[place] {
             return Ok(());

@@ -9,7 +9,7 @@ pub enum Certainty {
 }
 
 /// What a nested goal is asked for. No answer depends on it.
-#[derive(Clone, Copy, PartialEq, Eq)]
+#[derive(Clone, Copy)]
 pub enum GoalSource {
     Misc,
     TypeRelating,
@@ -19,14 +19,14 @@ pub enum GoalSource {
 }
 
 /// Which built-in rule a candidate comes from. `Object(k)` is clause `k` of a `dyn` type.
-#[derive(Clone, Copy, PartialEq, Eq)]
+#[derive(Clone, Copy)]
 pub enum BuiltinImplSource {
     Misc,
     Object(u32),
 }
 
 /// Where a candidate comes from. `ParamEnv(k)` is clause `k` of the environment, from 0.
-#[derive(Clone, Copy, PartialEq, Eq)]
+#[derive(Clone, Copy)]
 pub enum CandidateSource {
     ParamEnv(u32),
     AliasBound,

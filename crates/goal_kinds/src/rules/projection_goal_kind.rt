@@ -261,4 +261,6 @@ impl GoalKind for NormalizesTo {
     fn more_height_keeps_candidates() {}
 
     fn rejected_clauses_are_refuted() {}
+
+    fn other_heads_are_refuted() {}
 }

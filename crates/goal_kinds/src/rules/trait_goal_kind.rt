@@ -263,4 +263,6 @@ impl GoalKind for TraitPredicate {
     fn more_height_keeps_candidates() {}
 
     fn rejected_clauses_are_refuted() {}
+
+    fn other_heads_are_refuted() {}
 }

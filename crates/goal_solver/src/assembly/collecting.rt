@@ -1,26 +1,28 @@
 //! The rules of a goal's candidates, class by class. Nothing is evaluated here.
-ghost use Rattle.std.specs.Prelude.{◌≡◌, ◌≢◌, ◌∷◌, ◌++◌, [], true, false, map, Some, Err, IfOk, IsOkUnless};
-ghost use Rattle.std.specs.List.{list_any};
+ghost use Rattle.std.specs.Prelude.{◌≡◌, ◌≢◌, ◌<◌, ◌∷◌, ◌++◌, [], true, false, length, map, Some, Err, IfOk, IsOkUnless};
+ghost use Rattle.std.specs.List.{All, list_any};
 ghost use Rattle.goal_terms.specs.Erased.{erased};
 ghost use Rattle.goal_terms.specs.Occurrences.{has_error};
 ghost use Rattle.goal_terms.specs.PredicateTrees.{tree_of_kind};
 ghost use Rattle.goal_terms.specs.TreeOf.{tree_of_arg, tree_of_clause, tree_of_ty, trees_of};
 ghost use Rattle.goal_tables.specs.Rows.{item_of, opaque_of};
-ghost use Rattle.goal_kinds.specs.CandidateRules.{HasNoKindFault, said_by};
+ghost use Rattle.goal_kinds.specs.CandidateRules.{HasNoKindFault, said_by, seen_trait};
 ghost use Rattle.goal_kinds.specs.Candidates.{assumption, built_in, error, object_bound, environment, rest};
+ghost use Rattle.goal_kinds.specs.Fitting.{first_constructor};
 ghost use Rattle.goal_kinds.specs.Premises.{predicate_under};
 ghost use Rattle.goal_kinds.specs.KindWords.{words_for, AnswersWhere, HasList};
 ghost use Rattle.goal_solver.specs.Collecting.{is_later_named, is_any_named, args_and_itself, clauses_of_item, clauses_of_opaque, kind_of};
-ghost use Rattle.goal_solver.specs.Collecting.{AddsFor, AddsClause, AddsImpl, CollectsClauses, CollectsImpls, CollectsOthers, CollectsObjects, CollectsDeclared, CollectsAlias, CollectsSelf, CollectsFor, KeepTermsFor};
+ghost use Rattle.goal_solver.specs.Collecting.{AddsFor, AddsClause, AddsImpl, CollectsClauses, CollectsImpls, CollectsAt, CollectsOthers, CollectsObjects, CollectsDeclared, CollectsAlias, CollectsSelf, CollectsFor, KeepTermsFor};
 ghost use Rattle.goal_solver.specs.OpenGoals.{has_kind_fault};
 
 use crate::faults::Fault;
-use goal_kinds::goal_kind::GoalKind;
+use goal_kinds::goal_kind::{GoalKind, TraitView};
 use goal_kinds::rules::Rule;
 use goal_tables::checked::CheckedTables;
 use goal_tables::rows::ImplRow;
 use goal_terms::answers::{BuiltinImplSource, CandidateSource, Certainty, TraitGoalProvenVia};
-use goal_terms::ids::{ItemId, OpaqueId, TraitId};
+use goal_terms::heads::Node;
+use goal_terms::ids::{ItemId, OpaqueId};
 use goal_terms::instantiate::{instantiate, rebase_onto};
 use goal_terms::modes::TypingMode;
 use goal_terms::predicates::{
@@ -119,26 +121,62 @@ fn push_impl_rule<G: GoalKind>(
     }
 }
 
-/// Adds the rules of the impls of a trait, in the order of their rows. Want of memory is the only refusal.
-fn push_impl_rules<G: GoalKind>(
+/// Adds the rules of the impls at some places, in order. Want of memory is the only refusal.
+fn push_rules_at<G: GoalKind>(
     tables: &CheckedTables,
     mode: &TypingMode,
     goal: &Goal<G>,
-    trait_id: TraitId,
+    places: &[usize],
     found: &mut Vec<Rule>,
 ) -> Result<(), Fault>
     requires accepted { HasNoKindFault (λ f. G.has_fault goal.now.predicate tables.now f) }
-    ensures collected { IfOk result (λ _. CollectsImpls (words_for G.words tables.now goal.now mode.now) trait_id found.old.items found.new.items) }
+    requires places { All (λ p. p < length tables.now.impls.items) places.now }
+    ensures collected { IfOk result (λ _. CollectsAt (words_for G.words tables.now goal.now mode.now) places.now found.old.items found.new.items) }
     ensures expected { IfOk result (λ _. KeepTermsFor (G.words.expected goal.now.predicate) found.old.items found.new.items) }
     ensures only_memory { IsOkUnless result Fault.OutOfMemory }
 {
     let rows = tables.rows();
-    let places = rows.impls_of_trait(trait_id);
     for i in 0..places.len() {
         let row = rows.impl_at(places[i]);
         push_impl_rule(tables, mode, goal, row, found)?;
     }
     Ok(())
+}
+
+/// The constructor at the top of the first argument; none where it is an alias or a variable.
+fn first_constructor(args: &[GenericArg]) -> Option<Node>
+    ensures { result ≡ first_constructor (trees_of args.now) }
+{
+    match args.first()?.view().node() {
+        Node::Head(head) => Some(Node::Head(head)),
+        Node::Alias(_) | Node::Variable(_) => None,
+    }
+}
+
+/// Adds the rules of the impls of a goal's trait, in the order of their rows. Where the head of the self type is known,
+/// impls of another head aren't looked at. Want of memory is the only refusal.
+fn push_impl_rules<G: GoalKind>(
+    tables: &CheckedTables,
+    mode: &TypingMode,
+    goal: &Goal<G>,
+    asked: TraitView<'_>,
+    found: &mut Vec<Rule>,
+) -> Result<(), Fault>
+    requires accepted { HasNoKindFault (λ f. G.has_fault goal.now.predicate tables.now f) }
+    requires asked { G.words.asked goal.now.predicate tables.now ≡ Some (seen_trait asked) }
+    ensures collected { IfOk result (λ _. CollectsImpls (words_for G.words tables.now goal.now mode.now) asked.entry.def_id found.old.items found.new.items) }
+    ensures expected { IfOk result (λ _. KeepTermsFor (G.words.expected goal.now.predicate) found.old.items found.new.items) }
+    ensures only_memory { IsOkUnless result Fault.OutOfMemory }
+{
+    G::other_heads_are_refuted();
+    let rows = tables.rows();
+    let Some(head) = first_constructor(asked.args) else {
+        return push_rules_at(tables, mode, goal, rows.impls_of_trait(asked.def_id), found);
+    };
+    let Ok(places) = rows.impls_with_head(asked.def_id, head) else {
+        return Err(Fault::OutOfMemory);
+    };
+    push_rules_at(tables, mode, goal, places.as_slice(), found)
 }
 
 /// Whether a function of a named rule is for the goal, by what it answered.
@@ -484,15 +522,16 @@ fn push_rest_rules<G: GoalKind>(
     tables: &CheckedTables,
     mode: &TypingMode,
     goal: &Goal<G>,
-    trait_id: TraitId,
+    asked: TraitView<'_>,
     self_ty: &Ty,
     found: &mut Vec<Rule>,
 ) -> Result<(), Fault>
     requires accepted { HasNoKindFault (λ f. G.has_fault goal.now.predicate tables.now f) }
-    ensures collected { IfOk result (λ _. CollectsOthers (words_for G.words tables.now goal.now mode.now) trait_id self_ty.now found.old.items found.new.items) }
+    requires asked { G.words.asked goal.now.predicate tables.now ≡ Some (seen_trait asked) }
+    ensures collected { IfOk result (λ _. CollectsOthers (words_for G.words tables.now goal.now mode.now) asked.entry.def_id self_ty.now found.old.items found.new.items) }
     ensures only_memory { IsOkUnless result Fault.OutOfMemory }
 {
-    push_impl_rules(tables, mode, goal, trait_id, found)?;
+    push_impl_rules(tables, mode, goal, asked, found)?;
     push_built_in_rule(tables, mode, goal, found)?;
     push_object_rules(tables, mode, goal, self_ty, found)?;
     push_error_rule(tables, mode, goal, found)?;
@@ -517,7 +556,7 @@ pub(crate) fn class_rules<G: GoalKind>(
         push_environment_rules(tables, mode, goal, &mut found)?;
         return Ok(found);
     }
-    let Some(trait_id) = goal.predicate.trait_def_id(tables) else {
+    let Some(asked) = goal.predicate.trait_ref(tables) else {
         return Ok(found);
     };
     let Some(self_ty) = goal.predicate.self_ty() else {
@@ -526,7 +565,7 @@ pub(crate) fn class_rules<G: GoalKind>(
     if let TraitGoalProvenVia::AliasBound = class {
         push_bound_rules(tables, mode, goal, self_ty, &mut found)?;
     } else {
-        push_rest_rules(tables, mode, goal, trait_id, self_ty, &mut found)?;
+        push_rest_rules(tables, mode, goal, asked, self_ty, &mut found)?;
     }
     Ok(found)
 }

@@ -5,7 +5,9 @@ ghost use Rattle.goal_terms.specs.TableMeaning.{tree_at};
 ghost use Rattle.goal_terms.specs.TreeOf.{tree_of_alias, tree_of_ty, tree_of_const, tree_of_term};
 ghost use Rattle.goal_terms.specs.View.{tree_of_ref};
 ghost use Rattle.goal_solver.specs.Binding.{IsFreeFor, BindsTo, OfVariable, AddsNormalization, BindsExpected, AddsExpected};
+ghost use Rattle.goal_infer.specs.Binding.{bound_to};
 ghost use Rattle.goal_solver.specs.GoingBack.{GoesBack, restored};
+ghost use Rattle.goal_solver.specs.Normalizing.{EndsAt};
 ghost use Rattle.goal_eval.specs.Pending.{is_alias};
 
 use crate::context::EvalCtxt;
@@ -135,10 +137,12 @@ impl EvalCtxt<'_> {
     }
 
     /// Binds a variable to the term of a number, as `bind_to` does. Only memory is refused; then nothing changes.
-    fn bind_number(&mut self, variable: Variable, id: TermId) -> Result<(), Fault>
+    pub(crate) fn bind_number(&mut self, variable: Variable, id: TermId) -> Result<(), Fault>
         requires within { id.0 < length self.old.terms }
         requires free { IsFreeFor self.old (tree_at self.old.terms id) variable }
         ensures bound { OnOk result (BindsTo self.old self.new (tree_at self.old.terms id) variable) }
+        ensures alone { self.new ≡ record self.old { inference = self.new.inference } }
+        ensures itself { EndsAt self.old id → OnOk result (self.new ≡ record self.old { inference = bound_to self.old.inference variable id }) }
         ensures unchanged { OnErr result (self.new ≡ self.old) }
         ensures goes_back { GoesBack self.old self.new }
         ensures only_memory { IsOkUnless result Fault.OutOfMemory }

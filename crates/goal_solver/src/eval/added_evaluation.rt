@@ -5,8 +5,8 @@ ghost use Rattle.goal_terms.specs.declared.modes.TypingMode.{TypingMode as modes
 ghost use Rattle.goal_kinds.specs.Settings.{is_headline};
 ghost use Rattle.goal_solver.specs.Accesses.{RecordsCausedFaults};
 ghost use Rattle.goal_solver.specs.Added.{has_goals};
-ghost use Rattle.goal_solver.specs.AddedGoals.{IsClosedGoal, IsGoalAnswer, IsVerdict, IsPendingAnswer, ArePendingClosed, ArePendingUndecided, ChangesTaken};
-ghost use Rattle.goal_solver.specs.AddedGoals.{AreSplit, AreClosedAt, LeavesUndecided, IsListed, JoinsUnless, IsRefusalAt, IsAnswerAt};
+ghost use Rattle.goal_solver.specs.AddedGoals.{IsClosedGoal, AnswersGoal, BindsAtMost, IsVerdict, IsPendingAnswer, AllPendingTake, ArePendingClosed, ArePendingAnswerable, ArePendingUndecided, ChangesTaken};
+ghost use Rattle.goal_solver.specs.AddedGoals.{AreSplit, AreClosedAt, AreAnswerableAt, AllTakeAt, WhereAnswerableAt, LeavesUndecided, IsListed, JoinsUnless, IsRefusalAt, IsAnswerAt};
 ghost use Rattle.goal_solver.specs.Answers.{IsOwed};
 ghost use Rattle.goal_solver.specs.Binding.{IsApplicable};
 ghost use Rattle.goal_solver.specs.GoingBack.{BeginsWith, GoesBack, lengths_of, restored};
@@ -38,12 +38,14 @@ impl EvalCtxt<'_> {
     /// environment, a goal of a trait or a const trait is answered by its candidates at one less of the depth, and an
     /// answer that is sure is applied; the term of an alias is the alias's head form, as
     /// `structurally_normalize_term` answers it; an alias and a term are made equal; and any other goal is undecided.
-    /// The term of an alias is given to the goal's expected variable. So goals may bind variables, and these bindings
-    /// stay. After a fault inference state, goals and storage are as before.
+    /// The term of an alias is given to the goal's expected variable: where all goals are closed but for such
+    /// variables, each of which is free and stands in one goal, a `Yes` binds each to its alias's term. So goals may
+    /// bind variables, and these bindings stay. After a fault inference state, goals and storage are as before.
     #[cycle(open)]
     pub fn try_evaluate_added_goals(&mut self) -> Result<Certainty, Fault>
-        ensures sound { (m : modes) → IsOwed self.new m → ArePendingClosed self.old → IsPendingAnswer self.old m result }
-        ensures decided { (m : modes) → IsOwed self.new m → ArePendingClosed self.old → LeavesOpen result → ArePendingUndecided self.old m }
+        ensures sound { (m : modes) → IsOwed self.new m → ArePendingAnswerable self.old → IsPendingAnswer self.old m result }
+        ensures decided { (m : modes) → IsOwed self.new m → ArePendingAnswerable self.old → LeavesOpen result → ArePendingUndecided self.old m }
+        ensures given { (m : modes) → IsOwed self.new m → ArePendingAnswerable self.old → SaysYes result → AllPendingTake self.old m self.new }
         ensures refused { WhenRefused result (RefusesOne self.old self.new) }
         ensures closed { ArePendingClosed self.old → self.new.inference ≡ self.old.inference }
         ensures taken { SaysYes result → has_goals self.new ≡ false }
@@ -66,8 +68,9 @@ impl EvalCtxt<'_> {
     /// variables bound.
     #[cycle(open)]
     fn evaluate_added_goals(&mut self) -> Result<Certainty, Fault>
-        ensures sound { (m : modes) → IsOwed self.new m → ArePendingClosed self.old → IsPendingAnswer self.old m result }
-        ensures decided { (m : modes) → IsOwed self.new m → ArePendingClosed self.old → LeavesOpen result → ArePendingUndecided self.old m }
+        ensures sound { (m : modes) → IsOwed self.new m → ArePendingAnswerable self.old → IsPendingAnswer self.old m result }
+        ensures decided { (m : modes) → IsOwed self.new m → ArePendingAnswerable self.old → LeavesOpen result → ArePendingUndecided self.old m }
+        ensures given { (m : modes) → IsOwed self.new m → ArePendingAnswerable self.old → SaysYes result → AllPendingTake self.old m self.new }
         ensures refused { WhenRefused result (RefusesOne self.old self.new) }
         ensures closed { ArePendingClosed self.old → OnOk result (self.new.inference ≡ self.old.inference) }
         ensures taken { SaysYes result → has_goals self.new ≡ false }
@@ -108,7 +111,8 @@ impl EvalCtxt<'_> {
         places: Vec<usize>,
     ) -> Result<Certainty, Fault>
         requires split { AreSplit (length goals.now) taken.old.items places.items }
-        ensures answer { (m : modes) → IsOwed self.new m → AreClosedAt goals.now places.items → IsAnswerAt self.old m goals.now places.items result }
+        ensures answer { WhereAnswerableAt self.old self.new goals.now places.items (λ m. IsAnswerAt self.old m goals.now places.items result) }
+        ensures given { WhereAnswerableAt self.old self.new goals.now places.items (λ m. SaysYes result → AllTakeAt self.old m goals.now places.items [] self.new) }
         ensures refused { WhenRefused result (RefusesListed self.old self.new goals.now places.items) }
         ensures closed { AreClosedAt goals.now places.items → OnOk result (self.new.inference ≡ self.old.inference) }
         ensures split { (rest : List ℕ) × AreSplit (length goals.now) taken.new.items rest × (SaysYes result → rest ≡ []) }
@@ -151,8 +155,10 @@ impl EvalCtxt<'_> {
         places: &[usize],
     ) -> Result<Vec<usize>, Fault>
         requires split { AreSplit (length goals.now) taken.old.items places.now }
-        ensures says { (m : modes) → IsOwed self.new m → AreClosedAt goals.now places.now → IfOk result (λ left. LeavesUndecided self.old m goals.now places.now [] left.items) }
-        ensures refuses { (m : modes) → IsOwed self.new m → AreClosedAt goals.now places.now → IfErr result (IsRefusalAt self.old m goals.now places.now) }
+        ensures says { WhereAnswerableAt self.old self.new goals.now places.now (λ m. IfOk result (λ left. LeavesUndecided self.old m goals.now places.now [] left.items)) }
+        ensures gives { WhereAnswerableAt self.old self.new goals.now places.now (λ m. IfOk result (λ left. AllTakeAt self.old m goals.now places.now left.items self.new)) }
+        ensures leaves { WhereAnswerableAt self.old self.new goals.now places.now (λ m. IfOk result (λ left. AreAnswerableAt self.new goals.now left.items)) }
+        ensures refuses { WhereAnswerableAt self.old self.new goals.now places.now (λ m. IfErr result (IsRefusalAt self.old m goals.now places.now)) }
         ensures refused { WhenRefused result (RefusesListed self.old self.new goals.now places.now) }
         ensures closed { AreClosedAt goals.now places.now → OnOk result (self.new.inference ≡ self.old.inference) }
         ensures split { (rest : List ℕ) × AreSplit (length goals.now) taken.new.items rest × IfOk result (λ left. rest ≡ left.items) }
@@ -175,7 +181,8 @@ impl EvalCtxt<'_> {
     /// What a goal comes to at the remaining depth.
     #[cycle(open)]
     pub(crate) fn evaluate_goal(&mut self, goal: &Goal<Predicate>) -> Result<Certainty, Fault>
-        ensures answer { (m : modes) → IsOwed self.new m → IsClosedGoal goal.now.predicate goal.now.param_env.items → IsGoalAnswer self.old m goal.now result }
+        ensures answer { AnswersGoal self.old self.new goal.now result }
+        ensures keeps { BindsAtMost self.old self.new goal.now result }
         ensures refused { WhenRefused result (RefusesGoal self.old self.new goal.now) }
         ensures closed { IsClosedGoal goal.now.predicate goal.now.param_env.items → self.new.inference ≡ self.old.inference }
         ensures alone { ChangesRecords self.old self.new }
@@ -192,7 +199,8 @@ impl EvalCtxt<'_> {
     /// What a goal comes to at the remaining depth, if its candidates aren't asked for it.
     #[cycle(open)]
     fn evaluate_alias_or_other(&mut self, goal: &Goal<Predicate>) -> Result<Certainty, Fault>
-        ensures answer { (m : modes) → IsOwed self.new m → IsClosedGoal goal.now.predicate goal.now.param_env.items → IsGoalAnswer self.old m goal.now result }
+        ensures answer { AnswersGoal self.old self.new goal.now result }
+        ensures keeps { BindsAtMost self.old self.new goal.now result }
         ensures refused { WhenRefused result (RefusesGoal self.old self.new goal.now) }
         ensures closed { IsClosedGoal goal.now.predicate goal.now.param_env.items → self.new.inference ≡ self.old.inference }
         ensures alone { ChangesRecords self.old self.new }
@@ -254,7 +262,8 @@ impl EvalCtxt<'_> {
     /// What a goal comes to at the remaining depth, if its candidates aren't asked for it, and it isn't one of the term of
     /// an alias in which a variable is left.
     fn evaluate_other(&mut self, goal: &Goal<Predicate>) -> Result<Certainty, Fault>
-        ensures answer { (m : modes) → IsOwed self.new m → IsClosedGoal goal.now.predicate goal.now.param_env.items → IsGoalAnswer self.old m goal.now result }
+        ensures answer { AnswersGoal self.old self.new goal.now result }
+        ensures keeps { BindsAtMost self.old self.new goal.now result }
         ensures refused { WhenRefused result (RefusesGoal self.old self.new goal.now) }
         ensures closed { IsClosedGoal goal.now.predicate goal.now.param_env.items → self.new.inference ≡ self.old.inference }
         ensures alone { ChangesRecords self.old self.new }
@@ -335,7 +344,7 @@ impl EvalCtxt<'_> {
 
     /// What is answered to a goal that holds or not. Nothing changes but that an access may be recorded.
     fn verdict(&mut self, outcome: Result<Outcome, Stop>) -> Result<Certainty, Fault>
-        ensures owed { (m : modes) → IsOwed self.new m → (is_headline self.old.typing_mode ≡ true → IfErr outcome (λ s. s ≡ Stop.OutOfMemory)) → IsVerdict outcome result }
+        ensures owed { IsVerdict outcome result }
         ensures unchanged { self.new ≡ restored self.old self.new }
         ensures alone { self.new ≡ record self.old { accesses = self.new.accesses } }
         ensures goes_back { GoesBack self.old self.new }
@@ -351,7 +360,7 @@ impl EvalCtxt<'_> {
 }
 
 /// Whether an answer is a yes.
-fn is_sure(answered: &Result<Certainty, Fault>) -> bool
+pub(crate) fn is_sure(answered: &Result<Certainty, Fault>) -> bool
     ensures { result ≡ is_sure answered.now }
 {
     matches!(answered, Ok(Certainty::Yes))

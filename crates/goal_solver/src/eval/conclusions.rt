@@ -4,7 +4,7 @@ ghost use Rattle.goal_terms.specs.declared.answers.Certainty.TheVariants as cert
 ghost use Rattle.goal_terms.specs.declared.modes.TypingMode.{TypingMode as modes};
 ghost use Rattle.goal_kinds.specs.Settings.{is_headline};
 ghost use Rattle.goal_solver.specs.Accesses.{RecordsCaused, EndsFor, RecordsCausedFaults};
-ghost use Rattle.goal_solver.specs.Answers.{IsOwed, level_over, IsPredicateAnswer, IsUndecided, IsMaybe, IsFaultOf, AnswersQuietly, AnswersAside, ListsNothing, IsConclusion};
+ghost use Rattle.goal_solver.specs.Answers.{IsOwed, level_over, IsPredicateAnswer, IsUndecided, IsMaybe, IsFaultOf, IsStopped, AnswersQuietly, AnswersAside, ListsNothing, IsConclusion};
 ghost use Rattle.goal_solver.specs.Binding.{IsApplicable};
 ghost use Rattle.goal_solver.specs.Evaluations.{predicate_seen};
 ghost use Rattle.goal_solver.specs.GoingBack.{GoesBack, restored};
@@ -24,12 +24,11 @@ use goal_terms::modes::TypingMode;
 use goal_terms::predicates::Clause;
 
 impl EvalCtxt<'_> {
-    /// What a call answers where its evaluation was stopped. Where a rule reads a mode, the erased mode
-    /// records it, and the goal is to be run again in another mode, if the context stops then or the rule
-    /// has no answer without a mode; else the goal is undecided. Inference state, added goals and storage
-    /// are as before.
+    /// The fault that a call answers where its evaluation was stopped. Where a rule reads a mode, the erased mode
+    /// records it, and the goal is to be run again in another mode. Inference state, added goals and storage are as
+    /// before.
     pub(crate) fn stopped(&mut self, stop: Stop) -> Result<Response, Fault>
-        ensures owed { (m : modes) → IsOwed self.new m → (is_headline self.old.typing_mode ≡ true → stop ≡ Stop.OutOfMemory) → result ≡ Err Fault.OutOfMemory }
+        ensures ends { IsStopped result }
         ensures faults { self.new.delayed_faults ≡ self.old.delayed_faults }
         ensures unchanged { self.new ≡ restored self.old self.new }
         ensures goes_back { GoesBack self.old self.new }
@@ -45,11 +44,10 @@ impl EvalCtxt<'_> {
         Ok(self.respond(certainty, None))
     }
 
-    /// What equating terms answers where its evaluation was stopped, as `stopped` does for a goal: that it is
-    /// undecided, or to be run again in another mode. Only a run in the erased mode is stopped by an access.
-    /// Inference state, added goals and storage are as before.
+    /// What equating terms answers where its evaluation was stopped, as `stopped` does for a goal. Only a run in the
+    /// erased mode is stopped by an access. Inference state, added goals and storage are as before.
     pub(crate) fn undecided_by(&mut self, stop: Stop) -> Result<Certainty, Fault>
-        ensures owed { (m : modes) → IsOwed self.new m → (is_headline self.old.typing_mode ≡ true → stop ≡ Stop.OutOfMemory) → result ≡ Err Fault.OutOfMemory }
+        ensures ends { IsStopped result }
         ensures memory { stop ≡ Stop.OutOfMemory → result ≡ Err Fault.OutOfMemory }
         ensures undecided { SaysYes result ⊎ Refuses result → ⊥ }
         ensures caused { EndsFor self.old stop → RecordsCaused self.old self.new }
@@ -64,10 +62,7 @@ impl EvalCtxt<'_> {
             return Err(Fault::OutOfMemory);
         }
         self.record_access(access)?;
-        if self.is_stopped_by(access) {
-            return Err(Fault::RerunNonErased);
-        }
-        Ok(Certainty::Maybe)
+        Err(Fault::RerunNonErased)
     }
 
     /// What a call answers to a goal that holds or not. A `Yes` lists region variables and equations.
@@ -76,7 +71,7 @@ impl EvalCtxt<'_> {
         outcome: Result<Outcome, Stop>,
         listed: RegionConstraints,
     ) -> Result<Response, Fault>
-        ensures owed { (m : modes) → IsOwed self.new m → (is_headline self.old.typing_mode ≡ true → IfErr outcome (λ s. s ≡ Stop.OutOfMemory)) → IsConclusion outcome result }
+        ensures owed { IsConclusion outcome result }
         ensures yes { IfOk result (λ r. r.certainty ≡ certainty.Yes → outcome ≡ Ok Outcome.Holds) }
         ensures no { result ≡ Err Fault.NoSolution → outcome ≡ Ok Outcome.Refuted }
         ensures caused { IfErr outcome (EndsFor self.old) → RecordsCaused self.old self.new }

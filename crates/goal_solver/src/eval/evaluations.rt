@@ -6,9 +6,8 @@ ghost use Rattle.goal_solver.specs.Accesses.{RecordsCaused, EndsFor, RecordsCaus
 ghost use Rattle.goal_eval.specs.ErasedArgs.{erased_args};
 ghost use Rattle.goal_solver.specs.Answers.{IsOwed};
 ghost use Rattle.goal_kinds.specs.Interned.{AreIn, PredicateIn, erased_all, predicate_at};
-ghost use Rattle.goal_solver.specs.Evaluations.{RunSays, SaysOf, SaysTermAt, StopsForMemory, predicate_seen, SaysTraitAt, level_at, SaysAliasTerm, WhereFinal, WhereRun};
+ghost use Rattle.goal_solver.specs.Evaluations.{RunSays, SaysOf, SaysTermAt, StopsForMemory, predicate_seen, SaysTraitAt, level_at, SaysAliasTerm, WhereRun};
 ghost use Rattle.goal_solver.specs.GoingBack.{GoesBack, restored};
-ghost use Rattle.goal_solver.specs.Recording.{FitsKind, IsFitting};
 ghost use Rattle.goal_eval.specs.Outcomes.{RunsAs, FoundIn};
 ghost use Rattle.goal_solver.specs.Promises.{WhereOwed};
 
@@ -174,8 +173,7 @@ impl EvalCtxt<'_> {
     }
 
     /// Which term an alias has at the remaining depth, and what a `Yes` lists of lifetimes. Nothing changes but that
-    /// there may be more terms, accesses and delayed faults. What a run that records found can be given as the
-    /// alias's term.
+    /// there may be more terms, accesses and delayed faults.
     pub(crate) fn alias_outcome(
         &mut self,
         alias: &AliasTerm,
@@ -187,7 +185,6 @@ impl EvalCtxt<'_> {
         ensures goes_back { GoesBack self.old self.new }
         ensures within { IfOk result (FoundIn self.new.terms) }
         ensures says { WhereOwed self.old self.new environment.now (λ L. SaysAliasTerm L alias.now self.new.terms result) }
-        ensures fits { IsFitting alias.now.kind self.new.terms result ⊎ WhereFinal self.old environment.now (λ L. SaysAliasTerm L alias.now self.new.terms result) }
         ensures caused { RecordsCaused self.old self.new }
         ensures faults { RecordsCausedFaults self.old self.new }
         ensures ends { IfErr result (EndsFor self.old) }
@@ -198,8 +195,7 @@ impl EvalCtxt<'_> {
     }
 
     /// Which term an alias without inference variables has at the remaining depth, by the numbers of its
-    /// arguments. Nothing changes but that there may be more terms, accesses and delayed faults. What a run that
-    /// records found can be given as the alias's term.
+    /// arguments. Nothing changes but that there may be more terms, accesses and delayed faults.
     pub(crate) fn evaluate_alias(
         &mut self,
         kind: AliasTermKind,
@@ -214,7 +210,6 @@ impl EvalCtxt<'_> {
         ensures goes_back { GoesBack self.old self.new }
         ensures within { IfOk result (FoundIn self.new.terms) }
         ensures says { WhereOwed self.old self.new environment.now (λ L. SaysTermAt L kind (erased_all self.old.terms args.now) self.new.terms result) }
-        ensures fits { IsFitting kind self.new.terms result ⊎ WhereFinal self.old environment.now (λ L. SaysTermAt L kind (erased_all self.old.terms args.now) self.new.terms result) }
         ensures caused { RecordsCaused self.old self.new }
         ensures ends { IfErr result (EndsFor self.old) }
         ensures stops { StopsForMemory self.old result }
@@ -224,30 +219,7 @@ impl EvalCtxt<'_> {
         if let Some(found) = self.first_answer(first)? {
             return Ok(found);
         }
-        self.alias_recorded(kind, args, environment, listed)
-    }
-
-    /// Which term a run that records finds for an alias, if an answer can give it.
-    fn alias_recorded(
-        &mut self,
-        kind: AliasTermKind,
-        args: &[TermId],
-        environment: &[Clause],
-        listed: &mut RegionConstraints,
-    ) -> Result<Found, Stop>
-        requires { AreIn self.old.terms args.now }
-        ensures kept { Keeps self.old.terms self.new.terms }
-        ensures unchanged { self.new ≡ restored self.old self.new }
-        ensures faults { RecordsCausedFaults self.old self.new }
-        ensures goes_back { GoesBack self.old self.new }
-        ensures within { IfOk result (FoundIn self.new.terms) }
-        ensures fits { IfOk result (FitsKind kind self.new.terms) }
-        ensures caused { RecordsCaused self.old self.new }
-        ensures ends { IfErr result (EndsFor self.old) }
-        ensures stops { StopsForMemory self.old result }
-    {
-        let found = self.alias_run(OnAccess::Record, kind, args, environment, listed)?;
-        Ok(self.fitting(kind, found))
+        self.alias_run(OnAccess::Record, kind, args, environment, listed)
     }
 
     /// One run of an alias's goal at the remaining depth.

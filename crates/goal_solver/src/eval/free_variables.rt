@@ -17,7 +17,7 @@ use goal_terms::terms::{AliasTerm, GenericArg, InferTy, Term};
 use goal_terms::view::TermRef;
 
 /// The general variable at a node.
-fn general_variable(node: Node) -> Option<Variable>
+pub(crate) fn general_variable(node: Node) -> Option<Variable>
     ensures { result ≡ general_variable node }
 {
     match node {

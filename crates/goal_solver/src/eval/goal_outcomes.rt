@@ -1,30 +1,37 @@
 //! Whether a goal that was added holds.
-ghost use Rattle.std.specs.Prelude.{◌≡◌, ◌<◌, ◌||◌, length, None, IfOk, IfErr, IsOkUnless};
-ghost use Rattle.goal_terms.specs.TableMeaning.{Keeps};
+ghost use Rattle.std.specs.Prelude.{◌≡◌, ◌<◌, ◌||◌, length, None, IfOk, IfErr, OnOk, IsOkUnless};
+ghost use Rattle.goal_terms.specs.TableMeaning.{Keeps, tree_at};
+ghost use Rattle.goal_terms.specs.TreeOf.{tree_of_term};
+ghost use Rattle.goal_infer.specs.Resolution.{binding_of};
 ghost use Rattle.goal_kinds.specs.Interned.{IsIn, AreIn, PredicateIn};
+ghost use Rattle.goal_eval.specs.Outcomes.{FoundIn};
 ghost use Rattle.goal_solver.specs.Accesses.{RecordsCausedFaults};
-ghost use Rattle.goal_solver.specs.AddedGoals.{IsClosedGoal, SaysGoalAt, HoldsNoVariable};
+ghost use Rattle.goal_solver.specs.AddedGoals.{IsClosedGoal, IsAnswerable, BindsBy, SaysGoal, SaysGoalAt, HoldsNoVariable};
+ghost use Rattle.goal_solver.specs.Binding.{IsFreeFor};
 ghost use Rattle.goal_solver.specs.Evaluations.{SaysOf, StopsForMemory, predicate_seen};
 ghost use Rattle.goal_solver.specs.GoingBack.{GoesBack};
+ghost use Rattle.goal_solver.specs.Normalizing.{WhereNormalizable, BindsOutcome, EndsAt, IsBoundAt, GivesFitting};
 ghost use Rattle.goal_solver.specs.Relating.{ChangesRecords};
-ghost use Rattle.goal_solver.specs.Promises.{WhereOwed};
 
 use crate::context::EvalCtxt;
 use crate::context::rebuilding::rebuilt_args;
 use crate::eval::closed_goals::{has_variable, is_closed_alias};
+use crate::eval::free_variables::general_variable;
 use crate::eval::open_terms::any_variable;
 use crate::eval::predicate_views::PredicateView;
 use crate::eval::where_goals::copied_clauses;
 use crate::faults::Fault;
 use goal_eval::eval::outcomes::{Found, Stop};
 use goal_eval::eval::region_constraints::RegionConstraints;
+use goal_infer::bindings::may_become;
 use goal_infer::followed::{follow, follow_all};
 use goal_infer::resolve::resolve;
 use goal_infer::unify::{Unified, unify};
 use goal_kinds::candidates::interned::{InternedPredicate, InternedTrait};
 use goal_kinds::outcomes::Outcome;
 use goal_tables::predicate_terms::some_in_env;
-use goal_terms::node_tests::{NodeTest, general_variable};
+use goal_terms::heads::Variable;
+use goal_terms::node_tests::NodeTest;
 use goal_terms::predicates::{
     Clause, Goal, HostEffectPredicate, NormalizesTo, Predicate, TraitPredicate, TraitRef,
 };
@@ -41,7 +48,8 @@ pub(crate) enum OpenGoal {
 impl EvalCtxt<'_> {
     /// Whether a goal holds at the remaining depth.
     pub(crate) fn goal_outcome(&mut self, goal: &Goal<Predicate>) -> Result<Outcome, Stop>
-        ensures says { WhereOwed self.old self.new goal.now.param_env.items (λ L. IsClosedGoal goal.now.predicate goal.now.param_env.items → SaysGoalAt L goal.now.predicate result) }
+        ensures says { SaysGoal self.old self.new goal.now result }
+        ensures keeps { BindsBy self.old self.new goal.now result }
         ensures closed { IsClosedGoal goal.now.predicate goal.now.param_env.items → self.new.inference ≡ self.old.inference }
         ensures alone { ChangesRecords self.old self.new }
         ensures faults { RecordsCausedFaults self.old self.new }
@@ -69,7 +77,7 @@ impl EvalCtxt<'_> {
     /// and its candidates are to be asked for it. Nothing changes but that there may be more terms. Only memory is
     /// refused.
     pub(crate) fn open_goal(&mut self, goal: &Goal<Predicate>) -> Result<Option<OpenGoal>, Fault>
-        ensures closed { IsClosedGoal goal.now.predicate goal.now.param_env.items → IfOk result (λ o. o ≡ None) }
+        ensures closed { IsAnswerable self.old goal.now.predicate goal.now.param_env.items → IfOk result (λ o. o ≡ None) }
         ensures unchanged { self.new ≡ record self.old { terms = self.new.terms } }
         ensures kept { Keeps self.old.terms self.new.terms }
         ensures only_memory { IsOkUnless result Fault.OutOfMemory }
@@ -164,7 +172,7 @@ impl EvalCtxt<'_> {
         &mut self,
         goal: &Goal<Predicate>,
     ) -> Result<Option<AliasTerm>, Fault>
-        ensures closed { IsClosedGoal goal.now.predicate goal.now.param_env.items → IfOk result (λ o. o ≡ None) }
+        ensures closed { IsAnswerable self.old goal.now.predicate goal.now.param_env.items → IfOk result (λ o. o ≡ None) }
         ensures unchanged { self.new ≡ record self.old { terms = self.new.terms } }
         ensures kept { Keeps self.old.terms self.new.terms }
         ensures only_memory { IsOkUnless result Fault.OutOfMemory }
@@ -344,6 +352,29 @@ impl EvalCtxt<'_> {
         environment: &[Clause],
         goal: &NormalizesTo,
     ) -> Result<Outcome, Stop>
+        ensures says { WhereNormalizable self.old self.new goal.now environment.now (λ L. SaysGoalAt L (Predicate.NormalizesTo goal.now) result) }
+        ensures keeps { WhereNormalizable self.old self.new goal.now environment.now (λ L. IfOk result (λ o. BindsOutcome L goal.now self.old o self.new)) }
+        ensures alone { ChangesRecords self.old self.new }
+        ensures faults { RecordsCausedFaults self.old self.new }
+        ensures goes_back { GoesBack self.old self.new }
+        ensures stops { StopsForMemory self.old result }
+    {
+        self.is_well_formed();
+        if is_closed_alias(&goal.alias, environment) {
+            let mut listed = RegionConstraints::new(self.allocator());
+            let found = self.alias_outcome(&goal.alias, environment, &mut listed)?;
+            self.expect_found(environment, &goal.term, found, &listed)
+        } else {
+            self.followed_normalization_outcome(environment, goal)
+        }
+    }
+
+    /// The same of an alias in which a variable stands, or under an environment with some.
+    fn followed_normalization_outcome(
+        &mut self,
+        environment: &[Clause],
+        goal: &NormalizesTo,
+    ) -> Result<Outcome, Stop>
         ensures alone { ChangesRecords self.old self.new }
         ensures faults { RecordsCausedFaults self.old self.new }
         ensures goes_back { GoesBack self.old self.new }
@@ -357,12 +388,31 @@ impl EvalCtxt<'_> {
             return Ok(Outcome::Undecided);
         }
         let mut listed = RegionConstraints::new(self.allocator());
-        match self.evaluate_alias(goal.alias.kind, &args, environment, &mut listed)? {
+        let found = self.evaluate_alias(goal.alias.kind, &args, environment, &mut listed)?;
+        self.expect_found(environment, &goal.term, found, &listed)
+    }
+
+    /// Makes an expected term what was found for an alias, and enters what the answer lists of lifetimes.
+    fn expect_found(
+        &mut self,
+        environment: &[Clause],
+        expected: &Term,
+        found: Found,
+        listed: &RegionConstraints,
+    ) -> Result<Outcome, Stop>
+        requires { FoundIn self.old.terms found }
+        ensures gives { GivesFitting expected.now found self.old result self.new }
+        ensures alone { ChangesRecords self.old self.new }
+        ensures faults { RecordsCausedFaults self.old self.new }
+        ensures goes_back { GoesBack self.old self.new }
+        ensures stops { StopsForMemory self.old result }
+    {
+        match found {
             Found::Refuted => Ok(Outcome::Refuted),
             Found::Undecided => Ok(Outcome::Undecided),
-            Found::Is(found) => {
-                self.enter_regions(&listed)?;
-                self.expect_term(environment, &goal.term, found)
+            Found::Is(id) => {
+                self.enter_regions(listed)?;
+                self.expect_term(environment, expected, id)
             }
         }
     }
@@ -392,6 +442,7 @@ impl EvalCtxt<'_> {
         found: TermId,
     ) -> Result<Outcome, Stop>
         requires { IsIn self.old.terms found }
+        ensures gives { GivesFitting expected.now (Found.Is found) self.old result self.new }
         ensures alone { ChangesRecords self.old self.new }
         ensures faults { RecordsCausedFaults self.old self.new }
         ensures goes_back { GoesBack self.old self.new }
@@ -399,8 +450,8 @@ impl EvalCtxt<'_> {
     {
         let expected = self.interned_term(expected)?;
         let top = resolve(&self.terms, &self.inference, expected);
-        if general_variable(self.terms.node(top)).is_some() {
-            return self.bind_found(top, found);
+        if let Some(variable) = general_variable(self.terms.node(top)) {
+            return self.bind_found(variable, top, found);
         }
         let depth = self.remaining_depth();
         self.relate_all(environment, &[expected], &[found], depth)
@@ -411,6 +462,7 @@ impl EvalCtxt<'_> {
         ensures kept { Keeps self.old.terms self.new.terms }
         ensures unchanged { self.new ≡ record self.old { terms = self.new.terms } }
         ensures within { IfOk result (IsIn self.new.terms) }
+        ensures tree { IfOk result (λ id. tree_at self.new.terms id ≡ tree_of_term term.now) }
         ensures stops { IfErr result (λ s. s ≡ Stop.OutOfMemory) }
     {
         Ok(self.terms.intern(term)?)
@@ -418,14 +470,40 @@ impl EvalCtxt<'_> {
 
     /// Makes a variable the term that was found, which is not looked into. It is undecided where the variable
     /// stands in the term.
-    fn bind_found(&mut self, variable: TermId, found: TermId) -> Result<Outcome, Stop>
-        requires variable { variable.0 < length self.old.terms }
+    fn bind_found(
+        &mut self,
+        variable: Variable,
+        top: TermId,
+        found: TermId,
+    ) -> Result<Outcome, Stop>
+        requires variable { top.0 < length self.old.terms }
+        requires unbound { binding_of self.old.inference variable ≡ None }
         requires found { found.0 < length self.old.terms }
+        ensures gives { IsFreeFor self.old (tree_at self.old.terms found) variable → IfOk result (λ o. o ≡ Outcome.Holds) }
+        ensures bound { IsFreeFor self.old (tree_at self.old.terms found) variable → EndsAt self.old found → OnOk result (IsBoundAt self.old variable found self.new) }
         ensures unchanged { self.new ≡ record self.old { inference = self.new.inference } }
         ensures goes_back { GoesBack self.old self.new }
         ensures stops { IfErr result (λ s. s ≡ Stop.OutOfMemory) }
     {
-        match unify(&self.terms, &mut self.inference, variable, found)? {
+        self.holds_together();
+        if !may_become(&self.terms, &self.inference, variable, found) {
+            return self.unify_found(top, found);
+        }
+        let Ok(()) = self.bind_number(variable, found) else {
+            return Err(Stop::OutOfMemory);
+        };
+        Ok(Outcome::Holds)
+    }
+
+    /// Makes two terms the same, as far as their structure goes.
+    fn unify_found(&mut self, left: TermId, right: TermId) -> Result<Outcome, Stop>
+        requires first { left.0 < length self.old.terms }
+        requires second { right.0 < length self.old.terms }
+        ensures unchanged { self.new ≡ record self.old { inference = self.new.inference } }
+        ensures goes_back { GoesBack self.old self.new }
+        ensures stops { IfErr result (λ s. s ≡ Stop.OutOfMemory) }
+    {
+        match unify(&self.terms, &mut self.inference, left, right)? {
             Unified::Yes => Ok(Outcome::Holds),
             Unified::Undecided => Ok(Outcome::Undecided),
             Unified::No => Ok(Outcome::Refuted),

@@ -20,6 +20,7 @@ ghost use Rattle.goal_solver.specs.Promises.{WhereOwed};
 ghost use Rattle.goal_solver.specs.Evaluations.{WhereRun};
 
 pub(crate) mod asked;
+pub(crate) mod chosen_terms;
 pub(crate) mod hidden_types;
 pub(crate) mod interned;
 pub(crate) mod open;

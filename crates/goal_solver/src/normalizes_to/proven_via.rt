@@ -7,11 +7,10 @@ ghost use Rattle.goal_kinds.specs.Projections.{projected_item};
 ghost use Rattle.goal_kinds.specs.Settings.{is_headline};
 ghost use Rattle.goal_solver.specs.Answers.{IsOwed, is_closed_alias, AnswersAside, IsFaultOf};
 ghost use Rattle.goal_solver.specs.GoingBack.{GoesBack, restored};
-ghost use Rattle.goal_solver.specs.Recording.{FitsKind, IsFitting};
 ghost use Rattle.goal_eval.specs.Outcomes.{RunsAs, RunsFor, setting_in, level_in, FoundIn};
 ghost use Rattle.goal_solver.specs.Promises.{ListsTerm};
 ghost use Rattle.goal_solver.specs.State.{kinds_of};
-ghost use Rattle.goal_solver.specs.ThroughClasses.{SaysTermThrough, SaysClassTerm, SaysWhereFinal, SoundThrough, DecidesThrough, AppliesThrough};
+ghost use Rattle.goal_solver.specs.ThroughClasses.{SaysTermThrough, SaysClassTerm, SoundThrough, DecidesThrough, AppliesThrough};
 ghost use Rattle.goal_eval.specs.Effects.{AreSound, IsStop};
 
 use crate::context::EvalCtxt;
@@ -80,7 +79,7 @@ fn alias_proven_via(
 impl EvalCtxt<'_> {
     /// The term that an alias has by the candidates at the remaining depth, if it is a projection whose trait
     /// goal holds through a class. Nothing changes but that there may be more terms, accesses and delayed
-    /// faults. What a run that records found can be given as the alias's term.
+    /// faults.
     fn class_outcome(
         &mut self,
         class: TraitGoalProvenVia,
@@ -93,7 +92,6 @@ impl EvalCtxt<'_> {
         ensures goes_back { GoesBack self.old self.new }
         ensures within { IfOk result (FoundIn self.new.terms) }
         ensures says { (m : TypingMode) → IsOwed self.new m → SaysClassTerm self.old self.new m environment.now class alias.now result }
-        ensures fits { IsFitting alias.now.kind self.new.terms result ⊎ SaysWhereFinal self.old self.new environment.now class alias.now result }
         ensures stops { is_headline self.old.typing_mode ≡ true → IfErr result (λ s. s ≡ Stop.OutOfMemory) }
     {
         let on_access = self.first_access();
@@ -101,26 +99,7 @@ impl EvalCtxt<'_> {
         if let Some(found) = self.first_answer(first)? {
             return Ok(found);
         }
-        self.class_recorded(class, alias, environment, listed)
-    }
-
-    /// Which term a run that records finds so, if an answer can give it.
-    fn class_recorded(
-        &mut self,
-        class: TraitGoalProvenVia,
-        alias: &AliasTerm,
-        environment: &[Clause],
-        listed: &mut RegionConstraints,
-    ) -> Result<Found, Stop>
-        ensures kept { Keeps self.old.terms self.new.terms }
-        ensures unchanged { self.new ≡ restored self.old self.new }
-        ensures goes_back { GoesBack self.old self.new }
-        ensures within { IfOk result (FoundIn self.new.terms) }
-        ensures fits { IfOk result (FitsKind alias.now.kind self.new.terms) }
-        ensures stops { is_headline self.old.typing_mode ≡ true → IfErr result (λ s. s ≡ Stop.OutOfMemory) }
-    {
-        let found = self.class_run(OnAccess::Record, class, alias, environment, listed)?;
-        Ok(self.fitting(alias.kind, found))
+        self.class_run(OnAccess::Record, class, alias, environment, listed)
     }
 
     /// One run over the candidates.

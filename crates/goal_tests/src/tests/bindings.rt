@@ -1,10 +1,8 @@
 //! Variables that an accepted goal expects its term for, and that are given an alias or a term.
 ghost use Rattle.std.specs.Prelude.{◌≡◌, ◌&&◌, true};
 ghost use Rattle.goal_terms.specs.Closed.{is_closed};
-ghost use Rattle.goal_terms.specs.Sorts.{sort_of};
-ghost use Rattle.goal_terms.specs.Tree.{node_of};
 ghost use Rattle.goal_terms.specs.View.{tree_of_ref};
-ghost use Rattle.goal_infer.specs.Replacement.{is_type_sort};
+ghost use Rattle.goal_infer.specs.Replacement.{is_type};
 ghost use Rattle.goal_solver.specs.Binding.{IsFreeFor, OfVariable};
 
 use crate::tests::sketches::{TypeSketch, V0, alias_goal_of, ty_of};
@@ -32,7 +30,7 @@ pub enum Binding {
 
 /// Whether a term is a type.
 fn is_type(part: TermRef<'_>) -> bool
-    ensures { result ≡ is_type_sort (sort_of (node_of (tree_of_ref part.entry))) }
+    ensures { result ≡ is_type (tree_of_ref part.entry) }
 {
     match part.node().sort() {
         Sort::Ty => true,
@@ -58,7 +56,7 @@ fn may_take(
 
 /// Whether two terms are types, and the second has no inference variables.
 fn fits_type(expected: TermRef<'_>, part: TermRef<'_>) -> bool
-    ensures { result ≡ (is_type_sort (sort_of (node_of (tree_of_ref expected.entry))) && is_type_sort (sort_of (node_of (tree_of_ref part.entry))) && is_closed (tree_of_ref part.entry)) }
+    ensures { result ≡ (is_type (tree_of_ref expected.entry) && is_type (tree_of_ref part.entry) && is_closed (tree_of_ref part.entry)) }
 {
     is_type(expected) && is_type(part) && part.is_closed()
 }

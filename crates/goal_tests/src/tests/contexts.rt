@@ -5,7 +5,7 @@ use crate::tests::expected::{MAYBE, NO, YES};
 use crate::tests::given::Given;
 use crate::tests::goal_steps::{GoalStep, Projected};
 use crate::tests::sketches::{
-    Asked, BOOL, STRUCT_P, STRUCT_Z, TR_A, TermSketch, TypeSketch, U8, U16, V0, V1,
+    Asked, BOOL, STRUCT_P, STRUCT_X, STRUCT_Z, TR_A, TermSketch, TypeSketch, U8, U16, V0, V1,
 };
 use crate::tests::steps::{AT_ONCE, Scene, Step, TWO_VARIABLES, assert_scene, assert_scenes};
 use goal_program::names::{BOX, FREE_A, HID, OWN, PAIR, PAIR_A, TR, VEC};
@@ -140,6 +140,41 @@ const RESPONSES: &[Scene] = &[
 #[test]
 fn responses_and_merged_candidates(rt: HostRuntime) -> Result<(), Fail> {
     assert_scenes(&rt, rt.alloc(), RESPONSES)
+}
+
+/// `<Z as Tr>::A` is `u8`, `<P as Tr>::A` is refused, and `<X as Tr>::A` leads back to itself.
+const A_OF_Z: Asked = Asked::Is(TR_A, &[STRUCT_Z], TermSketch::Ty(V0));
+
+const NORMALIZATIONS: &Scene = &Scene {
+    limit: 2,
+    variables: TWO_VARIABLES,
+    turns: &[
+        &[
+            Step::Goal(GoalStep::Add(&[A_OF_Z, Z_HOLDS])),
+            Step::Goal(GoalStep::Respond(ResponseSketch {
+                base: 0,
+                vars: TWO_VARIABLES,
+                values: &[(0, U8)],
+            })),
+        ],
+        &[
+            Step::Goal(GoalStep::Add(&[Asked::Is(TR_A, &[STRUCT_X], TermSketch::Ty(V1)), A_OF_Z])),
+            Step::Goal(GoalStep::Evaluate(MAYBE)),
+            Step::Equation(Equation::Two(V0, U16, NO)),
+            Step::Equation(Equation::Two(V1, U16, YES)),
+        ],
+        &[
+            Step::Goal(GoalStep::Add(&[A_OF_Z, Asked::Is(TR_A, &[STRUCT_P], TermSketch::Ty(V1))])),
+            Step::Goal(GoalStep::Evaluate(NO)),
+            Step::Equation(Equation::Two(V0, U16, YES)),
+        ],
+    ],
+    ..AT_ONCE
+};
+
+#[test]
+fn added_normalizations(rt: HostRuntime) -> Result<(), Fail> {
+    assert_scene(&rt, rt.alloc(), NORMALIZATIONS)
 }
 
 const VEC_OF_V0: TypeSketch = TypeSketch::Adt(VEC, &[V0]);

@@ -1,7 +1,7 @@
 use Rattle.std.proofs.Common.{◌∙◌, ap}
 use Rattle.std.specs.Prelude.{slice_get}
 use Rattle.std.proofs.lemmas.Result.{on_ok_weaker}
-use Rattle.goal_infer.proofs.BindingLemmas.{IsRooted, slot, advances-rooted, answer-rooted, bound-rooted}
+use Rattle.goal_infer.proofs.BindingLemmas.{IsRooted, slot, advances-rooted, answer-rooted, bound-rooted, itself-rooted}
 use Rattle.goal_infer.proofs.UnifyLemmas.{IsFree, free-variable}
 use Rattle.goal_infer.proofs.bindings.bind_term.Goals as goal
 
@@ -38,4 +38,10 @@ pub returns-clause-bound : goal.returns-clause-bound
 returns-clause-bound c =
     let x : IsFree c.args.state.now c.args.variable = slot _ _ _ _ _ (rooted c) in
     on_ok_weaker c.bind.result (bound-rooted _ _ _ _ _ (rooted c) c.bind.new.self c.number.result c.number.ensures)
+    (c.bind.ensures.bound x.0 (ap (slice_get c.args.state.now.variables) c.number.ensures ∙ x.1))
+
+pub returns-clause-itself : goal.returns-clause-itself
+returns-clause-itself c = λ ended.
+    let x : IsFree c.args.state.now c.args.variable = slot _ _ _ _ _ (rooted c) in
+    on_ok_weaker c.bind.result (λ e. itself-rooted _ _ _ _ _ (rooted c) c.bind.new.self c.number.result c.number.ensures e (c.resolve-root.ensures.itself ended))
     (c.bind.ensures.bound x.0 (ap (slice_get c.args.state.now.variables) c.number.ensures ∙ x.1))

@@ -85,7 +85,7 @@ impl EvalCtxt<'_> {
         Ok(run.certainty)
     }
 
-    /// Takes the step of an entry, which may be an evaluation. Where it is refused, some of it may stay.
+    /// Takes the step of an entry, which may be an evaluation or ask for one. Where it is refused, some of it may stay.
     #[cycle(open)]
     fn step_or_evaluate(
         &mut self,
@@ -101,6 +101,10 @@ impl EvalCtxt<'_> {
     {
         match entry {
             RuleEntry::Evaluation => self.evaluate_pending(),
+            RuleEntry::Term(expected, term) => {
+                let certainty = self.give_term(environment, &run.named, expected, term)?;
+                Ok(run.join(certainty))
+            }
             _ => self.step_through(environment, run, entry),
         }
     }

@@ -1,5 +1,5 @@
 //! The steps of a list of entries with inference variables.
-ghost use Rattle.std.specs.Prelude.{◌≡◌, ◌≢◌, ◌∷◌, [], IfOk, IfErr, OnOk, IsOkUnless, option_map};
+ghost use Rattle.std.specs.Prelude.{◌≡◌, ◌∷◌, false, [], IfOk, IfErr, OnOk, IsOkUnless, option_map};
 ghost use Rattle.std.specs.Option.{option_copied};
 ghost use Rattle.goal_terms.specs.Folding.{instance};
 ghost use Rattle.goal_terms.specs.PredicateTrees.{tree_of_kind};
@@ -9,7 +9,7 @@ ghost use Rattle.goal_kinds.specs.declared.rules.RowValue.TheVariants as of_row;
 ghost use Rattle.goal_terms.specs.declared.answers.Certainty.{Certainty as certain};
 ghost use Rattle.goal_solver.specs.Accesses.{RecordsCausedFaults};
 ghost use Rattle.goal_solver.specs.GoingBack.{GoesBack};
-ghost use Rattle.goal_solver.specs.OpenRuns.{open_progress, named_trees, clauses_with, conditions_with, source_of, AddsGoals, AddsRow, Equates, Evaluates, GivesForm, GivesTerm, GivesValue, ReadsMode, Steps, args_at, AddsRowConditions};
+ghost use Rattle.goal_solver.specs.OpenRuns.{open_progress, named_trees, clauses_with, conditions_with, source_of, AddsGoals, AddsRow, evaluates, is_chosen, Equates, Evaluates, GivesForm, GivesTerm, GivesValue, ReadsMode, Steps, args_at, AddsRowConditions};
 ghost use Rattle.goal_solver.specs.Refusals.{WhenRefused, RefusesEqual, RefusesPending, RefusesForm, RefusesValue, RefusesTerm, StepRefused};
 ghost use Rattle.goal_solver.specs.Relating.{IsFaultFor};
 ghost use Rattle.goal_solver.specs.RunRules.{AreListed};
@@ -35,7 +35,7 @@ use std::alloc::{AllocError, Global};
 
 impl EvalCtxt<'_> {
     #[tactic(auto, using(crate::proofs::RecordedLemmas::stepping))]
-    /// Takes the step of an entry of a list with inference variables, if it isn't an evaluation. Where it is
+    /// Takes the step of an entry of a list with inference variables, if it evaluates no goal. Where it is
     /// refused, some of it may stay.
     pub(crate) fn step_through(
         &mut self,
@@ -43,7 +43,7 @@ impl EvalCtxt<'_> {
         run: &mut OpenRun,
         entry: &RuleEntry,
     ) -> Result<(), Fault>
-        requires other { entry.now ≢ RuleEntry.Evaluation }
+        requires other { evaluates entry.now ≡ false }
         ensures steps { OnOk result (Steps environment.now entry.now self.old (open_progress run.old) self.new (open_progress run.new)) }
         ensures refused { WhenRefused result (StepRefused environment.now entry.now self.old (open_progress run.old) self.new) }
         ensures listed { AreListed (entry.now ∷ []) self.old self.new }
@@ -67,10 +67,6 @@ impl EvalCtxt<'_> {
                 let certainty = self.ask_row(environment, &run.named, *row, *number)?;
                 Ok(run.join(certainty))
             }
-            RuleEntry::Term(expected, term) => {
-                let certainty = self.give_open(environment, &run.named, expected, term)?;
-                Ok(run.join(certainty))
-            }
             RuleEntry::HiddenType(expected, key, first) => {
                 let certainty = self.define_hidden_type(environment, expected, key, *first)?;
                 Ok(run.join(certainty))
@@ -80,7 +76,7 @@ impl EvalCtxt<'_> {
                 Ok(run.join(certainty))
             }
             RuleEntry::DelayedFault(fault) => self.record_fault(*fault),
-            RuleEntry::Evaluation => unreachable!(),
+            RuleEntry::Evaluation | RuleEntry::Term(_, _) => unreachable!(),
             RuleEntry::RowConditions(constness, row, number) => {
                 let named = run.named.as_slice();
                 let certainty = self.ask_row_conditions(
@@ -269,14 +265,15 @@ impl EvalCtxt<'_> {
         Ok(())
     }
 
-    /// Gives an expected term what an entry says. One that a clause chooses is undecided.
-    fn give_open(
+    /// Gives an expected term what an entry says, if no clause chooses it.
+    pub(crate) fn give_open(
         &mut self,
         environment: &[Clause],
         named: &[Vec<GenericArg>],
         expected: &Term,
         term: &RuleTerm,
     ) -> Result<Certainty, Fault>
+        requires other { is_chosen term.now ≡ false }
         ensures gives { IfOk result (λ c. GivesTerm environment.now (named_trees named.now) (tree_of_term expected.now) term.now self.old c self.new) }
         ensures refused { WhenRefused result (RefusesTerm environment.now (named_trees named.now) (tree_of_term expected.now) term.now self.old self.new) }
         ensures faults { RecordsCausedFaults self.old self.new }
@@ -289,7 +286,7 @@ impl EvalCtxt<'_> {
             RuleTerm::Value(value, number) => {
                 self.give_value(environment, named, expected, *value, *number)
             }
-            RuleTerm::ChosenBy(_, _, _) => Ok(Certainty::Maybe),
+            RuleTerm::ChosenBy(_, _, _) => unreachable!(),
         }
     }
 

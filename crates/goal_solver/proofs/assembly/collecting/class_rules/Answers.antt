@@ -1,7 +1,7 @@
 use Rattle.std.proofs.Common.{◌≡◌, ◌∙◌, [], ap, ap₂, sym, subst}
-use Rattle.std.specs.Option.{option_map}
 use Rattle.goal_terms.specs.Erased.{erased}
 use Rattle.goal_terms.specs.TreeOf.{tree_of_ty}
+use Rattle.goal_kinds.specs.CandidateRules.{seen_trait}
 use Rattle.goal_kinds.specs.Candidates.{environment, rest}
 use Rattle.goal_kinds.specs.KindWords.{words_for}
 use Rattle.goal_solver.specs.Collecting.{kind_of, Speaks, Lacks, AreCollected, CollectsBounds, CollectsFor}
@@ -15,7 +15,10 @@ pub push_environment_rules-requires : goal.push_environment_rules-requires
 push_environment_rules-requires g c = record { accepted = no-kind-fault g.G.PredicateTerms.has_fault c.args.tables.now c.args.goal.now c.requires.accepted }
 
 pub push_rest_rules-requires : goal.push_rest_rules-requires
-push_rest_rules-requires g c = record { accepted = no-kind-fault g.G.PredicateTerms.has_fault c.args.tables.now c.args.goal.now c.requires.accepted }
+push_rest_rules-requires g c = record {
+  accepted = no-kind-fault g.G.PredicateTerms.has_fault c.args.tables.now c.args.goal.now c.requires.accepted;
+  asked = sym c.in-Some.ensures;
+}
 
 pub returns-in-ParamEnv-clause-collected : goal.returns-in-ParamEnv-clause-collected
 returns-in-ParamEnv-clause-collected g c =
@@ -39,11 +42,11 @@ returns-clause-collected g c =
     (λ q s is asked of own. elim c.match-class-2.branch [
       | in-AliasBound+in_ok-push_bound_rules w ↦ absurd (classes-differ c.args.class w.in-AliasBound.is is)
       | in_default-class+in_ok-push_rest_rules w ↦
-          let the_trait : c.in-Some.trait_id ≡ q.def_id = some-same c.in-Some.trait_id q.def_id (c.in-Some.ensures ∙ ap (option_map (λ x. x.def_id)) asked) in
+          let the_trait : c.in-Some.asked.def_id ≡ q.def_id = ap (λ x. x.def_id) (some-same (seen_trait c.in-Some.asked) q (c.in-Some.ensures ∙ asked)) in
           let the_type : c.in-Some-self_ty.self_ty.now ≡ s = some-same c.in-Some-self_ty.self_ty.now s (c.in-Some-self_ty.ensures ∙ of) in
           subst (λ v. AreCollected (Speaks W) (Lacks W) v.items (rest W.setting q.def_id (erased (tree_of_ty s)))) (sym w.found-is)
           (subst (AreCollected (Speaks W) (Lacks W) w.push_rest_rules.new.found.items) (ap₂ (λ i t. rest W.setting i (erased (tree_of_ty t))) the_trait the_type)
-          (collects-from_none (Speaks W) (Lacks W) (rest W.setting c.in-Some.trait_id (erased (tree_of_ty c.in-Some-self_ty.self_ty.now)))
+          (collects-from_none (Speaks W) (Lacks W) (rest W.setting c.in-Some.asked.def_id (erased (tree_of_ty c.in-Some-self_ty.self_ty.now)))
           c.new-found.result.items w.push_rest_rules.new.found.items c.new-found.ensures.items
           (w.in_ok-push_rest_rules.ensures.collected (λ row e. own row (e ∙ the_trait)))))
     ])

@@ -1,43 +1,53 @@
-use Rattle.std.proofs.Common.{◌≡◌, get_or, map, Some, subst, arith}
+use Rattle.std.proofs.Common.{◌≡◌, ◌∙◌, ◌<◌, inl, length, map, Some, refl, ap, sym, subst}
+use Rattle.std.specs.List.{All}
 use Rattle.std.specs.Prelude.{slice_get}
+use Rattle.goal_terms.specs.TreeOf.{trees_of}
+use Rattle.goal_tables.specs.ImplsByHead.{impls_with_head}
 use Rattle.goal_kinds.specs.Candidates.{impls_for}
-use Rattle.goal_kinds.proofs.PlaceLists.{place-within}
 use Rattle.goal_kinds.specs.KindWords.{words_for}
-use Rattle.goal_solver.specs.Collecting.{Speaks, Lacks}
-use Rattle.goal_solver.proofs.CollectingLemmas.{collects-impl, collects-impls, impl-at_place, impl-of_trait}
+use Rattle.goal_kinds.proofs.NearLemmas.{all-within, other_head-unfit}
+use Rattle.goal_eval.proofs.MergingLemmas.{ok-map}
+use Rattle.goal_solver.specs.Collecting.{Speaks, Lacks, CollectsAt, CollectsImpls}
+use Rattle.goal_solver.proofs.CollectingLemmas.{collects-by_head, of-trait, of-trait_and_head}
 use Rattle.goal_solver.proofs.assembly.collecting.push_impl_rules.Goals as goal
 
-pub impl_at-row-requires : goal.impl_at-row-requires
-impl_at-row-requires g c =
-    place-within c.rows-rows.result.now.impls.items c.impls_of_trait-places.result.now (impls_for c.rows-rows.result.now c.args.trait_id) c.loop-i.i
-    c.impls_of_trait-places.ensures c.loop-i-test.true
+pub push_rules_at-requires-clause-places : goal.push_rules_at-requires-clause-places
+push_rules_at-requires-clause-places g c =
+    subst (λ t. All (λ p. p < length t.impls.items) c.impls_of_trait.result.now) c.rows-rows.ensures.rows
+    (all-within c.rows-rows.result.now.impls.items c.impls_of_trait.result.now (impls_for c.rows-rows.result.now c.args.asked.def_id) c.impls_of_trait.ensures)
 
-pub loop-i-preserved : goal.loop-i-preserved
-loop-i-preserved g c =
-    let listed : map (slice_get c.args.tables.now.impls.items) c.impls_of_trait-places.result.now ≡ map Some (impls_for c.args.tables.now c.args.trait_id) =
-    subst (λ t. map (slice_get t.impls.items) c.impls_of_trait-places.result.now ≡ map Some (impls_for t c.args.trait_id)) c.rows-rows.ensures.rows
-    c.impls_of_trait-places.ensures in
-    let here : slice_get c.args.tables.now.impls.items (get_or c.impls_of_trait-places.result.now c.loop-i.i 0) ≡ Some c.impl_at-row.result.now =
-    subst (λ t. slice_get t.impls.items (get_or c.impls_of_trait-places.result.now c.loop-i.i 0) ≡ Some c.impl_at-row.result.now) c.rows-rows.ensures.rows
-    c.impl_at-row.ensures in
-    record {
-      collected = λ own.
-          collects-impl (Speaks (words_for g.G.GoalKind.words c.args.tables.now c.args.goal.now c.args.mode.now)) (Lacks (words_for g.G.GoalKind.words c.args.tables.now c.args.goal.now c.args.mode.now))
-          c.args.tables.now c.args.trait_id c.impls_of_trait-places.result.now c.loop-i.i c.impl_at-row.result.now c.args.found.now.items c.loop-i.found.items
-          c.push_impl_rule.new.found.items listed c.loop-i-test.true here
-          (c.in_ok-push_impl_rule.ensures.adds
-          (impl-at_place c.args.tables.now c.rows-rows.ensures.checked c.args.trait_id c.impls_of_trait-places.result.now c.loop-i.i c.impl_at-row.result.now listed
-          c.loop-i-test.true here)
-          (own c.impl_at-row.result.now (impl-of_trait c.args.tables.now c.args.trait_id c.impls_of_trait-places.result.now c.loop-i.i c.impl_at-row.result.now listed
-          c.loop-i-test.true here)))
-          (c.loop-i.invariant.collected own);
-      expected = λ h. c.in_ok-push_impl_rule.ensures.expected (c.loop-i.invariant.expected h);
-    }
+pub push_rules_at-requires-2-clause-places : goal.push_rules_at-requires-2-clause-places
+push_rules_at-requires-2-clause-places g c =
+    subst (λ t. All (λ p. p < length t.impls.items) c.as_slice.result.now) c.rows-rows.ensures.rows
+    (all-within c.rows-rows.result.now.impls.items c.as_slice.result.now (impls_with_head c.rows-rows.result.now c.args.asked.def_id c.in-Some.head)
+    (ap (map (slice_get c.rows-rows.result.now.impls.items)) c.as_slice.ensures.value ∙ c.in-Ok.ensures))
+
+pub returns-in_default-clause-collected : goal.returns-in_default-clause-collected
+returns-in_default-clause-collected g c =
+    let W = words_for g.G.GoalKind.words c.args.tables.now c.args.goal.now c.args.mode.now in
+    let t = c.args.tables.now in
+    let i = c.args.asked.def_id in
+    let before = c.args.found.now.items in
+    let after = c.push_rules_at.new.found.items in
+    ok-map (λ _. CollectsAt W c.impls_of_trait.result.now before after) (λ _. CollectsImpls W i before after) c.push_rules_at.result
+    (λ _ h own. h (impls_for t i)
+    (subst (λ t. map (slice_get t.impls.items) c.impls_of_trait.result.now ≡ map Some (impls_for t i)) c.rows-rows.ensures.rows c.impls_of_trait.ensures)
+    (of-trait t i (λ r. W.is_impl_for r) own))
+    c.push_rules_at.ensures.collected
 
 pub returns-clause-collected : goal.returns-clause-collected
-returns-clause-collected g c own =
-    collects-impls (Speaks (words_for g.G.GoalKind.words c.args.tables.now c.args.goal.now c.args.mode.now)) (Lacks (words_for g.G.GoalKind.words c.args.tables.now c.args.goal.now c.args.mode.now))
-    c.args.tables.now c.args.trait_id c.impls_of_trait-places.result.now c.loop-i.i c.args.found.now.items c.loop-i.found.items
-    (subst (λ t. map (slice_get t.impls.items) c.impls_of_trait-places.result.now ≡ map Some (impls_for t c.args.trait_id)) c.rows-rows.ensures.rows
-    c.impls_of_trait-places.ensures)
-    (omega (arith, c.loop-i-test.false)) (c.loop-i.invariant.collected own)
+returns-clause-collected g c =
+    let W = words_for g.G.GoalKind.words c.args.tables.now c.args.goal.now c.args.mode.now in
+    let t = c.args.tables.now in
+    let i = c.args.asked.def_id in
+    let before = c.args.found.now.items in
+    let after = c.push_rules_at-2.new.found.items in
+    ok-map (λ _. CollectsAt W c.as_slice.result.now before after) (λ _. CollectsImpls W i before after) c.push_rules_at-2.result
+    (λ _ h own. collects-by_head (Speaks W) (Lacks W) t i c.in-Some.head before after
+    (λ r other. inl (c.other_heads_are_refuted.ensures c.args.goal.now.predicate W.setting _ (trees_of c.args.asked.args.now) r c.requires.asked refl
+    (other_head-unfit (trees_of c.args.asked.args.now) c.in-Some.head r (sym c.in-Some.ensures) other)))
+    (h (impls_with_head t i c.in-Some.head)
+    (subst (λ t. map (slice_get t.impls.items) c.as_slice.result.now ≡ map Some (impls_with_head t i c.in-Some.head)) c.rows-rows.ensures.rows
+    (ap (map (slice_get c.rows-rows.result.now.impls.items)) c.as_slice.ensures.value ∙ c.in-Ok.ensures))
+    (of-trait_and_head t i c.in-Some.head (λ r. W.is_impl_for r) own)))
+    c.push_rules_at-2.ensures.collected

@@ -10,10 +10,10 @@ use Rattle.goal_solver.proofs.assembly.collecting.push_rest_rules.Goals as goal
 pub returns-clause-collected : goal.returns-clause-collected
 returns-clause-collected g c own =
     collects-chain (Speaks (words_for g.G.GoalKind.words c.args.tables.now c.args.goal.now c.args.mode.now)) (Lacks (words_for g.G.GoalKind.words c.args.tables.now c.args.goal.now c.args.mode.now))
-    (map by_impl (impls_for c.args.tables.now c.args.trait_id) ++ (built_in ∷ object_bounds (erased (tree_of_ty c.args.self_ty.now)))) (error ∷ [])
+    (map by_impl (impls_for c.args.tables.now c.args.asked.def_id) ++ (built_in ∷ object_bounds (erased (tree_of_ty c.args.self_ty.now)))) (error ∷ [])
     c.args.found.now.items c.push_object_rules.new.found.items c.push_error_rule.new.found.items
     (collects-chain (Speaks (words_for g.G.GoalKind.words c.args.tables.now c.args.goal.now c.args.mode.now)) (Lacks (words_for g.G.GoalKind.words c.args.tables.now c.args.goal.now c.args.mode.now))
-    (map by_impl (impls_for c.args.tables.now c.args.trait_id)) (built_in ∷ object_bounds (erased (tree_of_ty c.args.self_ty.now)))
+    (map by_impl (impls_for c.args.tables.now c.args.asked.def_id)) (built_in ∷ object_bounds (erased (tree_of_ty c.args.self_ty.now)))
     c.args.found.now.items c.push_impl_rules.new.found.items c.push_object_rules.new.found.items
     (c.in_ok-push_impl_rules.ensures.collected own)
     (collects-chain (Speaks (words_for g.G.GoalKind.words c.args.tables.now c.args.goal.now c.args.mode.now)) (Lacks (words_for g.G.GoalKind.words c.args.tables.now c.args.goal.now c.args.mode.now))

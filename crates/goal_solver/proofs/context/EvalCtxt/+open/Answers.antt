@@ -1,31 +1,33 @@
-use Rattle.goal_solver.proofs.AnswerLemmas.{goes_back-grown, open-ground}
+use Rattle.goal_solver.proofs.AnswerLemmas.{owed-before, goes_back-grown, open-ground}
 use Rattle.goal_solver.proofs.BindingLemmas.{on_ok-map}
-use Rattle.goal_solver.proofs.OpenStepLemmas.{evaluation-step}
+use Rattle.goal_solver.proofs.OpenStepLemmas.{evaluation-step, term-step}
 use Rattle.std.proofs.Common.{◌≡◌, ◌++◌, ◌+◌, ℕ, List, Vec, Global, Result, length, get_or, drop, take, refl, sym, ◌∙◌, subst, subst₂, arith, [], ap, inl, Some, None, Ok, Err, ◌∷◌, Option, inr}
 use Rattle.std.specs.Prelude.{IfOk, IfErr, IfSome}
 use Rattle.std.proofs.Math.Seq.{take-length}
 use Rattle.goal_terms.specs.declared.answers.Certainty.{Certainty}
 use Rattle.goal_kinds.specs.declared.faults.Fault.{Fault}
-use Rattle.goal_solver.specs.AddedGoals.{AreSplit, LeavesUndecided, IsRefusalAt, AreClosedAt, IsAnswerAt, IsClosedGoal}
+use Rattle.goal_solver.specs.AddedGoals.{AllTakeAt, AreSplit, LeavesUndecided, IsRefusalAt, AreAnswerableAt, AreClosedAt, IsAnswerable, IsAnswerAt}
 use Rattle.goal_solver.specs.GoingBack.{BeginsWith, GoesBack, restored, begun}
 use Rattle.goal_solver.specs.Relating.{IsFaultFor, SaysYes, ChangesRecords}
 use Rattle.goal_solver.proofs.AddedGoalLemmas.{round-begins, records-through, fault-before, refused-fault, restored-owed, restored-alone, restored-fault, restored-itself, answer-before, fault-later}
 use Rattle.goal_solver.proofs.GoingBackLemmas.{goes_back-same, goes_back-through, begins-through, goes_back-restored, goes_back-tried, valid-begun}
-use Rattle.goal_solver.proofs.RoundLemmas.{next-listed, next-within, next-fault, next-says, next-split, next-begins, ends-says, ends-split, handed-on, first-fault, first-done, first-open, left-none, left-some, same-lengths}
-use Rattle.goal_solver.proofs.RefusalLemmas.{refused-on, refuses-later, refuses-among, aside-refused, restored-refused, memory-only, pending-refused, stops-at, refused-map, stops-last, open-refused, open-goal-refused, evaluation-refused}
+use Rattle.goal_solver.proofs.RoundLemmas.{next-answerable, next-listed, next-within, next-fault, next-says, next-split, next-takes, next-waiting, next-begins, ends-says, ends-split, ends-taking, ends-waiting, takes-none, takes-over, gone-over, over-done, over-fault, over-last, over-open, handed-on, left-none, left-some, same-lengths}
+use Rattle.goal_solver.proofs.RefusalLemmas.{refused-on, refuses-later, refuses-among, aside-refused, restored-refused, memory-only, pending-refused, stops-at, refused-map, stops-last, open-refused, open-goal-refused, evaluation-refused, term-refused}
 use Rattle.std.proofs.lemmas.Bool.{false≢true}
 use Rattle.goal_solver.specs.State.{State, kinds_of}
-use Rattle.goal_solver.specs.Refusals.{RefusesListed}
+use Rattle.goal_solver.specs.Refusals.{RefusesListed, RefusesTerm}
 use Rattle.goal_terms.specs.declared.answers.GoalSource.{GoalSource}
 use Rattle.goal_terms.specs.declared.predicates.Goal.{Goal}
 use Rattle.goal_terms.specs.declared.predicates.Predicate.{Predicate}
-use Rattle.goal_solver.proofs.AsideLemmas.{aside-sound, aside-decided, aside-closed, aside-taken}
+use Rattle.goal_solver.proofs.AsideLemmas.{aside-sound, aside-decided, aside-given, aside-closed, aside-taken}
+use Rattle.goal_solver.proofs.NormalizingLemmas.{answerable-grown, binds-grown, closed-answerable}
 use Rattle.goal_solver.proofs.PlaceLemmas.{taken-split}
 use Rattle.goal_solver.proofs.FaultLemmas.{undone-faults, grown-faults}
 use Rattle.goal_solver.proofs.VariableLemmas.{on_err}
 use Rattle.goal_solver.specs.Responses.{ListsSinceMark}
 use Rattle.goal_solver.specs.OpenAnswers.{answers_term, AnswersTrait, InTrial, MergesProjection}
-use Rattle.goal_solver.specs.OpenRuns.{Evaluates, open_progress, open_start, RunsThrough, RunsOpen}
+use Rattle.goal_solver.proofs.ChosenLemmas.{asked-alone, chooses-held, chooses-refuted, chosen-given, chosen-refused}
+use Rattle.goal_solver.specs.OpenRuns.{AnswersAlone, WhenAsked, Evaluates, GivesTerm, named_trees, open_progress, open_start, RunsThrough, RunsOpen}
 use Rattle.goal_solver.proofs.ClosingLemmas.{evaluates-grown, closing-answers, closing-recorded}
 use Rattle.goal_eval.proofs.MergingLemmas.{ok-map}
 use Rattle.goal_solver.proofs.SinceMarkLemmas.{lists-kept}
@@ -45,7 +47,7 @@ use Rattle.goal_solver.proofs.MoreSpecialLemmas.{asks-none, asked-next, asked-al
 use Rattle.goal_solver.proofs.BelowLemmas.{applies-below, merges-below, projects-below}
 use Rattle.goal_terms.specs.declared.answers.Response.{Response}
 use Rattle.goal_eval.specs.ErasedArgs.{erased_args}
-use Rattle.goal_solver.specs.Answers.{IsQuiet}
+use Rattle.goal_solver.specs.Answers.{IsQuiet, level_over}
 use Rattle.goal_solver.specs.Collecting.{trait_kind}
 use Rattle.goal_solver.specs.OpenGoals.{AsksOpenSelf, WhenTried, ConsidersRules, AreOfClass, rules_of_class, trait_classes, WhenAnswered, ByClasses, ByFormedClasses}
 use Rattle.goal_solver.proofs.ApplicableLemmas.{nothing-applies-after, nothing-applies}
@@ -60,7 +62,7 @@ use Rattle.goal_solver.proofs.PromiseLemmas.{leaves-undecided}
 use Rattle.goal_solver.proofs.AccessLemmas.{none-recorded}
 use Rattle.goal_terms.specs.declared.predicates.Clause.{Clause}
 use Rattle.goal_terms.specs.Erased.{erased}
-use Rattle.goal_terms.specs.TreeOf.{tree_of_alias}
+use Rattle.goal_terms.specs.TreeOf.{tree_of_alias, tree_of_term}
 use Rattle.goal_terms.specs.declared.terms.Term.{Term}
 use Rattle.goal_kinds.specs.Interned.{erased_at}
 use Rattle.goal_solver.specs.OpenForms.{OpensFrom}
@@ -76,6 +78,9 @@ use Rattle.goal_solver.proofs.context.EvalCtxt.+open.Goals as goal
 pub evaluate_round-loop-i-init : goal.evaluate_round-loop-i-init
 evaluate_round-loop-i-init t c = record {
   says = λ m owed closed. subst (λ (xs : List ℕ). LeavesUndecided c.args.self.now m c.args.goals.now c.args.places.now c.args.places.now xs) (sym c.new-left.ensures.items) (round-begins c.args.self.now m c.args.goals.now c.args.places.now);
+  gives = λ m owed ok. subst (λ (xs : List ℕ). AllTakeAt c.args.self.now m c.args.goals.now c.args.places.now (xs ++ c.args.places.now) c.args.self.now) (sym c.new-left.ensures.items)
+      (takes-none c.args.self.now c.args.self.now m c.args.goals.now c.args.places.now);
+  waits = λ m owed ok. subst (λ (xs : List ℕ). AreAnswerableAt c.args.self.now c.args.goals.now (xs ++ c.args.places.now)) (sym c.new-left.ensures.items) ok;
   closed = λ h. refl;
   split = subst (λ (xs : List ℕ). AreSplit (length c.args.goals.now) c.args.taken.now.items (xs ++ c.args.places.now)) (sym c.new-left.ensures.items) c.requires.split;
   taken = take-length c.args.taken.now.items;
@@ -91,7 +96,9 @@ pub evaluate_round-returns-in_err-answered-clause-refuses : goal.evaluate_round-
 evaluate_round-returns-in_err-answered-clause-refuses t c = λ m owed closed.
     handed-on c.from_residual.result c.in_err-answered.field-0.0 (λ (r : Result (Vec ℕ Global) Fault). IfErr r (IsRefusalAt c.args.self.now m c.args.goals.now c.args.places.now)) c.from_residual.ensures.1
     (next-fault c.args.self.now c.loop-i.self m c.args.goals.now c.args.places.now c.loop-i.i (get_or c.args.places.now c.loop-i.i 0) c.goal_at-added.result.now c.in_err-answered.field-0.0 (omega arith) refl c.goal_at-added.ensures
-    c.loop-i.invariant.alone (c.in_err-answered.ensures.answer m owed (closed (get_or c.args.places.now c.loop-i.i 0) c.goal_at-added.result.now c.goal_at-added.ensures (next-listed c.args.places.now c.loop-i.i (get_or c.args.places.now c.loop-i.i 0) (omega arith) refl))))
+    c.loop-i.invariant.alone (c.in_err-answered.ensures.answer m owed
+    (next-answerable c.loop-i.self c.args.goals.now c.args.places.now c.loop-i.left.items c.loop-i.i (get_or c.args.places.now c.loop-i.i 0) c.goal_at-added.result.now (omega arith) refl c.goal_at-added.ensures
+    (c.loop-i.invariant.waits m (owed-before c.loop-i.self c.evaluate_goal.new.self m c.evaluate_goal.ensures.goes_back owed) closed))))
 
 pub evaluate_round-returns-in_err-answered-clause-split : goal.evaluate_round-returns-in_err-answered-clause-split
 evaluate_round-returns-in_err-answered-clause-split t c = (
@@ -129,8 +136,25 @@ evaluate_round-returns-in_err-list_place-clause-goes_back t c = goes_back-throug
 
 pub evaluate_round-loop-i-preserved : goal.evaluate_round-loop-i-preserved
 evaluate_round-loop-i-preserved t c = record {
-  says = λ m. next-says c.args.self.now c.loop-i.self c.evaluate_goal.new.self m c.args.goals.now c.args.places.now c.loop-i.taken.items c.loop-i.left.items c.list_place.new.taken.items c.list_place.new.left.items c.loop-i.i (get_or c.args.places.now c.loop-i.i 0) c.goal_at-added.result.now c.in_ok-answered.answered
-      (omega arith) refl c.goal_at-added.ensures c.loop-i.invariant.alone c.evaluate_goal.ensures.goes_back c.in_ok-list_place.ensures.listed (c.loop-i.invariant.says m) (c.in_ok-answered.ensures.answer m);
+  says = λ m owed ok.
+      let before = owed-before c.loop-i.self c.evaluate_goal.new.self m c.evaluate_goal.ensures.goes_back owed in
+      next-says c.args.self.now c.loop-i.self m c.args.goals.now c.args.places.now c.loop-i.taken.items c.loop-i.left.items c.list_place.new.taken.items c.list_place.new.left.items c.loop-i.i (get_or c.args.places.now c.loop-i.i 0) c.goal_at-added.result.now c.in_ok-answered.answered
+      (omega arith) refl c.goal_at-added.ensures c.loop-i.invariant.alone c.in_ok-list_place.ensures.listed (c.loop-i.invariant.says m before ok)
+      (c.in_ok-answered.ensures.answer m owed
+      (next-answerable c.loop-i.self c.args.goals.now c.args.places.now c.loop-i.left.items c.loop-i.i (get_or c.args.places.now c.loop-i.i 0) c.goal_at-added.result.now (omega arith) refl c.goal_at-added.ensures (c.loop-i.invariant.waits m before ok)));
+  gives = λ m owed ok.
+      let before = owed-before c.loop-i.self c.evaluate_goal.new.self m c.evaluate_goal.ensures.goes_back owed in
+      next-takes c.args.self.now c.loop-i.self c.evaluate_goal.new.self m c.args.goals.now c.loop-i.i (get_or c.args.places.now c.loop-i.i 0) c.goal_at-added.result.now c.args.places.now c.loop-i.left.items c.list_place.new.left.items c.loop-i.taken.items c.list_place.new.taken.items c.in_ok-answered.answered
+      (omega arith) refl c.goal_at-added.ensures c.loop-i.invariant.alone c.evaluate_goal.ensures.goes_back c.in_ok-list_place.ensures.listed (c.loop-i.invariant.gives m before ok)
+      (c.in_ok-answered.ensures.keeps m owed
+      (next-answerable c.loop-i.self c.args.goals.now c.args.places.now c.loop-i.left.items c.loop-i.i (get_or c.args.places.now c.loop-i.i 0) c.goal_at-added.result.now (omega arith) refl c.goal_at-added.ensures (c.loop-i.invariant.waits m before ok)));
+  waits = λ m owed ok.
+      let before = owed-before c.loop-i.self c.evaluate_goal.new.self m c.evaluate_goal.ensures.goes_back owed in
+      let waits = c.loop-i.invariant.waits m before ok in
+      next-waiting c.loop-i.self c.evaluate_goal.new.self c.args.goals.now (length c.args.goals.now) c.loop-i.i (get_or c.args.places.now c.loop-i.i 0) c.goal_at-added.result.now c.args.places.now c.loop-i.left.items c.list_place.new.left.items c.loop-i.taken.items c.list_place.new.taken.items c.in_ok-answered.answered
+      (omega arith) refl c.goal_at-added.ensures (ap (λ (s : State). s.tables) c.evaluate_goal.ensures.alone) c.in_ok-list_place.ensures.listed c.loop-i.invariant.split waits (level_over c.loop-i.self m c.goal_at-added.result.now.1.param_env.items)
+      (c.in_ok-answered.ensures.keeps m owed
+      (next-answerable c.loop-i.self c.args.goals.now c.args.places.now c.loop-i.left.items c.loop-i.i (get_or c.args.places.now c.loop-i.i 0) c.goal_at-added.result.now (omega arith) refl c.goal_at-added.ensures waits));
   closed = λ closed. c.evaluate_goal.ensures.closed (closed (get_or c.args.places.now c.loop-i.i 0) c.goal_at-added.result.now c.goal_at-added.ensures (next-listed c.args.places.now c.loop-i.i (get_or c.args.places.now c.loop-i.i 0) (omega arith) refl)) ∙ c.loop-i.invariant.closed closed;
   split = next-split (length c.args.goals.now) c.loop-i.i (get_or c.args.places.now c.loop-i.i 0) c.args.places.now c.loop-i.taken.items c.loop-i.left.items c.list_place.new.taken.items c.list_place.new.left.items c.in_ok-answered.answered (omega arith) refl c.in_ok-list_place.ensures.listed c.loop-i.invariant.split;
   taken = next-begins c.args.taken.now.items c.loop-i.taken.items c.loop-i.left.items c.list_place.new.taken.items c.list_place.new.left.items (get_or c.args.places.now c.loop-i.i 0) c.in_ok-answered.answered c.in_ok-list_place.ensures.listed c.loop-i.invariant.taken;
@@ -141,6 +165,13 @@ evaluate_round-loop-i-preserved t c = record {
 
 pub evaluate_round-returns-clause-says : goal.evaluate_round-returns-clause-says
 evaluate_round-returns-clause-says t c = λ m owed closed. ends-says c.args.self.now m c.args.goals.now c.args.places.now c.loop-i.left.items c.loop-i.i (omega arith) (c.loop-i.invariant.says m owed closed)
+
+pub evaluate_round-returns-clause-gives : goal.evaluate_round-returns-clause-gives
+evaluate_round-returns-clause-gives t c = λ m owed ok.
+    ends-taking c.args.self.now c.loop-i.self m c.args.goals.now c.args.places.now c.loop-i.left.items c.loop-i.i (omega arith) (c.loop-i.invariant.gives m owed ok)
+
+pub evaluate_round-returns-clause-leaves : goal.evaluate_round-returns-clause-leaves
+evaluate_round-returns-clause-leaves t c = λ m owed ok. ends-waiting c.loop-i.self c.args.goals.now c.args.places.now c.loop-i.left.items c.loop-i.i (omega arith) (c.loop-i.invariant.waits m owed ok)
 
 pub evaluate_round-returns-clause-split : goal.evaluate_round-returns-clause-split
 evaluate_round-returns-clause-split t c = (c.loop-i.left.items, ends-split (length c.args.goals.now) c.loop-i.i c.args.places.now c.loop-i.taken.items c.loop-i.left.items (omega arith) c.loop-i.invariant.split, refl)
@@ -159,6 +190,9 @@ evaluate_round-returns-in_err-answered-clause-refused t c =
 pub evaluate_rounds-loop-round-init : goal.evaluate_rounds-loop-round-init
 evaluate_rounds-loop-round-init t c = record {
   first = λ closed. (refl, refl, refl);
+  over = λ m owed ok. inl (refl, refl);
+  gives = λ m owed ok. takes-none c.args.self.now c.args.self.now m c.args.goals.now c.args.places.items;
+  waits = λ m owed ok. ok;
   split = c.requires.split;
   taken = take-length c.args.taken.now.items;
   alone = refl;
@@ -173,10 +207,12 @@ evaluate_rounds-evaluate_round-requires t c = (
 )
 
 pub evaluate_rounds-returns-in_err-left-clause-answer : goal.evaluate_rounds-returns-in_err-left-clause-answer
-evaluate_rounds-returns-in_err-left-clause-answer t c = λ m owed closed.
-    let first = c.loop-round.invariant.first closed in
+evaluate_rounds-returns-in_err-left-clause-answer t c = λ m owed ok.
+    let before = owed-before c.loop-round.self c.evaluate_round.new.self m c.evaluate_round.ensures.goes_back owed in
     handed-on c.from_residual.result c.in_err-left.field-0.0 (λ (r : Result Certainty Fault). IsAnswerAt c.args.self.now m c.args.goals.now c.args.places.items r) c.from_residual.ensures.1
-    (first-fault c.args.self.now c.loop-round.self m c.args.goals.now c.args.places.items c.as_slice.result.now c.in_err-left.field-0.0 first.2 (c.as_slice.ensures.value ∙ first.1) (c.in_err-left.ensures.refuses m owed (subst (λ (xs : List ℕ). AreClosedAt c.args.goals.now xs) (sym (c.as_slice.ensures.value ∙ first.1)) closed)))
+    (over-fault c.args.self.now c.loop-round.self m c.args.goals.now c.args.places.items c.loop-round.pending.items c.loop-round.round c.in_err-left.field-0.0 c.loop-round.invariant.alone (c.loop-round.invariant.over m before ok)
+    (subst (λ (xs : List ℕ). IsRefusalAt c.loop-round.self m c.args.goals.now xs c.in_err-left.field-0.0) c.as_slice.ensures.value
+    (c.in_err-left.ensures.refuses m owed (subst (AreAnswerableAt c.loop-round.self c.args.goals.now) (sym c.as_slice.ensures.value) (c.loop-round.invariant.waits m before ok)))))
 
 pub evaluate_rounds-returns-in_err-left-clause-split : goal.evaluate_rounds-returns-in_err-left-clause-split
 evaluate_rounds-returns-in_err-left-clause-split t c = (
@@ -200,9 +236,23 @@ evaluate_rounds-returns-in_err-left-clause-fault t c =
     (fault-before (Vec ℕ Global) Certainty c.args.self.now c.loop-round.self c.evaluate_round.new.self c.in_err-left.field-0.0 c.loop-round.invariant.goes_back c.in_err-left.ensures.fault)
 
 pub evaluate_rounds-returns-then-is_empty-clause-answer : goal.evaluate_rounds-returns-then-is_empty-clause-answer
-evaluate_rounds-returns-then-is_empty-clause-answer t c = λ m owed closed.
-    let first = c.loop-round.invariant.first closed in
-    first-done c.args.self.now c.loop-round.self m c.args.goals.now c.args.places.items c.as_slice.result.now c.in_ok-left.left.items first.2 (c.as_slice.ensures.value ∙ first.1) (left-none c.in_ok-left.left.len c.is_empty.result c.in_ok-left.left.items c.in_ok-left.left.ok.0 c.is_empty.ensures c.if-is_empty.true) (c.in_ok-left.ensures.says m owed (subst (λ (xs : List ℕ). AreClosedAt c.args.goals.now xs) (sym (c.as_slice.ensures.value ∙ first.1)) closed))
+evaluate_rounds-returns-then-is_empty-clause-answer t c = λ m owed ok.
+    let before = owed-before c.loop-round.self c.evaluate_round.new.self m c.evaluate_round.ensures.goes_back owed in
+    let over =
+    gone-over c.args.self.now c.loop-round.self m c.args.goals.now c.args.places.items c.loop-round.pending.items c.in_ok-left.left.items c.loop-round.round c.loop-round.invariant.alone (c.loop-round.invariant.over m before ok)
+    (subst (λ (xs : List ℕ). LeavesUndecided c.loop-round.self m c.args.goals.now xs [] c.in_ok-left.left.items) c.as_slice.ensures.value
+    (c.in_ok-left.ensures.says m owed (subst (AreAnswerableAt c.loop-round.self c.args.goals.now) (sym c.as_slice.ensures.value) (c.loop-round.invariant.waits m before ok)))) in
+    over-done c.args.self.now m c.args.goals.now c.args.places.items c.in_ok-left.left.items (left-none c.in_ok-left.left.len c.is_empty.result c.in_ok-left.left.items c.in_ok-left.left.ok.0 c.is_empty.ensures c.if-is_empty.true) over
+
+pub evaluate_rounds-returns-then-is_empty-clause-given : goal.evaluate_rounds-returns-then-is_empty-clause-given
+evaluate_rounds-returns-then-is_empty-clause-given t c = λ m owed ok says.
+    let before = owed-before c.loop-round.self c.evaluate_round.new.self m c.evaluate_round.ensures.goes_back owed in
+    subst (λ (xs : List ℕ). AllTakeAt c.args.self.now m c.args.goals.now c.args.places.items xs c.evaluate_round.new.self)
+    (left-none c.in_ok-left.left.len c.is_empty.result c.in_ok-left.left.items c.in_ok-left.left.ok.0 c.is_empty.ensures c.if-is_empty.true)
+    (takes-over c.args.self.now c.loop-round.self c.evaluate_round.new.self m c.args.goals.now c.args.places.items c.loop-round.pending.items c.in_ok-left.left.items c.loop-round.invariant.alone c.evaluate_round.ensures.goes_back
+    (c.loop-round.invariant.gives m before ok)
+    (subst (λ (xs : List ℕ). AllTakeAt c.loop-round.self m c.args.goals.now xs c.in_ok-left.left.items c.evaluate_round.new.self) c.as_slice.ensures.value
+    (c.in_ok-left.ensures.gives m owed (subst (AreAnswerableAt c.loop-round.self c.args.goals.now) (sym c.as_slice.ensures.value) (c.loop-round.invariant.waits m before ok)))))
 
 pub evaluate_rounds-returns-then-is_empty-clause-closed : goal.evaluate_rounds-returns-then-is_empty-clause-closed
 evaluate_rounds-returns-then-is_empty-clause-closed t c = λ closed.
@@ -222,9 +272,14 @@ pub evaluate_rounds-returns-then-is_empty-clause-taken : goal.evaluate_rounds-re
 evaluate_rounds-returns-then-is_empty-clause-taken t c = begins-through c.args.taken.now.items c.loop-round.taken.items c.evaluate_round.new.taken.items c.loop-round.invariant.taken c.evaluate_round.ensures.taken
 
 pub evaluate_rounds-returns-then-is_at-clause-answer : goal.evaluate_rounds-returns-then-is_at-clause-answer
-evaluate_rounds-returns-then-is_at-clause-answer t c = λ m owed closed.
-    let first = c.loop-round.invariant.first closed in
-    first-open c.args.self.now c.loop-round.self m c.args.goals.now c.evaluate_round.new.taken.items c.args.places.items c.as_slice.result.now c.in_ok-left.left.items first.2 (c.as_slice.ensures.value ∙ first.1) (left-some c.in_ok-left.left.len c.is_empty.result c.in_ok-left.left.items c.in_ok-left.left.ok.0 c.is_empty.ensures c.if-is_empty.false) (subst (λ (xs : List ℕ). AreSplit (length c.args.goals.now) c.evaluate_round.new.taken.items xs) c.in_ok-left.ensures.split.2 c.in_ok-left.ensures.split.1) closed (c.in_ok-left.ensures.says m owed (subst (λ (xs : List ℕ). AreClosedAt c.args.goals.now xs) (sym (c.as_slice.ensures.value ∙ first.1)) closed))
+evaluate_rounds-returns-then-is_at-clause-answer t c = λ m owed ok.
+    let before = owed-before c.loop-round.self c.evaluate_round.new.self m c.evaluate_round.ensures.goes_back owed in
+    let over =
+    gone-over c.args.self.now c.loop-round.self m c.args.goals.now c.args.places.items c.loop-round.pending.items c.in_ok-left.left.items c.loop-round.round c.loop-round.invariant.alone (c.loop-round.invariant.over m before ok)
+    (subst (λ (xs : List ℕ). LeavesUndecided c.loop-round.self m c.args.goals.now xs [] c.in_ok-left.left.items) c.as_slice.ensures.value
+    (c.in_ok-left.ensures.says m owed (subst (AreAnswerableAt c.loop-round.self c.args.goals.now) (sym c.as_slice.ensures.value) (c.loop-round.invariant.waits m before ok)))) in
+    over-open c.args.self.now m c.args.goals.now c.evaluate_round.new.taken.items c.args.places.items c.in_ok-left.left.items (left-some c.in_ok-left.left.len c.is_empty.result c.in_ok-left.left.items c.in_ok-left.left.ok.0 c.is_empty.ensures c.if-is_empty.false)
+    (subst (λ (xs : List ℕ). AreSplit (length c.args.goals.now) c.evaluate_round.new.taken.items xs) c.in_ok-left.ensures.split.2 c.in_ok-left.ensures.split.1) over
 
 pub evaluate_rounds-returns-then-is_at-clause-closed : goal.evaluate_rounds-returns-then-is_at-clause-closed
 evaluate_rounds-returns-then-is_at-clause-closed t c = λ closed.
@@ -248,6 +303,22 @@ evaluate_rounds-loop-round-preserved t c = record {
   first = λ closed.
       let first = c.loop-round.invariant.first closed in
       absurd (false≢true (sym c.if-is_at.false ∙ c.is_at.ensures.1 (same-lengths c.loop-round.self c.evaluate_round.new.self c.evaluate_round.ensures.alone (c.in_ok-left.ensures.closed (subst (λ (xs : List ℕ). AreClosedAt c.args.goals.now xs) (sym (c.as_slice.ensures.value ∙ first.1)) closed)) ∙ sym c.snapshot-earlier.ensures)));
+  over = λ m owed ok.
+      let before = owed-before c.loop-round.self c.evaluate_round.new.self m c.evaluate_round.ensures.goes_back owed in
+      let over =
+      gone-over c.args.self.now c.loop-round.self m c.args.goals.now c.args.places.items c.loop-round.pending.items c.in_ok-left.left.items c.loop-round.round c.loop-round.invariant.alone (c.loop-round.invariant.over m before ok)
+      (subst (λ (xs : List ℕ). LeavesUndecided c.loop-round.self m c.args.goals.now xs [] c.in_ok-left.left.items) c.as_slice.ensures.value
+      (c.in_ok-left.ensures.says m owed (subst (AreAnswerableAt c.loop-round.self c.args.goals.now) (sym c.as_slice.ensures.value) (c.loop-round.invariant.waits m before ok)))) in
+      inr (over, left-some c.in_ok-left.left.len c.is_empty.result c.in_ok-left.left.items c.in_ok-left.left.ok.0 c.is_empty.ensures c.if-is_empty.false);
+  gives = λ m owed ok.
+      let before = owed-before c.loop-round.self c.evaluate_round.new.self m c.evaluate_round.ensures.goes_back owed in
+      takes-over c.args.self.now c.loop-round.self c.evaluate_round.new.self m c.args.goals.now c.args.places.items c.loop-round.pending.items c.in_ok-left.left.items c.loop-round.invariant.alone c.evaluate_round.ensures.goes_back
+      (c.loop-round.invariant.gives m before ok)
+      (subst (λ (xs : List ℕ). AllTakeAt c.loop-round.self m c.args.goals.now xs c.in_ok-left.left.items c.evaluate_round.new.self) c.as_slice.ensures.value
+      (c.in_ok-left.ensures.gives m owed (subst (AreAnswerableAt c.loop-round.self c.args.goals.now) (sym c.as_slice.ensures.value) (c.loop-round.invariant.waits m before ok))));
+  waits = λ m owed ok.
+      let before = owed-before c.loop-round.self c.evaluate_round.new.self m c.evaluate_round.ensures.goes_back owed in
+      c.in_ok-left.ensures.leaves m owed (subst (AreAnswerableAt c.loop-round.self c.args.goals.now) (sym c.as_slice.ensures.value) (c.loop-round.invariant.waits m before ok));
   split = (subst (λ (xs : List ℕ). AreSplit (length c.args.goals.now) c.evaluate_round.new.taken.items xs) c.in_ok-left.ensures.split.2 c.in_ok-left.ensures.split.1);
   taken = begins-through c.args.taken.now.items c.loop-round.taken.items c.evaluate_round.new.taken.items c.loop-round.invariant.taken c.evaluate_round.ensures.taken;
   alone = records-through c.args.self.now c.loop-round.self c.evaluate_round.new.self c.loop-round.invariant.alone c.evaluate_round.ensures.alone;
@@ -256,7 +327,8 @@ evaluate_rounds-loop-round-preserved t c = record {
 }
 
 pub evaluate_rounds-returns-clause-answer : goal.evaluate_rounds-returns-clause-answer
-evaluate_rounds-returns-clause-answer t c = λ m owed closed. absurd (omega (arith, (c.loop-round.invariant.first closed).0))
+evaluate_rounds-returns-clause-answer t c = λ m owed ok.
+    over-last c.args.self.now m c.args.goals.now c.loop-round.taken.items c.args.places.items c.loop-round.pending.items c.loop-round.round (omega arith) c.loop-round.invariant.split (c.loop-round.invariant.over m owed ok)
 
 pub evaluate_rounds-returns-clause-closed : goal.evaluate_rounds-returns-clause-closed
 evaluate_rounds-returns-clause-closed t c = λ closed. absurd (omega (arith, (c.loop-round.invariant.first closed).0))
@@ -293,6 +365,10 @@ evaluate_added_goals-returns-clause-sound t c = λ m. aside-sound _ c.args.self.
 pub evaluate_added_goals-returns-clause-decided : goal.evaluate_added_goals-returns-clause-decided
 evaluate_added_goals-returns-clause-decided t c = λ m. aside-decided _ c.args.self.now _ c.evaluate_rounds-answered.new.self c.replace-goals.new.dest.items c.as_slice.result.now c.replace-taken.new.dest.items c.in_ok-pending.pending.items m c.evaluate_rounds-answered.result
     c.self.view_is (c.as_slice.ensures.value ∙ ap (λ (v : Vec (GoalSource × Goal Predicate) Global). v.items) c.replace-goals.ensures.value ∙ ap (λ (s : State). s.goals) c.self.view_is) c.self-2.view_is c.in_ok-pending.ensures.split (c.evaluate_rounds-answered.ensures.answer m)
+
+pub evaluate_added_goals-returns-clause-given : goal.evaluate_added_goals-returns-clause-given
+evaluate_added_goals-returns-clause-given t c = λ m. aside-given _ c.args.self.now _ c.evaluate_rounds-answered.new.self _ c.replace-goals.new.dest.items c.as_slice.result.now c.replace-taken.new.dest.items c.in_ok-pending.pending.items m c.evaluate_rounds-answered.result
+    c.self.view_is (c.as_slice.ensures.value ∙ ap (λ (v : Vec (GoalSource × Goal Predicate) Global). v.items) c.replace-goals.ensures.value ∙ ap (λ (s : State). s.goals) c.self.view_is) c.self-2.view_is refl refl c.in_ok-pending.ensures.split (c.evaluate_rounds-answered.ensures.given m)
 
 pub evaluate_added_goals-returns-clause-closed : goal.evaluate_added_goals-returns-clause-closed
 evaluate_added_goals-returns-clause-closed t c =
@@ -386,6 +462,7 @@ evaluate_added_goals_and_make_canonical_response-returns-else-is_err-clause-eval
     let evaluates : Evaluates c.args.self.now c.try_evaluate_added_goals.new.self c.in_ok-evaluated.evaluated = record {
       sound = λ m owed closed. c.in_ok-evaluated.ensures.sound m owed closed;
       decided = λ m owed closed. c.in_ok-evaluated.ensures.decided m owed closed;
+      given = λ m owed closed. c.in_ok-evaluated.ensures.given m owed closed;
       closed = c.try_evaluate_added_goals.ensures.closed;
       taken = c.in_ok-evaluated.ensures.taken;
       alone = c.try_evaluate_added_goals.ensures.alone;
@@ -864,17 +941,18 @@ merge_const_groups-returns-clause-decides t c =
     c.in_ok-answer.ensures.answers (none-left c.in_ok-answer.field-0 c.in_default.not-Some) c.in_ok-answer-2.ensures.answers (none-left c.in_ok-answer-2.field-0 c.in_default-2.not-Some)
 
 pub evaluate_goal-returns-in-Some-clause-answer : goal.evaluate_goal-returns-in-Some-clause-answer
-evaluate_goal-returns-in-Some-clause-answer t c = λ m owed closed.
-    absurd (some-unless (IsClosedGoal c.args.goal.now.predicate c.args.goal.now.param_env.items) c.in_ok-asked.field-0 c.in-Some.asked c.in_ok-asked.ensures.closed c.in-Some.is closed)
+evaluate_goal-returns-in-Some-clause-answer t c = λ m owed ok. absurd (some-unless (IsAnswerable c.args.self.now c.args.goal.now.predicate c.args.goal.now.param_env.items) c.in_ok-asked.field-0 c.in-Some.asked c.in_ok-asked.ensures.closed c.in-Some.is ok)
+
+pub evaluate_goal-returns-in-Some-clause-keeps : goal.evaluate_goal-returns-in-Some-clause-keeps
+evaluate_goal-returns-in-Some-clause-keeps t c = λ m owed ok. absurd (some-unless (IsAnswerable c.args.self.now c.args.goal.now.predicate c.args.goal.now.param_env.items) c.in_ok-asked.field-0 c.in-Some.asked c.in_ok-asked.ensures.closed c.in-Some.is ok)
 
 pub evaluate_goal-returns-in-Some-clause-closed : goal.evaluate_goal-returns-in-Some-clause-closed
-evaluate_goal-returns-in-Some-clause-closed t c = λ closed.
-    absurd (some-unless (IsClosedGoal c.args.goal.now.predicate c.args.goal.now.param_env.items) c.in_ok-asked.field-0 c.in-Some.asked c.in_ok-asked.ensures.closed c.in-Some.is closed)
+evaluate_goal-returns-in-Some-clause-closed t c = λ closed. absurd (some-unless (IsAnswerable c.args.self.now c.args.goal.now.predicate c.args.goal.now.param_env.items) c.in_ok-asked.field-0 c.in-Some.asked c.in_ok-asked.ensures.closed c.in-Some.is (closed-answerable c.args.self.now c.args.goal.now.predicate c.args.goal.now.param_env.items closed))
 
 pub evaluate_goal-returns-in-Some-clause-refused : goal.evaluate_goal-returns-in-Some-clause-refused
 evaluate_goal-returns-in-Some-clause-refused t c =
     open-goal-refused c.args.self.now c.evaluate_open.new.self c.args.goal.now c.evaluate_open.result
-    (some-unless (IsClosedGoal c.args.goal.now.predicate c.args.goal.now.param_env.items) c.in_ok-asked.field-0 c.in-Some.asked c.in_ok-asked.ensures.closed c.in-Some.is)
+    (λ closed. some-unless (IsAnswerable c.args.self.now c.args.goal.now.predicate c.args.goal.now.param_env.items) c.in_ok-asked.field-0 c.in-Some.asked c.in_ok-asked.ensures.closed c.in-Some.is (closed-answerable c.args.self.now c.args.goal.now.predicate c.args.goal.now.param_env.items closed))
 
 pub evaluate_goal-returns-in-Some-clause-alone : goal.evaluate_goal-returns-in-Some-clause-alone
 evaluate_goal-returns-in-Some-clause-alone t c =
@@ -896,9 +974,14 @@ evaluate_goal-returns-in_err-asked-clause-goes_back t c =
     goes_back-grown c.args.self.now c.open_goal.new.self c.open_goal.ensures.unchanged c.open_goal.ensures.kept
 
 pub evaluate_goal-returns-in-None-clause-answer : goal.evaluate_goal-returns-in-None-clause-answer
-evaluate_goal-returns-in-None-clause-answer t c = λ m owed closed.
+evaluate_goal-returns-in-None-clause-answer t c = λ m owed ok.
     answer-before c.args.self.now c.open_goal.new.self m c.args.goal.now c.evaluate_alias_or_other.result (grown-records c.args.self.now c.open_goal.new.self c.open_goal.ensures.unchanged)
-    (c.evaluate_alias_or_other.ensures.answer m owed closed)
+    (c.evaluate_alias_or_other.ensures.answer m owed (answerable-grown c.args.self.now c.open_goal.new.self c.args.goal.now.predicate c.args.goal.now.param_env.items c.open_goal.ensures.unchanged ok))
+
+pub evaluate_goal-returns-in-None-clause-keeps : goal.evaluate_goal-returns-in-None-clause-keeps
+evaluate_goal-returns-in-None-clause-keeps t c = λ m owed ok.
+    binds-grown c.args.self.now c.open_goal.new.self c.evaluate_alias_or_other.new.self m c.args.goal.now c.evaluate_alias_or_other.result c.open_goal.ensures.unchanged
+    (c.evaluate_alias_or_other.ensures.keeps m owed (answerable-grown c.args.self.now c.open_goal.new.self c.args.goal.now.predicate c.args.goal.now.param_env.items c.open_goal.ensures.unchanged ok))
 
 pub evaluate_goal-returns-in-None-clause-refused : goal.evaluate_goal-returns-in-None-clause-refused
 evaluate_goal-returns-in-None-clause-refused t c =
@@ -926,17 +1009,18 @@ evaluate_goal-returns-in-None-clause-fault t c =
     fault-later c.args.self.now c.open_goal.new.self c.evaluate_alias_or_other.new.self c.evaluate_alias_or_other.result (goes_back-grown c.args.self.now c.open_goal.new.self c.open_goal.ensures.unchanged c.open_goal.ensures.kept) c.evaluate_alias_or_other.ensures.fault
 
 pub evaluate_alias_or_other-returns-in-Some-clause-answer : goal.evaluate_alias_or_other-returns-in-Some-clause-answer
-evaluate_alias_or_other-returns-in-Some-clause-answer t c = λ m owed closed.
-    absurd (some-unless (IsClosedGoal c.args.goal.now.predicate c.args.goal.now.param_env.items) c.in_ok-alias.field-0 c.in-Some.alias c.in_ok-alias.ensures.closed c.in-Some.is closed)
+evaluate_alias_or_other-returns-in-Some-clause-answer t c = λ m owed ok. absurd (some-unless (IsAnswerable c.args.self.now c.args.goal.now.predicate c.args.goal.now.param_env.items) c.in_ok-alias.field-0 c.in-Some.alias c.in_ok-alias.ensures.closed c.in-Some.is ok)
+
+pub evaluate_alias_or_other-returns-in-Some-clause-keeps : goal.evaluate_alias_or_other-returns-in-Some-clause-keeps
+evaluate_alias_or_other-returns-in-Some-clause-keeps t c = λ m owed ok. absurd (some-unless (IsAnswerable c.args.self.now c.args.goal.now.predicate c.args.goal.now.param_env.items) c.in_ok-alias.field-0 c.in-Some.alias c.in_ok-alias.ensures.closed c.in-Some.is ok)
 
 pub evaluate_alias_or_other-returns-in-Some-clause-closed : goal.evaluate_alias_or_other-returns-in-Some-clause-closed
-evaluate_alias_or_other-returns-in-Some-clause-closed t c = λ closed.
-    absurd (some-unless (IsClosedGoal c.args.goal.now.predicate c.args.goal.now.param_env.items) c.in_ok-alias.field-0 c.in-Some.alias c.in_ok-alias.ensures.closed c.in-Some.is closed)
+evaluate_alias_or_other-returns-in-Some-clause-closed t c = λ closed. absurd (some-unless (IsAnswerable c.args.self.now c.args.goal.now.predicate c.args.goal.now.param_env.items) c.in_ok-alias.field-0 c.in-Some.alias c.in_ok-alias.ensures.closed c.in-Some.is (closed-answerable c.args.self.now c.args.goal.now.predicate c.args.goal.now.param_env.items closed))
 
 pub evaluate_alias_or_other-returns-in-Some-clause-refused : goal.evaluate_alias_or_other-returns-in-Some-clause-refused
 evaluate_alias_or_other-returns-in-Some-clause-refused t c =
     open-goal-refused c.args.self.now c.evaluate_open_alias.new.self c.args.goal.now c.evaluate_open_alias.result
-    (some-unless (IsClosedGoal c.args.goal.now.predicate c.args.goal.now.param_env.items) c.in_ok-alias.field-0 c.in-Some.alias c.in_ok-alias.ensures.closed c.in-Some.is)
+    (λ closed. some-unless (IsAnswerable c.args.self.now c.args.goal.now.predicate c.args.goal.now.param_env.items) c.in_ok-alias.field-0 c.in-Some.alias c.in_ok-alias.ensures.closed c.in-Some.is (closed-answerable c.args.self.now c.args.goal.now.predicate c.args.goal.now.param_env.items closed))
 
 pub evaluate_alias_or_other-returns-in-Some-clause-alone : goal.evaluate_alias_or_other-returns-in-Some-clause-alone
 evaluate_alias_or_other-returns-in-Some-clause-alone t c =
@@ -958,9 +1042,14 @@ evaluate_alias_or_other-returns-in_err-alias-clause-goes_back t c =
     goes_back-grown c.args.self.now c.open_normalization.new.self c.open_normalization.ensures.unchanged c.open_normalization.ensures.kept
 
 pub evaluate_alias_or_other-returns-in-None-clause-answer : goal.evaluate_alias_or_other-returns-in-None-clause-answer
-evaluate_alias_or_other-returns-in-None-clause-answer t c = λ m owed closed.
+evaluate_alias_or_other-returns-in-None-clause-answer t c = λ m owed ok.
     answer-before c.args.self.now c.open_normalization.new.self m c.args.goal.now c.evaluate_other.result (grown-records c.args.self.now c.open_normalization.new.self c.open_normalization.ensures.unchanged)
-    (c.evaluate_other.ensures.answer m owed closed)
+    (c.evaluate_other.ensures.answer m owed (answerable-grown c.args.self.now c.open_normalization.new.self c.args.goal.now.predicate c.args.goal.now.param_env.items c.open_normalization.ensures.unchanged ok))
+
+pub evaluate_alias_or_other-returns-in-None-clause-keeps : goal.evaluate_alias_or_other-returns-in-None-clause-keeps
+evaluate_alias_or_other-returns-in-None-clause-keeps t c = λ m owed ok.
+    binds-grown c.args.self.now c.open_normalization.new.self c.evaluate_other.new.self m c.args.goal.now c.evaluate_other.result c.open_normalization.ensures.unchanged
+    (c.evaluate_other.ensures.keeps m owed (answerable-grown c.args.self.now c.open_normalization.new.self c.args.goal.now.predicate c.args.goal.now.param_env.items c.open_normalization.ensures.unchanged ok))
 
 pub evaluate_alias_or_other-returns-in-None-clause-refused : goal.evaluate_alias_or_other-returns-in-None-clause-refused
 evaluate_alias_or_other-returns-in-None-clause-refused t c =
@@ -1187,6 +1276,9 @@ trait_goal_response-returns-then-remaining_depth-eq0-clause-at_once t c = λ z.
 
 pub trait_goal_response-returns-then-remaining_depth-eq0-clause-caused : goal.trait_goal_response-returns-then-remaining_depth-eq0-clause-caused
 trait_goal_response-returns-then-remaining_depth-eq0-clause-caused t c = λ closed. none-recorded c.args.self.now _ refl
+
+pub trait_goal_response-returns-clause-decided : goal.trait_goal_response-returns-clause-decided
+trait_goal_response-returns-clause-decided t c = λ m owed closed undecided. c.answer_trait.ensures.decided m owed undecided
 
 pub trait_goal_response-returns-clause-caused : goal.trait_goal_response-returns-clause-caused
 trait_goal_response-returns-clause-caused t c = λ closed. c.answer_trait.ensures.caused
@@ -1830,3 +1922,103 @@ expected_form-returns-clause-goes_back t c =
 pub expected_form-returns-clause-fault : goal.expected_form-returns-clause-fault
 expected_form-returns-clause-fault t c =
     fault-later c.args.self.now c.expect_form-outcome.new.self c.verdict.new.self c.verdict.result (goes_back-through c.args.self.now c.form_of_open.new.self c.expect_form-outcome.new.self c.form_of_open.ensures.goes_back c.expect_form-outcome.ensures.goes_back) c.verdict.ensures.fault
+
+pub ask_goal-rollback-requires : goal.ask_goal-rollback-requires
+ask_goal-rollback-requires t c =
+    record { valid = (c.args.self.now, c.snapshot-before.ensures, c.evaluate_goal-answered.ensures.goes_back, c.holds_together.ensures) }
+
+pub ask_goal-returns-then-not-is_sure-clause-answer : goal.ask_goal-returns-then-not-is_sure-clause-answer
+ask_goal-returns-then-not-is_sure-clause-answer t c = λ m owed.
+    c.evaluate_goal-answered.ensures.answer m
+    (restored-owed c.args.self.now c.evaluate_goal-answered.new.self c.rollback.new.self m (c.rollback.ensures.undone c.args.self.now c.snapshot-before.ensures c.evaluate_goal-answered.ensures.goes_back) c.evaluate_goal-answered.ensures.goes_back owed)
+
+pub ask_goal-returns-then-not-is_sure-clause-unchanged : goal.ask_goal-returns-then-not-is_sure-clause-unchanged
+ask_goal-returns-then-not-is_sure-clause-unchanged t c =
+    λ unsure. restored-itself c.args.self.now c.evaluate_goal-answered.new.self c.rollback.new.self (c.rollback.ensures.undone c.args.self.now c.snapshot-before.ensures c.evaluate_goal-answered.ensures.goes_back)
+
+pub ask_goal-returns-then-not-is_sure-clause-alone : goal.ask_goal-returns-then-not-is_sure-clause-alone
+ask_goal-returns-then-not-is_sure-clause-alone t c =
+    restored-records c.args.self.now c.rollback.new.self (restored-itself c.args.self.now c.evaluate_goal-answered.new.self c.rollback.new.self (c.rollback.ensures.undone c.args.self.now c.snapshot-before.ensures c.evaluate_goal-answered.ensures.goes_back))
+
+pub ask_goal-returns-then-not-is_sure-clause-faults : goal.ask_goal-returns-then-not-is_sure-clause-faults
+ask_goal-returns-then-not-is_sure-clause-faults t c =
+    undone-faults c.args.self.now c.evaluate_goal-answered.new.self c.rollback.new.self c.evaluate_goal-answered.ensures.goes_back c.evaluate_goal-answered.ensures.faults (c.rollback.ensures.undone c.args.self.now c.snapshot-before.ensures c.evaluate_goal-answered.ensures.goes_back)
+
+pub ask_goal-returns-then-not-is_sure-clause-goes_back : goal.ask_goal-returns-then-not-is_sure-clause-goes_back
+ask_goal-returns-then-not-is_sure-clause-goes_back t c =
+    subst (GoesBack c.args.self.now) (sym (c.rollback.ensures.undone c.args.self.now c.snapshot-before.ensures c.evaluate_goal-answered.ensures.goes_back)) (goes_back-restored c.args.self.now c.evaluate_goal-answered.new.self c.evaluate_goal-answered.ensures.goes_back)
+
+pub ask_goal-returns-then-not-is_sure-clause-fault : goal.ask_goal-returns-then-not-is_sure-clause-fault
+ask_goal-returns-then-not-is_sure-clause-fault t c =
+    undone-fault Certainty c.args.self.now c.evaluate_goal-answered.new.self c.rollback.new.self c.evaluate_goal-answered.result (c.rollback.ensures.undone c.args.self.now c.snapshot-before.ensures c.evaluate_goal-answered.ensures.goes_back) c.evaluate_goal-answered.ensures.fault
+
+pub ask_goal-returns-else-not-is_sure-clause-unchanged : goal.ask_goal-returns-else-not-is_sure-clause-unchanged
+ask_goal-returns-else-not-is_sure-clause-unchanged t c =
+    λ unsure. absurd (false≢true (sym unsure ∙ sym c.is_sure.ensures ∙ c.if-not-is_sure.false))
+
+pub ask_alone-returns-in_default-clause-goes_back : goal.ask_alone-returns-in_default-clause-goes_back
+ask_alone-returns-in_default-clause-goes_back t c = goes_back-same c.args.self.now
+
+pub ask_alone-returns-clause-answers : goal.ask_alone-returns-clause-answers
+ask_alone-returns-clause-answers t c =
+    asked-alone c.args.environment.now c.args.clause.now c.args.self.now c.ask_goal.new.self c.in-Ok.goal c.ask_goal.result c.in-Ok.ensures c.ask_goal.ensures.answer c.ask_goal.ensures.alone
+    c.ask_goal.ensures.unchanged c.ask_goal.ensures.goes_back
+
+pub give_chosen-returns-in-Ok-Yes-clause-chooses : goal.give_chosen-returns-in-Ok-Yes-clause-chooses
+give_chosen-returns-in-Ok-Yes-clause-chooses t c =
+    chooses-held c.args.environment.now (tree_of_term c.args.expected.now) c.args.clause.now (tree_of_term c.args.held.now) (tree_of_term c.args.refuted.now) c.args.self.now c.ask_alone.new.self c.equate_terms.new.self c.equate_terms.result
+    (subst (λ x. AnswersAlone c.args.environment.now c.args.clause.now c.args.self.now c.ask_alone.new.self (Ok x)) c.in-Ok-Yes.field-0-is c.in-Ok-Yes.ensures.answers) c.equate_terms.ensures.equates
+
+pub give_chosen-returns-in-Ok-Yes-clause-refused : goal.give_chosen-returns-in-Ok-Yes-clause-refused
+give_chosen-returns-in-Ok-Yes-clause-refused t c =
+    refused-map c.equate_terms.result
+    (λ h. inl (c.ask_alone.new.self, subst (λ x. AnswersAlone c.args.environment.now c.args.clause.now c.args.self.now c.ask_alone.new.self (Ok x)) c.in-Ok-Yes.field-0-is c.in-Ok-Yes.ensures.answers, h))
+    c.equate_terms.ensures.refused
+
+pub give_chosen-returns-in-Ok-Yes-clause-goes_back : goal.give_chosen-returns-in-Ok-Yes-clause-goes_back
+give_chosen-returns-in-Ok-Yes-clause-goes_back t c =
+    goes_back-through c.args.self.now c.ask_alone.new.self c.equate_terms.new.self c.ask_alone.ensures.goes_back c.equate_terms.ensures.goes_back
+
+pub give_chosen-returns-in-Err-NoSolution-clause-chooses : goal.give_chosen-returns-in-Err-NoSolution-clause-chooses
+give_chosen-returns-in-Err-NoSolution-clause-chooses t c =
+    chooses-refuted c.args.environment.now (tree_of_term c.args.expected.now) c.args.clause.now (tree_of_term c.args.held.now) (tree_of_term c.args.refuted.now) c.args.self.now c.ask_alone.new.self c.equate_terms-in-Err-NoSolution.new.self c.equate_terms-in-Err-NoSolution.result
+    (subst (λ f. WhenAsked (Err f) (AnswersAlone c.args.environment.now c.args.clause.now c.args.self.now c.ask_alone.new.self (Err f))) c.in-Err-NoSolution.field-0-is c.in-Err-NoSolution.ensures.answers) c.equate_terms-in-Err-NoSolution.ensures.equates
+
+pub give_chosen-returns-in-Err-NoSolution-clause-refused : goal.give_chosen-returns-in-Err-NoSolution-clause-refused
+give_chosen-returns-in-Err-NoSolution-clause-refused t c =
+    refused-map c.equate_terms-in-Err-NoSolution.result
+    (λ h. inr (c.ask_alone.new.self, subst (λ f. WhenAsked (Err f) (AnswersAlone c.args.environment.now c.args.clause.now c.args.self.now c.ask_alone.new.self (Err f))) c.in-Err-NoSolution.field-0-is c.in-Err-NoSolution.ensures.answers, h)) c.equate_terms-in-Err-NoSolution.ensures.refused
+
+pub step_or_evaluate-returns-in_ok-certainty-in-Term-clause-steps : goal.step_or_evaluate-returns-in_ok-certainty-in-Term-clause-steps
+step_or_evaluate-returns-in_ok-certainty-in-Term-clause-steps t c =
+    term-step c.args.environment.now c.args.entry.now c.in-Term.expected c.in-Term.term c.args.self.now (open_progress c.args.run.now) c.give_term.new.self (open_progress c.join.new.self)
+    c.in_ok-certainty-in-Term.certainty c.in-Term.is
+    (subst (λ ns. GivesTerm c.args.environment.now (named_trees ns) (tree_of_term c.in-Term.expected) c.in-Term.term c.args.self.now c.in_ok-certainty-in-Term.certainty c.give_term.new.self)
+    c.deref.ensures.value c.in_ok-certainty-in-Term.ensures.gives)
+    c.join.ensures
+
+pub step_or_evaluate-returns-in_err-certainty-in-Term-clause-refused : goal.step_or_evaluate-returns-in_err-certainty-in-Term-clause-refused
+step_or_evaluate-returns-in_err-certainty-in-Term-clause-refused t c =
+    refused-on _ c.from_residual.result c.in_err-certainty-in-Term.field-0.0 c.from_residual.ensures.1
+    (λ is. term-refused c.args.environment.now c.args.entry.now c.in-Term.expected c.in-Term.term c.args.self.now (open_progress c.args.run.now) c.give_term.new.self c.in-Term.is
+    (subst (λ ns. RefusesTerm c.args.environment.now (named_trees ns) (tree_of_term c.in-Term.expected) c.in-Term.term c.args.self.now c.give_term.new.self)
+    c.deref.ensures.value (c.in_err-certainty-in-Term.ensures.refused is)))
+
+pub step_or_evaluate-returns-in_ok-certainty-in-Term-clause-listed : goal.step_or_evaluate-returns-in_ok-certainty-in-Term-clause-listed
+step_or_evaluate-returns-in_ok-certainty-in-Term-clause-listed t c =
+    step-caused c.args.self.now c.give_term.new.self (c.args.entry.now ∷ []) c.give_term.ensures.goes_back c.give_term.ensures.faults
+
+pub step_or_evaluate-returns-in_err-certainty-in-Term-clause-listed : goal.step_or_evaluate-returns-in_err-certainty-in-Term-clause-listed
+step_or_evaluate-returns-in_err-certainty-in-Term-clause-listed t c =
+    step-caused c.args.self.now c.give_term.new.self (c.args.entry.now ∷ []) c.give_term.ensures.goes_back c.give_term.ensures.faults
+
+pub give_term-returns-in-ChosenBy-clause-gives : goal.give_term-returns-in-ChosenBy-clause-gives
+give_term-returns-in-ChosenBy-clause-gives t c =
+    chosen-given c.args.environment.now (named_trees c.args.named.now) (tree_of_term c.args.expected.now) c.args.term.now c.in-ChosenBy.clause c.in-ChosenBy.held c.in-ChosenBy.refuted c.args.self.now c.give_chosen.new.self
+    c.give_chosen.result c.in-ChosenBy.is c.give_chosen.ensures.chooses
+
+pub give_term-returns-in-ChosenBy-clause-refused : goal.give_term-returns-in-ChosenBy-clause-refused
+give_term-returns-in-ChosenBy-clause-refused t c =
+    refused-map c.give_chosen.result
+    (chosen-refused c.args.environment.now (named_trees c.args.named.now) (tree_of_term c.args.expected.now) c.args.term.now c.in-ChosenBy.clause c.in-ChosenBy.held c.in-ChosenBy.refuted c.args.self.now c.give_chosen.new.self c.in-ChosenBy.is)
+    c.give_chosen.ensures.refused

@@ -1,8 +1,6 @@
 use Rattle.std.proofs.Common.{◌+◌, ◌*◌, ◌≡◌, ◌++◌, length, drop, take}
-use Rattle.goal_terms.specs.declared.modes.TypingMode.{TypingMode}
 use Rattle.goal_solver.specs.Accesses.{RecordsCausedFaults}
-use Rattle.goal_solver.specs.AddedGoals.{AreSplit, AreClosedAt, LeavesUndecided}
-use Rattle.goal_solver.specs.Answers.{IsOwed}
+use Rattle.goal_solver.specs.AddedGoals.{AllTakeAt, AreSplit, AreAnswerableAt, AreClosedAt, IsGoneOver, LeavesUndecided, WhereAnswerableAt}
 use Rattle.goal_solver.specs.GoingBack.{BeginsWith, GoesBack, restored}
 use Rattle.goal_solver.specs.Relating.{ChangesRecords}
 use Rattle.goal_solver.specs.OpenRuns.{RunsThrough, open_progress, open_start}
@@ -75,6 +73,18 @@ decreases-evaluate_pending l = 40 * l.self.now.remaining_depth + 12
 
 abbrev pub decreases-step_or_evaluate : goal.decreases-step_or_evaluate
 decreases-step_or_evaluate l = 40 * l.self.now.remaining_depth + 13
+
+abbrev pub decreases-ask_goal : goal.decreases-ask_goal
+decreases-ask_goal l = 40 * l.self.now.remaining_depth + 7
+
+abbrev pub decreases-ask_alone : goal.decreases-ask_alone
+decreases-ask_alone l = 40 * l.self.now.remaining_depth + 8
+
+abbrev pub decreases-give_chosen : goal.decreases-give_chosen
+decreases-give_chosen l = 40 * l.self.now.remaining_depth + 9
+
+abbrev pub decreases-give_term : goal.decreases-give_term
+decreases-give_term l = 40 * l.self.now.remaining_depth + 10
 
 abbrev pub decreases-run_through : goal.decreases-run_through
 decreases-run_through l = 40 * l.self.now.remaining_depth + 14
@@ -177,7 +187,9 @@ decreases-project l = 40 * l.self.now.remaining_depth + 30
 
 abbrev pub invariant-evaluate_round-loop-i : goal.invariant-evaluate_round-loop-i
 invariant-evaluate_round-loop-i l = record {
-  says : (m : TypingMode) → IsOwed l.self m → AreClosedAt l.goals l.places → LeavesUndecided l.fn.self m l.goals l.places (drop l.i l.places) l.left.items;
+  says : WhereAnswerableAt l.fn.self l.self l.goals l.places (λ m. LeavesUndecided l.fn.self m l.goals l.places (drop l.i l.places) l.left.items);
+  gives : WhereAnswerableAt l.fn.self l.self l.goals l.places (λ m. AllTakeAt l.fn.self m l.goals l.places (l.left.items ++ drop l.i l.places) l.self);
+  waits : WhereAnswerableAt l.fn.self l.self l.goals l.places (λ m. AreAnswerableAt l.self l.goals (l.left.items ++ drop l.i l.places));
   closed : AreClosedAt l.goals l.places → l.self.inference ≡ l.fn.self.inference;
   split : AreSplit (length l.goals) l.taken.items (l.left.items ++ drop l.i l.places);
   taken : BeginsWith l.taken.items l.fn.taken.items;
@@ -189,6 +201,9 @@ invariant-evaluate_round-loop-i l = record {
 abbrev pub invariant-evaluate_rounds-loop-round : goal.invariant-evaluate_rounds-loop-round
 invariant-evaluate_rounds-loop-round l = record {
   first : AreClosedAt l.goals l.fn.places.items → (l.round ≡ 0) × (l.pending.items ≡ l.fn.places.items) × (l.self ≡ l.fn.self);
+  over : WhereAnswerableAt l.fn.self l.self l.goals l.fn.places.items (λ m. IsGoneOver l.fn.self m l.goals l.fn.places.items l.pending.items l.round);
+  gives : WhereAnswerableAt l.fn.self l.self l.goals l.fn.places.items (λ m. AllTakeAt l.fn.self m l.goals l.fn.places.items l.pending.items l.self);
+  waits : WhereAnswerableAt l.fn.self l.self l.goals l.fn.places.items (λ m. AreAnswerableAt l.self l.goals l.pending.items);
   split : AreSplit (length l.goals) l.taken.items l.pending.items;
   taken : BeginsWith l.taken.items l.fn.taken.items;
   alone : ChangesRecords l.fn.self l.self;

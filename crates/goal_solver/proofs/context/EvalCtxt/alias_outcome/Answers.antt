@@ -1,9 +1,9 @@
-use Rattle.goal_solver.proofs.EvaluationLemmas.{term-interned, run-interned, interned-unchanged, interned-caused, interned-ends, interned-stops}
+use Rattle.goal_solver.proofs.EvaluationLemmas.{term-interned, interned-unchanged, interned-caused, interned-ends, interned-stops}
 use Rattle.goal_solver.proofs.GoalOutcomeLemmas.{grown-goes_back, grown-then_back}
 use Rattle.goal_terms.proofs.InternLemmas.{keeps-chain}
 use Rattle.goal_solver.proofs.AccessLemmas.{none-recorded}
 use Rattle.goal_solver.specs.State.{State}
-use Rattle.std.proofs.Common.{ap, ◌∙◌, inl, inr, ⊎_elim}
+use Rattle.std.proofs.Common.{ap, ◌∙◌}
 use Rattle.goal_kinds.specs.Interned.{erased_all}
 use Rattle.goal_eval.specs.ErasedArgs.{erased_args}
 use Rattle.goal_solver.proofs.context.EvalCtxt.alias_outcome.Goals as goal
@@ -35,9 +35,3 @@ returns-clause-stops c = interned-stops c.args.self.now c.interned_args.new.self
 pub returns-clause-says : goal.returns-clause-says
 returns-clause-says c =
     term-interned c.args.self.now c.interned_args.new.self c.evaluate_alias.new.self c.args.environment.now c.args.alias.now.kind _ _ c.evaluate_alias.result c.interned_args.ensures.unchanged (ap (erased_all c.interned_args.new.self.terms) c.deref-2.ensures.value ∙ c.in_ok-args.ensures.trees ∙ ap erased_args c.deref.ensures.value) c.evaluate_alias.ensures.says
-
-pub returns-clause-fits : goal.returns-clause-fits
-returns-clause-fits c =
-    ⊎_elim (λ h. inl h)
-    (λ h. inr (run-interned c.args.self.now c.interned_args.new.self c.evaluate_alias.new.self c.args.environment.now c.args.alias.now.kind _ _ c.evaluate_alias.result c.interned_args.ensures.unchanged (ap (erased_all c.interned_args.new.self.terms) c.deref-2.ensures.value ∙ c.in_ok-args.ensures.trees ∙ ap erased_args c.deref.ensures.value) h))
-    c.evaluate_alias.ensures.fits

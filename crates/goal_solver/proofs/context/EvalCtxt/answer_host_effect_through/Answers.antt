@@ -12,7 +12,7 @@ pub returns-clause-decided : goal.returns-clause-decided
 returns-clause-decided c =
     host-decided c.args.self.now c.host_effect_outcome_through-outcome.new.self c.conclude.new.self c.args.environment.now (through_at c.args.goal.now)
     c.host_effect_outcome_through-outcome.result c.conclude.result c.conclude.ensures.goes_back c.host_effect_outcome_through-outcome.ensures.says
-    c.host_effect_outcome_through-outcome.ensures.unchanged c.host_effect_outcome_through-outcome.ensures.stops c.conclude.ensures.owed
+    c.conclude.ensures.owed
 
 pub returns-clause-applies : goal.returns-clause-applies
 returns-clause-applies c =

@@ -29,9 +29,8 @@ pub returns-clause-decided : goal.returns-clause-decided
 returns-clause-decided c = λ m owed undecided.
     predicate-decided c.args.self.now c.predicate_goal_outcome-outcome.new.self c.conclude.new.self c.args.environment.now
     (predicate_seen c.args.asked)
-    c.predicate_goal_outcome-outcome.result c.conclude.result c.predicate_goal_outcome-outcome.ensures.unchanged c.conclude.ensures.goes_back
-    c.predicate_goal_outcome-outcome.ensures.says
-    c.predicate_goal_outcome-outcome.ensures.stops c.conclude.ensures.owed m owed undecided
+    c.predicate_goal_outcome-outcome.result c.conclude.result c.conclude.ensures.goes_back
+    c.predicate_goal_outcome-outcome.ensures.says c.conclude.ensures.owed m owed undecided
 
 pub returns-then-remaining_depth-eq0-clause-applies : goal.returns-then-remaining_depth-eq0-clause-applies
 returns-then-remaining_depth-eq0-clause-applies c = nothing-applies c.args.self.now c.respond.result c.is_well_formed.ensures.storage c.respond.ensures.quiet c.respond.ensures.values

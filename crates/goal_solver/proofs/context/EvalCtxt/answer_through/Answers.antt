@@ -1,4 +1,4 @@
-use Rattle.std.proofs.Common.{refl, sym, ◌∙◌, ap, subst, suc, ⊎_elim}
+use Rattle.std.proofs.Common.{refl, sym, ◌∙◌, ap, subst, suc}
 use Rattle.goal_terms.specs.NodeTests.{general_variable_at}
 use Rattle.goal_terms.specs.Tree.{node_of}
 use Rattle.goal_kinds.specs.Answers.{setting_of}
@@ -11,7 +11,6 @@ use Rattle.goal_solver.specs.State.{State, kinds_of}
 use Rattle.goal_solver.proofs.ApplicableLemmas.{nothing-applies, nothing-applies-later, nothing-listed, fitting-applies, given-fits}
 use Rattle.goal_solver.specs.Assembled.{level_through}
 use Rattle.goal_eval.specs.Outcomes.{FoundIn, SaysWhich}
-use Rattle.goal_solver.specs.Recording.{FitsKind}
 use Rattle.goal_solver.proofs.AnswerLemmas.{alias-unsure}
 use Rattle.goal_solver.proofs.AssembledLemmas.{class-one, class-given, above-same}
 use Rattle.goal_solver.proofs.FoundAnswers.{found-sound, found-open_of_one}
@@ -80,12 +79,10 @@ returns-in-Ok-Is-clause-applies c = λ m s ok holds.
     c.class_outcome.ensures.unchanged c.is_well_formed.ensures.storage ok
     (subst (λ (s : State). AnswersAside (length (kinds_of s)) c.respond_found.result) c.class_outcome.ensures.unchanged c.respond_found.ensures.quiet)
     (subst (FoundIn c.class_outcome.new.self.terms) c.in-Ok-Is.field-0-is c.in-Ok-Is.ensures.within).0
-    (⊎_elim (λ fits. subst (FitsKind c.args.asked.now.alias.kind c.class_outcome.new.self.terms) c.in-Ok-Is.field-0-is fits)
-    (λ says.
-    given-fits c.args.self.now m (suc c.args.self.now.remaining_depth) c.args.asked.now c.args.environment.now c.class_outcome.new.self.terms c.in-Ok-Is.id c.is_well_formed.ensures.tables
+    (given-fits c.args.self.now m (suc c.args.self.now.remaining_depth) c.args.asked.now c.args.environment.now c.class_outcome.new.self.terms c.in-Ok-Is.id c.is_well_formed.ensures.tables
     (sym c.is_closed_alias.ensures ∙ c.if-not-is_closed_alias.false) ok
     ((above-same (setting_of c.args.self.now.tables m c.args.environment.now) c.args.self.now.remaining_depth c.args.asked.now.alias.kind (erased_args c.args.asked.now.alias.args.items) c.args.class holds).0 (erased_at c.class_outcome.new.self.terms c.in-Ok-Is.id)
-    (subst (SaysWhich ((level_through (setting_of c.args.self.now.tables m c.args.environment.now) (level_over c.args.self.now m c.args.environment.now) c.args.class).gives c.args.asked.now.alias.kind (erased_args c.args.asked.now.alias.args.items)) ((level_through (setting_of c.args.self.now.tables m c.args.environment.now) (level_over c.args.self.now m c.args.environment.now) c.args.class).gives_refuted c.args.asked.now.alias.kind (erased_args c.args.asked.now.alias.args.items)) c.class_outcome.new.self.terms) c.in-Ok-Is.field-0-is (says m s)))) c.in-Ok-Is.ensures.fits)
+    (subst (SaysWhich ((level_through (setting_of c.args.self.now.tables m c.args.environment.now) (level_over c.args.self.now m c.args.environment.now) c.args.class).gives c.args.asked.now.alias.kind (erased_args c.args.asked.now.alias.args.items)) ((level_through (setting_of c.args.self.now.tables m c.args.environment.now) (level_over c.args.self.now m c.args.environment.now) c.args.class).gives_refuted c.args.asked.now.alias.kind (erased_args c.args.asked.now.alias.args.items)) c.class_outcome.new.self.terms) c.in-Ok-Is.field-0-is (c.in-Ok-Is.ensures.says m s))))
     (sym (c.in-Some.ensures ∙ ap general_variable_at (c.node.ensures ∙ ap node_of c.view.ensures)))
     c.respond_found.ensures.yes
 

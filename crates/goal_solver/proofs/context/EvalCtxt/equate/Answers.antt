@@ -11,9 +11,8 @@ use Rattle.goal_solver.proofs.context.EvalCtxt.equate.Goals as goal
 pub returns-in-Err-clause-equated : goal.returns-in-Err-clause-equated
 returns-in-Err-clause-equated c =
     let undone = c.rollback.ensures.undone c.args.self.now c.snapshot-before.ensures c.in-Err.ensures.goes_back in
-    equated-undone c.args.self.now c.relate_all.new.self c.rollback.new.self c.undecided_by.new.self c.args.environment.now c.args.left.now c.args.right.now c.in-Err.stop c.undecided_by.result
-    c.holds_together.ensures c.in-Err.ensures.goes_back undone c.undecided_by.ensures.alone c.undecided_by.ensures.goes_back
-    c.undecided_by.ensures.owed c.undecided_by.ensures.memory c.undecided_by.ensures.undecided c.in-Err.ensures.stops c.in-Err.ensures.settles
+    equated-undone c.args.self.now c.relate_all.new.self c.rollback.new.self c.undecided_by.new.self c.args.environment.now c.args.left.now c.args.right.now c.undecided_by.result
+    c.holds_together.ensures c.in-Err.ensures.goes_back undone c.undecided_by.ensures.alone c.undecided_by.ensures.goes_back c.undecided_by.ensures.ends
 
 pub returns-then-is_refuted-clause-equated : goal.returns-then-is_refuted-clause-equated
 returns-then-is_refuted-clause-equated c =

@@ -1,16 +1,25 @@
-use Rattle.std.proofs.Common.{sym, ap, ◌∙◌}
-use Rattle.goal_kinds.specs.Settings.{is_headline}
+use Rattle.std.proofs.Common.{ap, ◌∙◌}
 use Rattle.goal_solver.specs.State.{State}
-use Rattle.goal_solver.proofs.AddedGoalLemmas.{owed-before, goal-verdict, fault-later}
+use Rattle.goal_solver.proofs.AddedGoalLemmas.{goal-verdict, fault-later}
+use Rattle.goal_solver.proofs.AnswerLemmas.{owed-before}
 use Rattle.goal_solver.proofs.GoingBackLemmas.{goes_back-through}
+use Rattle.goal_solver.proofs.NormalizingLemmas.{binds-verdict, closed-answerable}
 use Rattle.goal_solver.proofs.RefusalLemmas.{goal-refused}
+use Rattle.goal_solver.specs.Answers.{level_over}
 use Rattle.goal_solver.proofs.context.EvalCtxt.evaluate_other.Goals as goal
 
 pub returns-clause-answer : goal.returns-clause-answer
 returns-clause-answer c = λ m owed closed.
     goal-verdict c.args.self.now m c.args.goal.now c.goal_outcome-outcome.result c.verdict.result
     (c.goal_outcome-outcome.ensures.says m (owed-before c.goal_outcome-outcome.new.self c.verdict.new.self m c.verdict.ensures.goes_back owed) closed)
-    (c.verdict.ensures.owed m owed (λ h. c.goal_outcome-outcome.ensures.stops (ap is_headline (sym c.goal_outcome-outcome.ensures.goes_back.typing_mode) ∙ h)))
+    c.verdict.ensures.owed
+
+pub returns-clause-keeps : goal.returns-clause-keeps
+returns-clause-keeps c = λ m owed ok.
+    binds-verdict (level_over c.args.self.now m c.args.goal.now.param_env.items) c.args.goal.now.predicate c.args.self.now c.goal_outcome-outcome.new.self c.verdict.new.self c.goal_outcome-outcome.result c.verdict.result
+    c.verdict.ensures.goes_back (ap (λ (s : State). s.inference) c.verdict.ensures.alone)
+    (c.goal_outcome-outcome.ensures.keeps m (owed-before c.goal_outcome-outcome.new.self c.verdict.new.self m c.verdict.ensures.goes_back owed) ok)
+    c.verdict.ensures.owed
 
 pub returns-clause-closed : goal.returns-clause-closed
 returns-clause-closed c = λ h. ap (λ (s : State). s.inference) c.verdict.ensures.alone ∙ c.goal_outcome-outcome.ensures.closed h
@@ -28,5 +37,5 @@ returns-clause-refused c =
     goal-refused c.args.self.now c.verdict.new.self c.args.goal.now c.verdict.result
     (λ m owed closed.
     goal-verdict c.args.self.now m c.args.goal.now c.goal_outcome-outcome.result c.verdict.result
-    (c.goal_outcome-outcome.ensures.says m (owed-before c.goal_outcome-outcome.new.self c.verdict.new.self m c.verdict.ensures.goes_back owed) closed)
-    (c.verdict.ensures.owed m owed (λ h. c.goal_outcome-outcome.ensures.stops (ap is_headline (sym c.goal_outcome-outcome.ensures.goes_back.typing_mode) ∙ h))))
+    (c.goal_outcome-outcome.ensures.says m (owed-before c.goal_outcome-outcome.new.self c.verdict.new.self m c.verdict.ensures.goes_back owed) (closed-answerable c.args.self.now c.args.goal.now.predicate c.args.goal.now.param_env.items closed))
+    c.verdict.ensures.owed)

@@ -1,6 +1,6 @@
 use Rattle.std.proofs.Common.{refl}
 use Rattle.goal_solver.proofs.GoingBackLemmas.{goes_back-same}
-use Rattle.goal_solver.proofs.RerunLemmas.{recorded-never_on}
+use Rattle.goal_solver.proofs.RerunLemmas.{recorded-own_on}
 use Rattle.goal_solver.proofs.AccessLemmas.{none-recorded, end-recorded}
 use Rattle.goal_solver.proofs.context.EvalCtxt.go_on.Goals as goal
 
@@ -11,7 +11,7 @@ pub returns-then-is_stopped_by-clause-goes_back : goal.returns-then-is_stopped_b
 returns-then-is_stopped_by-clause-goes_back c = goes_back-same c.args.self.now
 
 pub returns-clause-recorded : goal.returns-clause-recorded
-returns-clause-recorded c = recorded-never_on c.meet_access.result c.args.self.now c.meet_access.new.self _ (c.is_stopped_by.ensures c.if-is_stopped_by.false) c.meet_access.ensures.recorded
+returns-clause-recorded c = recorded-own_on c.meet_access.result c.args.self.now c.meet_access.new.self _ c.meet_access.ensures.recorded
 
 pub returns-in_default-clause-caused : goal.returns-in_default-clause-caused
 returns-in_default-clause-caused c = λ h. none-recorded c.args.self.now _ refl

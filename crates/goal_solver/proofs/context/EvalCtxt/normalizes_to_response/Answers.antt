@@ -1,26 +1,24 @@
-use Rattle.std.proofs.Common.{arith, sym, ◌∙◌, ap, subst, ⊎_elim, true≢false}
+use Rattle.std.proofs.Common.{arith, sym, ◌∙◌, ap, subst, true≢false}
 use Rattle.goal_terms.specs.NodeTests.{general_variable_at}
 use Rattle.goal_terms.specs.Tree.{node_of}
 use Rattle.goal_kinds.specs.Answers.{setting_of}
 use Rattle.goal_eval.specs.Outcomes.{FoundIn, SaysWhich}
 use Rattle.goal_eval.specs.ErasedArgs.{erased_args}
-use Rattle.goal_solver.specs.Answers.{level_over, IsAliasOpen}
-use Rattle.goal_solver.specs.Promises.{term_asked}
+use Rattle.goal_solver.specs.Answers.{level_over}
 use Rattle.goal_solver.proofs.RerunLemmas.{ambiguous-answer, ambiguous-open}
 use Rattle.goal_solver.proofs.AnswerLemmas.{alias-unsure, alias_open-ground}
 use Rattle.goal_solver.proofs.FoundAnswers.{found-sound, found-open}
 use Rattle.goal_kinds.proofs.ConsistentLemmas.{each_level_is_consistent}
 use Rattle.goal_solver.proofs.GoingBackLemmas.{goes_back-same}
 use Rattle.std.specs.Prelude.{Ok, length}
-use Rattle.std.proofs.Common.{refl}
-use Rattle.goal_terms.specs.declared.modes.TypingMode.{TypingMode}
+use Rattle.std.proofs.Common.{inl, refl}
 use Rattle.goal_kinds.specs.Answers.{IsAnswer, maybe}
 use Rattle.goal_solver.specs.Answers.{AnswersAside, is_closed_alias}
-use Rattle.goal_solver.specs.Recording.{FitsKind}
 use Rattle.goal_solver.specs.State.{State, kinds_of}
-use Rattle.goal_solver.proofs.ApplicableLemmas.{nothing-applies, nothing-applies-later, nothing-listed, accepted-open, fitting-applies, given-fits, final-for-some}
-use Rattle.goal_solver.specs.Answers.{expected_variable, IsFinalIn}
+use Rattle.goal_solver.proofs.ApplicableLemmas.{nothing-applies, nothing-applies-later, nothing-listed, accepted-open, fitting-applies, given-fits}
+use Rattle.goal_solver.specs.Answers.{expected_variable}
 use Rattle.goal_solver.proofs.PromiseLemmas.{found-lists, unsure-lists, maybe-lists, leaves-undecided, not-at_once, nothing-named, empty-maybe}
+use Rattle.goal_solver.proofs.AmbiguousLemmas.{merged-never}
 use Rattle.goal_solver.proofs.AccessLemmas.{none-recorded, recorded-stopped}
 use Rattle.goal_solver.proofs.EvaluationLemmas.{says-under}
 use Rattle.goal_solver.proofs.context.EvalCtxt.normalizes_to_response.Goals as goal
@@ -112,13 +110,10 @@ returns-in-Ok-Is-clause-applies c = λ ok.
     c.alias_outcome.ensures.unchanged c.is_well_formed.ensures.storage ok
     (subst (λ (s : State). AnswersAside (length (kinds_of s)) c.respond_found.result) c.alias_outcome.ensures.unchanged c.respond_found.ensures.quiet)
     (subst (FoundIn c.alias_outcome.new.self.terms) c.in-Ok-Is.field-0-is c.in-Ok-Is.ensures.within).0
-    (⊎_elim (λ fits. subst (FitsKind c.args.goal.now.predicate.alias.kind c.alias_outcome.new.self.terms) c.in-Ok-Is.field-0-is fits)
-    (λ says.
-    let some : (m : TypingMode) × IsFinalIn c.args.self.now.typing_mode m = final-for-some c.args.self.now.typing_mode in
-    given-fits c.args.self.now some.0 c.args.self.now.remaining_depth c.args.goal.now.predicate c.args.goal.now.param_env.items c.alias_outcome.new.self.terms c.in-Ok-Is.id c.is_well_formed.ensures.tables
+    (given-fits c.args.self.now c.alias_outcome.new.self.typing_mode c.args.self.now.remaining_depth c.args.goal.now.predicate c.args.goal.now.param_env.items c.alias_outcome.new.self.terms c.in-Ok-Is.id c.is_well_formed.ensures.tables
     (sym (c.is_closed_alias.ensures ∙ ap (is_closed_alias c.args.goal.now.predicate.alias) c.deref.ensures.value) ∙ c.if-not-is_closed_alias.false) ok
-    (subst (SaysWhich ((level_over c.args.self.now some.0 c.args.goal.now.param_env.items).gives c.args.goal.now.predicate.alias.kind (erased_args c.args.goal.now.predicate.alias.args.items)) ((level_over c.args.self.now some.0 c.args.goal.now.param_env.items).gives_refuted c.args.goal.now.predicate.alias.kind (erased_args c.args.goal.now.predicate.alias.args.items)) c.alias_outcome.new.self.terms) c.in-Ok-Is.field-0-is
-    (says-under c.args.self.now some.0 _ _ _ _ _ _ c.deref-2.ensures.value (says some.0 some.1)))) c.in-Ok-Is.ensures.fits)
+    (subst (SaysWhich ((level_over c.args.self.now c.alias_outcome.new.self.typing_mode c.args.goal.now.param_env.items).gives c.args.goal.now.predicate.alias.kind (erased_args c.args.goal.now.predicate.alias.args.items)) ((level_over c.args.self.now c.alias_outcome.new.self.typing_mode c.args.goal.now.param_env.items).gives_refuted c.args.goal.now.predicate.alias.kind (erased_args c.args.goal.now.predicate.alias.args.items)) c.alias_outcome.new.self.terms) c.in-Ok-Is.field-0-is
+    (says-under c.args.self.now c.alias_outcome.new.self.typing_mode _ _ _ _ _ _ c.deref-2.ensures.value (c.in-Ok-Is.ensures.says c.alias_outcome.new.self.typing_mode (inl refl)))))
     (sym (c.in-Some.ensures ∙ ap general_variable_at (c.node.ensures ∙ ap node_of c.view.ensures)))
     c.respond_found.ensures.yes
 
@@ -261,3 +256,8 @@ pub returns-in-Err-clause-caused : goal.returns-in-Err-clause-caused
 returns-in-Err-clause-caused c = λ closed.
     recorded-stopped c.args.self.now c.alias_outcome.new.self c.stopped.new.self c.in-Err.stop c.alias_outcome.ensures.goes_back c.alias_outcome.ensures.caused c.in-Err.ensures.ends
     c.stopped.ensures.caused
+
+pub returns-then-not-is_closed_alias-clause-never : goal.returns-then-not-is_closed_alias-clause-never
+returns-then-not-is_closed_alias-clause-never c =
+    merged-never c.args.self.now c.project_below.new.self c.args.goal.now c.project_below.result c.args.self.now.remaining_depth refl
+    (λ none. omega (arith, none, c.remaining_depth.ensures, c.if-remaining_depth-eq0.false)) c.project_below.ensures.merges

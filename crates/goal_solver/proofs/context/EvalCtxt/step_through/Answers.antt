@@ -1,15 +1,15 @@
 use Rattle.std.proofs.Common.{◌∷◌, [], refl, subst}
 use Rattle.std.specs.Prelude.{slice_get}
-use Rattle.goal_terms.specs.TreeOf.{trees_of, tree_of_term}
+use Rattle.goal_terms.specs.TreeOf.{trees_of}
 use Rattle.goal_terms.specs.declared.answers.GoalSource.TheVariants as source
 use Rattle.goal_kinds.specs.Rules.{clauses_in, conditions_in}
-use Rattle.goal_solver.specs.OpenRuns.{open_progress, named_trees, clauses_with, conditions_with, source_of, AddsRow, GivesTerm, NamesOpen}
+use Rattle.goal_solver.specs.OpenRuns.{open_progress, named_trees, clauses_with, conditions_with, source_of, AddsRow, NamesOpen}
 use Rattle.goal_solver.proofs.BindingLemmas.{on_ok-map}
 use Rattle.goal_solver.proofs.GoingBackLemmas.{goes_back-same}
-use Rattle.goal_solver.proofs.OpenStepLemmas.{arguments-step, equation-step, clause-step, row-step, conditions-step, term-step, hidden-step, access-step, fault-step, fault-listed, undecided-step}
+use Rattle.goal_solver.proofs.OpenStepLemmas.{arguments-step, equation-step, clause-step, row-step, conditions-step, hidden-step, access-step, fault-step, fault-listed, undecided-step}
 use Rattle.goal_solver.proofs.RecordedLemmas.{none-listed}
-use Rattle.goal_solver.specs.Refusals.{RefusesNames, RefusesTerm}
-use Rattle.goal_solver.proofs.RefusalLemmas.{memory-only, refused-on, arguments-refused, equation-refused, term-refused, hidden-refused, refusal-refused}
+use Rattle.goal_solver.specs.Refusals.{RefusesNames}
+use Rattle.goal_solver.proofs.RefusalLemmas.{memory-only, refused-on, arguments-refused, equation-refused, hidden-refused, refusal-refused}
 use Rattle.goal_solver.proofs.context.EvalCtxt.step_through.Goals as goal
 
 pub returns-in_ok-found-in-Arguments-clause-steps : goal.returns-in_ok-found-in-Arguments-clause-steps
@@ -48,14 +48,6 @@ returns-in_ok-certainty-in-RowConditions-clause-steps c =
     (subst (λ ns. AddsRow (conditions_with c.in-RowConditions.constness) source.ImplWhereBound c.args.environment.now (conditions_in c.args.self.now.tables c.in-RowConditions.row) (slice_get (named_trees ns) c.in-RowConditions.number)
     c.args.self.now c.in_ok-certainty-in-RowConditions.certainty c.ask_row_conditions.new.self) c.as_slice-named.ensures.value c.in_ok-certainty-in-RowConditions.ensures.added)
     c.join-in-RowConditions.ensures
-
-pub returns-in_ok-certainty-in-Term-clause-steps : goal.returns-in_ok-certainty-in-Term-clause-steps
-returns-in_ok-certainty-in-Term-clause-steps c =
-    term-step c.args.environment.now c.args.entry.now c.in-Term.expected c.in-Term.term c.args.self.now (open_progress c.args.run.now) c.give_open.new.self (open_progress c.join-in-Term.new.self)
-    c.in_ok-certainty-in-Term.certainty c.in-Term.is
-    (subst (λ ns. GivesTerm c.args.environment.now (named_trees ns) (tree_of_term c.in-Term.expected) c.in-Term.term c.args.self.now c.in_ok-certainty-in-Term.certainty c.give_open.new.self)
-    c.deref-in-Term.ensures.value c.in_ok-certainty-in-Term.ensures.gives)
-    c.join-in-Term.ensures
 
 pub returns-in_ok-certainty-in-HiddenType-clause-steps : goal.returns-in_ok-certainty-in-HiddenType-clause-steps
 returns-in_ok-certainty-in-HiddenType-clause-steps c =
@@ -105,13 +97,6 @@ returns-in_err-certainty-in-Equation-clause-refused c =
     refused-on _ c.from_residual-in_err-certainty-in-Equation.result c.in_err-certainty-in-Equation.field-0.0 c.from_residual-in_err-certainty-in-Equation.ensures.1
     (λ is. equation-refused c.args.environment.now c.args.entry.now c.in-Equation.left c.in-Equation.right c.deref-in-Equation.result.now c.deref-in-Equation-2.result.now c.args.self.now
     (open_progress c.args.run.now) c.equate_args.new.self c.in-Equation.is c.deref-in-Equation.ensures.value c.deref-in-Equation-2.ensures.value (c.in_err-certainty-in-Equation.ensures.refused is))
-
-pub returns-in_err-certainty-in-Term-clause-refused : goal.returns-in_err-certainty-in-Term-clause-refused
-returns-in_err-certainty-in-Term-clause-refused c =
-    refused-on _ c.from_residual-in_err-certainty-in-Term.result c.in_err-certainty-in-Term.field-0.0 c.from_residual-in_err-certainty-in-Term.ensures.1
-    (λ is. term-refused c.args.environment.now c.args.entry.now c.in-Term.expected c.in-Term.term c.args.self.now (open_progress c.args.run.now) c.give_open.new.self c.in-Term.is
-    (subst (λ ns. RefusesTerm c.args.environment.now (named_trees ns) (tree_of_term c.in-Term.expected) c.in-Term.term c.args.self.now c.give_open.new.self)
-    c.deref-in-Term.ensures.value (c.in_err-certainty-in-Term.ensures.refused is)))
 
 pub returns-in-DelayedFault-clause-refused : goal.returns-in-DelayedFault-clause-refused
 returns-in-DelayedFault-clause-refused c = memory-only _ c.record_fault.result c.record_fault.ensures.only_memory

@@ -6,7 +6,8 @@ use Rattle.goal_solver.specs.Answers.{level_over}
 use Rattle.goal_solver.specs.HeadForms.{IsFormAnswer, bound_term, is_open_form}
 use Rattle.goal_solver.specs.OpenAnswers.{answers_term}
 use Rattle.goal_solver.specs.OpenForms.{OpensFrom}
-use Rattle.goal_solver.proofs.AddedGoalLemmas.{fault-later, owed-before}
+use Rattle.goal_solver.proofs.AddedGoalLemmas.{fault-later}
+use Rattle.goal_solver.proofs.AnswerLemmas.{owed-before}
 use Rattle.goal_solver.proofs.GoingBackLemmas.{goes_back-through}
 use Rattle.goal_solver.proofs.OpenFormLemmas.{bound-restored, left-none, left-opens, no_alias-not_open, none-answered, none-given, opens-later, restored-twice}
 use Rattle.goal_solver.proofs.RoundLemmas.{handed-on}

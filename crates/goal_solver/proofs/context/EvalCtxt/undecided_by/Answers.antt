@@ -19,11 +19,6 @@ returns-then-not-is_erased-clause-caused c = λ h. none-recorded c.args.self.now
 pub returns-in_err-record_access-clause-caused : goal.returns-in_err-record_access-clause-caused
 returns-in_err-record_access-clause-caused c = λ h. none-recorded c.args.self.now _ (ap (λ (s : State). s.accesses) c.in_err-record_access.ensures.unchanged)
 
-pub returns-then-is_stopped_by-clause-caused : goal.returns-then-is_stopped_by-clause-caused
-returns-then-is_stopped_by-clause-caused c = λ h.
-    entry-recorded c.args.self.now c.record_access.new.self c.in-ReadsMode.access c.args.stop c.in-ReadsMode.is (c.is_erased.ensures.yes c.if-not-is_erased.false) h
-    c.in_ok-record_access.ensures.recorded
-
 pub returns-clause-caused : goal.returns-clause-caused
 returns-clause-caused c = λ h.
     entry-recorded c.args.self.now c.record_access.new.self c.in-ReadsMode.access c.args.stop c.in-ReadsMode.is (c.is_erased.ensures.yes c.if-not-is_erased.false) h

@@ -1,0 +1,13 @@
+use Rattle.std.proofs.Common.{◌≡◌, ◌∙◌, sym, subst}
+use Rattle.goal_kinds.specs.Candidates.{by_impl}
+use Rattle.goal_kinds.specs.ConstGoals.{ConstCandidateRefuted}
+use Rattle.goal_kinds.specs.Levels.{level}
+use Rattle.goal_kinds.specs.Rules.{given}
+use Rattle.goal_kinds.proofs.FittingLemmas.{const_candidate_refuted}
+use Rattle.goal_kinds.proofs.rules.effect_goal_kind.HostEffectPredicateGoalKind.other_heads_are_refuted.Goals as goal
+
+pub returns : goal.returns
+returns c p S q args r sought same other =
+    let its : given p.trait_ref.args ≡ q.args = cc in
+    subst (λ ts. ConstCandidateRefuted S (level S 0) p.constness p.trait_ref.def_id ts (by_impl r)) (sym (its ∙ same))
+    (const_candidate_refuted S 0 p.constness p.trait_ref.def_id args (by_impl r) other)
