@@ -4,10 +4,10 @@ use Rattle.goal_terms.specs.Tree.{Tree}
 use Rattle.goal_terms.specs.declared.ids.ItemId.{ItemId}
 use Rattle.goal_terms.specs.declared.terms.AliasTermKind.{AliasTermKind}
 use Rattle.goal_terms.specs.declared.terms.AliasTermKind.TheVariants.{ProjectionTy, ProjectionConst}
-use Rattle.goal_kinds.specs.Aliases.{AliasGives, AliasRefuted}
-use Rattle.goal_kinds.specs.Levels.{level}
-use Rattle.goal_kinds.specs.Projections.{ProjectionGives, ProjectionRefuted}
-use Rattle.goal_kinds.specs.Settings.{Setting}
+use Rattle.goal_lists.specs.Aliases.{AliasGives, AliasRefuted}
+use Rattle.goal_lists.specs.Levels.{level}
+use Rattle.goal_lists.specs.Projections.{ProjectionGives, ProjectionRefuted}
+use Rattle.goal_lists.specs.Settings.{Setting}
 use Rattle.goal_eval.specs.Outcomes.{SaysWhich}
 use Rattle.goal_eval.specs.declared.eval.outcomes.Found.{Found}
 use Rattle.goal_eval.specs.declared.eval.outcomes.Stop.{Stop}

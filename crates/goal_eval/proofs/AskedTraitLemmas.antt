@@ -17,47 +17,47 @@ use Rattle.goal_terms.specs.declared.predicates.BoundConstness.TheVariants as co
 use Rattle.goal_terms.specs.declared.term_nodes.OutOfMemory.{OutOfMemory}
 use Rattle.goal_terms.specs.declared.term_nodes.TermId.{TermId}
 use Rattle.goal_tables.specs.declared.rows.ImplRow.{ImplRow}
-use Rattle.goal_kinds.specs.Answers.{setting_of}
-use Rattle.goal_kinds.specs.Candidates.{Candidate, by_impl, environment, class_of, second_group}
-use Rattle.goal_kinds.specs.ConstGoals.{satisfies}
-use Rattle.goal_kinds.specs.EffectLists.{effect_list}
-use Rattle.goal_kinds.specs.Entries.{Entry, ListHolds, ListRefuted, ListAsksNoTerm}
-use Rattle.goal_kinds.specs.Fitting.{trees_at, may_fit, fitting}
-use Rattle.goal_kinds.specs.Interned.{CandidateIn, AreIn, erased_at, erased_all, candidate_at}
-use Rattle.goal_kinds.specs.InternedEntries.{list_at, setting_at}
-use Rattle.goal_kinds.specs.Laws.{IsConsistent}
-use Rattle.goal_kinds.specs.Level.{Level}
-use Rattle.goal_kinds.specs.Levels.{level}
-use Rattle.goal_kinds.specs.ListModes.{in_mode, erased_setting}
-use Rattle.goal_kinds.specs.Settings.{Setting, is_headline}
-use Rattle.goal_kinds.specs.TraitLists.{trait_list}
-use Rattle.goal_kinds.specs.Words.{Each, Exists}
-use Rattle.goal_kinds.specs.declared.candidates.interned.InternedCandidate.{InternedCandidate}
-use Rattle.goal_kinds.specs.declared.lists.InternedEntry.{InternedEntry}
-use Rattle.goal_kinds.specs.declared.lists.ListSetting.{ListSetting}
-use Rattle.goal_kinds.specs.TraitGoals.{ImplHolds, ImplRefuted, CandidateHolds, CandidateRefuted, PassedOver, Decides}
-use Rattle.goal_kinds.proofs.CandidateLemmas.{no_candidate_refuted, not_passed_over}
-use Rattle.goal_kinds.proofs.ConsistentLemmas.{each_level_is_consistent}
-use Rattle.goal_kinds.proofs.ConstLemmas.{no_const_candidate_refuted}
-use Rattle.goal_kinds.proofs.ContraryWords.{Exists-Each}
-use Rattle.goal_kinds.proofs.EffectLists.{effect_list-holds, effect_list-refuted}
-use Rattle.goal_kinds.proofs.FilteredWords.{exists-kept, kept-exists, each-kept, kept-each}
-use Rattle.goal_kinds.proofs.FittingLemmas.{trees-erased, candidate_refuted, const_candidate_refuted}
-use Rattle.goal_kinds.proofs.InternedLemmas.{same-grown, are_in-grown, in-grown, all_same-grown, candidate_same-grown}
-use Rattle.goal_kinds.proofs.ListModes.{trait_list-stands, effect_list-stands}
-use Rattle.goal_kinds.proofs.ListStandIns.{list_stands_in-same}
-use Rattle.goal_kinds.proofs.ListTerms.{trait_list-asks_none, effect_list-asks_none, asks_none-with, gives-holds}
-use Rattle.goal_kinds.proofs.TraitLists.{trait_list-holds, trait_list-refuted}
+use Rattle.goal_lists.specs.Answers.{setting_of}
+use Rattle.goal_lists.specs.Candidates.{Candidate, by_impl, environment, class_of, second_group}
+use Rattle.goal_lists.specs.ConstGoals.{satisfies}
+use Rattle.goal_lists.specs.EffectLists.{effect_list}
+use Rattle.goal_lists.specs.Entries.{Entry, ListHolds, ListRefuted, ListAsksNoTerm}
+use Rattle.goal_lists.specs.Fitting.{trees_at, may_fit, fitting}
+use Rattle.goal_lists.specs.Interned.{CandidateIn, AreIn, erased_at, erased_all, candidate_at}
+use Rattle.goal_lists.specs.InternedEntries.{list_at, setting_at}
+use Rattle.goal_lists.specs.Laws.{IsConsistent}
+use Rattle.goal_lists.specs.Level.{Level}
+use Rattle.goal_lists.specs.Levels.{level}
+use Rattle.goal_lists.specs.ListModes.{in_mode, erased_setting}
+use Rattle.goal_lists.specs.Settings.{Setting, is_headline}
+use Rattle.goal_lists.specs.TraitLists.{trait_list}
+use Rattle.goal_lists.specs.Words.{Each, Exists}
+use Rattle.goal_lists.specs.declared.candidates.interned.InternedCandidate.{InternedCandidate}
+use Rattle.goal_lists.specs.declared.lists.InternedEntry.{InternedEntry}
+use Rattle.goal_lists.specs.declared.lists.ListSetting.{ListSetting}
+use Rattle.goal_lists.specs.TraitGoals.{ImplHolds, ImplRefuted, CandidateHolds, CandidateRefuted, PassedOver, Decides}
+use Rattle.goal_lists.proofs.CandidateLemmas.{no_candidate_refuted, not_passed_over}
+use Rattle.goal_lists.proofs.ConsistentLemmas.{each_level_is_consistent}
+use Rattle.goal_lists.proofs.ConstLemmas.{no_const_candidate_refuted}
+use Rattle.goal_lists.proofs.ContraryWords.{Exists-Each}
+use Rattle.goal_lists.proofs.EffectLists.{effect_list-holds, effect_list-refuted}
+use Rattle.goal_lists.proofs.FilteredWords.{exists-kept, kept-exists, each-kept, kept-each}
+use Rattle.goal_lists.proofs.FittingLemmas.{trees-erased, candidate_refuted, const_candidate_refuted}
+use Rattle.goal_lists.proofs.InternedLemmas.{same-grown, are_in-grown, in-grown, all_same-grown, candidate_same-grown}
+use Rattle.goal_lists.proofs.ListModes.{trait_list-stands, effect_list-stands}
+use Rattle.goal_lists.proofs.ListStandIns.{list_stands_in-same}
+use Rattle.goal_lists.proofs.ListTerms.{trait_list-asks_none, effect_list-asks_none, asks_none-with, gives-holds}
+use Rattle.goal_lists.proofs.TraitLists.{trait_list-holds, trait_list-refuted}
 use Rattle.goal_eval.specs.AskedTraits.{asked_list, candidate_list, AskedHolds, AskedRefuted, AskedDecides, AskedRuledOut, AskedIn, SaysListed, SaysCandidate, SaysCandidates, SaysGroups}
-use Rattle.goal_kinds.specs.Joined.{one_of, beside}
+use Rattle.goal_lists.specs.Joined.{one_of, beside}
 use Rattle.goal_eval.specs.Lists.{list_mode, IsListFor, SaysList, list_held}
 use Rattle.goal_eval.specs.Outcomes.{RunsFor, setting_in, level_in, Says}
 use Rattle.goal_eval.specs.SpecialImpls.{SaysMoreSpecial}
 use Rattle.goal_eval.specs.declared.assembly.candidates.AskedTrait.{AskedTrait}
 use Rattle.goal_eval.specs.declared.eval.lists.ListOutcome.{ListOutcome}
 use Rattle.goal_eval.specs.declared.eval.lists.ListOutcome.TheVariants as list
-use Rattle.goal_kinds.specs.declared.outcomes.Outcome.{Outcome}
-use Rattle.goal_kinds.specs.declared.outcomes.Outcome.TheVariants as outcome
+use Rattle.goal_lists.specs.declared.outcomes.Outcome.{Outcome}
+use Rattle.goal_lists.specs.declared.outcomes.Outcome.TheVariants as outcome
 use Rattle.goal_eval.specs.declared.eval.outcomes.Setting as over
 use Rattle.goal_eval.specs.declared.eval.outcomes.Stop.{Stop}
 use Rattle.goal_eval.proofs.RunModes.{list-for}

@@ -1,6 +1,6 @@
 -- What the elements of a list before a place have.
 use Rattle.std.proofs.Common.{◌≡◌, ◌⊎◌, inl, inr, ℕ, zero, suc, ◌+◌, ◌<◌, ◌≤◌, List, [], ◌∷◌, length, map, get_or, sym, subst, add-one, arith, ⊎_elim}
-use Rattle.goal_kinds.specs.Words.{Each, Exists}
+use Rattle.goal_lists.specs.Words.{Each, Exists}
 
 -- each element before a place has a property
 abbrev pub EachBefore : {A : Type 0} → (A → Type 0) → List A → ℕ → Type 0

@@ -16,14 +16,14 @@ use Rattle.goal_terms.specs.declared.predicates.BoundConstness.TheVariants as co
 use Rattle.goal_terms.specs.declared.term_nodes.TermId.{TermId}
 use Rattle.goal_terms.specs.declared.terms.AliasTermKind.{AliasTermKind}
 use Rattle.goal_terms.proofs.TreeLemmas.{list_of-forest}
-use Rattle.goal_kinds.specs.Causes.{IsCaused, IsFaultCaused}
-use Rattle.goal_kinds.specs.Interned.{erased_at}
-use Rattle.goal_kinds.specs.Laws.{IsWithin}
-use Rattle.goal_kinds.specs.Level.{Level}
-use Rattle.goal_kinds.specs.Levels.{level}
-use Rattle.goal_kinds.specs.Settings.{Setting}
-use Rattle.goal_kinds.proofs.InternedLemmas.{same-grown, in-grown}
-use Rattle.goal_kinds.proofs.WithinLevels.{within-level}
+use Rattle.goal_lists.specs.Causes.{IsCaused, IsFaultCaused}
+use Rattle.goal_lists.specs.Interned.{erased_at}
+use Rattle.goal_lists.specs.Laws.{IsWithin}
+use Rattle.goal_lists.specs.Level.{Level}
+use Rattle.goal_lists.specs.Levels.{level}
+use Rattle.goal_lists.specs.Settings.{Setting}
+use Rattle.goal_lists.proofs.InternedLemmas.{same-grown, in-grown}
+use Rattle.goal_lists.proofs.WithinLevels.{within-level}
 use Rattle.goal_eval.specs.CacheEntries.{IsKnownAt, entry_of, kept, Enters, trait_decided, outcome_decided, found_decided}
 use Rattle.goal_eval.specs.Effects.{AreSound, AreNone, KeepsButRegions, Soundness}
 use Rattle.goal_eval.specs.EvaluationCache.{SaysTraitAt, SaysConstAt, SaysAliasAt, IsRight, AreRight, IsValidCache, IsEmptyCache, consts_of, KeepsButConsts}
@@ -32,10 +32,10 @@ use Rattle.goal_eval.specs.declared.eval.effects.Effects.{Effects}
 use Rattle.goal_eval.specs.declared.eval.evaluation_cache.CacheEntry.{CacheEntry}
 use Rattle.goal_eval.specs.declared.eval.evaluation_cache.EvaluationCache.{EvaluationCache as Cache}
 use Rattle.goal_eval.specs.declared.eval.outcomes.Setting as over
-use Rattle.goal_kinds.specs.declared.outcomes.Outcome.{Outcome}
-use Rattle.goal_kinds.specs.declared.outcomes.Outcome.TheVariants as outcome
-use Rattle.goal_kinds.specs.declared.outcomes.TraitOutcome.{TraitOutcome}
-use Rattle.goal_kinds.specs.declared.outcomes.TraitOutcome.TheVariants as trait_outcome
+use Rattle.goal_lists.specs.declared.outcomes.Outcome.{Outcome}
+use Rattle.goal_lists.specs.declared.outcomes.Outcome.TheVariants as outcome
+use Rattle.goal_lists.specs.declared.outcomes.TraitOutcome.{TraitOutcome}
+use Rattle.goal_lists.specs.declared.outcomes.TraitOutcome.TheVariants as trait_outcome
 use Rattle.goal_eval.specs.declared.eval.outcomes.Found.{Found}
 use Rattle.goal_eval.specs.declared.eval.outcomes.Found.TheVariants as found
 
@@ -263,10 +263,6 @@ aside-refl e = refl
 pub aside-chain : (e f n : Effects) → KeepsButRegions e f → KeepsButRegions f n → KeepsButRegions e n
 unfolding KeepsButRegions
 aside-chain e f n k l = l ∙ ap (λ (x : Effects). record x { regions = n.regions }) k
-
-pub aside-cache : (e n : Effects) → KeepsButRegions e n → n.cache ≡ e.cache
-unfolding KeepsButRegions
-aside-cache e n k = ap (λ (x : Effects). x.cache) k
 
 pub ruleset caching = (sound-grown, sound-aside, cache-grown)
 

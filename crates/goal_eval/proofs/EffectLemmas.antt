@@ -8,11 +8,11 @@ use Rattle.goal_terms.specs.Tree.{Tree}
 use Rattle.goal_terms.specs.declared.answers.DelayedFault.{DelayedFault}
 use Rattle.goal_terms.specs.declared.answers.OpaqueAccess.{OpaqueAccess}
 use Rattle.goal_tables.specs.declared.rows.Tables.{Tables}
-use Rattle.goal_kinds.specs.Causes.{IsCaused, IsFaultCaused, IsCausedEntry, IsCausedList}
-use Rattle.goal_kinds.specs.Entries.{Entry}
-use Rattle.goal_kinds.specs.InternedEntries.{entries_at, list_at}
-use Rattle.goal_kinds.specs.declared.lists.InternedEntry.{InternedEntry}
-use Rattle.goal_kinds.proofs.CauseLemmas.{AreCaused, ListCaused, made-caused, list-caused}
+use Rattle.goal_lists.specs.Causes.{IsCaused, IsFaultCaused, IsCausedEntry, IsCausedList}
+use Rattle.goal_lists.specs.Entries.{Entry}
+use Rattle.goal_lists.specs.InternedEntries.{entries_at, list_at}
+use Rattle.goal_lists.specs.declared.lists.InternedEntry.{InternedEntry}
+use Rattle.goal_lists.proofs.CauseLemmas.{AreCaused, ListCaused, made-caused, list-caused}
 use Rattle.goal_eval.specs.Effects.{AreSound}
 use Rattle.goal_eval.specs.EvaluationCache.{IsValidCache}
 use Rattle.goal_eval.specs.declared.eval.effects.Effects.{Effects}

@@ -5,22 +5,22 @@ use Rattle.std.proofs.lemmas.List.{drop_all, drop_more}
 use Rattle.goal_terms.specs.TableMeaning.{tree_at, Keeps}
 use Rattle.goal_terms.specs.Tree.{Tree, node, alias, variable, node_of, parts_of}
 use Rattle.goal_terms.specs.declared.term_nodes.TermId.{TermId}
-use Rattle.goal_kinds.specs.Equality.{Equal, Unequal, SameForm, OtherForm, EqualByForm, UnequalByForm}
-use Rattle.goal_kinds.specs.Interned.{IsIn, erased_at, erased_all}
-use Rattle.goal_kinds.specs.Level.{Level, nothing, HasHeadForm, HeadFormRefuted}
-use Rattle.goal_kinds.specs.Levels.{level}
-use Rattle.goal_kinds.specs.Settings.{Setting}
-use Rattle.goal_kinds.specs.Words.{Each, Exists, Pairs, SomePair}
-use Rattle.goal_kinds.proofs.ConsistentLemmas.{each_level_is_consistent}
-use Rattle.goal_kinds.proofs.EqualLemmas.{one_head_form, no_head_form_refuted}
-use Rattle.goal_kinds.proofs.InternedLemmas.{in-grown, same-grown}
+use Rattle.goal_lists.specs.Equality.{Equal, Unequal, SameForm, OtherForm, EqualByForm, UnequalByForm}
+use Rattle.goal_lists.specs.Interned.{IsIn, erased_at, erased_all}
+use Rattle.goal_lists.specs.Level.{Level, nothing, HasHeadForm, HeadFormRefuted}
+use Rattle.goal_lists.specs.Levels.{level}
+use Rattle.goal_lists.specs.Settings.{Setting}
+use Rattle.goal_lists.specs.Words.{Each, Exists, Pairs, SomePair}
+use Rattle.goal_lists.proofs.ConsistentLemmas.{each_level_is_consistent}
+use Rattle.goal_lists.proofs.EqualLemmas.{one_head_form, no_head_form_refuted}
+use Rattle.goal_lists.proofs.InternedLemmas.{in-grown, same-grown}
 use Rattle.goal_eval.specs.Outcomes.{Says, SaysWhich, FoundIn}
-use Rattle.goal_kinds.specs.Joined.{both}
+use Rattle.goal_lists.specs.Joined.{both}
 use Rattle.goal_eval.specs.Pending.{Stands, Fails, forms_of, AllEqual, SomeUnequal, Relates, NeedForms, IsOpen, Adds}
 use Rattle.goal_eval.specs.declared.eval.outcomes.Found.{Found}
 use Rattle.goal_eval.specs.declared.eval.outcomes.Found.TheVariants as found
-use Rattle.goal_kinds.specs.declared.outcomes.Outcome.{Outcome}
-use Rattle.goal_kinds.specs.declared.outcomes.Outcome.TheVariants.{Holds, Refuted, Undecided}
+use Rattle.goal_lists.specs.declared.outcomes.Outcome.{Outcome}
+use Rattle.goal_lists.specs.declared.outcomes.Outcome.TheVariants.{Holds, Refuted, Undecided}
 use Rattle.goal_eval.specs.declared.relate.pairs.Forms.TheVariants as form
 use Rattle.goal_eval.specs.declared.relate.pairs.Pending.{Pending}
 use Rattle.goal_eval.specs.declared.relate.pairs.TermPair.{TermPair}

@@ -10,8 +10,8 @@ use Rattle.goal_terms.specs.declared.heads.Node.{Node}
 use Rattle.goal_terms.specs.declared.heads.Node.TheVariants as nodes
 use Rattle.goal_terms.specs.declared.term_nodes.TermId.{TermId}
 use Rattle.goal_terms.specs.declared.terms.AliasTermKind.{AliasTermKind}
-use Rattle.goal_kinds.specs.Interned.{erased_at, erased_all, IsIn, AreIn}
-use Rattle.goal_kinds.specs.Level.{Level, HasHeadForm, HeadFormRefuted}
+use Rattle.goal_lists.specs.Interned.{erased_at, erased_all, IsIn, AreIn}
+use Rattle.goal_lists.specs.Level.{Level, HasHeadForm, HeadFormRefuted}
 use Rattle.goal_eval.specs.Outcomes.{SaysWhich}
 use Rattle.goal_eval.specs.declared.eval.outcomes.Found.{Found}
 use Rattle.goal_eval.specs.declared.eval.outcomes.Stop.{Stop}

@@ -1,9 +1,8 @@
 -- Arguments for a header's parameters, as far as these are known.
 use Rattle.std.proofs.Common.{◌≡◌, ℕ, zero, suc, ◌+◌, ◌<◌, ◌≤◌, Bool, true, false, ◌||◌, ◌&&◌, List, [], ◌∷◌, ◌++◌, length, map, drop, take, get_or, Option, Some, None, refl, sym, ap, ap₂, ◌∙◌, subst, add-one, arith}
-use Rattle.std.specs.Prelude.{is_some, Result, Ok, Err, IfOk}
+use Rattle.std.specs.Prelude.{Result, Ok, Err, IfOk}
 use Rattle.std.specs.Option.{option_map}
 use Rattle.std.proofs.lemmas.List.{drop_all, take_more}
-use Rattle.std.proofs.lemmas.Option.{slice_get_past}
 use Rattle.std.proofs.lemmas.List.Elements.{All-head, All-tail}
 use Rattle.std.proofs.lemmas.Slice.Zip.{all_zipped_more}
 use Rattle.goal_terms.specs.Erased.{erased}
@@ -21,20 +20,12 @@ use Rattle.goal_terms.specs.declared.term_nodes.TermId.{TermId}
 use Rattle.goal_terms.specs.declared.terms.GenericArg.{GenericArg}
 use Rattle.goal_terms.specs.declared.terms.Region.{Region}
 use Rattle.goal_terms.proofs.NodeTestLemmas.{some_from, some_node-walk}
-use Rattle.goal_kinds.specs.Headers.{under, no_lifetime}
-use Rattle.goal_kinds.specs.Interned.{erased_at, erased_all, IsIn, AreIn}
-use Rattle.goal_kinds.proofs.InternedLemmas.{all-grow, map-same, in-grown, same-grown, all_same-grown}
-use Rattle.goal_kinds.proofs.UnderLemmas.{under-erased_term, under-at, instance-argument, are_in-arguments}
-use Rattle.goal_eval.specs.HeaderWords.{known_trees, OptionIn, KnownIn, is_unfilled, is_missing, is_unknown, parameter_at, IsFilled, AreFilled, is_settled, is_complete}
+use Rattle.goal_lists.specs.Headers.{under, no_lifetime}
+use Rattle.goal_lists.specs.Interned.{erased_at, erased_all, IsIn, AreIn}
+use Rattle.goal_lists.proofs.InternedLemmas.{all-grow, map-same, in-grown, same-grown, all_same-grown}
+use Rattle.goal_lists.proofs.UnderLemmas.{under-erased_term, under-at, instance-argument, are_in-arguments}
+use Rattle.goal_eval.specs.HeaderWords.{known_trees, OptionIn, KnownIn, is_missing, is_unknown, parameter_at, IsFilled, AreFilled, is_settled, is_complete}
 use Rattle.goal_eval.specs.Outcomes.{header_terms}
-
--- what is known at a place of a list
-pub unfilled-past : {A : Type 0} (ks : List (Option A)) (n : ℕ) → length ks ≤ n → true ≡ is_missing ks (Some n)
-unfilled-past ks n l = sym (ap is_unfilled (slice_get_past ks n l))
-
-unfilled_none : {A : Type 0} (o : Option A) → is_some o ≡ false → true ≡ is_unfilled (Some o)
-unfilled_none None e = refl
-unfilled_none (Some x) e = absurd (cc)
 
 -- a walk over a term for a parameter that isn't known
 pub unknown-here : {A : Type 0} (ks : List (Option A)) (t : Tree) (m : Node) (o : Option ℕ) (b : Bool) → m ≡ node_of t → o ≡ parameter_at m → b ≡ is_missing ks o → b ≡ true →

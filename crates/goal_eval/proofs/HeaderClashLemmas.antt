@@ -1,22 +1,18 @@
 -- Where a header clashes with given terms: what is asked of each place, found by a walk over both.
 use Rattle.std.proofs.Common.{◌≡◌, ◌≢◌, ◌⊎◌, inl, inr, ℕ, zero, suc, ◌+◌, Bool, true, false, List, [], ◌∷◌, ◌++◌, length, map, drop, Option, Some, refl, sym, ap, ◌∙◌, subst, add-one, arith}
-use Rattle.std.specs.Prelude.{◌↔◌, Result, Ok, Err, IfOk, slice_get, is_some, if◌then◌else◌}
+use Rattle.std.specs.Prelude.{◌↔◌, Result, Ok, Err, IfOk, slice_get, is_some}
 use Rattle.goal_terms.specs.Erased.{erased, erased_row, erased_head, compared_node}
-use Rattle.goal_terms.specs.Sorts.{sort_of, is_argument_sort}
-use Rattle.goal_terms.specs.TreeOf.{is_type_kind}
 use Rattle.goal_terms.specs.Tree.{Tree, Trees, node, alias, variable, none, more, node_of, parts_of, list_of}
 use Rattle.goal_terms.specs.declared.compare.Regions.TheVariants.{Forgotten}
 use Rattle.goal_terms.specs.declared.heads.Head.{Head}
-use Rattle.goal_terms.specs.declared.heads.Head.TheVariants as head
 use Rattle.goal_terms.specs.declared.heads.Node.{Node}
 use Rattle.goal_terms.specs.declared.heads.Node.TheVariants as nodes
 use Rattle.goal_terms.specs.declared.heads.Variable.{Variable}
-use Rattle.goal_terms.specs.declared.sorts.Sort.TheVariants as sorts
-use Rattle.goal_kinds.specs.Headers.{parameter_of, InstanceUnequal, StepClashes, Clash, RowClash}
-use Rattle.goal_kinds.specs.Level.{Level}
-use Rattle.goal_kinds.specs.Settings.{Setting}
-use Rattle.goal_kinds.specs.Words.{Exists, SomePair}
-use Rattle.goal_kinds.proofs.WithinWords.{sum-map}
+use Rattle.goal_lists.specs.Headers.{parameter_of, InstanceUnequal, StepClashes, Clash, RowClash}
+use Rattle.goal_lists.specs.Level.{Level}
+use Rattle.goal_lists.specs.Settings.{Setting}
+use Rattle.goal_lists.specs.Words.{Exists, SomePair}
+use Rattle.goal_lists.proofs.WithinWords.{sum-map}
 use Rattle.goal_eval.specs.HeaderWords.{is_any, is_whole}
 use Rattle.goal_eval.proofs.HeaderPlaceLemmas.{IsAbove, parameter-erased, both_ways, either_true, either_false}
 
@@ -103,18 +99,6 @@ clash-alike M B above K (node i ts) (alias j us) h k e f a d = absurd (cc)
 clash-alike M B above K (alias i ts) u h k e f a d = absurd (cc)
 clash-alike M B above K (variable w) u h k e f a d = absurd (cc)
 
--- a parameter or an alias is an argument
-whole_sort : (b : Bool) → is_argument_sort (if b then sorts.Ty else sorts.Const) ≡ true
-whole_sort true = refl
-whole_sort false = refl
-
-pub whole-argument : (m : Node) → is_whole m ≡ true → is_argument_sort (sort_of m) ≡ true
-whole-argument (nodes.Head (head.TyParam n)) w = refl
-whole-argument (nodes.Head (head.ConstParam n)) w = refl
-whole-argument (nodes.Head h) w = absurd (cc)
-whole-argument (nodes.Alias k) w = whole_sort (is_type_kind k)
-whole-argument (nodes.Variable v) w = absurd (cc)
-
 -- one question more
 pub exists-push : {A : Type 0} (P : A → Type 0) (xs : List A) (x : A) → Exists P (xs ++ x ∷ []) ↔ (Exists P xs ⊎ P x)
 unfolding Exists
@@ -132,9 +116,6 @@ asked-one P old new x C e f =
       λ h. elim (push.0 (subst (Exists P) e h)) [ inl p ↦ inl p | inr q ↦ inr (f.1 q) ],
       λ h. subst (Exists P) (sym e) (elim h [ inl p ↦ push.1 (inl p) | inr q ↦ push.1 (inr (f.0 q)) ]),
     )
-
-pub asked-none : {A : Type 0} (P : A → Type 0) (old : List A) (C : Type 0) → C ↔ ⊥ → Exists P old ↔ (Exists P old ⊎ C)
-asked-none P old C f = (λ h. inl h, λ h. elim h [ inl p ↦ p | inr q ↦ absurd (f.0 q) ])
 
 pub asked-same : {A : Type 0} (P : A → Type 0) (old new : List A) (C D : Type 0) → Exists P new ↔ (Exists P old ⊎ C) → D ↔ C → Exists P new ↔ (Exists P old ⊎ D)
 asked-same P old new C D h f =

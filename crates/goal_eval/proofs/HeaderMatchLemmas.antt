@@ -10,25 +10,25 @@ use Rattle.goal_terms.specs.declared.answers.ParamKind.{ParamKind}
 use Rattle.goal_terms.specs.declared.answers.ParamKind.TheVariants as kind
 use Rattle.goal_terms.specs.declared.modes.TypingMode.{TypingMode}
 use Rattle.goal_terms.specs.declared.term_nodes.TermId.{TermId}
-use Rattle.goal_kinds.specs.Headers.{under, PartAmong, is_term_kind, Known, PartsFrom, AllKnown, Fits, Clashes}
-use Rattle.goal_kinds.specs.Interned.{erased_at, erased_all, AreIn}
-use Rattle.goal_kinds.specs.Laws.{IsConsistent}
-use Rattle.goal_kinds.specs.Level.{Level}
-use Rattle.goal_kinds.specs.Levels.{level}
-use Rattle.goal_kinds.specs.Settings.{Setting}
-use Rattle.goal_kinds.specs.Words.{Pairs, SomePair}
-use Rattle.goal_kinds.proofs.ConsistentLemmas.{each_level_is_consistent}
-use Rattle.goal_kinds.proofs.EqualLemmas.{no_pair_apart}
-use Rattle.goal_kinds.proofs.InternedLemmas.{all_same-grown}
-use Rattle.goal_kinds.proofs.SubstitutionLemmas.{one_part_among}
-use Rattle.goal_kinds.proofs.WithinLevels.{within-level_itself}
-use Rattle.goal_kinds.proofs.WithinWords.{some_pair-map}
+use Rattle.goal_lists.specs.Headers.{under, PartAmong, is_term_kind, Known, PartsFrom, AllKnown, Fits, Clashes}
+use Rattle.goal_lists.specs.Interned.{erased_at, erased_all, AreIn}
+use Rattle.goal_lists.specs.Laws.{IsConsistent}
+use Rattle.goal_lists.specs.Level.{Level}
+use Rattle.goal_lists.specs.Levels.{level}
+use Rattle.goal_lists.specs.Settings.{Setting}
+use Rattle.goal_lists.specs.Words.{Pairs, SomePair}
+use Rattle.goal_lists.proofs.ConsistentLemmas.{each_level_is_consistent}
+use Rattle.goal_lists.proofs.EqualLemmas.{no_pair_apart}
+use Rattle.goal_lists.proofs.InternedLemmas.{all_same-grown}
+use Rattle.goal_lists.proofs.SubstitutionLemmas.{one_part_among}
+use Rattle.goal_lists.proofs.WithinLevels.{within-level_itself}
+use Rattle.goal_lists.proofs.WithinWords.{some_pair-map}
 use Rattle.goal_eval.specs.HeaderWords.{IsKnown, known_trees, KnownIn, IsFilled, AreFilled, Fills, is_complete, SaysPart, KnownFrom, Answers, TestOutcome, KnownOutcome, MatchOutcome}
 use Rattle.goal_eval.specs.Outcomes.{RunsFor, Says, SaysMatch, setting_in, level_in}
 use Rattle.goal_eval.specs.declared.eval.outcomes.HeaderMatch.{HeaderMatch}
 use Rattle.goal_eval.specs.declared.eval.outcomes.HeaderMatch.TheVariants as match
-use Rattle.goal_kinds.specs.declared.outcomes.Outcome.{Outcome}
-use Rattle.goal_kinds.specs.declared.outcomes.Outcome.TheVariants as outcome
+use Rattle.goal_lists.specs.declared.outcomes.Outcome.{Outcome}
+use Rattle.goal_lists.specs.declared.outcomes.Outcome.TheVariants as outcome
 use Rattle.goal_eval.specs.declared.eval.outcomes.Setting as over
 use Rattle.goal_eval.specs.declared.eval.outcomes.Stop.{Stop}
 use Rattle.goal_eval.proofs.HeaderArgLemmas.{known_same-grown}

@@ -20,21 +20,21 @@ use Rattle.goal_terms.specs.declared.term_nodes.TermId.{TermId}
 use Rattle.goal_terms.specs.declared.terms.AliasTermKind.{AliasTermKind}
 use Rattle.goal_terms.specs.declared.view.TermRef.{TermRef}
 use Rattle.goal_terms.proofs.NodeTestLemmas.{some_node-erased}
-use Rattle.goal_kinds.specs.Equality.{Unequal}
-use Rattle.goal_kinds.specs.Headers.{under, is_number, is_parameter, mentions, AllAreKnown, InstanceUnequal, StepClashes}
-use Rattle.goal_kinds.specs.Interned.{erased_at, erased_all, IsIn}
-use Rattle.goal_kinds.specs.Level.{Level, nothing, HasHeadForm, HeadFormRefuted}
-use Rattle.goal_kinds.specs.Words.{Exists}
-use Rattle.goal_kinds.proofs.ConsistentLemmas.{each_level_is_consistent}
-use Rattle.goal_kinds.proofs.EqualLemmas.{one_head_form, no_head_form_refuted}
-use Rattle.goal_kinds.proofs.InstanceLemmas.{under_the_same}
-use Rattle.goal_kinds.proofs.InternedLemmas.{in-grown, same-grown}
+use Rattle.goal_lists.specs.Equality.{Unequal}
+use Rattle.goal_lists.specs.Headers.{under, is_number, is_parameter, mentions, AllAreKnown, InstanceUnequal, StepClashes}
+use Rattle.goal_lists.specs.Interned.{erased_at, erased_all, IsIn}
+use Rattle.goal_lists.specs.Level.{Level, nothing, HasHeadForm, HeadFormRefuted}
+use Rattle.goal_lists.specs.Words.{Exists}
+use Rattle.goal_lists.proofs.ConsistentLemmas.{each_level_is_consistent}
+use Rattle.goal_lists.proofs.EqualLemmas.{one_head_form, no_head_form_refuted}
+use Rattle.goal_lists.proofs.InstanceLemmas.{under_the_same}
+use Rattle.goal_lists.proofs.InternedLemmas.{same-grown}
 use Rattle.goal_eval.specs.HeaderWords.{erased_ref, is_any, is_whole, parameter_at, IsBehind, IsKnown, KnownIn, known_trees, is_unfilled, is_missing, is_unknown, Fills, ClashAt, QuestionIn, Answers, TestOutcome}
 use Rattle.goal_eval.specs.Outcomes.{RunsFor, Says, setting_in, level_in}
 use Rattle.goal_eval.specs.declared.relate.header_questions.Question.{Question}
 use Rattle.goal_eval.specs.declared.relate.header_questions.Question.TheVariants as question
-use Rattle.goal_kinds.specs.declared.outcomes.Outcome.{Outcome}
-use Rattle.goal_kinds.specs.declared.outcomes.Outcome.TheVariants as outcome
+use Rattle.goal_lists.specs.declared.outcomes.Outcome.{Outcome}
+use Rattle.goal_lists.specs.declared.outcomes.Outcome.TheVariants as outcome
 use Rattle.goal_eval.specs.declared.eval.outcomes.Setting as over
 use Rattle.goal_eval.specs.declared.eval.outcomes.Stop.{Stop}
 use Rattle.goal_eval.proofs.HeaderPlaceLemmas.{IsAbove, below, level-above, parameter-erased}
@@ -335,18 +335,6 @@ behind_clash-form c depth d T V known h g form (Ok b) behind e keeps all f same 
 behind_clash-form c depth d T V known h g form (Err x) behind e keeps all f same says = says
 
 -- a question in a table that has grown
-pub question_in-grown : (T U : List Tree) → Keeps T U → (q : Question) → QuestionIn T q → QuestionIn U q
-question_in-grown T U keeps question.Differs h = h
-question_in-grown T U keeps (question.Instance x g) h = (in-grown T U keeps g h.0, h.1)
-question_in-grown T U keeps (question.Behind x g) h = record {
-  within = in-grown T U keeps g h.within;
-  head = h.head;
-  top = h.top;
-  other = h.other;
-  kind = h.kind;
-  alias = ap node_of (keeps.same g h.within.0) ∙ h.alias;
-}
-
 clash_grown : (L : Level) (T U : List Tree) → Keeps T U → (known : List (Option TermId)) (h : TermRef) (g : TermId) → KnownIn T known → IsIn T g →
     L.clash (IsKnown (known_trees U known)) (erased_ref h) (erased_at U g) ↔ L.clash (IsKnown (known_trees T known)) (erased_ref h) (erased_at T g)
 clash_grown L T U keeps known h g all within = rw (known_same-grown T U keeps known all, same-grown T U keeps g within) (λ x. x, λ x. x)

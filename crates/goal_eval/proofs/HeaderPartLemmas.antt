@@ -17,13 +17,13 @@ use Rattle.goal_terms.specs.declared.terms.AliasTermKind.{AliasTermKind}
 use Rattle.goal_terms.specs.declared.terms.GenericArg.{GenericArg}
 use Rattle.goal_terms.specs.declared.view.TermRef.{TermRef}
 use Rattle.goal_terms.proofs.WalkLemmas.{node_of-compared}
-use Rattle.goal_kinds.specs.Headers.{StepInto, PartAmong}
-use Rattle.goal_kinds.specs.Interned.{erased_at, erased_all}
-use Rattle.goal_kinds.specs.Level.{Level, nothing, HasHeadForm, HeadFormRefuted}
-use Rattle.goal_kinds.specs.Levels.{level}
-use Rattle.goal_kinds.specs.Settings.{Setting}
-use Rattle.goal_kinds.proofs.ConsistentLemmas.{each_level_is_consistent}
-use Rattle.goal_kinds.proofs.EqualLemmas.{one_head_form, no_head_form_refuted}
+use Rattle.goal_lists.specs.Headers.{StepInto, PartAmong}
+use Rattle.goal_lists.specs.Interned.{erased_at, erased_all}
+use Rattle.goal_lists.specs.Level.{Level, nothing, HasHeadForm, HeadFormRefuted}
+use Rattle.goal_lists.specs.Levels.{level}
+use Rattle.goal_lists.specs.Settings.{Setting}
+use Rattle.goal_lists.proofs.ConsistentLemmas.{each_level_is_consistent}
+use Rattle.goal_lists.proofs.EqualLemmas.{one_head_form, no_head_form_refuted}
 use Rattle.goal_eval.specs.HeaderWords.{erased_ref, is_this, IsBehind, GivesPart, SaysPart, SaysKnown, KnownFrom, KnownIn, known_trees, PartOutcome, KnownOutcome}
 use Rattle.goal_eval.specs.declared.eval.outcomes.Found.{Found}
 use Rattle.goal_eval.specs.declared.eval.outcomes.Found.TheVariants as found

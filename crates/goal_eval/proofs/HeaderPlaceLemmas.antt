@@ -23,13 +23,13 @@ use Rattle.goal_terms.specs.declared.sorts.Sort.{Sort}
 use Rattle.goal_terms.specs.declared.sorts.Sort.TheVariants as sorts
 use Rattle.goal_terms.specs.declared.terms.AliasTermKind.{AliasTermKind}
 use Rattle.goal_terms.proofs.NodeTestLemmas.{some_from, some_node-walk}
-use Rattle.goal_kinds.specs.Equality.{Unequal}
-use Rattle.goal_kinds.specs.Headers.{parameter_of, is_number, is_parameter, has_place, StepInto, Part, RowPart, Clash, PartAmong}
-use Rattle.goal_kinds.specs.Level.{Level, nothing}
-use Rattle.goal_kinds.specs.Levels.{level}
-use Rattle.goal_kinds.specs.Settings.{Setting}
-use Rattle.goal_kinds.specs.Words.{Either}
-use Rattle.goal_kinds.proofs.WithinWords.{either-map_test}
+use Rattle.goal_lists.specs.Equality.{Unequal}
+use Rattle.goal_lists.specs.Headers.{parameter_of, is_number, is_parameter, has_place, StepInto, Part, RowPart, Clash, PartAmong}
+use Rattle.goal_lists.specs.Level.{Level, nothing}
+use Rattle.goal_lists.specs.Levels.{level}
+use Rattle.goal_lists.specs.Settings.{Setting}
+use Rattle.goal_lists.specs.Words.{Either}
+use Rattle.goal_lists.proofs.WithinWords.{either-map_test}
 use Rattle.goal_eval.specs.HeaderWords.{MayStand, MayAllStand, parameter_at}
 
 -- the terms and headers of one level are those over another
@@ -354,9 +354,6 @@ number-at n h m o b x e f s w = ap (λ y. is_number n (parameter_at y)) (sym e) 
 -- the claims of a header and of its parts
 pub both_ways : {A C D : Type 0} → A ↔ C → C ↔ D → A ↔ D
 both_ways x y = chain x y
-
-pub back_ways : {A C D : Type 0} → A ↔ C → A ↔ D → C ↔ D
-back_ways x y = (λ c. y.0 (x.1 c), λ d. x.0 (y.1 d))
 
 -- what neither of two claims can be
 pub neither : {A : Type 0} → (A → ⊥) → A ↔ ⊥

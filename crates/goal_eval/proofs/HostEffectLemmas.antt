@@ -11,25 +11,25 @@ use Rattle.goal_terms.specs.declared.ids.TraitId.{TraitId}
 use Rattle.goal_terms.specs.declared.predicates.BoundConstness.{BoundConstness}
 use Rattle.goal_terms.specs.declared.term_nodes.TermId.{TermId}
 use Rattle.goal_terms.proofs.InternLemmas.{keeps-chain, keeps-refl}
-use Rattle.goal_kinds.specs.ConstGoals.{ConstHolds, ConstRefuted}
-use Rattle.goal_kinds.specs.Interned.{IsIn, AreIn, erased_at, erased_all}
-use Rattle.goal_kinds.specs.Laws.{IsConsistent}
-use Rattle.goal_kinds.specs.Level.{Level, HasHeadForm, HeadFormRefuted}
-use Rattle.goal_kinds.specs.Levels.{level}
-use Rattle.goal_kinds.specs.Settings.{Setting}
-use Rattle.goal_kinds.proofs.ConsistentLemmas.{each_level_is_consistent}
-use Rattle.goal_kinds.proofs.EqualLemmas.{one_head_form, no_head_form_refuted}
-use Rattle.goal_kinds.proofs.InternedLemmas.{same-grown, all_same-grown}
+use Rattle.goal_lists.specs.ConstGoals.{ConstHolds, ConstRefuted}
+use Rattle.goal_lists.specs.Interned.{IsIn, AreIn, erased_at, erased_all}
+use Rattle.goal_lists.specs.Laws.{IsConsistent}
+use Rattle.goal_lists.specs.Level.{Level, HasHeadForm, HeadFormRefuted}
+use Rattle.goal_lists.specs.Levels.{level}
+use Rattle.goal_lists.specs.Settings.{Setting}
+use Rattle.goal_lists.proofs.ConsistentLemmas.{each_level_is_consistent}
+use Rattle.goal_lists.proofs.EqualLemmas.{one_head_form, no_head_form_refuted}
+use Rattle.goal_lists.proofs.InternedLemmas.{same-grown, all_same-grown}
 use Rattle.goal_eval.specs.AskedTraits.{GroupsHold, GroupsRefuted, SaysGroups}
-use Rattle.goal_kinds.specs.Joined.{held}
+use Rattle.goal_lists.specs.Joined.{held}
 use Rattle.goal_eval.specs.Outcomes.{Says, SaysThrough, SaysWhich}
 use Rattle.goal_eval.specs.declared.eval.outcomes.Found.{Found}
 use Rattle.goal_eval.specs.declared.eval.outcomes.Found.TheVariants as found
-use Rattle.goal_kinds.specs.declared.outcomes.Outcome.{Outcome}
-use Rattle.goal_kinds.specs.declared.outcomes.Outcome.TheVariants as outcome
+use Rattle.goal_lists.specs.declared.outcomes.Outcome.{Outcome}
+use Rattle.goal_lists.specs.declared.outcomes.Outcome.TheVariants as outcome
 use Rattle.goal_eval.specs.declared.eval.outcomes.Stop.{Stop}
-use Rattle.goal_kinds.specs.declared.outcomes.TraitOutcome.{TraitOutcome}
-use Rattle.goal_kinds.specs.declared.outcomes.TraitOutcome.TheVariants as trait_outcome
+use Rattle.goal_lists.specs.declared.outcomes.TraitOutcome.{TraitOutcome}
+use Rattle.goal_lists.specs.declared.outcomes.TraitOutcome.TheVariants as trait_outcome
 use Rattle.goal_eval.proofs.ConstOutcomeLemmas.{const-refuted, const-open}
 use Rattle.goal_eval.proofs.OutcomeLists.{says-same}
 

@@ -19,9 +19,9 @@ use Rattle.goal_terms.specs.declared.terms.Term.{Term}
 use Rattle.goal_terms.proofs.InternLemmas.{trees-pushed, keeps-chain}
 use Rattle.goal_terms.proofs.TreeLemmas.{tree_of_alias-record}
 use Rattle.goal_terms.proofs.SortLemmas.{arg_sort, term_sort}
-use Rattle.goal_kinds.specs.Interned.{erased_at, erased_all, IsIn, AreIn}
-use Rattle.goal_kinds.proofs.InternedLemmas.{are_in-grown, in-grown}
-use Rattle.goal_kinds.proofs.UnderLemmas.{are_in-below}
+use Rattle.goal_lists.specs.Interned.{erased_at, erased_all, IsIn, AreIn}
+use Rattle.goal_lists.proofs.InternedLemmas.{are_in-grown, in-grown}
+use Rattle.goal_lists.proofs.UnderLemmas.{are_in-below}
 use Rattle.goal_eval.specs.ErasedArgs.{erased_args}
 
 -- the arguments so far have their numbers

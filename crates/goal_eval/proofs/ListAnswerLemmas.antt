@@ -8,14 +8,14 @@ use Rattle.goal_terms.specs.TableMeaning.{Keeps}
 use Rattle.goal_terms.specs.Tree.{Tree}
 use Rattle.goal_terms.specs.declared.modes.TypingMode.{TypingMode}
 use Rattle.goal_tables.specs.declared.rows.Tables.{Tables}
-use Rattle.goal_kinds.specs.Causes.{IsCausedEntry}
-use Rattle.goal_kinds.specs.Entries.{Entry, ListRefuted}
-use Rattle.goal_kinds.specs.InternedEntries.{entry_at, EntryIn, entries_at, EntriesIn, list_at}
-use Rattle.goal_kinds.specs.Level.{Level}
-use Rattle.goal_kinds.specs.ListModes.{IsAccess, StandsIn, ListStandsIn}
-use Rattle.goal_kinds.specs.Settings.{is_headline}
-use Rattle.goal_kinds.specs.declared.lists.InternedEntry.{InternedEntry}
-use Rattle.goal_kinds.proofs.GrowingEntries.{entry_in-grown, entry_same-grown}
+use Rattle.goal_lists.specs.Causes.{IsCausedEntry}
+use Rattle.goal_lists.specs.Entries.{Entry, ListRefuted}
+use Rattle.goal_lists.specs.InternedEntries.{entry_at, EntryIn, entries_at, EntriesIn, list_at}
+use Rattle.goal_lists.specs.Level.{Level}
+use Rattle.goal_lists.specs.ListModes.{IsAccess, StandsIn, ListStandsIn}
+use Rattle.goal_lists.specs.Settings.{is_headline}
+use Rattle.goal_lists.specs.declared.lists.InternedEntry.{InternedEntry}
+use Rattle.goal_lists.proofs.GrowingEntries.{entry_in-grown, entry_same-grown}
 use Rattle.goal_eval.specs.Lists.{IsListFor, AreEntriesFor, SaysList, SaysEntries, named_at, progress_at, taken_at, IsRunning, Leads, LeadsOn}
 use Rattle.goal_eval.specs.Outcomes.{RunsFor, level_in, StopsAtModes}
 use Rattle.goal_eval.specs.declared.eval.lists.ListOutcome.{ListOutcome}

@@ -9,23 +9,23 @@ use Rattle.goal_terms.specs.Sorts.{IsArgument}
 use Rattle.goal_terms.specs.Tree.{Tree}
 use Rattle.goal_terms.specs.declared.answers.ParamKind.{ParamKind}
 use Rattle.goal_terms.specs.declared.term_nodes.TermId.{TermId}
-use Rattle.goal_kinds.specs.Entries.{Arguments, given_arguments, of_header, of_other_header, followed_by, ExpectedTerm, as_it_stands, head_form_of, value_under, chosen_by, Named, NamedKnown, NamesNothing, TermIs, NoTerm}
-use Rattle.goal_kinds.specs.Headers.{under, AllKnown, Fits, Clashes}
-use Rattle.goal_kinds.specs.Interned.{IsIn, AreIn, erased_at, erased_all}
-use Rattle.goal_kinds.specs.InternedEntries.{value_tree}
-use Rattle.goal_kinds.specs.Laws.{IsConsistent}
-use Rattle.goal_kinds.specs.Level.{Level, HasHeadForm, HeadFormRefuted}
-use Rattle.goal_kinds.specs.Premises.{Premise, ClauseHolds, ClauseRefuted, PremisesHold, PremisesRefuted}
-use Rattle.goal_kinds.specs.Words.{OfRow, Pairs, SomePair}
-use Rattle.goal_kinds.specs.declared.lists.RowValueTerm.{RowValueTerm}
-use Rattle.goal_kinds.specs.declared.lists.RowValueTerm.TheVariants as value
-use Rattle.goal_kinds.proofs.SubstitutionLemmas.{one_substitution}
+use Rattle.goal_lists.specs.Entries.{Arguments, given_arguments, of_header, of_other_header, followed_by, ExpectedTerm, as_it_stands, head_form_of, value_under, chosen_by, Named, NamedKnown, NamesNothing, TermIs, NoTerm}
+use Rattle.goal_lists.specs.Headers.{under, AllKnown, Fits, Clashes}
+use Rattle.goal_lists.specs.Interned.{IsIn, AreIn, erased_at, erased_all}
+use Rattle.goal_lists.specs.InternedEntries.{value_tree}
+use Rattle.goal_lists.specs.Laws.{IsConsistent}
+use Rattle.goal_lists.specs.Level.{Level, HasHeadForm, HeadFormRefuted}
+use Rattle.goal_lists.specs.Premises.{Premise, ClauseHolds, ClauseRefuted, PremisesHold, PremisesRefuted}
+use Rattle.goal_lists.specs.Words.{OfRow, Pairs, SomePair}
+use Rattle.goal_lists.specs.declared.lists.RowValueTerm.{RowValueTerm}
+use Rattle.goal_lists.specs.declared.lists.RowValueTerm.TheVariants as value
+use Rattle.goal_lists.proofs.SubstitutionLemmas.{one_substitution}
 use Rattle.goal_eval.specs.Combined.{SaysMatched}
 use Rattle.goal_eval.specs.Lists.{SaysNamed, SaysTerm, premises_of, SaysRow, chosen_term}
 use Rattle.goal_eval.specs.Outcomes.{Says, SaysWhich, SaysMatch}
 use Rattle.goal_eval.specs.declared.eval.lists.entries.RowPremises.{RowPremises}
-use Rattle.goal_kinds.specs.declared.outcomes.Outcome.{Outcome}
-use Rattle.goal_kinds.specs.declared.outcomes.Outcome.TheVariants as outcome
+use Rattle.goal_lists.specs.declared.outcomes.Outcome.{Outcome}
+use Rattle.goal_lists.specs.declared.outcomes.Outcome.TheVariants as outcome
 use Rattle.goal_eval.specs.declared.eval.outcomes.Found.{Found}
 use Rattle.goal_eval.specs.declared.eval.outcomes.Found.TheVariants as found
 use Rattle.goal_eval.specs.declared.eval.outcomes.HeaderMatch.{HeaderMatch}

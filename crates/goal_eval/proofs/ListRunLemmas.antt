@@ -17,28 +17,28 @@ use Rattle.goal_terms.specs.declared.predicates.Clause.{Clause}
 use Rattle.goal_terms.specs.declared.predicates.TraitRef.{TraitRef}
 use Rattle.goal_terms.specs.declared.term_nodes.TermId.{TermId}
 use Rattle.goal_terms.specs.declared.ids.OpaqueId.{OpaqueId}
-use Rattle.goal_kinds.specs.declared.rules.FirstUse.{FirstUse}
-use Rattle.goal_kinds.specs.Entries.{Arguments, given_arguments, of_header, of_other_header, followed_by, ExpectedTerm, Entry, arguments, equal_terms, clause, row_clauses, row_conditions, expected, access, delayed_fault, evaluation, hidden_type, ambiguous, undecided, refused, OfNumbered, Named, NamedKnown, NamesNothing, TermIs, NoTerm, EntriesHold, EntriesRefuted, ListHolds, ListGives, ListRefuted, ListHoldsWith, ExpectsNone, AsksNoTerm}
-use Rattle.goal_kinds.specs.Headers.{under, no_lifetime}
-use Rattle.goal_kinds.specs.Interned.{IsIn, AreIn, erased_at, erased_all}
-use Rattle.goal_kinds.specs.Laws.{IsConsistent}
-use Rattle.goal_kinds.specs.Level.{Level}
-use Rattle.goal_kinds.specs.Premises.{ClauseHolds, ClauseRefuted, PremisesHold, PremisesRefuted, clauses_under, traits_under, conditions_as}
-use Rattle.goal_kinds.specs.Words.{Pairs, SomePair}
-use Rattle.goal_kinds.proofs.CandidateLemmas.{no_pair_unequal}
-use Rattle.goal_kinds.proofs.ContraryWords.{OfRow-twice}
-use Rattle.goal_kinds.proofs.InternedLemmas.{all-grow, map-same, in-grown, same-grown, are_in-grown, all_same-grown}
-use Rattle.goal_kinds.proofs.ListHeights.{named-known, no_names_nothing, no_term_none, one_term_is}
-use Rattle.goal_kinds.proofs.ListTerms.{weaker}
-use Rattle.goal_kinds.proofs.PremiseLemmas.{no_clause_refuted, no_premises_refuted}
-use Rattle.goal_kinds.proofs.SubstitutionLemmas.{one_substitution}
+use Rattle.goal_lists.specs.declared.lists.FirstUse.{FirstUse}
+use Rattle.goal_lists.specs.Entries.{Arguments, given_arguments, of_header, of_other_header, followed_by, ExpectedTerm, Entry, arguments, equal_terms, clause, row_clauses, row_conditions, expected, access, delayed_fault, evaluation, hidden_type, ambiguous, undecided, refused, OfNumbered, Named, NamedKnown, NamesNothing, TermIs, NoTerm, EntriesHold, EntriesRefuted, ListHolds, ListGives, ListRefuted, ListHoldsWith, ExpectsNone, AsksNoTerm}
+use Rattle.goal_lists.specs.Headers.{under, no_lifetime}
+use Rattle.goal_lists.specs.Interned.{IsIn, AreIn, erased_at, erased_all}
+use Rattle.goal_lists.specs.Laws.{IsConsistent}
+use Rattle.goal_lists.specs.Level.{Level}
+use Rattle.goal_lists.specs.Premises.{ClauseHolds, ClauseRefuted, PremisesHold, PremisesRefuted, clauses_under, traits_under, conditions_as}
+use Rattle.goal_lists.specs.Words.{Pairs, SomePair}
+use Rattle.goal_lists.proofs.CandidateLemmas.{no_pair_unequal}
+use Rattle.goal_lists.proofs.ContraryWords.{OfRow-twice}
+use Rattle.goal_lists.proofs.InternedLemmas.{all-grow, map-same, in-grown, same-grown, are_in-grown, all_same-grown}
+use Rattle.goal_lists.proofs.ListHeights.{named-known, no_names_nothing, no_term_none, one_term_is}
+use Rattle.goal_lists.proofs.ListTerms.{weaker}
+use Rattle.goal_lists.proofs.PremiseLemmas.{no_clause_refuted, no_premises_refuted}
+use Rattle.goal_lists.proofs.SubstitutionLemmas.{one_substitution}
 use Rattle.goal_eval.specs.Lists.{SaysList, ListTermIn, Progress, taken_at, TakenIn, progress_at, RunIn, at_start, HoldWith, AsksWith, IsRunning, IsUnsettled, LeadsOn, named_at, NamedIn, SaysNamed, SaysTerm, run_asking, reached_asking, TakesOn, GivesOn, reached_giving, NamesOn}
 use Rattle.goal_eval.specs.Outcomes.{Says, FoundIn, MatchIn}
 use Rattle.goal_eval.specs.declared.eval.lists.ListOutcome.{ListOutcome}
 use Rattle.goal_eval.specs.declared.eval.lists.ListOutcome.TheVariants as list
 use Rattle.goal_eval.specs.declared.eval.lists.progress.ListRun.{ListRun}
-use Rattle.goal_kinds.specs.declared.outcomes.Outcome.{Outcome}
-use Rattle.goal_kinds.specs.declared.outcomes.Outcome.TheVariants as outcome
+use Rattle.goal_lists.specs.declared.outcomes.Outcome.{Outcome}
+use Rattle.goal_lists.specs.declared.outcomes.Outcome.TheVariants as outcome
 use Rattle.goal_eval.specs.declared.eval.outcomes.Found.{Found}
 use Rattle.goal_eval.specs.declared.eval.outcomes.Found.TheVariants as found
 use Rattle.goal_eval.specs.declared.eval.outcomes.HeaderMatch.{HeaderMatch}
@@ -162,14 +162,6 @@ asking-leads L T U k r s i d e is P R a o says run q reached =
     subst (λ x. LeadsOn L (progress_at T r) x (progress_at U s) q) (sym is)
     (subst (λ x. LeadsOn L (progress_at T r) e (progress_at U x) q) (sym run)
     (subst (λ x. LeadsOn L (progress_at T r) e (progress_at U (run_asking o r)) x) (sym reached) (asks-at L T U k r i e P R a o says)))
-
-asking_in-at : (T : List Tree) (r : ListRun) (o : Outcome) → RunIn T r → RunIn T (run_asking o r)
-asking_in-at T r outcome.Holds i = i
-asking_in-at T r outcome.Refuted i = i
-asking_in-at T r outcome.Undecided i = i
-
-pub asking-in : (T U : List Tree) → Keeps T U → (r s : ListRun) → RunIn T r → (o : Outcome) → s ≡ run_asking o r → RunIn U s
-asking-in T U k r s i o run = subst (RunIn U) (sym run) (asking_in-at U r o (run_in-grown T U k r i))
 
 -- the entries that ask for a claim
 module _ (L : Level) (c : IsConsistent L) (named : List (List Tree)) where

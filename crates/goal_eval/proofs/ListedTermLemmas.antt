@@ -5,23 +5,23 @@ use Rattle.goal_terms.specs.declared.ids.ItemId.{ItemId}
 use Rattle.goal_terms.specs.declared.modes.TypingMode.{TypingMode}
 use Rattle.goal_terms.specs.declared.terms.AliasTermKind.{AliasTermKind}
 use Rattle.goal_terms.specs.declared.terms.AliasTermKind.TheVariants.{ProjectionTy, ProjectionConst, InherentTy, InherentConst, OpaqueTy, FreeTy, FreeConst, UnevaluatedConst}
-use Rattle.goal_kinds.specs.AliasLists.{alias_list}
-use Rattle.goal_kinds.specs.Answers.{setting_of}
-use Rattle.goal_kinds.specs.Candidates.{Candidate}
-use Rattle.goal_kinds.specs.Entries.{Entry, ListGives, ListRefuted}
-use Rattle.goal_kinds.specs.ImplTerms.{Projection}
-use Rattle.goal_kinds.specs.InternedEntries.{setting_at}
-use Rattle.goal_kinds.specs.Levels.{level}
-use Rattle.goal_kinds.specs.ListModes.{ListStandsIn}
-use Rattle.goal_kinds.specs.ProjectionLists.{projection_list}
-use Rattle.goal_kinds.specs.Projections.{projected_item, CandidateGives, TermRefuted}
-use Rattle.goal_kinds.specs.Settings.{Setting}
-use Rattle.goal_kinds.specs.declared.lists.ListSetting.{ListSetting}
-use Rattle.goal_kinds.proofs.AliasLists.{alias_list-gives, alias_list-refuted}
-use Rattle.goal_kinds.proofs.ListHeights.{list_holds-not_refuted}
-use Rattle.goal_kinds.proofs.ListStandIns.{projection_list-stands_in, alias_list-stands_in}
-use Rattle.goal_kinds.proofs.ListTerms.{asks_none-gives, gives-with}
-use Rattle.goal_kinds.proofs.ProjectionLists.{projection_list-gives, projection_list-refuted}
+use Rattle.goal_lists.specs.AliasLists.{alias_list}
+use Rattle.goal_lists.specs.Answers.{setting_of}
+use Rattle.goal_lists.specs.Candidates.{Candidate}
+use Rattle.goal_lists.specs.Entries.{Entry, ListGives, ListRefuted}
+use Rattle.goal_lists.specs.ImplTerms.{Projection}
+use Rattle.goal_lists.specs.InternedEntries.{setting_at}
+use Rattle.goal_lists.specs.Levels.{level}
+use Rattle.goal_lists.specs.ListModes.{ListStandsIn}
+use Rattle.goal_lists.specs.ProjectionLists.{projection_list}
+use Rattle.goal_lists.specs.Projections.{projected_item, CandidateGives, TermRefuted}
+use Rattle.goal_lists.specs.Settings.{Setting}
+use Rattle.goal_lists.specs.declared.lists.ListSetting.{ListSetting}
+use Rattle.goal_lists.proofs.AliasLists.{alias_list-gives, alias_list-refuted}
+use Rattle.goal_lists.proofs.ListHeights.{list_holds-not_refuted}
+use Rattle.goal_lists.proofs.ListStandIns.{projection_list-stands_in, alias_list-stands_in}
+use Rattle.goal_lists.proofs.ListTerms.{asks_none-gives, gives-with}
+use Rattle.goal_lists.proofs.ProjectionLists.{projection_list-gives, projection_list-refuted}
 use Rattle.goal_eval.specs.Lists.{list_mode, IsListFor, SaysList, list_term}
 use Rattle.goal_eval.specs.Outcomes.{RunsFor, setting_in, SaysWhich}
 use Rattle.goal_eval.specs.declared.eval.outcomes.Setting as over

@@ -1,25 +1,19 @@
 -- What merged outcomes say.
-use Rattle.std.proofs.Common.{◌≡◌, ◌≢◌, ◌⊎◌, inl, inr, ℕ, ◌+◌, ◌<◌, ◌≤◌, List, length, map, get_or, sym, subst, ◌∙◌, ⊎_elim, Result, Ok, Err}
-use Rattle.std.specs.Prelude.{IfOk}
+use Rattle.std.proofs.Common.{◌≡◌, ◌≢◌, ◌⊎◌, inl, inr, ℕ, ◌+◌, ◌<◌, ◌≤◌, List, length, map, get_or, sym, subst, ◌∙◌, ⊎_elim}
 use Rattle.goal_terms.specs.TableMeaning.{Keeps}
 use Rattle.goal_terms.specs.Tree.{Tree}
-use Rattle.goal_kinds.specs.Interned.{erased_at}
-use Rattle.goal_kinds.specs.Words.{Each, Exists}
-use Rattle.goal_kinds.proofs.ContraryWords.{Exists-Each}
-use Rattle.goal_kinds.proofs.InternedLemmas.{in-grown, same-grown}
+use Rattle.goal_lists.specs.Interned.{erased_at}
+use Rattle.goal_lists.specs.Words.{Each, Exists}
+use Rattle.goal_lists.proofs.ContraryWords.{Exists-Each}
+use Rattle.goal_lists.proofs.InternedLemmas.{in-grown, same-grown}
 use Rattle.goal_eval.specs.Outcomes.{Says, SaysWhich, FoundIn}
-use Rattle.goal_kinds.specs.Joined.{both}
+use Rattle.goal_lists.specs.Joined.{both}
 use Rattle.goal_eval.specs.ProjectionParts.{MergesTo}
 use Rattle.goal_eval.specs.declared.eval.outcomes.Found as founds
 use Rattle.goal_eval.specs.declared.eval.outcomes.Found.TheVariants as found
-use Rattle.goal_kinds.specs.declared.outcomes.Outcome as outcomes
-use Rattle.goal_kinds.specs.declared.outcomes.Outcome.TheVariants as outcome
+use Rattle.goal_lists.specs.declared.outcomes.Outcome as outcomes
+use Rattle.goal_lists.specs.declared.outcomes.Outcome.TheVariants as outcome
 use Rattle.goal_eval.proofs.BeforeLemmas.{EachBefore, SomeBefore, each_before-more, some_before-more, some_before-here, some_before-apart, each_before-end, some_before-whole, some_before-end, each-at, some_before-each_before, each_before-map, each-mapped, mapped-each, exists-mapped, mapped-exists}
-
--- what holds of a value, by what implies it
-pub ok-map : {A E : Type 0} (P Q : A → Type 0) (r : Result A E) → ((x : A) → P x → Q x) → IfOk r P → IfOk r Q
-ok-map P Q (Ok x) f h = f x h
-ok-map P Q (Err e) f h = tt
 
 -- a found term stays in a table that grows
 pub found_in-grown : (T U : List Tree) → Keeps T U → (f : founds.Found) → FoundIn T f → FoundIn U f

@@ -2,12 +2,12 @@
 use Rattle.std.proofs.Common.{◌≡◌, ◌⊎◌, inl, inr, ℕ, zero, suc, ◌+◌, ◌<◌, ◌≤◌, List, [], ◌∷◌, ◌++◌, length, map, get_or, take, sym, ap, subst, ⊎_elim, add-one, arith}
 use Rattle.std.specs.List.{All}
 use Rattle.std.proofs.lemmas.List.{take_all, length-map}
-use Rattle.goal_kinds.specs.Words.{Each, Exists}
-use Rattle.goal_kinds.proofs.ContraryWords.{Exists-Each}
+use Rattle.goal_lists.specs.Words.{Each, Exists}
+use Rattle.goal_lists.proofs.ContraryWords.{Exists-Each}
 use Rattle.goal_eval.specs.Outcomes.{Says}
-use Rattle.goal_kinds.specs.Joined.{both, one_of}
-use Rattle.goal_kinds.specs.declared.outcomes.Outcome.{Outcome}
-use Rattle.goal_kinds.specs.declared.outcomes.Outcome.TheVariants as outcome
+use Rattle.goal_lists.specs.Joined.{both, one_of}
+use Rattle.goal_lists.specs.declared.outcomes.Outcome.{Outcome}
+use Rattle.goal_lists.specs.declared.outcomes.Outcome.TheVariants as outcome
 
 -- claims exchanged for others that hold where they do
 pub says-same : (P Q R V : Type 0) → (P → Q) → (Q → P) → (R → V) → (V → R) → (o : Outcome) → Says P R o → Says Q V o

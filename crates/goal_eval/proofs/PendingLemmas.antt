@@ -9,16 +9,16 @@ use Rattle.goal_terms.specs.Erased.{erased}
 use Rattle.goal_terms.specs.Tree.{Tree, parts_of}
 use Rattle.goal_terms.specs.declared.compare.Regions.TheVariants.{Forgotten}
 use Rattle.goal_terms.specs.declared.term_nodes.TermId.{TermId}
-use Rattle.goal_kinds.specs.Interned.{erased_at, erased_all}
-use Rattle.goal_kinds.specs.Level.{Level}
-use Rattle.goal_kinds.specs.Levels.{level}
-use Rattle.goal_kinds.specs.Settings.{Setting}
-use Rattle.goal_kinds.specs.Words.{Each, Exists, Pairs, SomePair}
+use Rattle.goal_lists.specs.Interned.{erased_at, erased_all}
+use Rattle.goal_lists.specs.Level.{Level}
+use Rattle.goal_lists.specs.Levels.{level}
+use Rattle.goal_lists.specs.Settings.{Setting}
+use Rattle.goal_lists.specs.Words.{Each, Exists, Pairs, SomePair}
 use Rattle.goal_eval.specs.Outcomes.{Says}
-use Rattle.goal_kinds.specs.Joined.{both}
+use Rattle.goal_lists.specs.Joined.{both}
 use Rattle.goal_eval.specs.Pending.{Stands, Fails, AllEqual, SomeUnequal, Relates, HaveOneHead, NeedForms, AreOfOneKind, IsOpen, Adds}
-use Rattle.goal_kinds.specs.declared.outcomes.Outcome.{Outcome}
-use Rattle.goal_kinds.specs.declared.outcomes.Outcome.TheVariants.{Holds, Refuted, Undecided}
+use Rattle.goal_lists.specs.declared.outcomes.Outcome.{Outcome}
+use Rattle.goal_lists.specs.declared.outcomes.Outcome.TheVariants.{Holds, Refuted, Undecided}
 use Rattle.goal_eval.specs.declared.relate.pairs.Pending.{Pending}
 use Rattle.goal_eval.specs.declared.relate.pairs.TermPair.{TermPair}
 use Rattle.goal_eval.proofs.TopLemmas.{compares}
@@ -275,10 +275,6 @@ more-some O C N P Q X was split add = (
     | inr q ↦ was.1 (inr (split.1 (inr q)))
   ],
 )
-
--- before the first place
-pub leaves-first : (T : List Tree) (old : Pending) (ls rs : List TermId) → Leaves T old old 0 ls rs
-leaves-first T old ls rs S n = ((λ x. x, λ x. x), (λ x. x, λ x. x))
 
 -- one more place
 pub leaves-more : (T : List Tree) (old now next : Pending) (i : ℕ) (ls rs : List TermId) (d : TermId) → i < length ls → i < length rs →

@@ -10,28 +10,28 @@ use Rattle.goal_terms.specs.declared.ids.TraitId.{TraitId}
 use Rattle.goal_terms.specs.declared.modes.TypingMode.{TypingMode}
 use Rattle.goal_terms.specs.declared.predicates.BoundConstness.{BoundConstness}
 use Rattle.goal_terms.specs.declared.term_nodes.TermId.{TermId}
-use Rattle.goal_kinds.specs.Interned.{PremiseIn, TraitIn, trait_at, erased_at, erased_all, predicate_at, premise_at}
-use Rattle.goal_kinds.specs.declared.candidates.interned.InternedPredicate.{InternedPredicate}
-use Rattle.goal_kinds.specs.declared.candidates.interned.InternedPredicate.TheVariants as predicates
-use Rattle.goal_kinds.specs.declared.candidates.interned.InternedPremise.{InternedPremise}
-use Rattle.goal_kinds.specs.declared.candidates.interned.InternedPremise.TheVariants as premises
-use Rattle.goal_kinds.specs.declared.candidates.interned.InternedTrait.{InternedTrait}
-use Rattle.goal_kinds.specs.Level.{Level}
-use Rattle.goal_kinds.specs.Levels.{level}
-use Rattle.goal_kinds.specs.Premises.{Premise, predicate, equation, TraitTree, ClauseHolds, ClauseRefuted, PremiseHolds, PremiseRefuted, PremisesHold, PremisesRefuted, conditions_as}
-use Rattle.goal_kinds.specs.Settings.{Setting}
-use Rattle.goal_kinds.specs.Words.{Each, Exists}
-use Rattle.goal_kinds.proofs.ConsistentLemmas.{each_level_is_consistent}
-use Rattle.goal_kinds.proofs.InternedLemmas.{premise_in-grown, premise_same-grown, trait_in-grown, trait_same-grown}
-use Rattle.goal_kinds.proofs.PremiseLemmas.{no_premise_refuted}
-use Rattle.goal_kinds.specs.Joined.{both, held}
+use Rattle.goal_lists.specs.Interned.{PremiseIn, TraitIn, trait_at, erased_at, erased_all, predicate_at, premise_at}
+use Rattle.goal_lists.specs.declared.candidates.interned.InternedPredicate.{InternedPredicate}
+use Rattle.goal_lists.specs.declared.candidates.interned.InternedPredicate.TheVariants as predicates
+use Rattle.goal_lists.specs.declared.candidates.interned.InternedPremise.{InternedPremise}
+use Rattle.goal_lists.specs.declared.candidates.interned.InternedPremise.TheVariants as premises
+use Rattle.goal_lists.specs.declared.candidates.interned.InternedTrait.{InternedTrait}
+use Rattle.goal_lists.specs.Level.{Level}
+use Rattle.goal_lists.specs.Levels.{level}
+use Rattle.goal_lists.specs.Premises.{Premise, predicate, equation, TraitTree, ClauseHolds, ClauseRefuted, PremiseHolds, PremiseRefuted, PremisesHold, PremisesRefuted, conditions_as}
+use Rattle.goal_lists.specs.Settings.{Setting}
+use Rattle.goal_lists.specs.Words.{Each, Exists}
+use Rattle.goal_lists.proofs.ConsistentLemmas.{each_level_is_consistent}
+use Rattle.goal_lists.proofs.InternedLemmas.{premise_in-grown, premise_same-grown, trait_in-grown, trait_same-grown}
+use Rattle.goal_lists.proofs.PremiseLemmas.{no_premise_refuted}
+use Rattle.goal_lists.specs.Joined.{both, held}
 use Rattle.goal_eval.specs.Outcomes.{RunsFor, setting_in, level_in, Says, SaysThrough}
 use Rattle.goal_eval.specs.declared.eval.outcomes.Setting as over
-use Rattle.goal_kinds.specs.declared.outcomes.Outcome.{Outcome}
-use Rattle.goal_kinds.specs.declared.outcomes.Outcome.TheVariants as outcome
+use Rattle.goal_lists.specs.declared.outcomes.Outcome.{Outcome}
+use Rattle.goal_lists.specs.declared.outcomes.Outcome.TheVariants as outcome
 use Rattle.goal_eval.specs.declared.eval.outcomes.Stop.{Stop}
-use Rattle.goal_kinds.specs.declared.outcomes.TraitOutcome.{TraitOutcome}
-use Rattle.goal_kinds.specs.declared.outcomes.TraitOutcome.TheVariants as trait_outcome
+use Rattle.goal_lists.specs.declared.outcomes.TraitOutcome.{TraitOutcome}
+use Rattle.goal_lists.specs.declared.outcomes.TraitOutcome.TheVariants as trait_outcome
 use Rattle.goal_eval.proofs.OutcomeLists.{all-more, take-push, take-whole, Exists-taken, All-at}
 
 -- what an outcome says of a premise

@@ -10,7 +10,7 @@ use Rattle.goal_terms.specs.declared.heads.Head.TheVariants as head
 use Rattle.goal_terms.specs.declared.ids.TraitId.{TraitId}
 use Rattle.goal_terms.specs.declared.term_nodes.TermId.{TermId}
 use Rattle.goal_terms.specs.declared.terms.AliasTermKind.{AliasTermKind}
-use Rattle.goal_kinds.specs.Interned.{erased_at, erased_all, AreIn}
+use Rattle.goal_lists.specs.Interned.{erased_at, erased_all, AreIn}
 use Rattle.goal_eval.specs.ProjectionParts.{rest_of}
 
 -- the parts of a term without lifetimes

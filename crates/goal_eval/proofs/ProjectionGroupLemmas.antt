@@ -16,24 +16,25 @@ use Rattle.goal_terms.specs.declared.terms.AliasTermKind.{AliasTermKind}
 use Rattle.goal_tables.specs.Rows.{trait_of, item_of}
 use Rattle.goal_tables.specs.declared.rows.ItemRow.{ItemRow}
 use Rattle.goal_tables.specs.declared.rows.TraitRow.{TraitRow}
-use Rattle.goal_kinds.specs.Candidates.{Candidate, environment, second_group, class_of}
-use Rattle.goal_kinds.specs.Fitting.{fitting}
-use Rattle.goal_kinds.specs.ImplTerms.{Projection}
-use Rattle.goal_kinds.specs.Interned.{IsIn, AreIn, erased_at, erased_all}
-use Rattle.goal_kinds.specs.Laws.{IsConsistent}
-use Rattle.goal_kinds.specs.Level.{Level, HasHeadForm, HeadFormRefuted}
-use Rattle.goal_kinds.specs.Projections.{GroupGives, GroupRefuted, GroupsGive, GroupsRefuted, OwnUnformed, ItemGives, ItemRefuted, ProjectionGives, ProjectionRefuted}
-use Rattle.goal_kinds.specs.Settings.{Setting}
-use Rattle.goal_kinds.specs.Words.{OfRow}
-use Rattle.goal_kinds.proofs.EqualLemmas.{one_head_form, no_head_form_refuted}
-use Rattle.goal_kinds.proofs.FittingLemmas.{fitting-environment}
-use Rattle.goal_kinds.proofs.InternedLemmas.{same-grown, are_in-grown, all_same-grown}
-use Rattle.goal_kinds.proofs.ProjectionLemmas.{one_group_term, no_group_refuted}
+use Rattle.goal_lists.specs.Candidates.{Candidate, environment, second_group, class_of}
+use Rattle.goal_lists.specs.Fitting.{fitting}
+use Rattle.goal_lists.specs.ImplTerms.{Projection}
+use Rattle.goal_lists.specs.Interned.{IsIn, AreIn, erased_at, erased_all}
+use Rattle.goal_lists.specs.Laws.{IsConsistent}
+use Rattle.goal_lists.specs.Level.{Level, HasHeadForm, HeadFormRefuted}
+use Rattle.goal_lists.specs.Projections.{GroupGives, GroupRefuted, GroupsGive, GroupsRefuted, OwnUnformed, ItemGives, ItemRefuted, ProjectionGives, ProjectionRefuted}
+use Rattle.goal_lists.specs.Settings.{Setting}
+use Rattle.goal_lists.specs.Words.{OfRow}
+use Rattle.goal_lists.proofs.EqualLemmas.{one_head_form, no_head_form_refuted}
+use Rattle.goal_lists.proofs.FittingLemmas.{fitting-environment}
+use Rattle.goal_lists.proofs.InternedLemmas.{same-grown, are_in-grown, all_same-grown}
+use Rattle.goal_lists.proofs.ProjectionLemmas.{one_group_term, no_group_refuted}
 use Rattle.goal_eval.specs.Outcomes.{SaysWhich, ProjectionIn, projection_at}
 use Rattle.goal_eval.specs.ProjectionParts.{rest_of, FormedGives, LaterGives, LaterRefuted, replaced, ReplacedGives, ReplacedRefuted, ThroughGives, ThroughRefuted}
 use Rattle.goal_eval.specs.declared.eval.outcomes.Found as founds
 use Rattle.goal_eval.specs.declared.eval.outcomes.Projection as projections
-use Rattle.goal_eval.proofs.MergingLemmas.{ok-map, which-map}
+use Rattle.goal_eval.proofs.MergingLemmas.{which-map}
+use Rattle.goal_lists.proofs.ResultLemmas.{ok-map}
 use Rattle.goal_eval.proofs.ProjectionArgLemmas.{rest-erased}
 use Rattle.goal_eval.proofs.ProjectionTermLemmas.{projection_same-grown}
 

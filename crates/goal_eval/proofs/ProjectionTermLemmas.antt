@@ -8,39 +8,40 @@ use Rattle.goal_terms.specs.TableMeaning.{Keeps}
 use Rattle.goal_terms.specs.Tree.{Tree}
 use Rattle.goal_terms.specs.declared.modes.TypingMode.{TypingMode}
 use Rattle.goal_terms.specs.declared.term_nodes.TermId.{TermId}
-use Rattle.goal_kinds.specs.Candidates.{Candidate}
-use Rattle.goal_kinds.specs.Fitting.{trees_at, may_fit, fitting}
-use Rattle.goal_kinds.specs.ImplTerms.{Projection, trait_args, own_args}
-use Rattle.goal_kinds.specs.Interned.{IsIn, AreIn, CandidateIn, erased_at, erased_all, candidate_at}
-use Rattle.goal_kinds.specs.Laws.{IsConsistent}
-use Rattle.goal_kinds.specs.Level.{Level, HasHeadForm, HeadFormRefuted}
-use Rattle.goal_kinds.specs.Levels.{level}
-use Rattle.goal_kinds.specs.Projections.{CandidateGives, TermRefuted, TermDecides, TermRuledOut, GroupGives, GroupRefuted, OwnFormed, OwnUnformed}
-use Rattle.goal_kinds.specs.Settings.{Setting}
-use Rattle.goal_kinds.specs.declared.candidates.interned.InternedCandidate.{InternedCandidate}
-use Rattle.goal_kinds.proofs.ConsistentLemmas.{each_level_is_consistent}
-use Rattle.goal_kinds.proofs.EqualLemmas.{no_head_form_refuted}
-use Rattle.goal_kinds.proofs.FilteredWords.{exists-kept, kept-exists, each-kept, kept-each}
-use Rattle.goal_kinds.proofs.FittingLemmas.{trees-erased, term_refuted}
-use Rattle.goal_kinds.proofs.InternedLemmas.{same-grown, all_same-grown, candidate_same-grown}
-use Rattle.goal_kinds.proofs.TermCandidateLemmas.{one_candidate_term, no_candidate_term_refuted, no_term_ruled_out}
+use Rattle.goal_lists.specs.Candidates.{Candidate}
+use Rattle.goal_lists.specs.Fitting.{trees_at, may_fit, fitting}
+use Rattle.goal_lists.specs.ImplTerms.{Projection, trait_args, own_args}
+use Rattle.goal_lists.specs.Interned.{IsIn, AreIn, CandidateIn, erased_at, erased_all, candidate_at}
+use Rattle.goal_lists.specs.Laws.{IsConsistent}
+use Rattle.goal_lists.specs.Level.{Level, HasHeadForm, HeadFormRefuted}
+use Rattle.goal_lists.specs.Levels.{level}
+use Rattle.goal_lists.specs.Projections.{CandidateGives, TermRefuted, TermDecides, TermRuledOut, GroupGives, GroupRefuted, OwnFormed, OwnUnformed}
+use Rattle.goal_lists.specs.Settings.{Setting}
+use Rattle.goal_lists.specs.declared.candidates.interned.InternedCandidate.{InternedCandidate}
+use Rattle.goal_lists.proofs.ConsistentLemmas.{each_level_is_consistent}
+use Rattle.goal_lists.proofs.EqualLemmas.{no_head_form_refuted}
+use Rattle.goal_lists.proofs.FilteredWords.{exists-kept, kept-exists, each-kept, kept-each}
+use Rattle.goal_lists.proofs.FittingLemmas.{trees-erased, term_refuted}
+use Rattle.goal_lists.proofs.InternedLemmas.{same-grown, all_same-grown, candidate_same-grown}
+use Rattle.goal_lists.proofs.TermCandidateLemmas.{one_candidate_term, no_candidate_term_refuted, no_term_ruled_out}
 use Rattle.goal_eval.specs.Outcomes.{Says, SaysWhich, FoundIn, ProjectionIn, projection_at, setting_in, level_in}
 use Rattle.goal_eval.specs.ProjectionParts.{MergesTo, IsFormed, HaveHeadForms, SomeUnformed, FormedGives}
 use Rattle.goal_eval.specs.declared.eval.outcomes.Setting as over
 use Rattle.goal_eval.specs.declared.eval.outcomes.Found as founds
 use Rattle.goal_eval.specs.declared.eval.outcomes.Found.TheVariants as found
-use Rattle.goal_kinds.specs.declared.outcomes.Outcome as outcomes
-use Rattle.goal_kinds.specs.declared.outcomes.Outcome.TheVariants as outcome
+use Rattle.goal_lists.specs.declared.outcomes.Outcome as outcomes
+use Rattle.goal_lists.specs.declared.outcomes.Outcome.TheVariants as outcome
 use Rattle.goal_eval.specs.declared.eval.outcomes.Projection as projections
-use Rattle.goal_kinds.specs.Words.{Each, Exists}
-use Rattle.goal_kinds.proofs.CandidateLemmas.{not_passed_over}
-use Rattle.goal_kinds.proofs.ContraryWords.{Exists-Each}
-use Rattle.goal_kinds.proofs.WithinWords.{each-map, exists-map}
+use Rattle.goal_lists.specs.Words.{Each, Exists}
+use Rattle.goal_lists.proofs.CandidateLemmas.{not_passed_over}
+use Rattle.goal_lists.proofs.ContraryWords.{Exists-Each}
+use Rattle.goal_lists.proofs.WithinWords.{each-map, exists-map}
 use Rattle.goal_eval.specs.SpecialImpls.{SaysMoreSpecial, GivesUnpassed, GivesDecided, Tells, SaysGiven, given_beside, if_decided}
 use Rattle.goal_eval.specs.declared.normalizes_to.projection_candidates.GivenTerm.{GivenTerm}
 use Rattle.goal_eval.proofs.SpecialImplLemmas.{given-refuted, given-says}
 use Rattle.goal_eval.proofs.BeforeLemmas.{SomeBefore, some_before-here, some_before-more, some_before-apart, some_before-whole, some_before-end, exists-mapped, mapped-exists}
-use Rattle.goal_eval.proofs.MergingLemmas.{ok-map, which-map, HeldBefore, held-more, held-undecided, held-end, says-mapped, AgreeOn, AgreeBefore, agree-grown, agree-more, agree-end, which-mapped}
+use Rattle.goal_eval.proofs.MergingLemmas.{which-map, HeldBefore, held-more, held-undecided, held-end, says-mapped, AgreeOn, AgreeBefore, agree-grown, agree-more, agree-end, which-mapped}
+use Rattle.goal_lists.proofs.ResultLemmas.{ok-map}
 
 -- each level is consistent
 pub consistent : (s : over.Setting) (m : TypingMode) (n : ℕ) → IsConsistent (level_in s m n)

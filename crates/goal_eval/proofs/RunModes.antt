@@ -3,9 +3,9 @@ use Rattle.std.proofs.Common.{◌≡◌, true, false, List, Option, inl, inr, re
 use Rattle.std.specs.Prelude.{if◌then◌else◌}
 use Rattle.goal_terms.specs.declared.modes.TypingMode.{TypingMode}
 use Rattle.goal_terms.specs.declared.modes.TypingMode.TheVariants as mode
-use Rattle.goal_kinds.specs.Entries.{Entry}
-use Rattle.goal_kinds.specs.ListModes.{ListStandsIn}
-use Rattle.goal_kinds.specs.Settings.{is_erased, is_headline}
+use Rattle.goal_lists.specs.Entries.{Entry}
+use Rattle.goal_lists.specs.ListModes.{ListStandsIn}
+use Rattle.goal_lists.specs.Settings.{is_erased, is_headline}
 use Rattle.goal_eval.specs.Lists.{mode_of_lists, list_mode, IsListFor}
 use Rattle.goal_eval.specs.Outcomes.{RunsAs, RunsFor, GoesByOwn}
 use Rattle.goal_eval.specs.declared.eval.outcomes.OnAccess.{OnAccess}

@@ -12,29 +12,29 @@ use Rattle.goal_tables.specs.Indexed.{StandsAmong, AreMoreSpecial}
 use Rattle.goal_tables.specs.Specialized.{reached}
 use Rattle.goal_tables.specs.declared.rows.ImplRow.{ImplRow}
 use Rattle.goal_tables.specs.declared.rows.Tables.{Tables}
-use Rattle.goal_kinds.specs.Candidates.{Candidate, by_impl}
-use Rattle.goal_kinds.specs.ImplTerms.{Projection, trait_args}
-use Rattle.goal_kinds.specs.Interned.{AreIn, erased_at, erased_all, candidate_at}
-use Rattle.goal_kinds.specs.Laws.{IsConsistent}
-use Rattle.goal_kinds.specs.Level.{Level}
-use Rattle.goal_kinds.specs.Projections.{CandidateGives, TermRefuted}
-use Rattle.goal_kinds.specs.Settings.{Setting}
-use Rattle.goal_kinds.specs.TraitGoals.{ImplHolds, ImplRefuted, PassedOver, Decides}
-use Rattle.goal_kinds.specs.Words.{Each, Exists}
-use Rattle.goal_kinds.specs.declared.candidates.interned.InternedCandidate.{InternedCandidate}
-use Rattle.goal_kinds.specs.declared.candidates.interned.InternedCandidate.TheVariants as candidates
-use Rattle.goal_kinds.proofs.CandidateLemmas.{no_impl_refuted, not_passed_over}
-use Rattle.goal_kinds.proofs.ConsistentLemmas.{each_level_is_consistent}
-use Rattle.goal_kinds.proofs.InternedLemmas.{all_same-grown}
-use Rattle.goal_kinds.proofs.SpecializedLemmas.{decides-all, all-decides, passed_over-one, one-passed_over}
-use Rattle.goal_kinds.proofs.TermCandidateLemmas.{no_candidate_term_refuted}
-use Rattle.goal_kinds.specs.Joined.{one_of, beside}
+use Rattle.goal_lists.specs.Candidates.{Candidate, by_impl}
+use Rattle.goal_lists.specs.ImplTerms.{Projection, trait_args}
+use Rattle.goal_lists.specs.Interned.{AreIn, erased_at, erased_all, candidate_at}
+use Rattle.goal_lists.specs.Laws.{IsConsistent}
+use Rattle.goal_lists.specs.Level.{Level}
+use Rattle.goal_lists.specs.Projections.{CandidateGives, TermRefuted}
+use Rattle.goal_lists.specs.Settings.{Setting}
+use Rattle.goal_lists.specs.TraitGoals.{ImplHolds, ImplRefuted, PassedOver, Decides}
+use Rattle.goal_lists.specs.Words.{Each, Exists}
+use Rattle.goal_lists.specs.declared.candidates.interned.InternedCandidate.{InternedCandidate}
+use Rattle.goal_lists.specs.declared.candidates.interned.InternedCandidate.TheVariants as candidates
+use Rattle.goal_lists.proofs.CandidateLemmas.{no_impl_refuted, not_passed_over}
+use Rattle.goal_lists.proofs.ConsistentLemmas.{each_level_is_consistent}
+use Rattle.goal_lists.proofs.InternedLemmas.{all_same-grown}
+use Rattle.goal_lists.proofs.SpecializedLemmas.{decides-all, all-decides, passed_over-one, one-passed_over}
+use Rattle.goal_lists.proofs.TermCandidateLemmas.{no_candidate_term_refuted}
+use Rattle.goal_lists.specs.Joined.{one_of, beside}
 use Rattle.goal_eval.specs.Outcomes.{RunsFor, setting_in, level_in, Says, SaysWhich}
 use Rattle.goal_eval.specs.SpecialImpls.{SaysMoreSpecial, SaysGiven, given_beside}
 use Rattle.goal_eval.specs.declared.eval.outcomes.Found.{Found}
 use Rattle.goal_eval.specs.declared.eval.outcomes.Found.TheVariants as found
-use Rattle.goal_kinds.specs.declared.outcomes.Outcome.{Outcome}
-use Rattle.goal_kinds.specs.declared.outcomes.Outcome.TheVariants as outcome
+use Rattle.goal_lists.specs.declared.outcomes.Outcome.{Outcome}
+use Rattle.goal_lists.specs.declared.outcomes.Outcome.TheVariants as outcome
 use Rattle.goal_eval.specs.declared.eval.outcomes.Setting as over
 use Rattle.goal_eval.proofs.OutcomeLists.{says-same, some-more, Exists-taken}
 

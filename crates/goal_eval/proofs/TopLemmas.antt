@@ -9,14 +9,14 @@ use Rattle.goal_terms.specs.declared.heads.Node.{Node}
 use Rattle.goal_terms.specs.declared.heads.Node.TheVariants as nodes
 use Rattle.goal_terms.specs.declared.term_nodes.TermId.{TermId}
 use Rattle.goal_terms.proofs.WalkLemmas.{node_of-compared}
-use Rattle.goal_kinds.specs.Equality.{Equal, RowEqual, Unequal, RowUnequal}
-use Rattle.goal_kinds.specs.Interned.{erased_at}
-use Rattle.goal_kinds.specs.Level.{Level, nothing}
-use Rattle.goal_kinds.specs.Levels.{level}
-use Rattle.goal_kinds.specs.Settings.{Setting}
-use Rattle.goal_kinds.specs.Words.{Pairs, SomePair}
-use Rattle.goal_kinds.proofs.ConsistentLemmas.{each_level_is_consistent}
-use Rattle.goal_kinds.proofs.EqualLemmas.{equal_itself}
+use Rattle.goal_lists.specs.Equality.{Equal, RowEqual, Unequal, RowUnequal}
+use Rattle.goal_lists.specs.Interned.{erased_at}
+use Rattle.goal_lists.specs.Level.{Level, nothing}
+use Rattle.goal_lists.specs.Levels.{level}
+use Rattle.goal_lists.specs.Settings.{Setting}
+use Rattle.goal_lists.specs.Words.{Pairs, SomePair}
+use Rattle.goal_lists.proofs.ConsistentLemmas.{each_level_is_consistent}
+use Rattle.goal_lists.proofs.EqualLemmas.{equal_itself}
 use Rattle.goal_eval.specs.Pending.{is_alias, is_variable, HaveOneHead}
 
 -- neither term is an alias, one is a variable, and they aren't the same

@@ -13,28 +13,28 @@ use Rattle.goal_terms.specs.declared.ids.TraitId.{TraitId}
 use Rattle.goal_terms.specs.declared.term_nodes.TermId.{TermId}
 use Rattle.goal_terms.specs.declared.terms.GenericArg.{GenericArg}
 use Rattle.goal_tables.specs.declared.rows.ImplRow.{ImplRow}
-use Rattle.goal_kinds.specs.Candidates.{Candidate, environment, alias_bounds, rest, class_of, classes_before, all_candidates}
-use Rattle.goal_kinds.specs.Interned.{IsIn, AreIn, erased_at, erased_all, CandidateIn}
-use Rattle.goal_kinds.specs.Laws.{IsConsistent}
-use Rattle.goal_kinds.specs.Level.{Level, HasHeadForm, HeadFormRefuted}
-use Rattle.goal_kinds.specs.Levels.{level}
-use Rattle.goal_kinds.specs.Settings.{Setting}
-use Rattle.goal_kinds.specs.TraitGoals.{header_of, CandidateDecides, CandidateRuledOut, TraitHolds, TraitRefuted}
-use Rattle.goal_kinds.specs.Words.{Each, Exists}
-use Rattle.goal_kinds.specs.declared.candidates.interned.InternedCandidate.{InternedCandidate}
-use Rattle.goal_kinds.proofs.CandidateLemmas.{no_candidate_ruled_out}
-use Rattle.goal_kinds.proofs.ConsistentLemmas.{each_level_is_consistent}
-use Rattle.goal_kinds.proofs.ContraryWords.{Exists-Each, Each-left, Each-right}
-use Rattle.goal_kinds.proofs.EqualLemmas.{one_head_form, no_head_form_refuted}
-use Rattle.goal_kinds.proofs.InternedLemmas.{are_in-grown, all_same-grown, candidate_in-grown}
-use Rattle.goal_kinds.specs.Joined.{through}
+use Rattle.goal_lists.specs.Candidates.{Candidate, environment, alias_bounds, rest, class_of, classes_before, all_candidates}
+use Rattle.goal_lists.specs.Interned.{IsIn, AreIn, erased_at, erased_all, CandidateIn}
+use Rattle.goal_lists.specs.Laws.{IsConsistent}
+use Rattle.goal_lists.specs.Level.{Level, HasHeadForm, HeadFormRefuted}
+use Rattle.goal_lists.specs.Levels.{level}
+use Rattle.goal_lists.specs.Settings.{Setting}
+use Rattle.goal_lists.specs.TraitGoals.{header_of, CandidateDecides, CandidateRuledOut, TraitHolds, TraitRefuted}
+use Rattle.goal_lists.specs.Words.{Each, Exists}
+use Rattle.goal_lists.specs.declared.candidates.interned.InternedCandidate.{InternedCandidate}
+use Rattle.goal_lists.proofs.CandidateLemmas.{no_candidate_ruled_out}
+use Rattle.goal_lists.proofs.ConsistentLemmas.{each_level_is_consistent}
+use Rattle.goal_lists.proofs.ContraryWords.{Exists-Each, Each-left, Each-right}
+use Rattle.goal_lists.proofs.EqualLemmas.{one_head_form, no_head_form_refuted}
+use Rattle.goal_lists.proofs.InternedLemmas.{are_in-grown, all_same-grown, candidate_in-grown}
+use Rattle.goal_lists.specs.Joined.{through}
 use Rattle.goal_eval.specs.Outcomes.{Says, SaysThrough, SaysMatch, header_terms}
 use Rattle.goal_eval.specs.TraitOutcomes.{SaysClasses}
-use Rattle.goal_kinds.specs.declared.outcomes.Outcome.{Outcome}
-use Rattle.goal_kinds.specs.declared.outcomes.Outcome.TheVariants as outcome
+use Rattle.goal_lists.specs.declared.outcomes.Outcome.{Outcome}
+use Rattle.goal_lists.specs.declared.outcomes.Outcome.TheVariants as outcome
 use Rattle.goal_eval.specs.declared.eval.outcomes.Stop.{Stop}
-use Rattle.goal_kinds.specs.declared.outcomes.TraitOutcome.{TraitOutcome}
-use Rattle.goal_kinds.specs.declared.outcomes.TraitOutcome.TheVariants as trait_outcome
+use Rattle.goal_lists.specs.declared.outcomes.TraitOutcome.{TraitOutcome}
+use Rattle.goal_lists.specs.declared.outcomes.TraitOutcome.TheVariants as trait_outcome
 use Rattle.goal_eval.specs.declared.eval.outcomes.HeaderMatch.{HeaderMatch}
 use Rattle.goal_eval.proofs.OutcomeLists.{All-at}
 

@@ -4,19 +4,19 @@ use Rattle.goal_terms.specs.Tree.{Tree}
 use Rattle.goal_terms.specs.declared.answers.TraitGoalProvenVia.{TraitGoalProvenVia}
 use Rattle.goal_terms.specs.declared.ids.TraitId.{TraitId}
 use Rattle.goal_terms.specs.declared.predicates.BoundConstness.{BoundConstness}
-use Rattle.goal_kinds.specs.Candidates.{Candidate, class_of, environment, second_group}
-use Rattle.goal_kinds.specs.ConstGoals.{ConstCandidateHolds, ConstCandidateRefuted}
-use Rattle.goal_kinds.specs.EffectLists.{effect_list}
-use Rattle.goal_kinds.specs.Entries.{Entry}
-use Rattle.goal_kinds.specs.Interned.{IsIn, AreIn, erased_at, erased_all}
-use Rattle.goal_kinds.specs.Level.{Level}
-use Rattle.goal_kinds.specs.Settings.{Setting}
-use Rattle.goal_kinds.specs.TraitGoals.{CandidateHolds, CandidateRefuted, PassedOver, Decides}
-use Rattle.goal_kinds.specs.TraitLists.{trait_list}
-use Rattle.goal_kinds.specs.Words.{Each, Exists}
+use Rattle.goal_lists.specs.Candidates.{Candidate, class_of, environment, second_group}
+use Rattle.goal_lists.specs.ConstGoals.{ConstCandidateHolds, ConstCandidateRefuted}
+use Rattle.goal_lists.specs.EffectLists.{effect_list}
+use Rattle.goal_lists.specs.Entries.{Entry}
+use Rattle.goal_lists.specs.Interned.{IsIn, AreIn, erased_at, erased_all}
+use Rattle.goal_lists.specs.Level.{Level}
+use Rattle.goal_lists.specs.Settings.{Setting}
+use Rattle.goal_lists.specs.TraitGoals.{CandidateHolds, CandidateRefuted, PassedOver, Decides}
+use Rattle.goal_lists.specs.TraitLists.{trait_list}
+use Rattle.goal_lists.specs.Words.{Each, Exists}
 use Rattle.goal_eval.specs.Outcomes.{Says}
 use Rattle.goal_eval.specs.declared.assembly.candidates.AskedTrait.{AskedTrait}
-use Rattle.goal_kinds.specs.declared.outcomes.Outcome.{Outcome}
+use Rattle.goal_lists.specs.declared.outcomes.Outcome.{Outcome}
 
 -- the list of a candidate for a trait, as a const trait where a constness is asked
 abbrev pub asked_list : Setting → Option BoundConstness → TraitId → List Tree → Candidate → Option (List Entry)

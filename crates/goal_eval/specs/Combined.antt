@@ -1,7 +1,7 @@
 -- What a match of a header comes to, whatever it is matched with.
 use Rattle.std.specs.Prelude.{List}
 use Rattle.goal_terms.specs.Tree.{Tree}
-use Rattle.goal_kinds.specs.Interned.{erased_all}
+use Rattle.goal_lists.specs.Interned.{erased_all}
 use Rattle.goal_eval.specs.declared.eval.outcomes.HeaderMatch.{HeaderMatch}
 use Rattle.goal_eval.specs.declared.eval.outcomes.HeaderMatch.TheVariants as match
 

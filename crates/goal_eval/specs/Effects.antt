@@ -5,8 +5,8 @@ use Rattle.goal_terms.specs.Tree.{Tree}
 use Rattle.goal_terms.specs.declared.modes.TypingMode.{TypingMode}
 use Rattle.goal_terms.specs.declared.modes.TypingMode.TheVariants as mode
 use Rattle.goal_tables.specs.declared.rows.Tables.{Tables}
-use Rattle.goal_kinds.specs.Causes.{IsCaused, IsFaultCaused}
-use Rattle.goal_kinds.specs.Settings.{is_headline}
+use Rattle.goal_lists.specs.Causes.{IsCaused, IsFaultCaused}
+use Rattle.goal_lists.specs.Settings.{is_headline}
 use Rattle.goal_eval.specs.EvaluationCache.{IsValidCache, IsEmptyCache}
 use Rattle.goal_eval.specs.declared.eval.effects.Effects.{Effects}
 use Rattle.goal_eval.specs.declared.eval.outcomes.Setting as over

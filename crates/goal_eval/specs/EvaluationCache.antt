@@ -6,17 +6,17 @@ use Rattle.goal_terms.specs.declared.heads.Head.TheVariants as head
 use Rattle.goal_terms.specs.declared.modes.TypingMode.{TypingMode}
 use Rattle.goal_terms.specs.declared.predicates.BoundConstness.{BoundConstness}
 use Rattle.goal_terms.specs.declared.predicates.BoundConstness.TheVariants as constness
-use Rattle.goal_kinds.specs.Interned.{erased_at}
-use Rattle.goal_kinds.specs.Level.{Level}
+use Rattle.goal_lists.specs.Interned.{erased_at}
+use Rattle.goal_lists.specs.Level.{Level}
 use Rattle.goal_eval.specs.Outcomes.{RunsFor, level_in, Says, SaysThrough, SaysWhich, FoundIn}
 use Rattle.goal_eval.specs.declared.eval.evaluation_cache.CacheEntry.{CacheEntry}
 use Rattle.goal_eval.specs.declared.eval.evaluation_cache.Answered.{Answered}
 use Rattle.goal_eval.specs.declared.eval.evaluation_cache.EvaluationCache.{EvaluationCache as Cache}
 use Rattle.goal_eval.specs.declared.eval.outcomes.Setting as over
-use Rattle.goal_kinds.specs.declared.outcomes.Outcome as outcomes
-use Rattle.goal_kinds.specs.declared.outcomes.Outcome.TheVariants as outcome
-use Rattle.goal_kinds.specs.declared.outcomes.TraitOutcome as trait_outcomes
-use Rattle.goal_kinds.specs.declared.outcomes.TraitOutcome.TheVariants as trait_outcome
+use Rattle.goal_lists.specs.declared.outcomes.Outcome as outcomes
+use Rattle.goal_lists.specs.declared.outcomes.Outcome.TheVariants as outcome
+use Rattle.goal_lists.specs.declared.outcomes.TraitOutcome as trait_outcomes
+use Rattle.goal_lists.specs.declared.outcomes.TraitOutcome.TheVariants as trait_outcome
 use Rattle.goal_eval.specs.declared.eval.outcomes.Found as founds
 use Rattle.goal_eval.specs.declared.eval.outcomes.Found.TheVariants as found
 

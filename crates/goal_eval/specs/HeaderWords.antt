@@ -17,12 +17,12 @@ use Rattle.goal_terms.specs.declared.term_nodes.TermId.{TermId}
 use Rattle.goal_terms.specs.declared.terms.AliasTermKind.{AliasTermKind}
 use Rattle.goal_terms.specs.declared.view.Parts.{Parts}
 use Rattle.goal_terms.specs.declared.view.TermRef.{TermRef}
-use Rattle.goal_kinds.specs.Headers.{is_number, parameter_of, no_lifetime, under, PartAmong}
-use Rattle.goal_kinds.specs.Interned.{erased_at, IsIn}
-use Rattle.goal_kinds.specs.Level.{Level}
-use Rattle.goal_kinds.specs.Levels.{level}
-use Rattle.goal_kinds.specs.Settings.{Setting}
-use Rattle.goal_kinds.specs.Words.{Exists, Pairs, SomePair}
+use Rattle.goal_lists.specs.Headers.{is_number, parameter_of, no_lifetime, under, PartAmong}
+use Rattle.goal_lists.specs.Interned.{erased_at, IsIn}
+use Rattle.goal_lists.specs.Level.{Level}
+use Rattle.goal_lists.specs.Levels.{level}
+use Rattle.goal_lists.specs.Settings.{Setting}
+use Rattle.goal_lists.specs.Words.{Exists, Pairs, SomePair}
 use Rattle.goal_terms.specs.declared.modes.TypingMode.{TypingMode}
 use Rattle.goal_eval.specs.Outcomes.{RunsFor, level_in, SaysMatch}
 use Rattle.goal_eval.specs.declared.eval.outcomes.Setting as over

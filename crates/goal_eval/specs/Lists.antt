@@ -8,23 +8,23 @@ use Rattle.goal_terms.specs.Tree.{Tree}
 use Rattle.goal_terms.specs.declared.modes.TypingMode.{TypingMode}
 use Rattle.goal_terms.specs.declared.modes.TypingMode.TheVariants as mode
 use Rattle.goal_terms.specs.declared.term_nodes.TermId.{TermId}
-use Rattle.goal_kinds.specs.Entries.{Arguments, ExpectedTerm, Entry, Named, NamedKnown, NamesNothing, TermIs, NoTerm, EntriesHold, EntriesRefuted, ListHolds, ListGives, ListRefuted, ListHoldsWith, AsksNoTerm, ListAsksNoTerm}
-use Rattle.goal_kinds.specs.Interned.{IsIn, AreIn, erased_at, erased_all}
-use Rattle.goal_kinds.specs.InternedEntries.{header_trees, entry_at, entries_at, list_at}
-use Rattle.goal_kinds.specs.Level.{Level}
-use Rattle.goal_kinds.specs.ListModes.{StandsIn, ListStandsIn}
-use Rattle.goal_kinds.specs.Premises.{Premise, PremisesHold, PremisesRefuted, clauses_under, traits_under, conditions_as}
-use Rattle.goal_kinds.specs.Settings.{is_headline}
-use Rattle.goal_kinds.specs.Words.{OfRow}
-use Rattle.goal_kinds.specs.declared.lists.InternedEntry.{InternedEntry}
-use Rattle.goal_kinds.specs.declared.lists.RowHeader.{RowHeader}
+use Rattle.goal_lists.specs.Entries.{Arguments, ExpectedTerm, Entry, Named, NamedKnown, NamesNothing, TermIs, NoTerm, EntriesHold, EntriesRefuted, ListHolds, ListGives, ListRefuted, ListHoldsWith, AsksNoTerm, ListAsksNoTerm}
+use Rattle.goal_lists.specs.Interned.{IsIn, AreIn, erased_at, erased_all}
+use Rattle.goal_lists.specs.InternedEntries.{header_trees, entry_at, entries_at, list_at}
+use Rattle.goal_lists.specs.Level.{Level}
+use Rattle.goal_lists.specs.ListModes.{StandsIn, ListStandsIn}
+use Rattle.goal_lists.specs.Premises.{Premise, PremisesHold, PremisesRefuted, clauses_under, traits_under, conditions_as}
+use Rattle.goal_lists.specs.Settings.{is_headline}
+use Rattle.goal_lists.specs.Words.{OfRow}
+use Rattle.goal_lists.specs.declared.lists.InternedEntry.{InternedEntry}
+use Rattle.goal_lists.specs.declared.lists.RowHeader.{RowHeader}
 use Rattle.goal_eval.specs.Combined.{SaysMatched}
 use Rattle.goal_eval.specs.Outcomes.{StopsAtModes, RunsFor, level_in, Says, SaysWhich, SaysMatch}
 use Rattle.goal_eval.specs.declared.eval.outcomes.OnAccess.{OnAccess}
 use Rattle.goal_eval.specs.declared.eval.outcomes.OnAccess.TheVariants as on_access
 use Rattle.goal_eval.specs.declared.eval.outcomes.Setting as over
-use Rattle.goal_kinds.specs.declared.outcomes.Outcome.{Outcome}
-use Rattle.goal_kinds.specs.declared.outcomes.Outcome.TheVariants as outcome
+use Rattle.goal_lists.specs.declared.outcomes.Outcome.{Outcome}
+use Rattle.goal_lists.specs.declared.outcomes.Outcome.TheVariants as outcome
 use Rattle.goal_eval.specs.declared.eval.outcomes.Found.{Found}
 use Rattle.goal_eval.specs.declared.eval.outcomes.Found.TheVariants as found
 use Rattle.goal_eval.specs.declared.eval.outcomes.HeaderMatch.{HeaderMatch}

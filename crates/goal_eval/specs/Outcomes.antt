@@ -3,7 +3,7 @@ use Rattle.goal_terms.specs.PredicateTrees.{PredicateTree}
 use Rattle.goal_terms.specs.declared.terms.AliasTermKind.{AliasTermKind}
 use Rattle.goal_terms.specs.declared.predicates.BoundConstness.{BoundConstness}
 use Rattle.goal_terms.specs.declared.ids.TraitId.{TraitId}
-use Rattle.goal_kinds.specs.Premises.{Premise, ClauseHolds, ClauseRefuted, PremiseHolds, PremiseRefuted, PremisesHold, PremisesRefuted}
+use Rattle.goal_lists.specs.Premises.{Premise, ClauseHolds, ClauseRefuted, PremiseHolds, PremiseRefuted, PremisesHold, PremisesRefuted}
 use Rattle.std.specs.Prelude.{◌≡◌, ◌⊎◌, ℕ, true, false, List, map}
 use Rattle.goal_terms.specs.Erased.{erased}
 use Rattle.goal_terms.specs.Tree.{Tree}
@@ -14,22 +14,22 @@ use Rattle.goal_terms.specs.declared.modes.TypingMode.{TypingMode}
 use Rattle.goal_terms.specs.declared.terms.GenericArg.{GenericArg}
 use Rattle.goal_tables.specs.Faults.{IsChecked}
 use Rattle.goal_tables.specs.declared.rows.Tables.{Tables}
-use Rattle.goal_kinds.specs.Answers.{setting_of}
-use Rattle.goal_kinds.specs.Equality.{SameForm, OtherForm}
-use Rattle.goal_kinds.specs.Headers.{AllKnown, Fits, Clashes}
-use Rattle.goal_kinds.specs.ImplTerms as terms
-use Rattle.goal_kinds.specs.Interned.{erased_at, erased_all, IsIn, AreIn}
-use Rattle.goal_kinds.specs.Level.{Level, HasHeadForm, HeadFormRefuted}
-use Rattle.goal_kinds.specs.Levels.{level}
-use Rattle.goal_kinds.specs.Settings.{Setting, is_erased, is_headline}
-use Rattle.goal_kinds.specs.Words.{Pairs, SomePair}
+use Rattle.goal_lists.specs.Answers.{setting_of}
+use Rattle.goal_lists.specs.Equality.{SameForm, OtherForm}
+use Rattle.goal_lists.specs.Headers.{AllKnown, Fits, Clashes}
+use Rattle.goal_lists.specs.ImplTerms as terms
+use Rattle.goal_lists.specs.Interned.{erased_at, erased_all, IsIn, AreIn}
+use Rattle.goal_lists.specs.Level.{Level, HasHeadForm, HeadFormRefuted}
+use Rattle.goal_lists.specs.Levels.{level}
+use Rattle.goal_lists.specs.Settings.{Setting, is_erased, is_headline}
+use Rattle.goal_lists.specs.Words.{Pairs, SomePair}
 use Rattle.goal_eval.specs.declared.eval.outcomes.OnAccess.{OnAccess}
 use Rattle.goal_eval.specs.declared.eval.outcomes.OnAccess.TheVariants as on_access
 use Rattle.goal_eval.specs.declared.eval.outcomes.Setting as over
-use Rattle.goal_kinds.specs.declared.outcomes.Outcome as outcomes
-use Rattle.goal_kinds.specs.declared.outcomes.Outcome.TheVariants as outcome
-use Rattle.goal_kinds.specs.declared.outcomes.TraitOutcome as trait_outcomes
-use Rattle.goal_kinds.specs.declared.outcomes.TraitOutcome.TheVariants as trait_outcome
+use Rattle.goal_lists.specs.declared.outcomes.Outcome as outcomes
+use Rattle.goal_lists.specs.declared.outcomes.Outcome.TheVariants as outcome
+use Rattle.goal_lists.specs.declared.outcomes.TraitOutcome as trait_outcomes
+use Rattle.goal_lists.specs.declared.outcomes.TraitOutcome.TheVariants as trait_outcome
 use Rattle.goal_eval.specs.declared.eval.outcomes.Found as founds
 use Rattle.goal_eval.specs.declared.eval.outcomes.Found.TheVariants as found
 use Rattle.goal_eval.specs.declared.eval.outcomes.HeaderMatch as matches

@@ -5,13 +5,13 @@ use Rattle.goal_terms.specs.declared.answers.TraitGoalProvenVia.{TraitGoalProven
 use Rattle.goal_terms.specs.declared.answers.TraitGoalProvenVia.TheVariants as class
 use Rattle.goal_terms.specs.declared.terms.AliasTermKind.{AliasTermKind}
 use Rattle.goal_tables.specs.declared.rows.ItemRow.{ItemRow}
-use Rattle.goal_kinds.specs.Candidates.{Candidate, second_group}
-use Rattle.goal_kinds.specs.ImplTerms.{Projection}
-use Rattle.goal_kinds.specs.Interned.{erased_at}
-use Rattle.goal_kinds.specs.Level.{Level, HasHeadForm, HeadFormRefuted}
-use Rattle.goal_kinds.specs.Projections.{GroupGives, GroupRefuted, GroupsGive, GroupsRefuted, OwnFormed, OwnUnformed}
-use Rattle.goal_kinds.specs.Settings.{Setting}
-use Rattle.goal_kinds.specs.Words.{Each, Exists}
+use Rattle.goal_lists.specs.Candidates.{Candidate, second_group}
+use Rattle.goal_lists.specs.ImplTerms.{Projection}
+use Rattle.goal_lists.specs.Interned.{erased_at}
+use Rattle.goal_lists.specs.Level.{Level, HasHeadForm, HeadFormRefuted}
+use Rattle.goal_lists.specs.Projections.{GroupGives, GroupRefuted, GroupsGive, GroupsRefuted, OwnFormed, OwnUnformed}
+use Rattle.goal_lists.specs.Settings.{Setting}
+use Rattle.goal_lists.specs.Words.{Each, Exists}
 use Rattle.goal_eval.specs.declared.eval.outcomes.Found as founds
 use Rattle.goal_eval.specs.declared.eval.outcomes.Found.TheVariants as found
 

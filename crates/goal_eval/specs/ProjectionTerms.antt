@@ -7,13 +7,13 @@ use Rattle.goal_terms.specs.declared.term_nodes.TermId.{TermId}
 use Rattle.goal_terms.specs.declared.terms.AliasTermKind.{AliasTermKind}
 use Rattle.goal_tables.specs.declared.rows.ItemRow.{ItemRow}
 use Rattle.goal_tables.specs.declared.rows.TraitRow.{TraitRow}
-use Rattle.goal_kinds.specs.Candidates.{Candidate, second_group}
-use Rattle.goal_kinds.specs.Entries.{Entry}
-use Rattle.goal_kinds.specs.Interned.{erased_at, erased_all}
-use Rattle.goal_kinds.specs.Level.{Level}
-use Rattle.goal_kinds.specs.ProjectionLists.{projection_list}
-use Rattle.goal_kinds.specs.Projections.{CandidateGives, TermRefuted, GroupGives, GroupRefuted, GroupsGive, GroupsRefuted, OwnUnformed, ItemGives, ItemRefuted, ProjectionGives, ProjectionRefuted}
-use Rattle.goal_kinds.specs.Settings.{Setting}
+use Rattle.goal_lists.specs.Candidates.{Candidate, second_group}
+use Rattle.goal_lists.specs.Entries.{Entry}
+use Rattle.goal_lists.specs.Interned.{erased_at, erased_all}
+use Rattle.goal_lists.specs.Level.{Level}
+use Rattle.goal_lists.specs.ProjectionLists.{projection_list}
+use Rattle.goal_lists.specs.Projections.{CandidateGives, TermRefuted, GroupGives, GroupRefuted, GroupsGive, GroupsRefuted, OwnUnformed, ItemGives, ItemRefuted, ProjectionGives, ProjectionRefuted}
+use Rattle.goal_lists.specs.Settings.{Setting}
 use Rattle.goal_eval.specs.Outcomes.{SaysWhich, projection_at}
 use Rattle.goal_eval.specs.ProjectionParts.{FormedGives, LaterGives, LaterRefuted, ReplacedGives, ReplacedRefuted, ThroughGives, ThroughRefuted}
 use Rattle.goal_eval.specs.SpecialImpls.{SaysGiven}

@@ -5,21 +5,21 @@ use Rattle.goal_tables.specs.Faults.{IsChecked}
 use Rattle.goal_tables.specs.Rows.{impl_of}
 use Rattle.goal_tables.specs.declared.rows.ImplRow.{ImplRow}
 use Rattle.goal_tables.specs.declared.rows.Tables.{Tables}
-use Rattle.goal_kinds.specs.Candidates.{Candidate, by_impl}
-use Rattle.goal_kinds.specs.Entries.{Entry}
-use Rattle.goal_kinds.specs.ImplTerms.{Projection, trait_args}
-use Rattle.goal_kinds.specs.Level.{Level}
-use Rattle.goal_kinds.specs.NamedRows.{CandidateIsOf}
-use Rattle.goal_kinds.specs.Projections.{CandidateGives, TermDecides, TermRuledOut}
-use Rattle.goal_kinds.specs.Settings.{Setting}
-use Rattle.goal_kinds.specs.TraitGoals.{ImplHolds, ImplRefuted, PassedOver, Decides}
-use Rattle.goal_kinds.specs.TraitLists.{trait_list}
-use Rattle.goal_kinds.specs.declared.candidates.interned.InternedCandidate.{InternedCandidate}
+use Rattle.goal_lists.specs.Candidates.{Candidate, by_impl}
+use Rattle.goal_lists.specs.Entries.{Entry}
+use Rattle.goal_lists.specs.ImplTerms.{Projection, trait_args}
+use Rattle.goal_lists.specs.Level.{Level}
+use Rattle.goal_lists.specs.NamedRows.{CandidateIsOf}
+use Rattle.goal_lists.specs.Projections.{CandidateGives, TermDecides, TermRuledOut}
+use Rattle.goal_lists.specs.Settings.{Setting}
+use Rattle.goal_lists.specs.TraitGoals.{ImplHolds, ImplRefuted, PassedOver, Decides}
+use Rattle.goal_lists.specs.TraitLists.{trait_list}
+use Rattle.goal_lists.specs.declared.candidates.interned.InternedCandidate.{InternedCandidate}
 use Rattle.goal_eval.specs.Outcomes.{Says, SaysWhich}
 use Rattle.goal_eval.specs.declared.eval.outcomes.Found.{Found}
 use Rattle.goal_eval.specs.declared.eval.outcomes.Found.TheVariants as found
-use Rattle.goal_kinds.specs.declared.outcomes.Outcome.{Outcome}
-use Rattle.goal_kinds.specs.declared.outcomes.Outcome.TheVariants as outcome
+use Rattle.goal_lists.specs.declared.outcomes.Outcome.{Outcome}
+use Rattle.goal_lists.specs.declared.outcomes.Outcome.TheVariants as outcome
 use Rattle.goal_eval.specs.declared.normalizes_to.projection_candidates.GivenTerm.{GivenTerm}
 
 -- over accepted tables an impl is the one that they have under its id

@@ -2,15 +2,15 @@
 use Rattle.std.specs.Prelude.{List}
 use Rattle.goal_terms.specs.Tree.{Tree}
 use Rattle.goal_terms.specs.declared.ids.TraitId.{TraitId}
-use Rattle.goal_kinds.specs.Candidates.{class_of, classes_before, all_candidates}
-use Rattle.goal_kinds.specs.Interned.{erased_at, erased_all}
-use Rattle.goal_kinds.specs.Level.{Level}
-use Rattle.goal_kinds.specs.Settings.{Setting}
-use Rattle.goal_kinds.specs.TraitGoals.{CandidateDecides, CandidateRuledOut}
-use Rattle.goal_kinds.specs.Words.{Each, Exists}
+use Rattle.goal_lists.specs.Candidates.{class_of, classes_before, all_candidates}
+use Rattle.goal_lists.specs.Interned.{erased_at, erased_all}
+use Rattle.goal_lists.specs.Level.{Level}
+use Rattle.goal_lists.specs.Settings.{Setting}
+use Rattle.goal_lists.specs.TraitGoals.{CandidateDecides, CandidateRuledOut}
+use Rattle.goal_lists.specs.Words.{Each, Exists}
 use Rattle.goal_eval.specs.Outcomes.{SaysThrough}
 use Rattle.goal_eval.specs.declared.assembly.candidates.AskedTrait.{AskedTrait}
-use Rattle.goal_kinds.specs.declared.outcomes.TraitOutcome.{TraitOutcome}
+use Rattle.goal_lists.specs.declared.outcomes.TraitOutcome.{TraitOutcome}
 
 -- through which class candidates for a self type show that a trait holds for arguments: all of the classes before are ruled out
 abbrev pub SaysClasses : Setting → Level → TraitId → Tree → List Tree → TraitOutcome → Type 0

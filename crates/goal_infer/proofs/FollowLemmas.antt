@@ -352,14 +352,3 @@ module _ (T U : List Tree) (s : Inference) where
   all-same [] (r ∷ rs) z = absurd z
   all-same (id ∷ ids) [] z = absurd z
   all-same (id ∷ ids) (r ∷ rs) z = (followed-same T U s id r z.0, all-same ids rs z.1)
-
--- numbers in none of which anything is bound have the trees that they had
-pub unbound-all : (T : List Tree) (s : Inference) (U : List Tree) (ids rs : List TermId) → AllZip (StaysUnbound T s U) ids rs →
-    map (resolved T s) ids ≡ map (term_at T) ids → map (tree_at U) rs ≡ map (tree_at T) ids
-unbound-all T s U [] [] z e = refl
-unbound-all T s U [] (r ∷ rs) z e = absurd z
-unbound-all T s U (id ∷ ids) [] z e = absurd z
-unbound-all T s U (id ∷ ids) (r ∷ rs) z e =
-    let first : resolved T s id ≡ term_at T id = cc in
-    let rest : map (resolved T s) ids ≡ map (term_at T) ids = cc in
-    ap (λ t. t ∷ map (tree_at U) rs) (z.0 first) ∙ ap (λ ts. tree_at T id ∷ ts) (unbound-all T s U ids rs z.1 rest)

@@ -66,9 +66,6 @@ bound_node s (nodes.Variable v) id e = (v, refl, e)
 abbrev pub IsNear : List Tree → Inference → TermId → ℕ → Type 0
 IsNear T s id k = (solved : IsSolved T s) (v : Variable) → term_at T id ≡ variable v → solved.chain v + k ≤ length s.variables
 
-pub near-first : (T : List Tree) (s : Inference) (id : TermId) → IsNear T s id 0
-near-first T s id solved v e = omega (arith, solved.short v, solved.counted)
-
 pub near-next : (T : List Tree) (s : Inference) (id next : TermId) (k : ℕ) → IsNear T s id k →
     Some next ≡ binding_at s (node_of (tree_at T id)) → IsNear T s next (k + 1)
 near-next T s id next k near e solved w f =

@@ -19,9 +19,6 @@ use Rattle.goal_infer.specs.declared.undo.InferVariable.{InferVariable}
 use Rattle.goal_infer.proofs.KindLemmas.{takes-itself}
 
 -- a state without variables
-no_variables : Inference
-no_variables = record { variables = []; trail = []; equations = [] }
-
 pub solved-first : (T : List Tree) → IsSolved T (record { variables = []; trail = []; equations = [] })
 unfolding binding_of resolution resolution_after replaced OfKinds Agrees unbound_count
 solved-first T = record {

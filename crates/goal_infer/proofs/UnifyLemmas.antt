@@ -34,9 +34,6 @@ use Rattle.goal_infer.proofs.UndoLemmas.{goes_back-same, goes_back-binding}
 pub advances-same : (T : List Tree) (s : Inference) → IsSolved T s → Advances T s s
 advances-same T s solved = record { goes_back = goes_back-same s; solved = solved; kinds = refl; later = inl refl }
 
-pub advances-when_same : (T : List Tree) (s z : Inference) → IsSolved T s → z ≡ s → Advances T s z
-advances-when_same T s z solved e = subst (Advances T s) (sym e) (advances-same T s solved)
-
 -- one after the other
 pub advances-through : (T : List Tree) (a b c : Inference) → Advances T a b → Advances T b c → Advances T a c
 advances-through T a b c f g = record {
@@ -210,14 +207,6 @@ taken-node (nodes.Variable w) m v e = on (takes w m) e where
   on true h = let p : v ≡ w = cc in ap nodes.Variable (sym p)
   on false h = absurd (cc)
 
-pub taken-takes : (n m : Node) (v : Variable) → Some v ≡ taker n m → IsTrue (takes v m)
-taken-takes (nodes.Head h) m v e = absurd (cc)
-taken-takes (nodes.Alias k) m v e = absurd (cc)
-taken-takes (nodes.Variable w) m v e = on (takes w m) refl e where
-  on : (q : Bool) → takes w m ≡ q → Some v ≡ (if q then Some w else None) → IsTrue (takes v m)
-  on true f h = let p : v ≡ w = cc in ap (λ z. takes z m) p ∙ f
-  on false f h = absurd (cc)
-
 -- one that doesn't
 pub untaken : (n m : Node) (o : Option Variable) → o ≡ taker n m → ((v : Variable) → o ≡ Some v → ⊥) → (v : Variable) → n ≡ nodes.Variable v → takes v m ≡ false
 untaken n m o e f v p = on (takes v m) refl where
@@ -261,10 +250,6 @@ becomes-right T s z l r v u e h =
 pub yes-one : (T : List Tree) (s : Inference) (l r : TermId) → tree_at T l ≡ tree_at T r → IsUnified T s s (MakesSame T l r) Yes
 unfolding MakesSame term_at
 yes-one T s l r e = yes-same T s (λ ρ. replaced ρ (erased (tree_at T l)) ≡ replaced ρ (erased (tree_at T r))) (λ ρ. ap (λ t. replaced ρ (erased t)) e)
-
-pub yes-erased : (T : List Tree) (s : Inference) (l r : TermId) → erased (tree_at T l) ≡ erased (tree_at T r) → IsUnified T s s (MakesSame T l r) Yes
-unfolding MakesSame term_at
-yes-erased T s l r e = yes-same T s (λ ρ. replaced ρ (erased (tree_at T l)) ≡ replaced ρ (erased (tree_at T r))) (λ ρ. ap (replaced ρ) e)
 
 -- two tops that no replacement makes the same
 clash : (t u : Tree) (ρ : Variable → Tree) → OfKinds ρ → is_alias (node_of t) || is_alias (node_of u) ≡ false →

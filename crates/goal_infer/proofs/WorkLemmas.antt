@@ -55,11 +55,6 @@ height-leaf : (B : ℕ) → 1 ≤ B → height (erased (leaf head.Bool)) ≤ B
 unfolding height erased
 height-leaf B l = l
 
-tallest-positive : (T : List Tree) → 1 ≤ tallest T
-unfolding tallest
-tallest-positive [] = omega arith
-tallest-positive (t ∷ ts) = let l : 1 ≤ tallest ts = tallest-positive ts in omega arith
-
 tallest-at : (T : List Tree) (n : ℕ) → height (erased (slice_index_or T n (leaf head.Bool))) ≤ tallest T
 unfolding tallest
 tallest-at [] n = height-leaf 1 (omega arith)

@@ -16,15 +16,15 @@ use Rattle.goal_tables.specs.Rows.{item_of, trait_of}
 use Rattle.goal_tables.specs.Sites.{projection_params, params_of, params_of_alias, alias_is_unknown, is_unknown, is_misplaced, lies_here, lies_in, lies_in_row}
 use Rattle.goal_tables.specs.declared.rows.Tables.{Tables}
 use Rattle.goal_tables.specs.declared.sites.TermFault.TheVariants.{UnknownItem, WrongArgumentCount, WrongArgumentKind}
-use Rattle.goal_kinds.specs.FastReject.{lists_may_unify, heads_agree}
-use Rattle.goal_kinds.specs.KindedTerms.{kinds_of_terms, kinds_over, IsKinded, NoKindFault}
-use Rattle.goal_kinds.specs.Projections.{projected_item}
-use Rattle.goal_kinds.specs.Words.{Each}
-use Rattle.goal_kinds.specs.declared.fast_reject.Parameters.{Parameters}
-use Rattle.goal_kinds.proofs.AcceptedLemmas.{traits_of_items}
-use Rattle.goal_kinds.proofs.KindedLemmas.{lists-kinded}
-use Rattle.goal_kinds.proofs.PublicTermLemmas.{arg_through}
-use Rattle.goal_kinds.proofs.TableKindLemmas.{both_fail, kinds_by_row, known_map, HasTraitsOfItems, accepted_kinded}
+use Rattle.goal_lists.specs.FastReject.{lists_may_unify, heads_agree}
+use Rattle.goal_lists.specs.KindedTerms.{kinds_of_terms, kinds_over, IsKinded, NoKindFault}
+use Rattle.goal_lists.specs.Projections.{projected_item}
+use Rattle.goal_lists.specs.Words.{Each}
+use Rattle.goal_lists.specs.declared.fast_reject.Parameters.{Parameters}
+use Rattle.goal_lists.proofs.AcceptedLemmas.{traits_of_items}
+use Rattle.goal_lists.proofs.KindedLemmas.{lists-kinded}
+use Rattle.goal_lists.proofs.PublicTermLemmas.{arg_through}
+use Rattle.goal_lists.proofs.TableKindLemmas.{both_fail, kinds_by_row, known_map, HasTraitsOfItems, accepted_kinded}
 
 -- accepted arguments in a row are of the kinds that the tables say
 row_args-kinded : (t : Tables) (ps : List ParamKind) → HasTraitsOfItems t → (args : List GenericArg) →

@@ -20,33 +20,36 @@ use Rattle.goal_tables.specs.Rows.{free_of, inherent_of, inherent_impl_of, opaqu
 use Rattle.goal_tables.specs.declared.rows.InherentRow.{InherentRow}
 use Rattle.goal_tables.specs.declared.rows.OpaqueRow.{OpaqueRow}
 use Rattle.goal_tables.specs.declared.rows.Tables.{Tables}
-use Rattle.goal_kinds.specs.Aliases.{AliasGives, AliasRefuted}
-use Rattle.goal_kinds.specs.AliasLists.{row_value, entries_of_row, free_list, inherent_alias_list, opaque_list, opaque_alias_list, alias_list}
-use Rattle.goal_kinds.specs.Answers.{setting_of}
-use Rattle.goal_kinds.specs.Entries.{Entry, arguments, row_clauses, row_conditions, expected, ambiguous, undecided, ListGives, ListRefuted}
-use Rattle.goal_kinds.specs.InternedEntries.{setting_at}
-use Rattle.goal_kinds.specs.Level.{Level}
-use Rattle.goal_kinds.specs.Levels.{level}
-use Rattle.goal_kinds.specs.ListModes.{access_in, accesses_in, in_mode, erased_setting}
-use Rattle.goal_kinds.specs.NamedRows.{KeepsKey, KeepsKeys, Defines}
-use Rattle.goal_kinds.specs.Projections.{projected_item}
+use Rattle.goal_lists.specs.Aliases.{AliasGives, AliasRefuted}
+use Rattle.goal_lists.specs.AliasLists.{row_value, entries_of_row, free_list, inherent_alias_list, opaque_list, opaque_alias_list, alias_list}
+use Rattle.goal_lists.specs.Answers.{setting_of}
+use Rattle.goal_lists.specs.Entries.{Entry, arguments, row_clauses, row_conditions, expected, ambiguous, undecided, ListGives, ListRefuted}
+use Rattle.goal_lists.specs.InternedEntries.{setting_at}
+use Rattle.goal_lists.specs.Level.{Level}
+use Rattle.goal_lists.specs.Levels.{level}
+use Rattle.goal_lists.specs.ListModes.{access_in, accesses_in, in_mode, erased_setting}
+use Rattle.goal_lists.specs.NamedRows.{Defines}
+use Rattle.goal_kinds.specs.RebuiltKeys.{KeepsKey, KeepsKeys}
+use Rattle.goal_lists.specs.Projections.{projected_item}
 use Rattle.goal_kinds.specs.RuleLists.{arguments_of, expected_of, entry_of, list_of_rule, list_then, IsListed}
-use Rattle.goal_kinds.specs.RuleModes.{access_of, access_to, accesses_of, IsRuleIn, first_use_of, accesses_for_opaque, accesses_for}
+use Rattle.goal_kinds.specs.RuleModes.{access_of, accesses_of, IsRuleIn}
+use Rattle.goal_lists.specs.OpaqueUses.{access_to, first_use_of, accesses_for_opaque, accesses_for}
 use Rattle.goal_kinds.specs.RuleWords.{RuleMeans, TermsAreFor, IsHiddenEntry, DefinesHidden}
-use Rattle.goal_kinds.specs.Rules.{clauses_in, conditions_in, EntriesHold, RuleGives}
-use Rattle.goal_kinds.specs.Settings.{Setting, is_headline, among}
+use Rattle.goal_kinds.specs.Rules.{EntriesHold, RuleGives}
+use Rattle.goal_lists.specs.RowWords.{clauses_in, conditions_in}
+use Rattle.goal_lists.specs.Settings.{Setting, is_headline, among}
 use Rattle.goal_kinds.specs.declared.faults.Fault.{Fault}
-use Rattle.goal_kinds.specs.declared.lists.ListSetting.{ListSetting}
-use Rattle.goal_kinds.specs.declared.lists.InternedEntry.{InternedEntry}
-use Rattle.goal_kinds.specs.declared.lists.InternedEntry.TheVariants as entries
-use Rattle.goal_kinds.specs.declared.rules.FirstUse.{FirstUse}
+use Rattle.goal_lists.specs.declared.lists.ListSetting.{ListSetting}
+use Rattle.goal_lists.specs.declared.lists.InternedEntry.{InternedEntry}
+use Rattle.goal_lists.specs.declared.lists.InternedEntry.TheVariants as entries
+use Rattle.goal_lists.specs.declared.lists.FirstUse.{FirstUse}
 use Rattle.goal_kinds.specs.declared.rules.Rule.{Rule}
 use Rattle.goal_kinds.specs.declared.rules.RuleEntry.{RuleEntry}
 use Rattle.goal_kinds.specs.declared.rules.RuleEntry.TheVariants as entry
-use Rattle.goal_kinds.proofs.AliasLists.{alias_list-gives, alias_list-refuted}
-use Rattle.goal_kinds.proofs.EntryLemmas.{iff-chain, iff-back}
+use Rattle.goal_lists.proofs.AliasLists.{alias_list-gives, alias_list-refuted}
+use Rattle.goal_lists.proofs.EntryLemmas.{iff-chain, iff-back}
 use Rattle.goal_kinds.proofs.FaceLemmas.{listed-yes}
-use Rattle.goal_kinds.proofs.ListModes.{alias_list-stands}
+use Rattle.goal_lists.proofs.ListModes.{alias_list-stands}
 use Rattle.goal_kinds.proofs.ListedRules.{listed-list}
 use Rattle.goal_kinds.proofs.RulesAsLists.{rule_list-gives, rule_list-refuted}
 

@@ -12,12 +12,12 @@ use Rattle.goal_terms.specs.declared.terms.AliasTerm.{AliasTerm}
 use Rattle.goal_terms.specs.declared.terms.GenericArg.{GenericArg}
 use Rattle.goal_terms.proofs.SortLemmas.{arg_sort}
 use Rattle.goal_terms.proofs.TreeLemmas.{list_of-forest, tree_of_alias-record}
-use Rattle.goal_kinds.specs.Interned.{erased_at, erased_all, IsIn, AreIn}
-use Rattle.goal_kinds.specs.Rules.{given}
-use Rattle.goal_kinds.proofs.ClauseListLemmas.{all-unmapped}
-use Rattle.goal_kinds.proofs.EachRuleLemmas.{mapped-twice}
+use Rattle.goal_lists.specs.Interned.{erased_at, erased_all, IsIn, AreIn}
+use Rattle.goal_lists.specs.RowWords.{given}
+use Rattle.goal_lists.proofs.ClauseListLemmas.{all-unmapped}
+use Rattle.goal_lists.proofs.EachRuleLemmas.{mapped-twice}
 use Rattle.goal_kinds.proofs.ImplTermKindLemmas.{alias-erased}
-use Rattle.goal_kinds.proofs.PremiseTerms.{alias-argument}
+use Rattle.goal_lists.proofs.PremiseTerms.{alias-argument}
 
 -- public arguments are arguments
 args-arguments : (args : List GenericArg) → All IsArgument (trees_of args)

@@ -13,11 +13,11 @@ use Rattle.goal_tables.specs.declared.rows.FreeRow.{FreeRow}
 use Rattle.goal_tables.specs.declared.rows.InherentImplRow.{InherentImplRow}
 use Rattle.goal_tables.specs.declared.rows.InherentRow.{InherentRow}
 use Rattle.goal_tables.specs.declared.rows.OpaqueRow.{OpaqueRow}
-use Rattle.goal_kinds.specs.Aliases.{ValueGives, FreeGives, self_header, InherentGives, InherentAliasGives, OpaqueGives, AliasGives}
-use Rattle.goal_kinds.specs.Headers.{under, Fits}
-use Rattle.goal_kinds.specs.Level.{Level}
-use Rattle.goal_kinds.specs.Settings.{Setting, leaves_open, reveals}
-use Rattle.goal_kinds.specs.Words.{Each, OfRow}
+use Rattle.goal_lists.specs.Aliases.{ValueGives, FreeGives, self_header, InherentGives, InherentAliasGives, OpaqueGives, AliasGives}
+use Rattle.goal_lists.specs.Headers.{under, Fits}
+use Rattle.goal_lists.specs.Level.{Level}
+use Rattle.goal_lists.specs.Settings.{Setting, leaves_open, reveals}
+use Rattle.goal_lists.specs.Words.{Each, OfRow}
 use Rattle.goal_kinds.proofs.ClosedCandidates.{IsClosedSetting}
 use Rattle.goal_kinds.proofs.ClosedHeaders.{KeepsClosed, either-out, closed-head_form, closed-all_known}
 use Rattle.goal_kinds.proofs.ClosedProjections.{closed-projection_gives}

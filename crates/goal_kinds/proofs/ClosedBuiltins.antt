@@ -20,12 +20,10 @@ use Rattle.goal_tables.specs.declared.rows.AdtRow.{AdtRow}
 use Rattle.goal_tables.specs.declared.rows.ClosureRow.{ClosureRow}
 use Rattle.goal_tables.specs.declared.rows.FieldInfo.{FieldInfo}
 use Rattle.goal_tables.specs.declared.rows.Tables.{Tables}
-use Rattle.goal_kinds.specs.Builtins.{callable_sig, is_callable_by, closure_sig, signature_of_head, signature_of, output_of, field_of}
-use Rattle.goal_kinds.specs.Builtins.{Listed, nothing_listed, listed, listed_rigid, listed_by_size, listed_term, metadata_of, adt_metadata, dyn_metadata, listed_by_size_of, metadata_of_head, metadata_rule}
-use Rattle.goal_kinds.specs.Builtins.{discriminant_of_head, discriminant_rule, listed_output, output_rule, field_base, field_ty, lang_term, term_of_lang, lang_of_item, term_rule}
-use Rattle.goal_kinds.specs.Candidates.{last_of}
-use Rattle.goal_kinds.specs.Headers.{under}
-use Rattle.goal_kinds.specs.Words.{Each}
+use Rattle.goal_lists.specs.Builtins.{callable_sig, is_callable_by, closure_sig, signature_of_head, signature_of, output_of, field_of, Listed, nothing_listed, listed, listed_rigid, listed_by_size, listed_term, metadata_of, adt_metadata, dyn_metadata, listed_by_size_of, metadata_of_head, metadata_rule, discriminant_of_head, discriminant_rule, listed_output, output_rule, field_base, field_ty, lang_term, term_of_lang, lang_of_item, term_rule}
+use Rattle.goal_lists.specs.Candidates.{last_of}
+use Rattle.goal_lists.specs.Headers.{under}
+use Rattle.goal_lists.specs.Words.{Each}
 use Rattle.goal_kinds.proofs.ClosedRows.{HoldsClosedTy, HoldsClosedField, closed-tail, closed-discriminant, closed-field, closed-function, closed-closure}
 use Rattle.goal_kinds.proofs.ClosedTerms.{IsClosedTree, AreClosedTrees, HoldsClosedTree, closed-list, closed-forest, closed-last, closed-map, closed-and_then, closed-kept, closed-under}
 

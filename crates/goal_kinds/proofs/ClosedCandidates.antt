@@ -31,17 +31,16 @@ use Rattle.goal_tables.specs.declared.rows.ItemRow.{ItemRow}
 use Rattle.goal_tables.specs.declared.rows.OpaqueRow.{OpaqueRow}
 use Rattle.goal_tables.specs.declared.rows.Tables.{Tables}
 use Rattle.goal_tables.specs.declared.sites.TermFault.TheVariants.{InferInTable}
-use Rattle.goal_kinds.specs.Answers.{erased_predicate, environment_of, setting_of}
-use Rattle.goal_kinds.specs.Candidates.{Candidate, assumption, implied_bound, by_impl, built_in, error, bounds_under, const_bounds_under, item_bounds, opaque_bounds, bounds_of_alias, bounds_of, all_but_last, last_of}
-use Rattle.goal_kinds.specs.Candidates.{projects, object_bound, object_bounds_among, object_bounds, impls_for, environment, alias_bounds, rest, second_group}
-use Rattle.goal_kinds.specs.Premises.{TraitTree, predicate_under, trait_under, traits_under}
-use Rattle.goal_kinds.specs.Settings.{Setting}
-use Rattle.goal_kinds.specs.TraitGoals.{header_of}
-use Rattle.goal_kinds.specs.Words.{Each}
+use Rattle.goal_lists.specs.Answers.{erased_predicate, environment_of, setting_of}
+use Rattle.goal_lists.specs.Candidates.{Candidate, assumption, implied_bound, by_impl, built_in, error, bounds_under, const_bounds_under, item_bounds, opaque_bounds, bounds_of_alias, bounds_of, all_but_last, last_of, projects, object_bound, object_bounds_among, object_bounds, impls_for, environment, alias_bounds, rest, second_group}
+use Rattle.goal_lists.specs.Premises.{TraitTree, predicate_under, trait_under, traits_under}
+use Rattle.goal_lists.specs.Settings.{Setting}
+use Rattle.goal_lists.specs.TraitGoals.{header_of}
+use Rattle.goal_lists.specs.Words.{Each}
 use Rattle.goal_kinds.proofs.ClosedRows.{closed-accepted, closed-header}
 use Rattle.goal_kinds.proofs.FaultlessRows.{three_fail, impls_fail, bounds_of_item_fail, bounds_of_opaque_fail}
 use Rattle.goal_kinds.proofs.ClosedTerms.{IsClosedTree, AreClosedTrees, HoldsClosedTree, closed-list, closed-append, closed-last, closed-erased, closed-under}
-use Rattle.goal_kinds.proofs.TableKindLemmas.{both_fail}
+use Rattle.goal_lists.proofs.TableKindLemmas.{both_fail}
 
 -- the term that a clause says an alias to have holds no inference variable
 abbrev pub SaysClosed : PredicateTree → Type 0

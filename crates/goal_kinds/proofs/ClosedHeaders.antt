@@ -6,9 +6,9 @@ use Rattle.goal_terms.specs.declared.answers.ParamKind.{ParamKind}
 use Rattle.goal_terms.specs.declared.answers.ParamKind.TheVariants as kind
 use Rattle.goal_terms.specs.declared.heads.Head.{Head}
 use Rattle.goal_terms.specs.declared.terms.AliasTermKind.{AliasTermKind}
-use Rattle.goal_kinds.specs.Headers.{parameter_of, is_number, has_place, StepInto, Part, RowPart, PartAmong, PartsFrom, AllKnown}
-use Rattle.goal_kinds.specs.Level.{Level, HasHeadForm}
-use Rattle.goal_kinds.specs.Words.{Each, Either}
+use Rattle.goal_lists.specs.Headers.{parameter_of, is_number, has_place, StepInto, Part, RowPart, PartAmong, PartsFrom, AllKnown}
+use Rattle.goal_lists.specs.Level.{Level, HasHeadForm}
+use Rattle.goal_lists.specs.Words.{Each, Either}
 use Rattle.goal_kinds.proofs.ClosedTerms.{IsClosedTree, IsClosedRow, AreClosedTrees, closed-list, closed-first, closed-others}
 
 -- at a level what an alias without inference variables gives has none, and neither has a part of a given term without any

@@ -13,13 +13,12 @@ use Rattle.goal_tables.specs.declared.rows.ItemRow.{ItemRow}
 use Rattle.goal_tables.specs.declared.rows.Source.{Source}
 use Rattle.goal_tables.specs.declared.rows.Source.TheVariants as source
 use Rattle.goal_tables.specs.declared.rows.SourceRow.{SourceRow}
-use Rattle.goal_kinds.specs.Headers.{under, Fits}
-use Rattle.goal_kinds.specs.ImplTerms.{Said, an_error, the_alias, a_value, evaluated, not_said, said_by_value, said_by_definition, said_by_source, said_by_row, said}
-use Rattle.goal_kinds.specs.ImplTerms.{Projection, trait_args, own_args, error_term, header_under, OtherImplHolds, Taken, from_projection, from_impl, from_other, taken, Translated, SaidGives, ImplGives, the_alias_unless}
-use Rattle.goal_kinds.specs.Level.{Level}
-use Rattle.goal_kinds.specs.Settings.{Setting, takes_defaults, is_coherence, hides_defaults}
-use Rattle.goal_kinds.specs.TraitGoals.{ImplHoldsUnder, header_of}
-use Rattle.goal_kinds.specs.Words.{Each, OfRow}
+use Rattle.goal_lists.specs.Headers.{under, Fits}
+use Rattle.goal_lists.specs.ImplTerms.{Said, an_error, the_alias, a_value, evaluated, not_said, said_by_value, said_by_definition, said_by_source, said_by_row, said, Projection, trait_args, own_args, error_term, header_under, OtherImplHolds, Taken, from_projection, from_impl, from_other, taken, Translated, SaidGives, ImplGives, the_alias_unless}
+use Rattle.goal_lists.specs.Level.{Level}
+use Rattle.goal_lists.specs.Settings.{Setting, takes_defaults, is_coherence, hides_defaults}
+use Rattle.goal_lists.specs.TraitGoals.{ImplHoldsUnder, header_of}
+use Rattle.goal_lists.specs.Words.{Each, OfRow}
 use Rattle.goal_kinds.proofs.ClosedHeaders.{KeepsClosed, closed-head_form, closed-all_known}
 use Rattle.goal_kinds.proofs.ClosedRows.{IsClosedValue, closed-definition}
 use Rattle.goal_kinds.proofs.ClosedTerms.{IsClosedTree, AreClosedTrees, closed-append, closed-take, closed-drop, closed-under}

@@ -14,11 +14,11 @@ use Rattle.goal_terms.proofs.TreeLemmas.{tree_of_alias-record}
 use Rattle.goal_tables.specs.Faults.{IsChecked}
 use Rattle.goal_tables.specs.Predicates.{some_in_env}
 use Rattle.goal_tables.specs.declared.rows.Tables.{Tables}
-use Rattle.goal_kinds.specs.Answers.{setting_of}
-use Rattle.goal_kinds.specs.Level.{nothing}
-use Rattle.goal_kinds.specs.Levels.{ground_level, level}
-use Rattle.goal_kinds.specs.Settings.{Setting}
-use Rattle.goal_kinds.proofs.CandidateTerms.{alias-erased}
+use Rattle.goal_lists.specs.Answers.{setting_of}
+use Rattle.goal_lists.specs.Level.{nothing}
+use Rattle.goal_lists.specs.Levels.{ground_level, level}
+use Rattle.goal_lists.specs.Settings.{Setting}
+use Rattle.goal_lists.proofs.CandidateTerms.{alias-erased}
 use Rattle.goal_kinds.proofs.ClosedAliases.{closed-alias_gives}
 use Rattle.goal_kinds.proofs.ClosedCandidates.{IsClosedSetting, closed-setting}
 use Rattle.goal_kinds.proofs.ClosedHeaders.{KeepsClosed, closed-part}

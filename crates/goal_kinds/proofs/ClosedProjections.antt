@@ -9,13 +9,13 @@ use Rattle.goal_terms.specs.declared.terms.AliasTermKind.{AliasTermKind}
 use Rattle.goal_tables.specs.Rows.{trait_of, item_of}
 use Rattle.goal_tables.specs.declared.rows.ItemRow.{ItemRow}
 use Rattle.goal_tables.specs.declared.rows.TraitRow.{TraitRow}
-use Rattle.goal_kinds.specs.Builtins.{Listed, nothing_listed, listed, listed_rigid, listed_by_size, term_rule}
-use Rattle.goal_kinds.specs.Candidates.{Candidate, assumption, implied_bound, by_impl, built_in, error, environment, second_group}
-use Rattle.goal_kinds.specs.ImplTerms.{Projection}
-use Rattle.goal_kinds.specs.Level.{Level}
-use Rattle.goal_kinds.specs.Projections.{EquationGives, AssumptionGives, ListedGives, CandidateGives, TermDecides, GroupGives, GroupsGive, asked, ItemGives, ProjectionGives}
-use Rattle.goal_kinds.specs.Settings.{Setting}
-use Rattle.goal_kinds.specs.Words.{Each, Exists, OfRow}
+use Rattle.goal_lists.specs.Builtins.{Listed, nothing_listed, listed, listed_rigid, listed_by_size, term_rule}
+use Rattle.goal_lists.specs.Candidates.{Candidate, assumption, implied_bound, by_impl, built_in, error, environment, second_group}
+use Rattle.goal_lists.specs.ImplTerms.{Projection}
+use Rattle.goal_lists.specs.Level.{Level}
+use Rattle.goal_lists.specs.Projections.{EquationGives, AssumptionGives, ListedGives, CandidateGives, TermDecides, GroupGives, GroupsGive, asked, ItemGives, ProjectionGives}
+use Rattle.goal_lists.specs.Settings.{Setting}
+use Rattle.goal_lists.specs.Words.{Each, Exists, OfRow}
 use Rattle.goal_kinds.proofs.ClosedBuiltins.{IsClosedListed, closed-term_rule}
 use Rattle.goal_kinds.proofs.ClosedCandidates.{SaysClosed, IsClosedCandidate, IsClosedSetting, closed-environment, closed-second_group}
 use Rattle.goal_kinds.proofs.ClosedHeaders.{KeepsClosed, closed-head_form}

@@ -19,8 +19,7 @@ use Rattle.goal_terms.specs.declared.terms.Term.{Term}
 use Rattle.goal_terms.specs.declared.terms.Ty.{Ty}
 use Rattle.goal_tables.specs.Clauses.{own_fault, const_fault, lies_in_args, lies_in_trait_args, lies_in_clauses, lies_in_const_refs}
 use Rattle.goal_tables.specs.Faults.{IsChecked}
-use Rattle.goal_tables.specs.RowFaults.{if_unknown, if_kind, definition_scope, inherent_scope, lies_in_option, lies_in_value, container_is_unknown, lies_in_definition_value, value_has_other_kind, value_differs, lies_in_field_info}
-use Rattle.goal_tables.specs.RowFaults.{lies_in_impl, lies_in_definition, lies_in_free, lies_in_inherent, lies_in_function, lies_in_closure}
+use Rattle.goal_tables.specs.RowFaults.{if_unknown, if_kind, definition_scope, inherent_scope, lies_in_option, lies_in_value, container_is_unknown, lies_in_definition_value, value_has_other_kind, value_differs, lies_in_field_info, lies_in_impl, lies_in_definition, lies_in_free, lies_in_inherent, lies_in_function, lies_in_closure}
 use Rattle.goal_tables.specs.Rows.{item_of, impl_of, definition_of, free_of, inherent_impl_of, inherent_of, opaque_of, adt_of, function_of, closure_of}
 use Rattle.goal_tables.specs.Sites.{is_inferred, lies_here, lies_in, lies_in_row}
 use Rattle.goal_tables.specs.declared.rows.AdtRow.{AdtRow}
@@ -36,11 +35,11 @@ use Rattle.goal_tables.specs.declared.rows.InherentRow.{InherentRow}
 use Rattle.goal_tables.specs.declared.rows.OpaqueRow.{OpaqueRow}
 use Rattle.goal_tables.specs.declared.rows.Tables.{Tables}
 use Rattle.goal_tables.specs.declared.sites.TermFault.TheVariants.{InferInTable}
-use Rattle.goal_kinds.specs.TraitGoals.{header_of}
-use Rattle.goal_kinds.specs.Words.{Each}
+use Rattle.goal_lists.specs.TraitGoals.{header_of}
+use Rattle.goal_lists.specs.Words.{Each}
 use Rattle.goal_kinds.proofs.ClosedTerms.{IsClosedTree, IsClosedRow, AreClosedTrees, closed-erased, closed-more}
 use Rattle.goal_kinds.proofs.FaultlessRows.{three_fail, four_fail, free_fails, inherent_fails, definition_fails, opaque_parts_fail, adt_parts_fail, function_fails, closure_fails}
-use Rattle.goal_kinds.proofs.TableKindLemmas.{both_fail}
+use Rattle.goal_lists.proofs.TableKindLemmas.{both_fail}
 
 mutual
   unfolding lies_in lies_here is_inferred some_node

@@ -15,10 +15,10 @@ use Rattle.goal_terms.specs.declared.heads.Head.{Head}
 use Rattle.goal_terms.specs.declared.heads.Head.TheVariants.{TyParam, ConstParam}
 use Rattle.goal_terms.specs.declared.terms.AliasTermKind.{AliasTermKind}
 use Rattle.goal_terms.proofs.NodeTestLemmas.{some_node-erased}
-use Rattle.goal_kinds.specs.Candidates.{last_of}
-use Rattle.goal_kinds.specs.Headers.{under}
-use Rattle.goal_kinds.specs.Words.{Each}
-use Rattle.goal_kinds.proofs.TableKindLemmas.{both_fail}
+use Rattle.goal_lists.specs.Candidates.{last_of}
+use Rattle.goal_lists.specs.Headers.{under}
+use Rattle.goal_lists.specs.Words.{Each}
+use Rattle.goal_lists.proofs.TableKindLemmas.{both_fail}
 
 -- a term, a row and a list of terms without inference variables
 abbrev pub IsClosedTree : Tree → Type 0

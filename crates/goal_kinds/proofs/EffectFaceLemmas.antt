@@ -21,30 +21,30 @@ use Rattle.goal_terms.specs.declared.term_nodes.TermId.{TermId}
 use Rattle.goal_terms.specs.declared.terms.AliasTerm.{AliasTerm}
 use Rattle.goal_tables.specs.declared.rows.ImplRow.{ImplRow}
 use Rattle.goal_tables.specs.declared.rows.Tables.{Tables}
-use Rattle.goal_kinds.specs.Answers.{setting_of}
+use Rattle.goal_lists.specs.Answers.{setting_of}
 use Rattle.goal_kinds.specs.CandidateRules.{GivesAs, RefutedAs, IsRefusal, IsNamedAnswer, refuses_row, said_by, only_given}
-use Rattle.goal_kinds.specs.Candidates.{Candidate, assumption, implied_bound, by_impl, built_in, error, bounds_of, IsNoImpl}
+use Rattle.goal_lists.specs.Candidates.{Candidate, assumption, implied_bound, by_impl, built_in, error, bounds_of, IsNoImpl}
 use Rattle.goal_kinds.specs.EffectKind.{AreImplied, asked_effect_list, EffectCandidateHolds, EffectCandidateRefuted, implied_bounds_for, is_implied_for, is_of_effect, refuses_effect_row, refuses_effect_impl}
-use Rattle.goal_kinds.specs.EffectLists.{effect_assumption_list, effect_impl_list, effect_list}
-use Rattle.goal_kinds.specs.Entries.{Entry, equal_terms, row_conditions, premise_entries, ListHolds, ListRefuted, ListAsksNoTerm}
-use Rattle.goal_kinds.specs.Interned.{AreIn, CandidateIn, erased_all, candidate_at}
-use Rattle.goal_kinds.specs.InternedEntries.{setting_at}
-use Rattle.goal_kinds.specs.Levels.{level}
-use Rattle.goal_kinds.specs.NamedRows.{CandidateIsOf, ListIsSorted}
-use Rattle.goal_kinds.specs.Premises.{conditions_as}
+use Rattle.goal_lists.specs.EffectLists.{effect_assumption_list, effect_impl_list, effect_list}
+use Rattle.goal_lists.specs.Entries.{Entry, equal_terms, row_conditions, premise_entries, ListHolds, ListRefuted, ListAsksNoTerm}
+use Rattle.goal_lists.specs.Interned.{AreIn, CandidateIn, erased_all, candidate_at}
+use Rattle.goal_lists.specs.InternedEntries.{setting_at}
+use Rattle.goal_lists.specs.Levels.{level}
+use Rattle.goal_lists.specs.NamedRows.{CandidateIsOf, ListIsSorted}
+use Rattle.goal_lists.specs.Premises.{conditions_as}
 use Rattle.goal_kinds.specs.RuleLists.{list_then, IsListed, IsToldBy}
-use Rattle.goal_kinds.specs.Rules.{given}
-use Rattle.goal_kinds.specs.Settings.{Setting}
-use Rattle.goal_kinds.specs.TraitLists.{impl_match, list_by_polarity}
-use Rattle.goal_kinds.specs.declared.candidates.interned.InternedCandidate.{InternedCandidate}
-use Rattle.goal_kinds.specs.declared.candidates.interned.InternedCandidate.TheVariants as candidates
+use Rattle.goal_lists.specs.RowWords.{given}
+use Rattle.goal_lists.specs.Settings.{Setting}
+use Rattle.goal_lists.specs.TraitLists.{impl_match, list_by_polarity}
+use Rattle.goal_lists.specs.declared.candidates.interned.InternedCandidate.{InternedCandidate}
+use Rattle.goal_lists.specs.declared.candidates.interned.InternedCandidate.TheVariants as candidates
 use Rattle.goal_kinds.specs.declared.faults.Fault.{Fault}
 use Rattle.goal_kinds.specs.declared.faults.Fault.TheVariants as fault
-use Rattle.goal_kinds.specs.declared.lists.ListSetting.{ListSetting}
+use Rattle.goal_lists.specs.declared.lists.ListSetting.{ListSetting}
 use Rattle.goal_kinds.specs.declared.rules.Rule.{Rule}
-use Rattle.goal_kinds.proofs.EffectLists.{effect_list-holds, effect_list-refuted}
+use Rattle.goal_lists.proofs.EffectLists.{effect_list-holds, effect_list-refuted}
 use Rattle.goal_kinds.proofs.FaceLemmas.{IsSomeGiven, one-given, some-given, then-yes, listed-yes_back, face-gives, face-refuted, face-told, face-refusal, face-named}
-use Rattle.goal_kinds.proofs.ListTerms.{effect_list-asks_none}
+use Rattle.goal_lists.proofs.ListTerms.{effect_list-asks_none}
 use Rattle.goal_kinds.proofs.ListedRules.{some-accepted}
 use Rattle.goal_kinds.proofs.RebuiltLemmas.{zip-push}
 use Rattle.goal_kinds.proofs.SortedEffects.{effect_list-sorted}

@@ -15,19 +15,19 @@ use Rattle.goal_tables.specs.Rows.{impl_of}
 use Rattle.goal_tables.specs.declared.rows.ImplRow.{ImplRow}
 use Rattle.goal_tables.specs.declared.rows.Tables.{Tables}
 use Rattle.goal_kinds.specs.CandidateRules.{HasNoKindFault, IsAcceptedClause, refuses_row, said_by}
-use Rattle.goal_kinds.specs.Candidates.{Candidate}
-use Rattle.goal_kinds.specs.ConstGoals.{satisfies, ConstAssumptionRefuted, ConstImplRefuted, ConstCandidateRefuted}
+use Rattle.goal_lists.specs.Candidates.{Candidate}
+use Rattle.goal_lists.specs.ConstGoals.{satisfies, ConstAssumptionRefuted, ConstImplRefuted, ConstCandidateRefuted}
 use Rattle.goal_kinds.specs.EffectKind.{EffectCandidateHolds, EffectCandidateRefuted, may_match_effect, refuses_effect_row}
-use Rattle.goal_kinds.specs.FastReject.{lists_may_unify}
-use Rattle.goal_kinds.specs.Levels.{level}
-use Rattle.goal_kinds.specs.Rules.{given}
-use Rattle.goal_kinds.specs.Settings.{Setting}
-use Rattle.goal_kinds.specs.TraitGoals.{AssumptionRefuted}
-use Rattle.goal_kinds.specs.TraitLists.{is_trait}
-use Rattle.goal_kinds.specs.declared.fast_reject.Parameters.TheVariants.{Rigid}
+use Rattle.goal_lists.specs.FastReject.{lists_may_unify}
+use Rattle.goal_lists.specs.Levels.{level}
+use Rattle.goal_lists.specs.RowWords.{given}
+use Rattle.goal_lists.specs.Settings.{Setting}
+use Rattle.goal_lists.specs.TraitGoals.{AssumptionRefuted}
+use Rattle.goal_lists.specs.TraitLists.{is_trait}
+use Rattle.goal_lists.specs.declared.fast_reject.Parameters.TheVariants.{Rigid}
 use Rattle.goal_kinds.proofs.TraitCandidateLaws.{rejected-trait, refused-impl}
-use Rattle.goal_kinds.proofs.WithinConst.{within-const_candidate_holds, within-const_candidate_refuted}
-use Rattle.goal_kinds.proofs.WithinLevels.{within-level}
+use Rattle.goal_lists.proofs.WithinConst.{within-const_candidate_holds, within-const_candidate_refuted}
+use Rattle.goal_lists.proofs.WithinLevels.{within-level}
 
 -- a candidate holds, and is refuted, at a greater height, too
 pub effect-higher : (p : HostEffectPredicate) (S : Setting) (n m : ℕ) (c : Candidate) → n ≤ m → EffectCandidateHolds p S n c → EffectCandidateHolds p S m c

@@ -11,9 +11,9 @@ use Rattle.goal_terms.proofs.TreeLemmas.{tree_of_arg-Ty, tree_of_term-Ty, tree_o
 use Rattle.goal_kinds.specs.ExampleRows.{pair_for_vec, trait_of_all_for_vec, trait_of_i32_for_vec}
 use Rattle.goal_kinds.specs.ExampleTables.{plainly}
 use Rattle.goal_kinds.specs.ExampleTerms.{box_of, i32_ty, param, struct, struct_of, triple, tuple, u32_ty, vec_of}
-use Rattle.goal_kinds.specs.Headers.{Fits}
-use Rattle.goal_kinds.specs.Levels.{level}
-use Rattle.goal_kinds.specs.TraitGoals.{header_of}
+use Rattle.goal_lists.specs.Headers.{Fits}
+use Rattle.goal_lists.specs.Levels.{level}
+use Rattle.goal_lists.specs.TraitGoals.{header_of}
 use Rattle.goal_kinds.proofs.ExampleLemmas.{opened}
 
 -- a struct with the first parameter for its argument, and a parameter

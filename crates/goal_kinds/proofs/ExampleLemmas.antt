@@ -19,27 +19,27 @@ use Rattle.goal_tables.specs.declared.rows.ItemRow.{ItemRow}
 use Rattle.goal_tables.specs.declared.rows.TraitRow.{TraitRow}
 use Rattle.goal_kinds.specs.ExampleRows.{not_tr_for_y, tr_for_z, tr_for_w, tr_for_str}
 use Rattle.goal_kinds.specs.ExampleTerms.{adt, trait, y_ty, z_ty, w_ty, str_ty}
-use Rattle.goal_kinds.specs.Settings.{Setting}
+use Rattle.goal_lists.specs.Settings.{Setting}
 use Rattle.goal_terms.specs.Folding.{folded, folded_node, depth_below, argument_of}
 use Rattle.goal_terms.specs.Kinds.{kind_of, kind_of_head}
 use Rattle.goal_terms.specs.Erased.{erased}
 use Rattle.goal_terms.specs.NodeTests.{some_node, some_node_outside_aliases}
 use Rattle.goal_terms.specs.Occurrences.{has_error}
-use Rattle.goal_kinds.specs.Aliases.{InherentGives, InherentRefuted, InherentAliasGives, InherentAliasRefuted, ValueGives, ValueRefuted, FreeGives, FreeRefuted, OpaqueGives, OpaqueRefuted, AliasGives, AliasRefuted}
-use Rattle.goal_kinds.specs.Builtins.{sized_of_head, copied_parts_of_head, signature_of_head, call_rule, lang_rule, trait_rule, metadata_of_head, discriminant_of_head, lang_term, term_rule}
-use Rattle.goal_kinds.specs.Candidates.{Candidate, bounds_of_alias, bounds_of, all_but_last, last_of, object_bounds_among, object_bounds, class_of, classes_before, all_candidates, second_group}
-use Rattle.goal_kinds.specs.ConstGoals.{ConstAssumptionHolds, ConstAssumptionRefuted, ConstImplHolds, ConstImplRefuted, ConstRuleHolds, ConstRuleRefuted, ConstCandidateHolds, ConstCandidateRefuted, ConstHolds, ConstRefuted}
-use Rattle.goal_kinds.specs.ConstRules.{const_rule, lang_const_rule}
-use Rattle.goal_kinds.specs.Equality.{SameForm, OtherForm, EqualByForm, UnequalByForm, Equal, Unequal}
-use Rattle.goal_kinds.specs.Headers.{is_parameter, has_place, mentions, StepInto, Part, AllAreKnown, InstanceUnequal, StepClashes, Clash, RowClash, parameter_of, PartAmong, Known, PartsFrom, AllKnown, Fits, Clashes}
-use Rattle.goal_kinds.specs.ImplTerms.{said, taken, Translated, KnownTranslated, TranslationRefuted, OtherImplHolds, OtherImplKnown, OtherImplRefuted, SaidGives, SaidRefuted, ImplGives, ImplTermRefuted}
-use Rattle.goal_kinds.specs.Level.{Level, nothing, HasHeadForm, HeadFormRefuted}
-use Rattle.goal_kinds.specs.Levels.{level}
-use Rattle.goal_kinds.specs.Premises.{ClauseHolds, ClauseRefuted, PremiseHolds, PremiseRefuted, PremisesHold, PremisesRefuted}
-use Rattle.goal_kinds.specs.Projections.{EquationGives, EquationRefuted, AssumptionGives, AssumptionTermRefuted, ListedGives, ListedRefuted, CandidateGives, TermRefuted, GroupGives, GroupRefuted, OwnFormed, OwnUnformed, GroupsGive, GroupsRefuted, ItemGives, ItemRefuted, ProjectionGives, ProjectionRefuted}
-use Rattle.goal_kinds.specs.TraitGoals.{header_of, AssumptionHolds, AssumptionRefuted, ImplHoldsUnder, ImplHolds, ImplRefuted, TraitRuleHolds, TraitRuleRefuted, CandidateHolds, CandidateRefuted, PassedOver, Decides, TraitHolds, TraitRefuted}
-use Rattle.goal_kinds.specs.Words.{Each, Exists, Pairs, SomePair, OfRow, Either}
-use Rattle.goal_kinds.proofs.SpecializedLemmas.{listed_in, decides-none, passed_over-none}
+use Rattle.goal_lists.specs.Aliases.{InherentGives, InherentRefuted, InherentAliasGives, InherentAliasRefuted, ValueGives, ValueRefuted, FreeGives, FreeRefuted, OpaqueGives, OpaqueRefuted, AliasGives, AliasRefuted}
+use Rattle.goal_lists.specs.Builtins.{sized_of_head, copied_parts_of_head, signature_of_head, call_rule, lang_rule, trait_rule, metadata_of_head, discriminant_of_head, lang_term, term_rule}
+use Rattle.goal_lists.specs.Candidates.{Candidate, bounds_of_alias, bounds_of, all_but_last, last_of, object_bounds_among, object_bounds, class_of, classes_before, all_candidates, second_group}
+use Rattle.goal_lists.specs.ConstGoals.{ConstAssumptionHolds, ConstAssumptionRefuted, ConstImplHolds, ConstImplRefuted, ConstRuleHolds, ConstRuleRefuted, ConstCandidateHolds, ConstCandidateRefuted, ConstHolds, ConstRefuted}
+use Rattle.goal_lists.specs.ConstRules.{const_rule, lang_const_rule}
+use Rattle.goal_lists.specs.Equality.{SameForm, OtherForm, EqualByForm, UnequalByForm, Equal, Unequal}
+use Rattle.goal_lists.specs.Headers.{is_parameter, has_place, mentions, StepInto, Part, AllAreKnown, InstanceUnequal, StepClashes, Clash, RowClash, parameter_of, PartAmong, Known, PartsFrom, AllKnown, Fits, Clashes}
+use Rattle.goal_lists.specs.ImplTerms.{said, taken, Translated, KnownTranslated, TranslationRefuted, OtherImplHolds, OtherImplKnown, OtherImplRefuted, SaidGives, SaidRefuted, ImplGives, ImplTermRefuted}
+use Rattle.goal_lists.specs.Level.{Level, nothing, HasHeadForm, HeadFormRefuted}
+use Rattle.goal_lists.specs.Levels.{level}
+use Rattle.goal_lists.specs.Premises.{ClauseHolds, ClauseRefuted, PremiseHolds, PremiseRefuted, PremisesHold, PremisesRefuted}
+use Rattle.goal_lists.specs.Projections.{EquationGives, EquationRefuted, AssumptionGives, AssumptionTermRefuted, ListedGives, ListedRefuted, CandidateGives, TermRefuted, GroupGives, GroupRefuted, OwnFormed, OwnUnformed, GroupsGive, GroupsRefuted, ItemGives, ItemRefuted, ProjectionGives, ProjectionRefuted}
+use Rattle.goal_lists.specs.TraitGoals.{header_of, AssumptionHolds, AssumptionRefuted, ImplHoldsUnder, ImplHolds, ImplRefuted, TraitRuleHolds, TraitRuleRefuted, CandidateHolds, CandidateRefuted, PassedOver, Decides, TraitHolds, TraitRefuted}
+use Rattle.goal_lists.specs.Words.{Each, Exists, Pairs, SomePair, OfRow, Either}
+use Rattle.goal_lists.proofs.SpecializedLemmas.{listed_in, decides-none, passed_over-none}
 
 -- opens all definitions
 unfoldable pub opened : Unit {0}

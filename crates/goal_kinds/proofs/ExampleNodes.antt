@@ -10,13 +10,13 @@ use Rattle.goal_terms.specs.declared.terms.AliasTermKind.{AliasTermKind}
 use Rattle.goal_tables.specs.declared.rows.ItemRow.{ItemRow}
 use Rattle.goal_tables.specs.declared.rows.Tables.{Tables}
 use Rattle.goal_tables.specs.declared.rows.TraitRow.{TraitRow}
-use Rattle.goal_kinds.specs.Candidates.{rest, class_of, all_candidates, second_group}
-use Rattle.goal_kinds.specs.Level.{Level, HasHeadForm}
-use Rattle.goal_kinds.specs.Levels.{level}
-use Rattle.goal_kinds.specs.Projections.{GroupGives, GroupRefuted, GroupsGive, GroupsRefuted, ItemGives, ItemRefuted, asked}
-use Rattle.goal_kinds.specs.Settings.{Setting}
-use Rattle.goal_kinds.specs.TraitGoals.{CandidateDecides, CandidateRuledOut, TraitHolds, TraitRefuted}
-use Rattle.goal_kinds.specs.Words.{Each, Exists}
+use Rattle.goal_lists.specs.Candidates.{rest, class_of, all_candidates, second_group}
+use Rattle.goal_lists.specs.Level.{Level, HasHeadForm}
+use Rattle.goal_lists.specs.Levels.{level}
+use Rattle.goal_lists.specs.Projections.{GroupGives, GroupRefuted, GroupsGive, GroupsRefuted, ItemGives, ItemRefuted, asked}
+use Rattle.goal_lists.specs.Settings.{Setting}
+use Rattle.goal_lists.specs.TraitGoals.{CandidateDecides, CandidateRuledOut, TraitHolds, TraitRefuted}
+use Rattle.goal_lists.specs.Words.{Each, Exists}
 use Rattle.goal_kinds.proofs.ExampleLemmas.{opened}
 
 -- tables and a mode without an environment

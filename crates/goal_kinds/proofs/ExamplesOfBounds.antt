@@ -4,8 +4,8 @@ use Rattle.goal_terms.specs.Tree.{Tree}
 use Rattle.goal_terms.specs.declared.answers.TraitGoalProvenVia.{TraitGoalProvenVia}
 use Rattle.goal_terms.specs.declared.answers.TraitGoalProvenVia.TheVariants as class
 use Rattle.goal_kinds.specs.ExampleTerms.{alias_of, item, param, projection, trait}
-use Rattle.goal_kinds.specs.Headers.{under}
-use Rattle.goal_kinds.specs.Levels.{level}
+use Rattle.goal_lists.specs.Headers.{under}
+use Rattle.goal_lists.specs.Levels.{level}
 use Rattle.goal_kinds.specs.ExampleSettings.{assuming_own_trait, bounded}
 use Rattle.goal_kinds.proofs.ExampleHeaders.{param_arg}
 use Rattle.goal_kinds.proofs.ExampleLemmas.{alone, no_projection_at_one, opened, other_trait}

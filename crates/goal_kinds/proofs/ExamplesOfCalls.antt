@@ -4,11 +4,11 @@ use Rattle.goal_terms.specs.Tree.{Tree, forest}
 use Rattle.goal_terms.specs.declared.answers.TraitGoalProvenVia.TheVariants as class
 use Rattle.goal_terms.specs.declared.heads.Head.TheVariants as head
 use Rattle.goal_terms.specs.declared.scalars.UintTy.TheVariants as unsigned
-use Rattle.goal_kinds.specs.Builtins.{call_premises, u8_ty}
+use Rattle.goal_lists.specs.Builtins.{call_premises, u8_ty}
 use Rattle.goal_kinds.specs.ExampleTables.{analysis, example_tables, plainly}
 use Rattle.goal_kinds.specs.ExampleTerms.{bool_ty, fn_ty, item, projection, trait, tuple, u16_ty}
-use Rattle.goal_kinds.specs.Levels.{level}
-use Rattle.goal_kinds.specs.Premises.{PremisesHold}
+use Rattle.goal_lists.specs.Levels.{level}
+use Rattle.goal_lists.specs.Premises.{PremisesHold}
 use Rattle.goal_kinds.specs.ExampleSettings.{called_with}
 use Rattle.goal_kinds.proofs.ExampleLemmas.{alone, apart, differs, opened, no_projection_refuted_at_one}
 use Rattle.goal_kinds.proofs.ExampleNodes.{through_rest}

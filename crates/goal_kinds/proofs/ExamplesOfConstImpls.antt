@@ -14,10 +14,10 @@ use Rattle.goal_terms.specs.declared.terms.Ty as ty
 use Rattle.goal_terms.proofs.TreeLemmas.{tree_of_arg-Ty, tree_of_ty-Adt}
 use Rattle.goal_kinds.specs.ExampleTables.{analysis}
 use Rattle.goal_kinds.specs.ExampleTerms.{adt, param, plain_struct, struct, trait, vec_of, z_ty}
-use Rattle.goal_kinds.specs.Headers.{under, AllAreKnown, Clashes, Fits, Known}
-use Rattle.goal_kinds.specs.Levels.{level}
-use Rattle.goal_kinds.specs.Premises.{PremisesRefuted, clauses_under}
-use Rattle.goal_kinds.specs.TraitGoals.{ImplRefuted, header_of}
+use Rattle.goal_lists.specs.Headers.{under, AllAreKnown, Clashes, Fits, Known}
+use Rattle.goal_lists.specs.Levels.{level}
+use Rattle.goal_lists.specs.Premises.{PremisesRefuted, clauses_under}
+use Rattle.goal_lists.specs.TraitGoals.{ImplRefuted, header_of}
 use Rattle.goal_kinds.specs.ExampleSettings.{q_ty, const_tr_for_q, const_tr_for_vec, const_tables, with_const}
 use Rattle.goal_kinds.proofs.ExampleHeaders.{param_arg, struct_arg}
 use Rattle.goal_kinds.proofs.ExampleLemmas.{alone, apart, differs, header-z, header_clashes, number_of, only_refuted, opened}

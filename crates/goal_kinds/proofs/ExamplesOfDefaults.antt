@@ -6,14 +6,14 @@ use Rattle.goal_terms.specs.declared.heads.Head.TheVariants as head
 use Rattle.goal_terms.specs.declared.modes.TypingMode.{TypingMode}
 use Rattle.goal_terms.specs.declared.modes.TypingMode.TheVariants as mode
 use Rattle.goal_terms.proofs.TreeLemmas.{tree_of_term-Ty, tree_of_ty-Uint}
-use Rattle.goal_kinds.specs.Builtins.{u8_ty}
+use Rattle.goal_lists.specs.Builtins.{u8_ty}
 use Rattle.goal_kinds.specs.ExampleRows.{plain_item, tr_for_z}
 use Rattle.goal_kinds.specs.ExampleTables.{analysis}
 use Rattle.goal_kinds.specs.ExampleTerms.{adt, alias_of, item, projection, trait, z_ty}
-use Rattle.goal_kinds.specs.Headers.{under}
-use Rattle.goal_kinds.specs.ImplTerms.{ImplGives}
-use Rattle.goal_kinds.specs.Level.{HasHeadForm}
-use Rattle.goal_kinds.specs.Levels.{level}
+use Rattle.goal_lists.specs.Headers.{under}
+use Rattle.goal_lists.specs.ImplTerms.{ImplGives}
+use Rattle.goal_lists.specs.Level.{HasHeadForm}
+use Rattle.goal_lists.specs.Levels.{level}
 use Rattle.goal_kinds.specs.ExampleSettings.{with_default}
 use Rattle.goal_kinds.proofs.ExampleLemmas.{alone, no_projection_at_one, not_str, not_w, not_y, opened}
 use Rattle.goal_kinds.proofs.ExamplesOfImpls.{fits_z}

@@ -9,15 +9,15 @@ use Rattle.goal_terms.specs.declared.heads.Head.{Head}
 use Rattle.goal_terms.specs.declared.heads.Head.TheVariants as head
 use Rattle.goal_terms.specs.declared.predicates.BoundConstness.TheVariants as constness
 use Rattle.goal_terms.specs.declared.scalars.UintTy.TheVariants as unsigned
-use Rattle.goal_kinds.specs.Builtins.{u8_ty}
-use Rattle.goal_kinds.specs.Candidates.{assumption, second_group}
+use Rattle.goal_lists.specs.Builtins.{u8_ty}
+use Rattle.goal_lists.specs.Candidates.{assumption, second_group}
 use Rattle.goal_kinds.specs.ExampleRows.{plain_item}
 use Rattle.goal_kinds.specs.ExampleTerms.{alias_of, item, param, projection, trait, u16_ty, z_ty}
-use Rattle.goal_kinds.specs.ImplTerms.{Projection, trait_args}
-use Rattle.goal_kinds.specs.Levels.{level}
-use Rattle.goal_kinds.specs.Projections.{AssumptionGives, AssumptionTermRefuted, GroupsGive, GroupsRefuted}
-use Rattle.goal_kinds.specs.Settings.{Setting}
-use Rattle.goal_kinds.specs.TraitGoals.{PassedOver}
+use Rattle.goal_lists.specs.ImplTerms.{Projection, trait_args}
+use Rattle.goal_lists.specs.Levels.{level}
+use Rattle.goal_lists.specs.Projections.{AssumptionGives, AssumptionTermRefuted, GroupsGive, GroupsRefuted}
+use Rattle.goal_lists.specs.Settings.{Setting}
+use Rattle.goal_lists.specs.TraitGoals.{PassedOver}
 use Rattle.goal_kinds.specs.ExampleSettings.{assuming_z, assuming_maybe_const, disagreeing}
 use Rattle.goal_kinds.proofs.ExampleLemmas.{alone, only_refuted, opened, no_const_at_one, no_const_refuted_at_one, no_projection_at_one}
 use Rattle.goal_kinds.proofs.ExampleNodes.{at_node}

@@ -1,10 +1,10 @@
 -- Worked examples: that an alias and a type are equal.
 use Rattle.std.proofs.Common.{inl, inr, [], ◌∷◌, refl}
 use Rattle.goal_terms.specs.Tree.{node_of}
-use Rattle.goal_kinds.specs.Builtins.{u8_ty, unit_ty}
+use Rattle.goal_lists.specs.Builtins.{u8_ty, unit_ty}
 use Rattle.goal_kinds.specs.ExampleTables.{plainly}
 use Rattle.goal_kinds.specs.ExampleTerms.{bool_ty, item}
-use Rattle.goal_kinds.specs.Levels.{level}
+use Rattle.goal_lists.specs.Levels.{level}
 use Rattle.goal_kinds.specs.ExampleSettings.{metadata_of_bool}
 use Rattle.goal_kinds.proofs.ExampleLemmas.{differs, no_projection_at_one, no_projection_refuted_at_one, opened, other_node, other_tree}
 use Rattle.goal_kinds.proofs.ExamplesOfMetadata.{example-metadata_of_bool}

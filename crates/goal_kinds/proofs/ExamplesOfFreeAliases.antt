@@ -7,12 +7,12 @@ use Rattle.goal_terms.specs.declared.scalars.UintTy.TheVariants as unsigned
 use Rattle.goal_terms.specs.declared.terms.Term as term
 use Rattle.goal_terms.specs.declared.terms.Ty as ty
 use Rattle.goal_terms.proofs.TreeLemmas.{tree_of_arg-Ty, tree_of_term-Ty, tree_of_ty-Adt, tree_of_ty-Param, tree_of_ty-Uint}
-use Rattle.goal_kinds.specs.Builtins.{u8_ty}
+use Rattle.goal_lists.specs.Builtins.{u8_ty}
 use Rattle.goal_kinds.specs.ExampleTables.{plainly, revealing}
 use Rattle.goal_kinds.specs.ExampleTerms.{alias_of, free, opaque, param, struct_of, trait, u32_ty, vec_of}
-use Rattle.goal_kinds.specs.Headers.{under}
-use Rattle.goal_kinds.specs.Level.{HasHeadForm, HeadFormRefuted}
-use Rattle.goal_kinds.specs.Levels.{level}
+use Rattle.goal_lists.specs.Headers.{under}
+use Rattle.goal_lists.specs.Level.{HasHeadForm, HeadFormRefuted}
+use Rattle.goal_lists.specs.Levels.{level}
 use Rattle.goal_kinds.proofs.ExampleLemmas.{opened, not_y, not_z, not_w, not_str}
 
 -- the trees of the rows' types

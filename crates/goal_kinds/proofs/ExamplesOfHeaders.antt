@@ -9,15 +9,15 @@ use Rattle.goal_terms.specs.declared.heads.Head.{Head}
 use Rattle.goal_terms.specs.declared.heads.Head.TheVariants as head
 use Rattle.goal_terms.specs.declared.scalars.UintTy.TheVariants as unsigned
 use Rattle.goal_terms.proofs.TreeLemmas.{tree_of_term-Ty, tree_of_ty-Uint}
-use Rattle.goal_kinds.specs.Builtins.{u8_ty}
+use Rattle.goal_lists.specs.Builtins.{u8_ty}
 use Rattle.goal_kinds.specs.ExampleRows.{pair_for_vec, plain_item}
 use Rattle.goal_kinds.specs.ExampleTables.{analysis, example_tables, plainly}
 use Rattle.goal_kinds.specs.ExampleTerms.{adt, alias_of, box_of, free, param, projection, trait, u16_ty, vec_of}
-use Rattle.goal_kinds.specs.Headers.{under, AllAreKnown, Clashes, Fits, Known, mentions}
-use Rattle.goal_kinds.specs.ImplTerms.{ImplGives}
-use Rattle.goal_kinds.specs.Level.{HasHeadForm}
-use Rattle.goal_kinds.specs.Levels.{level}
-use Rattle.goal_kinds.specs.TraitGoals.{any_error, header_of}
+use Rattle.goal_lists.specs.Headers.{under, AllAreKnown, Clashes, Fits, Known, mentions}
+use Rattle.goal_lists.specs.ImplTerms.{ImplGives}
+use Rattle.goal_lists.specs.Level.{HasHeadForm}
+use Rattle.goal_lists.specs.Levels.{level}
+use Rattle.goal_lists.specs.TraitGoals.{any_error, header_of}
 use Rattle.goal_kinds.specs.ExampleSettings.{f_alias, pair_args}
 use Rattle.goal_kinds.proofs.ExampleHeaders.{header-pair, value-box}
 use Rattle.goal_kinds.proofs.ExampleLemmas.{alone, differs, only_refuted, opened, other_node, other_tree}

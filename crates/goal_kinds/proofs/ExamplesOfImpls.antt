@@ -7,16 +7,16 @@ use Rattle.goal_terms.specs.declared.heads.Head.{Head}
 use Rattle.goal_terms.specs.declared.heads.Head.TheVariants as head
 use Rattle.goal_terms.specs.declared.predicates.BoundConstness.TheVariants as constness
 use Rattle.goal_terms.proofs.TreeLemmas.{tree_of_term-Ty, tree_of_ty-Uint}
-use Rattle.goal_kinds.specs.Builtins.{u8_ty}
+use Rattle.goal_lists.specs.Builtins.{u8_ty}
 use Rattle.goal_kinds.specs.ExampleRows.{tr_for_z, tr_for_w, tr_for_str, plain_item}
 use Rattle.goal_kinds.specs.ExampleTables.{plainly}
 use Rattle.goal_kinds.specs.ExampleTerms.{adt, alias_of, error_ty, item, p_ty, projection, str_ty, trait, w_ty, y_ty, z_ty}
-use Rattle.goal_kinds.specs.Headers.{under, Fits}
-use Rattle.goal_kinds.specs.ImplTerms.{ImplGives}
-use Rattle.goal_kinds.specs.Level.{HasHeadForm}
-use Rattle.goal_kinds.specs.Levels.{level}
-use Rattle.goal_kinds.specs.Settings.{Setting}
-use Rattle.goal_kinds.specs.TraitGoals.{header_of}
+use Rattle.goal_lists.specs.Headers.{under, Fits}
+use Rattle.goal_lists.specs.ImplTerms.{ImplGives}
+use Rattle.goal_lists.specs.Level.{HasHeadForm}
+use Rattle.goal_lists.specs.Levels.{level}
+use Rattle.goal_lists.specs.Settings.{Setting}
+use Rattle.goal_lists.specs.TraitGoals.{header_of}
 use Rattle.goal_kinds.proofs.ExampleLemmas.{opened, alone, not_y, not_z, not_w, not_str, header-z, header-w, header-str, no_const_refuted_at_one, no_const_at_one, no_projection_at_one, no_projection_refuted_at_one}
 
 -- a type without parts is equal to itself

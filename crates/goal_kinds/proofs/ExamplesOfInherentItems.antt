@@ -8,13 +8,13 @@ use Rattle.goal_terms.specs.declared.heads.Head.TheVariants as head
 use Rattle.goal_terms.specs.declared.terms.Term as term
 use Rattle.goal_terms.specs.declared.terms.Ty as ty
 use Rattle.goal_terms.proofs.TreeLemmas.{tree_of_term-Ty, tree_of_ty-Param, tree_of_ty-Tuple}
-use Rattle.goal_kinds.specs.Aliases.{self_header}
+use Rattle.goal_lists.specs.Aliases.{self_header}
 use Rattle.goal_kinds.specs.ExampleRows.{inherent_for_vec}
 use Rattle.goal_kinds.specs.ExampleTables.{plainly}
 use Rattle.goal_kinds.specs.ExampleTerms.{adt, box_of, param, tuple, u32_ty, vec, vec_of}
-use Rattle.goal_kinds.specs.Headers.{under, Clashes, Fits}
-use Rattle.goal_kinds.specs.Level.{HasHeadForm}
-use Rattle.goal_kinds.specs.Levels.{level}
+use Rattle.goal_lists.specs.Headers.{under, Clashes, Fits}
+use Rattle.goal_lists.specs.Level.{HasHeadForm}
+use Rattle.goal_lists.specs.Levels.{level}
 use Rattle.goal_kinds.specs.ExampleSettings.{inherent_item}
 use Rattle.goal_kinds.proofs.ExampleHeaders.{struct_type}
 use Rattle.goal_kinds.proofs.ExampleLemmas.{apart, differs, opened}

@@ -7,19 +7,19 @@ use Rattle.goal_terms.specs.declared.terms.GenericArg as arg
 use Rattle.goal_terms.specs.declared.terms.Term as term
 use Rattle.goal_terms.specs.declared.terms.Ty as ty
 use Rattle.goal_terms.proofs.TreeLemmas.{tree_of_arg-Ty, tree_of_term-Ty, tree_of_ty-Adt, tree_of_ty-Error}
-use Rattle.goal_kinds.specs.AliasLists.{entries_of_row, opaque_list, alias_list}
-use Rattle.goal_kinds.specs.Candidates.{by_impl}
-use Rattle.goal_kinds.specs.EffectLists.{effect_list}
+use Rattle.goal_lists.specs.AliasLists.{entries_of_row, opaque_list, alias_list}
+use Rattle.goal_lists.specs.Candidates.{by_impl}
+use Rattle.goal_lists.specs.EffectLists.{effect_list}
 use Rattle.goal_kinds.specs.ExampleLists.{type_of_w, list_for_w, w_list, assoc_of_vec, list_for_assoc, assoc_list, list_for_vec, vec_list, opaque_entries, w_rule, no_impl_rule, no_impl_list, no_value_rule, no_value_list}
 use Rattle.goal_kinds.specs.ExampleRows.{tr_for_w, trait_of_i32_for_vec}
 use Rattle.goal_kinds.specs.ExampleSettings.{asked_args, const_tr_for_vec, q_ty, with_const}
 use Rattle.goal_kinds.specs.ExampleTables.{example_tables, plainly}
 use Rattle.goal_kinds.specs.ExampleTerms.{alias_of, error_ty, opaque, plain_struct, projection, trait, vec_of, w_ty}
-use Rattle.goal_kinds.specs.ImplTerms.{taken}
-use Rattle.goal_kinds.specs.ListModes.{erased_setting}
-use Rattle.goal_kinds.specs.ProjectionLists.{taken_entries, said_entries, projection_list}
+use Rattle.goal_lists.specs.ImplTerms.{taken}
+use Rattle.goal_lists.specs.ListModes.{erased_setting}
+use Rattle.goal_lists.specs.ProjectionLists.{taken_entries, said_entries, projection_list}
 use Rattle.goal_kinds.specs.RuleLists.{entries_of}
-use Rattle.goal_kinds.specs.TraitLists.{list_by_polarity}
+use Rattle.goal_lists.specs.TraitLists.{list_by_polarity}
 use Rattle.goal_kinds.proofs.ExampleHeaders.{i32_arg, param_arg, struct_arg, value-triple}
 
 -- a missing value

@@ -3,11 +3,11 @@ use Rattle.std.proofs.Common.{inl, inr, [], ◌∷◌, refl}
 use Rattle.goal_terms.specs.Tree.{Tree, forest}
 use Rattle.goal_terms.specs.declared.heads.Head.TheVariants as head
 use Rattle.goal_terms.specs.declared.answers.TraitGoalProvenVia.TheVariants as class
-use Rattle.goal_kinds.specs.Builtins.{unit_ty, u8_ty, usize_ty}
+use Rattle.goal_lists.specs.Builtins.{unit_ty, u8_ty, usize_ty}
 use Rattle.goal_kinds.specs.ExampleTerms.{alias_of, bool_ty, param, str_ty, tuple, projection, trait, item}
 use Rattle.goal_kinds.specs.ExampleRows.{plain_item, plain_trait, with_item}
 use Rattle.goal_kinds.specs.ExampleTables.{analysis, example_tables, plainly}
-use Rattle.goal_kinds.specs.Levels.{level}
+use Rattle.goal_lists.specs.Levels.{level}
 use Rattle.goal_kinds.specs.ExampleSettings.{assuming_sized}
 use Rattle.goal_kinds.proofs.ExampleLemmas.{alone, opened, other_trait, no_projection_at_one}
 use Rattle.goal_kinds.proofs.ExampleNodes.{rest_gives, through_rest}

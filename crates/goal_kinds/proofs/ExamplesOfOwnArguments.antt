@@ -6,12 +6,12 @@ use Rattle.goal_terms.specs.declared.answers.TraitGoalProvenVia.{TraitGoalProven
 use Rattle.goal_terms.specs.declared.answers.TraitGoalProvenVia.TheVariants as class
 use Rattle.goal_terms.specs.declared.heads.Head.TheVariants as head
 use Rattle.goal_terms.specs.declared.scalars.IntTy.TheVariants as signed
-use Rattle.goal_kinds.specs.Candidates.{second_group}
+use Rattle.goal_lists.specs.Candidates.{second_group}
 use Rattle.goal_kinds.specs.ExampleRows.{assoc_item}
 use Rattle.goal_kinds.specs.ExampleTerms.{adt, alias_of, i32_ty, item, p_ty, param, projection, trait, u16_ty}
-use Rattle.goal_kinds.specs.ImplTerms.{Projection}
-use Rattle.goal_kinds.specs.Levels.{level}
-use Rattle.goal_kinds.specs.Projections.{AssumptionTermRefuted, GroupsRefuted}
+use Rattle.goal_lists.specs.ImplTerms.{Projection}
+use Rattle.goal_lists.specs.Levels.{level}
+use Rattle.goal_lists.specs.Projections.{AssumptionTermRefuted, GroupsRefuted}
 use Rattle.goal_kinds.specs.ExampleSettings.{own_args_of, assuming_own}
 use Rattle.goal_kinds.proofs.ExampleLemmas.{alone, only_refuted, opened, other_trait, not_y, not_z, not_w, not_str, no_projection_refuted_at_one}
 use Rattle.goal_kinds.proofs.ExampleNodes.{at_node}

@@ -14,23 +14,23 @@ use Rattle.goal_terms.specs.declared.terms.GenericArg as arg
 use Rattle.goal_terms.specs.declared.terms.Ty as ty
 use Rattle.goal_terms.proofs.TreeLemmas.{tree_of_arg-Ty, tree_of_term-Ty, tree_of_ty-Adt, tree_of_ty-Param, tree_of_ty-Uint}
 use Rattle.goal_tables.specs.Specialized.{rows_named, listed_by_all, reached}
-use Rattle.goal_kinds.specs.Builtins.{u8_ty}
-use Rattle.goal_kinds.specs.Candidates.{by_impl}
+use Rattle.goal_lists.specs.Builtins.{u8_ty}
+use Rattle.goal_lists.specs.Candidates.{by_impl}
 use Rattle.goal_kinds.specs.ExampleRows.{plain_item, plain_trait, with_item}
 use Rattle.goal_kinds.specs.ExampleSettings.{f_alias, specialized, tr_for_vec, tr_for_vec_of_u8, two_for_vec, unspecialized, with_two_for_vec}
 use Rattle.goal_kinds.specs.ExampleTables.{analysis}
 use Rattle.goal_kinds.specs.ExampleTerms.{adt, alias_of, free, impl, item, param, projection, struct_of, trait, u16_ty, u32_ty, vec, vec_of}
-use Rattle.goal_kinds.specs.Headers.{under, Clashes, Fits}
-use Rattle.goal_kinds.specs.ImplTerms.{ImplGives, Projection}
-use Rattle.goal_kinds.specs.Level.{Level, HasHeadForm}
-use Rattle.goal_kinds.specs.Levels.{level}
-use Rattle.goal_kinds.specs.TraitGoals.{Decides, ImplHolds, ImplRefuted, PassedOver, header_of}
-use Rattle.goal_kinds.specs.Words.{Each}
-use Rattle.goal_kinds.proofs.ConsistentLemmas.{each_level_is_consistent}
+use Rattle.goal_lists.specs.Headers.{under, Clashes, Fits}
+use Rattle.goal_lists.specs.ImplTerms.{ImplGives, Projection}
+use Rattle.goal_lists.specs.Level.{Level, HasHeadForm}
+use Rattle.goal_lists.specs.Levels.{level}
+use Rattle.goal_lists.specs.TraitGoals.{Decides, ImplHolds, ImplRefuted, PassedOver, header_of}
+use Rattle.goal_lists.specs.Words.{Each}
+use Rattle.goal_lists.proofs.ConsistentLemmas.{each_level_is_consistent}
 use Rattle.goal_kinds.proofs.ExampleHeaders.{struct_arg}
 use Rattle.goal_kinds.proofs.ExampleLemmas.{alone, no_projection_at_one, opened}
 use Rattle.goal_kinds.proofs.ExampleNodes.{rest_gives, through_rest}
-use Rattle.goal_kinds.proofs.TermCandidateLemmas.{one_decided_term}
+use Rattle.goal_lists.proofs.TermCandidateLemmas.{one_decided_term}
 
 -- the impls that the first may list
 abbrev Listed : Type 0

@@ -8,11 +8,11 @@ use Rattle.goal_tables.specs.declared.rows.ImplRow.{ImplRow}
 use Rattle.goal_kinds.specs.ExampleRows.{assoc_item, trait_of_all_for_vec, trait_of_i32_for_vec}
 use Rattle.goal_kinds.specs.ExampleTables.{plainly}
 use Rattle.goal_kinds.specs.ExampleTerms.{adt, alias_of, bool_ty, i32_ty, item, param, projection, trait, u32_ty, u64_ty, vec_of}
-use Rattle.goal_kinds.specs.Headers.{under, Clashes, Fits}
-use Rattle.goal_kinds.specs.ImplTerms.{ImplGives}
-use Rattle.goal_kinds.specs.Level.{HasHeadForm}
-use Rattle.goal_kinds.specs.Levels.{level}
-use Rattle.goal_kinds.specs.TraitGoals.{header_of}
+use Rattle.goal_lists.specs.Headers.{under, Clashes, Fits}
+use Rattle.goal_lists.specs.ImplTerms.{ImplGives}
+use Rattle.goal_lists.specs.Level.{HasHeadForm}
+use Rattle.goal_lists.specs.Levels.{level}
+use Rattle.goal_lists.specs.TraitGoals.{header_of}
 use Rattle.goal_kinds.specs.ExampleSettings.{asked_args, three}
 use Rattle.goal_kinds.proofs.ExampleHeaders.{fits-all, fits-i32, header-all, header-i32, value-triple}
 use Rattle.goal_kinds.proofs.ExampleLemmas.{alone, apart, differs, opened, no_projection_at_one, no_projection_refuted_at_one}

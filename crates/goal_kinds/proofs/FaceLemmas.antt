@@ -8,21 +8,21 @@ use Rattle.goal_terms.specs.declared.modes.TypingMode.{TypingMode}
 use Rattle.goal_terms.specs.declared.predicates.Clause.{Clause}
 use Rattle.goal_terms.specs.declared.term_nodes.TermId.{TermId}
 use Rattle.goal_tables.specs.declared.rows.Tables.{Tables}
-use Rattle.goal_kinds.specs.Answers.{setting_of}
+use Rattle.goal_lists.specs.Answers.{setting_of}
 use Rattle.goal_kinds.specs.CandidateRules.{GivesAs, RefutedAs, IsRefusal, IsNamedAnswer, only_given}
-use Rattle.goal_kinds.specs.Candidates.{Candidate}
-use Rattle.goal_kinds.specs.Entries.{Entry, equal_terms, ListRefuted}
-use Rattle.goal_kinds.specs.Interned.{CandidateIn, erased_all, candidate_at}
-use Rattle.goal_kinds.specs.InternedEntries.{setting_at}
-use Rattle.goal_kinds.specs.Levels.{level}
+use Rattle.goal_lists.specs.Candidates.{Candidate}
+use Rattle.goal_lists.specs.Entries.{Entry, equal_terms, ListRefuted}
+use Rattle.goal_lists.specs.Interned.{CandidateIn, erased_all, candidate_at}
+use Rattle.goal_lists.specs.InternedEntries.{setting_at}
+use Rattle.goal_lists.specs.Levels.{level}
 use Rattle.goal_kinds.specs.RuleLists.{entries_then, list_then, IsListed, IsToldBy}
-use Rattle.goal_kinds.specs.Settings.{Setting}
-use Rattle.goal_kinds.specs.declared.candidates.interned.InternedCandidate.{InternedCandidate}
+use Rattle.goal_lists.specs.Settings.{Setting}
+use Rattle.goal_lists.specs.declared.candidates.interned.InternedCandidate.{InternedCandidate}
 use Rattle.goal_kinds.specs.declared.faults.Fault.{Fault}
 use Rattle.goal_kinds.specs.declared.faults.Fault.TheVariants as fault
-use Rattle.goal_kinds.specs.declared.lists.ListSetting.{ListSetting}
+use Rattle.goal_lists.specs.declared.lists.ListSetting.{ListSetting}
 use Rattle.goal_kinds.specs.declared.rules.Rule.{Rule}
-use Rattle.goal_kinds.proofs.InternedLemmas.{candidate_same-grown}
+use Rattle.goal_lists.proofs.InternedLemmas.{candidate_same-grown}
 use Rattle.goal_kinds.proofs.ListedRules.{ListSays, AreGiven, listed-given, listed-list, listed-gives, listed-refuted, none-refuted, refusal-says, named-answer}
 
 -- a list with nothing more behind it

@@ -14,9 +14,7 @@ use Rattle.goal_terms.specs.declared.ids.ItemId.{ItemId}
 use Rattle.goal_terms.specs.declared.ids.OpaqueId.{OpaqueId}
 use Rattle.goal_tables.specs.Clauses.{lies_in_clauses, lies_in_const_refs}
 use Rattle.goal_tables.specs.Faults.{IsChecked, applies, unknown_item, wrong_argument_count, wrong_argument_kind, parameter_out_of_range, infer_in_table, never_const}
-use Rattle.goal_tables.specs.RowFaults.{if_unknown, item_scope, with_alias, lies_in_option, lies_in_const_bounds, lies_in_field_info}
-use Rattle.goal_tables.specs.RowFaults.{lies_in_trait, lies_in_item, lies_in_lang, lies_in_impl, lies_in_definition, lies_in_source, lies_in_free, lies_in_opaque, lies_in_inherent_impl, lies_in_inherent, lies_in_adt, lies_in_function, lies_in_closure}
-use Rattle.goal_tables.specs.RowFaults.{lies_in_trait_rows, lies_in_impl_rows, lies_in_alias_rows, lies_in_inherent_rows, lies_in_type_rows, lies_in_rows}
+use Rattle.goal_tables.specs.RowFaults.{if_unknown, item_scope, with_alias, lies_in_option, lies_in_const_bounds, lies_in_field_info, lies_in_trait, lies_in_item, lies_in_lang, lies_in_impl, lies_in_definition, lies_in_source, lies_in_free, lies_in_opaque, lies_in_inherent_impl, lies_in_inherent, lies_in_adt, lies_in_function, lies_in_closure, lies_in_trait_rows, lies_in_impl_rows, lies_in_alias_rows, lies_in_inherent_rows, lies_in_type_rows, lies_in_rows}
 use Rattle.goal_tables.specs.Rows.{trait_of, item_of, definition_of, free_of, inherent_impl_of, inherent_of, opaque_of, adt_of, function_of, closure_of}
 use Rattle.goal_tables.specs.Sites.{lies_in}
 use Rattle.goal_tables.specs.TraitFaults.{lang_allows_const}
@@ -33,8 +31,8 @@ use Rattle.goal_tables.specs.declared.rows.OpaqueRow.{OpaqueRow}
 use Rattle.goal_tables.specs.declared.rows.Tables.{Tables}
 use Rattle.goal_tables.specs.declared.sites.TermFault.{TermFault}
 use Rattle.goal_tables.specs.declared.sites.TermFault.TheVariants.{UnknownItem, WrongArgumentCount, WrongArgumentKind, ParameterOutOfRange, InferInTable, NeverConst}
-use Rattle.goal_kinds.proofs.AcceptedLemmas.{found_fails}
-use Rattle.goal_kinds.proofs.TableKindLemmas.{both_fail}
+use Rattle.goal_lists.proofs.AcceptedLemmas.{found_fails}
+use Rattle.goal_lists.proofs.TableKindLemmas.{both_fail}
 
 -- of tests that all fail each does
 pub three_fail : (a b c : Bool) → a || b || c ≡ false → (a ≡ false) × (b ≡ false) × (c ≡ false)

@@ -12,22 +12,22 @@ use Rattle.goal_tables.specs.Faults.{IsChecked}
 use Rattle.goal_tables.specs.Rows.{impl_of}
 use Rattle.goal_tables.specs.SourceFaults.{is_positive}
 use Rattle.goal_kinds.specs.CandidateRules.{HasNoKindFault}
-use Rattle.goal_kinds.specs.Candidates.{by_impl}
-use Rattle.goal_kinds.specs.FastReject.{lists_may_unify}
+use Rattle.goal_lists.specs.Candidates.{by_impl}
+use Rattle.goal_lists.specs.FastReject.{lists_may_unify}
 use Rattle.goal_kinds.specs.ProjectionKind.{ProjectionCandidateRefuted, IsImplForItem, refuses_term}
-use Rattle.goal_kinds.specs.Projections.{TermRefuted}
+use Rattle.goal_lists.specs.Projections.{TermRefuted}
 use Rattle.goal_kinds.specs.RuleWords.{projection_in}
-use Rattle.goal_kinds.specs.Rules.{given}
-use Rattle.goal_kinds.specs.TraitGoals.{ImplRefuted, only_bars}
-use Rattle.goal_kinds.specs.declared.fast_reject.Parameters.TheVariants.{Inferred}
-use Rattle.goal_kinds.proofs.CandidateTerms.{forest-erased}
+use Rattle.goal_lists.specs.RowWords.{given}
+use Rattle.goal_lists.specs.TraitGoals.{ImplRefuted, only_bars}
+use Rattle.goal_lists.specs.declared.fast_reject.Parameters.TheVariants.{Inferred}
+use Rattle.goal_lists.proofs.CandidateTerms.{forest-erased}
 use Rattle.goal_kinds.proofs.ProjectionKindLaws.{equation-accepted}
 use Rattle.goal_kinds.proofs.RejectedImplTerms.{rejected-impl_term}
 use Rattle.goal_kinds.proofs.TraitCandidateLaws.{refused-positive}
 use Rattle.goal_tables.specs.declared.rows.ImplRow.{ImplRow}
-use Rattle.goal_kinds.specs.ImplTerms.{Projection, ImplTermRefuted}
-use Rattle.goal_kinds.specs.Levels.{level}
-use Rattle.goal_kinds.specs.Settings.{Setting}
+use Rattle.goal_lists.specs.ImplTerms.{Projection, ImplTermRefuted}
+use Rattle.goal_lists.specs.Levels.{level}
+use Rattle.goal_lists.specs.Settings.{Setting}
 
 -- an alias without lifetimes
 pub alias-erased : (a : AliasTerm) → erased (tree_of_alias a) ≡ alias a.kind (forest (given a.args))

@@ -11,21 +11,22 @@ use Rattle.goal_tables.specs.Rows.{impl_of, inherent_impl_of}
 use Rattle.goal_tables.specs.declared.rows.ImplRow.{ImplRow}
 use Rattle.goal_tables.specs.declared.rows.Tables.{Tables}
 use Rattle.goal_kinds.specs.CandidateRules.{after, only_given, RuleSays, GivesAs, RefutedAs, IsRefusal, IsNamedAnswer}
-use Rattle.goal_kinds.specs.Entries.{of_header, of_other_header, followed_by, Entry, arguments, equal_terms, clause, row_clauses, row_conditions, expected, access, delayed_fault, evaluation, hidden_type, ambiguous, undecided, refused, EntriesHold, EntriesRefuted, ListHolds, ListGives, ListRefuted}
-use Rattle.goal_kinds.specs.Level.{Level}
-use Rattle.goal_kinds.specs.Levels.{level}
-use Rattle.goal_kinds.specs.RuleLists.{header_arguments, other_arguments, entry_of, list_of_rule, entries_then, list_then, IsListed}
-use Rattle.goal_kinds.specs.Rules.{given, RuleRefuted}
-use Rattle.goal_kinds.specs.Settings.{Setting}
+use Rattle.goal_lists.specs.Entries.{of_header, of_other_header, followed_by, Entry, arguments, equal_terms, clause, row_clauses, row_conditions, expected, access, delayed_fault, evaluation, hidden_type, ambiguous, undecided, refused, EntriesHold, EntriesRefuted, ListHolds, ListGives, ListRefuted}
+use Rattle.goal_lists.specs.Level.{Level}
+use Rattle.goal_lists.specs.Levels.{level}
+use Rattle.goal_kinds.specs.RuleLists.{entry_of, list_of_rule, entries_then, list_then, IsListed}
+use Rattle.goal_lists.specs.RowWords.{header_arguments, other_arguments, given}
+use Rattle.goal_kinds.specs.Rules.{RuleRefuted}
+use Rattle.goal_lists.specs.Settings.{Setting}
 use Rattle.goal_kinds.specs.declared.faults.Fault.{Fault}
 use Rattle.goal_kinds.specs.declared.faults.Fault.TheVariants as fault
 use Rattle.goal_kinds.specs.declared.rules.Rule.{Rule}
 use Rattle.goal_kinds.specs.declared.rules.RuleArguments.TheVariants as names
 use Rattle.goal_kinds.specs.declared.rules.RuleEntry.{RuleEntry}
 use Rattle.goal_kinds.specs.declared.rules.RuleEntry.TheVariants as entry
-use Rattle.goal_kinds.specs.declared.rules.RuleHeader.{RuleHeader}
-use Rattle.goal_kinds.specs.declared.rules.RuleHeader.TheVariants as header
-use Rattle.goal_kinds.proofs.EntryLemmas.{iff-chain, iff-back, iff-both, iff-same}
+use Rattle.goal_lists.specs.declared.lists.RuleHeader.{RuleHeader}
+use Rattle.goal_lists.specs.declared.lists.RuleHeader.TheVariants as header
+use Rattle.goal_lists.proofs.EntryLemmas.{iff-chain, iff-back, iff-both, iff-same}
 use Rattle.goal_kinds.proofs.RebuiltLemmas.{entries-named}
 use Rattle.goal_kinds.proofs.RulesAsLists.{rule_list-holds, rule_list-gives, rule_list-refuted}
 

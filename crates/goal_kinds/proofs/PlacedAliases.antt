@@ -18,11 +18,11 @@ use Rattle.goal_tables.specs.declared.rows.InherentImplRow.{InherentImplRow}
 use Rattle.goal_tables.specs.declared.rows.InherentRow.{InherentRow}
 use Rattle.goal_tables.specs.declared.rows.OpaqueRow.{OpaqueRow}
 use Rattle.goal_tables.specs.declared.rows.Tables.{Tables}
-use Rattle.goal_kinds.specs.Aliases.{ValueGives, FreeGives, self_header, InherentGives, InherentAliasGives, OpaqueGives, AliasGives}
-use Rattle.goal_kinds.specs.Headers.{under, Fits}
-use Rattle.goal_kinds.specs.Level.{Level}
-use Rattle.goal_kinds.specs.Settings.{Setting, leaves_open, reveals}
-use Rattle.goal_kinds.specs.Words.{Each, OfRow}
+use Rattle.goal_lists.specs.Aliases.{ValueGives, FreeGives, self_header, InherentGives, InherentAliasGives, OpaqueGives, AliasGives}
+use Rattle.goal_lists.specs.Headers.{under, Fits}
+use Rattle.goal_lists.specs.Level.{Level}
+use Rattle.goal_lists.specs.Settings.{Setting, leaves_open, reveals}
+use Rattle.goal_lists.specs.Words.{Each, OfRow}
 use Rattle.goal_kinds.proofs.ClosedHeaders.{either-out}
 use Rattle.goal_kinds.proofs.PlacedCandidates.{IsPlacedSetting, kind-of_row}
 use Rattle.goal_kinds.proofs.PlacedHeaders.{KeepsPlaced, placed-head_form_as, placed-all_known}

@@ -38,19 +38,16 @@ use Rattle.goal_tables.specs.declared.rows.AdtRow.{AdtRow}
 use Rattle.goal_tables.specs.declared.rows.FieldInfo.{FieldInfo}
 use Rattle.goal_tables.specs.declared.rows.ItemRow.{ItemRow}
 use Rattle.goal_tables.specs.declared.rows.Tables.{Tables}
-use Rattle.goal_kinds.specs.Builtins.{callable_sig, is_callable_by, closure_sig, signature_of_head, signature_of, output_of, field_of}
-use Rattle.goal_kinds.specs.Builtins.{Listed, nothing_listed, listed, listed_rigid, listed_by_size, listed_term, metadata_of, adt_metadata, dyn_metadata, listed_by_size_of, metadata_of_head, metadata_rule}
-use Rattle.goal_kinds.specs.Builtins.{discriminant_of_head, discriminant_rule, listed_output, output_rule, field_base, field_ty, lang_term, term_of_lang, lang_of_item, term_rule}
-use Rattle.goal_kinds.specs.Candidates.{last_of}
-use Rattle.goal_kinds.specs.Headers.{under}
-use Rattle.goal_kinds.specs.Words.{Each}
-use Rattle.goal_kinds.proofs.AcceptedLemmas.{found_fails}
-use Rattle.goal_kinds.proofs.AlikeSettings.{found}
+use Rattle.goal_lists.specs.Builtins.{callable_sig, is_callable_by, closure_sig, signature_of_head, signature_of, output_of, field_of, Listed, nothing_listed, listed, listed_rigid, listed_by_size, listed_term, metadata_of, adt_metadata, dyn_metadata, listed_by_size_of, metadata_of_head, metadata_rule, discriminant_of_head, discriminant_rule, listed_output, output_rule, field_base, field_ty, lang_term, term_of_lang, lang_of_item, term_rule}
+use Rattle.goal_lists.specs.Candidates.{last_of}
+use Rattle.goal_lists.specs.Headers.{under}
+use Rattle.goal_lists.specs.Words.{Each}
+use Rattle.goal_lists.proofs.AcceptedLemmas.{found_fails}
+use Rattle.goal_lists.proofs.AlikeSettings.{found}
 use Rattle.goal_kinds.proofs.FaultlessRows.{four_fail}
 use Rattle.goal_kinds.proofs.PlacedRows.{HoldsPlacedTy, HoldsPlacedField, held-fails, placed-tail, placed-discriminant, placed-field, placed-function, placed-closure}
-use Rattle.goal_kinds.proofs.PlacedTerms.{sort_at, sort_of_value, is_type_sort, takes, EndsAsSaid, AliasIsPlaced, IsPlaced, RowIsPlaced, IsPlacedIn, IsPlacedAs, IsPlacedArgument, ArePlaced, Holds}
-use Rattle.goal_kinds.proofs.PlacedTerms.{placed-list, placed-forest, placed-alias, placed-last, placed-type, placed-under, placed-under_as}
-use Rattle.goal_kinds.proofs.TableKindLemmas.{both_fail}
+use Rattle.goal_kinds.proofs.PlacedTerms.{sort_at, sort_of_value, is_type_sort, takes, EndsAsSaid, AliasIsPlaced, IsPlaced, RowIsPlaced, IsPlacedIn, IsPlacedAs, IsPlacedArgument, ArePlaced, Holds, placed-list, placed-forest, placed-alias, placed-last, placed-type, placed-under, placed-under_as}
+use Rattle.goal_lists.proofs.TableKindLemmas.{both_fail}
 
 -- the item that a lang item names is a type
 same_target : (x : LangTarget) (i : ItemId) → same_lang_target x (target.Item i) ≡ true → x ≡ target.Item i

@@ -39,24 +39,22 @@ use Rattle.goal_tables.specs.declared.rows.OpaqueRow.{OpaqueRow}
 use Rattle.goal_tables.specs.declared.rows.Tables.{Tables}
 use Rattle.goal_tables.specs.declared.sites.TermFault.{TermFault}
 use Rattle.goal_tables.specs.declared.sites.TermFault.TheVariants.{UnknownItem, WrongArgumentCount, WrongArgumentKind}
-use Rattle.goal_kinds.specs.Answers.{erased_predicate, environment_of, setting_of}
-use Rattle.goal_kinds.specs.Candidates.{Candidate, assumption, implied_bound, by_impl, built_in, error, bounds_under, const_bounds_under, item_bounds, opaque_bounds, bounds_of_alias, bounds_of, all_but_last, last_of}
-use Rattle.goal_kinds.specs.Candidates.{projects, object_bound, object_bounds_among, object_bounds, impls_for, environment, alias_bounds, rest, second_group}
-use Rattle.goal_kinds.specs.Headers.{under}
-use Rattle.goal_kinds.specs.Premises.{TraitTree, predicate_under, trait_under, traits_under}
-use Rattle.goal_kinds.specs.Projections.{projected_item}
-use Rattle.goal_kinds.specs.Settings.{Setting}
-use Rattle.goal_kinds.specs.TraitGoals.{header_of}
-use Rattle.goal_kinds.specs.Words.{Each}
-use Rattle.goal_kinds.proofs.AcceptedLemmas.{traits_of_items}
+use Rattle.goal_lists.specs.Answers.{erased_predicate, environment_of, setting_of}
+use Rattle.goal_lists.specs.Candidates.{Candidate, assumption, implied_bound, by_impl, built_in, error, bounds_under, const_bounds_under, item_bounds, opaque_bounds, bounds_of_alias, bounds_of, all_but_last, last_of, projects, object_bound, object_bounds_among, object_bounds, impls_for, environment, alias_bounds, rest, second_group}
+use Rattle.goal_lists.specs.Headers.{under}
+use Rattle.goal_lists.specs.Premises.{TraitTree, predicate_under, trait_under, traits_under}
+use Rattle.goal_lists.specs.Projections.{projected_item}
+use Rattle.goal_lists.specs.Settings.{Setting}
+use Rattle.goal_lists.specs.TraitGoals.{header_of}
+use Rattle.goal_lists.specs.Words.{Each}
+use Rattle.goal_lists.proofs.AcceptedLemmas.{traits_of_items}
 use Rattle.goal_kinds.proofs.ClosedCandidates.{each-append}
 use Rattle.goal_kinds.proofs.FaultlessRows.{three_fail, impls_fail, bounds_of_item_fail, bounds_of_opaque_fail}
-use Rattle.goal_kinds.proofs.KindOfTermLemmas.{kind_of_term, same_kind-true}
+use Rattle.goal_lists.proofs.KindOfTermLemmas.{kind_of_term, same_kind-true}
 use Rattle.goal_kinds.proofs.PlacedRows.{placed-accepted, placed-header, sort-by_value, term-argument}
-use Rattle.goal_kinds.proofs.PlacedTerms.{sort_at, sort_of_value, is_clause_sort, takes, EndsAs, EndsAsSaid, AliasIsPlaced, IsPlaced, IsPlacedIn, IsPlacedAs, IsPlacedArgument, ArePlaced, Holds}
-use Rattle.goal_kinds.proofs.PlacedTerms.{placed-list, placed-append, placed-last, argument-alias, sort-erased, placed-erased, placed-under}
-use Rattle.goal_kinds.proofs.PublicTermLemmas.{alias_through, term_through}
-use Rattle.goal_kinds.proofs.TableKindLemmas.{both_fail, not_false, HasTraitsOfItems}
+use Rattle.goal_kinds.proofs.PlacedTerms.{sort_at, sort_of_value, is_clause_sort, takes, EndsAs, EndsAsSaid, AliasIsPlaced, IsPlaced, IsPlacedIn, IsPlacedAs, IsPlacedArgument, ArePlaced, Holds, placed-list, placed-append, placed-last, argument-alias, sort-erased, placed-erased, placed-under}
+use Rattle.goal_lists.proofs.PublicTermLemmas.{alias_through, term_through}
+use Rattle.goal_lists.proofs.TableKindLemmas.{both_fail, not_false, HasTraitsOfItems}
 
 -- a term is of the sort of the item that an alias projects
 abbrev pub IsOfItem : Tables → AliasTermKind → Tree → Type 0

@@ -12,9 +12,9 @@ use Rattle.goal_terms.specs.declared.sorts.Sort.{Sort}
 use Rattle.goal_terms.specs.declared.sorts.Sort.TheVariants as sorts
 use Rattle.goal_terms.specs.declared.terms.AliasTermKind.{AliasTermKind}
 use Rattle.goal_tables.specs.declared.rows.Tables.{Tables}
-use Rattle.goal_kinds.specs.Headers.{parameter_of, is_number, has_place, no_lifetime, StepInto, Part, RowPart, PartAmong, PartsFrom, AllKnown}
-use Rattle.goal_kinds.specs.Level.{Level, HasHeadForm}
-use Rattle.goal_kinds.specs.Words.{Each, Either}
+use Rattle.goal_lists.specs.Headers.{parameter_of, is_number, has_place, no_lifetime, StepInto, Part, RowPart, PartAmong, PartsFrom, AllKnown}
+use Rattle.goal_lists.specs.Level.{Level, HasHeadForm}
+use Rattle.goal_lists.specs.Words.{Each, Either}
 use Rattle.goal_kinds.proofs.ClosedHeaders.{either-out}
 use Rattle.goal_kinds.proofs.PlacedTerms.{sort_at, is_type_sort, is_clause_sort, takes, EndsAsSaid, AliasIsPlaced, IsPlaced, RowIsPlaced, IsPlacedAs, IsPlacedArgument, ArePlaced, placed-list}
 

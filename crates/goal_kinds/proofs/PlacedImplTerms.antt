@@ -25,20 +25,19 @@ use Rattle.goal_tables.specs.declared.rows.Source.{Source}
 use Rattle.goal_tables.specs.declared.rows.Source.TheVariants as source
 use Rattle.goal_tables.specs.declared.rows.SourceRow.{SourceRow}
 use Rattle.goal_tables.specs.declared.rows.Tables.{Tables}
-use Rattle.goal_kinds.specs.Headers.{under, Fits}
-use Rattle.goal_kinds.specs.ImplTerms.{Said, an_error, the_alias, a_value, evaluated, not_said, said_by_value, said_by_definition, said_by_source, said_by_row, said}
-use Rattle.goal_kinds.specs.ImplTerms.{Projection, trait_args, own_args, error_term, header_under, OtherImplHolds, Taken, from_projection, from_impl, from_other, taken, Translated, SaidGives, ImplGives, the_alias_unless}
-use Rattle.goal_kinds.specs.Level.{Level}
-use Rattle.goal_kinds.specs.Settings.{Setting, takes_defaults, is_coherence, hides_defaults}
-use Rattle.goal_kinds.specs.TraitGoals.{ImplHoldsUnder, header_of}
-use Rattle.goal_kinds.specs.Words.{Each, OfRow}
-use Rattle.goal_kinds.proofs.AcceptedLemmas.{found_fails}
-use Rattle.goal_kinds.proofs.AlikeSettings.{found}
+use Rattle.goal_lists.specs.Headers.{under, Fits}
+use Rattle.goal_lists.specs.ImplTerms.{Said, an_error, the_alias, a_value, evaluated, not_said, said_by_value, said_by_definition, said_by_source, said_by_row, said, Projection, trait_args, own_args, error_term, header_under, OtherImplHolds, Taken, from_projection, from_impl, from_other, taken, Translated, SaidGives, ImplGives, the_alias_unless}
+use Rattle.goal_lists.specs.Level.{Level}
+use Rattle.goal_lists.specs.Settings.{Setting, takes_defaults, is_coherence, hides_defaults}
+use Rattle.goal_lists.specs.TraitGoals.{ImplHoldsUnder, header_of}
+use Rattle.goal_lists.specs.Words.{Each, OfRow}
+use Rattle.goal_lists.proofs.AcceptedLemmas.{found_fails}
+use Rattle.goal_lists.proofs.AlikeSettings.{found}
 use Rattle.goal_kinds.proofs.FaultlessRows.{five_fail, impls_fail}
 use Rattle.goal_kinds.proofs.PlacedHeaders.{KeepsPlaced, placed-head_form_as, placed-all_known}
 use Rattle.goal_kinds.proofs.PlacedRows.{IsPlacedValue, held-fails, placed-definition, placed-header}
 use Rattle.goal_kinds.proofs.PlacedTerms.{sort_at, sort_of_value, EndsAsSaid, IsPlaced, IsPlacedAs, ArePlaced, placed-append, placed-take, placed-drop, placed-under, placed-under_as}
-use Rattle.goal_kinds.proofs.TableKindLemmas.{both_fail, not_false}
+use Rattle.goal_lists.proofs.TableKindLemmas.{both_fail, not_false}
 
 -- rows of one number are the same row
 pub same-item : (t : Tables) (i j : ItemId) (r : ItemRow) → j.0 ≡ i.0 → item_of t i ≡ Some r → item_of t j ≡ Some r

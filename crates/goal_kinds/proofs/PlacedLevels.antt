@@ -12,20 +12,20 @@ use Rattle.goal_terms.specs.declared.terms.AliasTermKind.{AliasTermKind}
 use Rattle.goal_terms.proofs.TreeLemmas.{tree_of_alias-record, list_of-forest}
 use Rattle.goal_tables.specs.Faults.{IsChecked}
 use Rattle.goal_tables.specs.declared.rows.Tables.{Tables}
-use Rattle.goal_kinds.specs.Answers.{setting_of}
-use Rattle.goal_kinds.specs.KindedTerms.{NoKindFault, NoKindFaultInEnv}
-use Rattle.goal_kinds.specs.Level.{nothing}
-use Rattle.goal_kinds.specs.Levels.{ground_level, level}
-use Rattle.goal_kinds.specs.Settings.{Setting}
-use Rattle.goal_kinds.specs.Words.{Each}
-use Rattle.goal_kinds.proofs.AcceptedLemmas.{traits_of_items}
-use Rattle.goal_kinds.proofs.CandidateTerms.{alias-erased}
+use Rattle.goal_lists.specs.Answers.{setting_of}
+use Rattle.goal_lists.specs.KindedTerms.{NoKindFault, NoKindFaultInEnv}
+use Rattle.goal_lists.specs.Level.{nothing}
+use Rattle.goal_lists.specs.Levels.{ground_level, level}
+use Rattle.goal_lists.specs.Settings.{Setting}
+use Rattle.goal_lists.specs.Words.{Each}
+use Rattle.goal_lists.proofs.AcceptedLemmas.{traits_of_items}
+use Rattle.goal_lists.proofs.CandidateTerms.{alias-erased}
 use Rattle.goal_kinds.proofs.PlacedAliases.{placed-alias_gives}
 use Rattle.goal_kinds.proofs.PlacedCandidates.{IsPlacedSetting, placed-setting}
 use Rattle.goal_kinds.proofs.PlacedHeaders.{KeepsPlaced, placed-part}
 use Rattle.goal_kinds.proofs.PlacedRows.{placed-accepted}
 use Rattle.goal_kinds.proofs.PlacedTerms.{AliasIsPlaced, IsPlaced, ArePlaced, IsPlacedIn, placed-list, placed-erased}
-use Rattle.goal_kinds.proofs.PublicTermLemmas.{alias_through}
+use Rattle.goal_lists.proofs.PublicTermLemmas.{alias_through}
 
 -- where nothing is proved
 placed-nothing : (t : Tables) → KeepsPlaced t nothing

@@ -14,14 +14,14 @@ use Rattle.goal_tables.specs.Sites.{kind_of_value}
 use Rattle.goal_tables.specs.declared.rows.ItemRow.{ItemRow}
 use Rattle.goal_tables.specs.declared.rows.Tables.{Tables}
 use Rattle.goal_tables.specs.declared.rows.TraitRow.{TraitRow}
-use Rattle.goal_kinds.specs.Builtins.{Listed, nothing_listed, listed, listed_rigid, listed_by_size, term_rule, unit_ty}
-use Rattle.goal_kinds.specs.Candidates.{Candidate, assumption, implied_bound, by_impl, built_in, error, environment, second_group}
-use Rattle.goal_kinds.specs.ImplTerms.{Projection}
-use Rattle.goal_kinds.specs.Level.{Level}
-use Rattle.goal_kinds.specs.Projections.{projected_item, EquationGives, AssumptionGives, ListedGives, CandidateGives, TermDecides, GroupGives, GroupsGive, asked, ItemGives, ProjectionGives}
-use Rattle.goal_kinds.specs.Settings.{Setting}
-use Rattle.goal_kinds.specs.Words.{Each, Exists, OfRow}
-use Rattle.goal_kinds.proofs.AlikeSettings.{found}
+use Rattle.goal_lists.specs.Builtins.{Listed, nothing_listed, listed, listed_rigid, listed_by_size, term_rule, unit_ty}
+use Rattle.goal_lists.specs.Candidates.{Candidate, assumption, implied_bound, by_impl, built_in, error, environment, second_group}
+use Rattle.goal_lists.specs.ImplTerms.{Projection}
+use Rattle.goal_lists.specs.Level.{Level}
+use Rattle.goal_lists.specs.Projections.{projected_item, EquationGives, AssumptionGives, ListedGives, CandidateGives, TermDecides, GroupGives, GroupsGive, asked, ItemGives, ProjectionGives}
+use Rattle.goal_lists.specs.Settings.{Setting}
+use Rattle.goal_lists.specs.Words.{Each, Exists, OfRow}
+use Rattle.goal_lists.proofs.AlikeSettings.{found}
 use Rattle.goal_kinds.proofs.PlacedBuiltins.{IsPlacedListed, placed-term_rule}
 use Rattle.goal_kinds.proofs.PlacedCandidates.{SaysOf, SaysPlaced, IsPlacedCandidate, IsPlacedSetting, projected-kind, placed-environment, placed-second_group}
 use Rattle.goal_kinds.proofs.PlacedHeaders.{KeepsPlaced, placed-head_form, placed-head_form_as}

@@ -32,8 +32,7 @@ use Rattle.goal_tables.specs.Clauses.{own_fault, const_fault, lies_in_args, lies
 use Rattle.goal_tables.specs.Faults.{IsChecked}
 use Rattle.goal_tables.specs.Options.{option_holds}
 use Rattle.goal_tables.specs.ParamKinds.{differs_in_count, asks_other_kinds}
-use Rattle.goal_tables.specs.RowFaults.{if_unknown, if_kind, definition_scope, inherent_scope, lies_in_option, lies_in_value, container_is_unknown, lies_in_definition_value, kind_of_definition_value, value_has_other_kind, value_differs, lies_in_field_info}
-use Rattle.goal_tables.specs.RowFaults.{lies_in_impl, lies_in_definition, lies_in_free, lies_in_inherent_impl, lies_in_inherent, lies_in_function, lies_in_closure}
+use Rattle.goal_tables.specs.RowFaults.{if_unknown, if_kind, definition_scope, inherent_scope, lies_in_option, lies_in_value, container_is_unknown, lies_in_definition_value, kind_of_definition_value, value_has_other_kind, value_differs, lies_in_field_info, lies_in_impl, lies_in_definition, lies_in_free, lies_in_inherent_impl, lies_in_inherent, lies_in_function, lies_in_closure}
 use Rattle.goal_tables.specs.Rows.{item_of, impl_of, definition_of, free_of, inherent_impl_of, inherent_of, opaque_of, adt_of, function_of, closure_of}
 use Rattle.goal_tables.specs.Sites.{kind_of_value, is_of_other_kind, clause_params, projection_params, params_of, is_unknown, is_misplaced, lies_here, lies_in, lies_in_row}
 use Rattle.goal_tables.specs.declared.rows.AdtRow.{AdtRow}
@@ -52,16 +51,16 @@ use Rattle.goal_tables.specs.declared.rows.OpaqueRow.{OpaqueRow}
 use Rattle.goal_tables.specs.declared.rows.Tables.{Tables}
 use Rattle.goal_tables.specs.declared.sites.TermFault.{TermFault}
 use Rattle.goal_tables.specs.declared.sites.TermFault.TheVariants.{UnknownItem, WrongArgumentCount, WrongArgumentKind}
-use Rattle.goal_kinds.specs.KindedTerms.{kinds_of_terms, FitsThroughout, RowFitsThroughout, NoKindFault}
-use Rattle.goal_kinds.specs.Aliases.{self_header}
-use Rattle.goal_kinds.specs.TraitGoals.{header_of}
-use Rattle.goal_kinds.specs.Words.{Each}
-use Rattle.goal_kinds.proofs.AcceptedLemmas.{traits_of_items}
+use Rattle.goal_lists.specs.KindedTerms.{kinds_of_terms, FitsThroughout, RowFitsThroughout, NoKindFault}
+use Rattle.goal_lists.specs.Aliases.{self_header}
+use Rattle.goal_lists.specs.TraitGoals.{header_of}
+use Rattle.goal_lists.specs.Words.{Each}
+use Rattle.goal_lists.proofs.AcceptedLemmas.{traits_of_items}
 use Rattle.goal_kinds.proofs.FaultlessRows.{three_fail, four_fail, free_fails, inherent_fails, inherent_impl_fails, opaque_parts_fail, definition_fails, adt_parts_fail, function_fails, closure_fails}
-use Rattle.goal_kinds.proofs.KindOfTermLemmas.{kind_of_term, same_kind-true}
+use Rattle.goal_lists.proofs.KindOfTermLemmas.{kind_of_term, same_kind-true}
 use Rattle.goal_kinds.proofs.PlacedTerms.{sort_at, sort_of_value, is_type_sort, is_clause_sort, takes, EndsAs, EndsAsSaid, IsPlaced, RowIsPlaced, IsPlacedAs, ArePlaced, sort_of_kind, sort-by_kind, placed-erased_argument, placed-type}
-use Rattle.goal_kinds.proofs.PublicTermLemmas.{arg_through, ty_through, term_through, sig_through}
-use Rattle.goal_kinds.proofs.TableKindLemmas.{both_fail, not_false, kinds_by_row, HasTraitsOfItems, known_clause}
+use Rattle.goal_lists.proofs.PublicTermLemmas.{arg_through, ty_through, term_through, sig_through}
+use Rattle.goal_lists.proofs.TableKindLemmas.{both_fail, not_false, kinds_by_row, HasTraitsOfItems, known_clause}
 
 -- each term of a list is of a sort that passes a test
 abbrev AllTake : (Sort → Bool) → List Tree → Type 0

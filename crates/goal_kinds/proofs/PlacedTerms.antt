@@ -22,10 +22,10 @@ use Rattle.goal_tables.specs.Rows.{item_of}
 use Rattle.goal_tables.specs.Sites.{kind_of_row, is_of_other_kind}
 use Rattle.goal_tables.specs.declared.rows.ItemRow.{ItemRow}
 use Rattle.goal_tables.specs.declared.rows.Tables.{Tables}
-use Rattle.goal_kinds.specs.Candidates.{last_of}
-use Rattle.goal_kinds.specs.Headers.{under}
-use Rattle.goal_kinds.specs.Words.{Each}
-use Rattle.goal_kinds.proofs.KindOfTermLemmas.{kind_of_term, same_kind-true}
+use Rattle.goal_lists.specs.Candidates.{last_of}
+use Rattle.goal_lists.specs.Headers.{under}
+use Rattle.goal_lists.specs.Words.{Each}
+use Rattle.goal_lists.proofs.KindOfTermLemmas.{kind_of_term, same_kind-true}
 
 -- the sort of a term
 abbrev pub sort_at : Tree → Sort

@@ -19,34 +19,35 @@ use Rattle.goal_terms.specs.declared.terms.AliasTermKind.{AliasTermKind}
 use Rattle.goal_terms.specs.declared.terms.AliasTermKind.TheVariants.{ProjectionTy, ProjectionConst}
 use Rattle.goal_tables.specs.declared.rows.ImplRow.{ImplRow}
 use Rattle.goal_tables.specs.declared.rows.Tables.{Tables}
-use Rattle.goal_kinds.specs.Answers.{setting_of, erased_predicate}
+use Rattle.goal_lists.specs.Answers.{setting_of, erased_predicate}
 use Rattle.goal_kinds.specs.CandidateRules.{GivesAs, RefutedAs, IsRefusal, IsNamedAnswer, said_by, only_given}
-use Rattle.goal_kinds.specs.Candidates.{Candidate, by_impl, built_in}
-use Rattle.goal_kinds.specs.Entries.{Entry, arguments, given_arguments, row_clauses, evaluation, refused, EntriesHold, EntriesRefuted, ListHolds, ListGives, ListRefuted}
-use Rattle.goal_kinds.specs.ImplTerms.{Projection, trait_args}
-use Rattle.goal_kinds.specs.InternedEntries.{setting_at}
-use Rattle.goal_kinds.specs.Levels.{level}
+use Rattle.goal_lists.specs.Candidates.{Candidate, by_impl, built_in}
+use Rattle.goal_lists.specs.Entries.{Entry, arguments, given_arguments, row_clauses, evaluation, refused, EntriesHold, EntriesRefuted, ListHolds, ListGives, ListRefuted}
+use Rattle.goal_lists.specs.ImplTerms.{Projection, trait_args}
+use Rattle.goal_lists.specs.InternedEntries.{setting_at}
+use Rattle.goal_lists.specs.Levels.{level}
 use Rattle.goal_kinds.specs.ProjectionKind.{ProjectionCandidateGives, ProjectionCandidateRefuted, same_kind_of_alias, may_match_term, refuses_term, list_for, asked_projection_list}
-use Rattle.goal_kinds.specs.ProjectionLists.{is_item, same_item_list, equation_clause_list, projection_assumption_list, said_entries, projection_list, equation_list}
-use Rattle.goal_kinds.specs.Projections.{projected_item, CandidateGives, TermRefuted}
+use Rattle.goal_lists.specs.ProjectionLists.{is_item, same_item_list, equation_clause_list, projection_assumption_list, said_entries, projection_list, equation_list}
+use Rattle.goal_lists.specs.Projections.{projected_item, CandidateGives, TermRefuted}
 use Rattle.goal_kinds.specs.RuleLists.{entries_then, list_then, IsListed, IsToldBy}
-use Rattle.goal_kinds.specs.NamedRows.{IsSorted}
-use Rattle.goal_kinds.specs.Rules.{given, RuleHolds, RuleRefuted}
+use Rattle.goal_lists.specs.NamedRows.{IsSorted}
+use Rattle.goal_kinds.specs.Rules.{RuleHolds, RuleRefuted}
+use Rattle.goal_lists.specs.RowWords.{given}
 use Rattle.goal_kinds.specs.RuleWords.{projection_in, asked_by}
-use Rattle.goal_kinds.specs.Settings.{Setting}
-use Rattle.goal_kinds.specs.TraitLists.{impl_match}
-use Rattle.goal_kinds.specs.Words.{OfRow, Each}
+use Rattle.goal_lists.specs.Settings.{Setting}
+use Rattle.goal_lists.specs.TraitLists.{impl_match}
+use Rattle.goal_lists.specs.Words.{OfRow, Each}
 use Rattle.goal_kinds.specs.declared.faults.Fault.{Fault}
 use Rattle.goal_kinds.specs.declared.faults.Fault.TheVariants as fault
-use Rattle.goal_kinds.specs.declared.lists.ListSetting.{ListSetting}
+use Rattle.goal_lists.specs.declared.lists.ListSetting.{ListSetting}
 use Rattle.goal_kinds.specs.declared.rules.Rule.{Rule}
 use Rattle.goal_kinds.specs.declared.rules.assoc_items.AskedItem.{AskedItem}
-use Rattle.goal_kinds.proofs.EntryLemmas.{iff-chain, iff-back, iff-same}
+use Rattle.goal_lists.proofs.EntryLemmas.{iff-chain, iff-back, iff-same}
 use Rattle.goal_kinds.proofs.FaceLemmas.{IsSomeGiven, some-given, listed-yes, listed-yes_back, face-gives, face-refuted, face-told, face-named}
 use Rattle.goal_kinds.proofs.ImplTermKindLemmas.{alias-erased}
 use Rattle.goal_kinds.proofs.ListedRules.{AreGiven, listed-list, some-accepted}
 use Rattle.goal_kinds.proofs.ProjectionKindLaws.{asked-of, found-item}
-use Rattle.goal_kinds.proofs.ProjectionLists.{item-tested, projection_list-gives, projection_list-refuted, equation_list-holds, equation_list-refuted}
+use Rattle.goal_lists.proofs.ProjectionLists.{item-tested, projection_list-gives, projection_list-refuted, equation_list-holds, equation_list-refuted}
 use Rattle.goal_kinds.proofs.RulesAsLists.{rule_list-holds, rule_list-refuted}
 use Rattle.goal_kinds.proofs.TraitFaceLemmas.{or-false, polarity-some}
 

@@ -27,31 +27,31 @@ use Rattle.goal_tables.specs.declared.rows.Tables.{Tables}
 use Rattle.goal_tables.specs.declared.sites.TermFault.{TermFault}
 use Rattle.goal_tables.specs.declared.sites.TermFault.TheVariants.{UnknownItem, WrongArgumentCount, WrongArgumentKind}
 use Rattle.goal_kinds.specs.CandidateRules.{HasNoKindFault, IsAcceptedClause, said_by}
-use Rattle.goal_kinds.specs.Candidates.{Candidate, by_impl}
-use Rattle.goal_kinds.specs.FastReject.{lists_may_unify, heads_agree}
-use Rattle.goal_kinds.specs.Fitting.{may_fit}
-use Rattle.goal_kinds.specs.ImplTerms.{Projection, trait_args}
-use Rattle.goal_kinds.specs.KindedTerms.{NoKindFault}
-use Rattle.goal_kinds.specs.Level.{nothing}
-use Rattle.goal_kinds.specs.Levels.{level}
-use Rattle.goal_kinds.specs.Premises.{TraitTree}
+use Rattle.goal_lists.specs.Candidates.{Candidate, by_impl}
+use Rattle.goal_lists.specs.FastReject.{lists_may_unify, heads_agree}
+use Rattle.goal_lists.specs.Fitting.{may_fit}
+use Rattle.goal_lists.specs.ImplTerms.{Projection, trait_args}
+use Rattle.goal_lists.specs.KindedTerms.{NoKindFault}
+use Rattle.goal_lists.specs.Level.{nothing}
+use Rattle.goal_lists.specs.Levels.{level}
+use Rattle.goal_lists.specs.Premises.{TraitTree}
 use Rattle.goal_kinds.specs.ProjectionKind.{ProjectionCandidateGives, ProjectionCandidateRefuted, projected_trait, same_kind_of_alias, may_match_term}
-use Rattle.goal_kinds.specs.Projections.{projected_item, EquationRefuted, AssumptionTermRefuted, TermRefuted, asked}
+use Rattle.goal_lists.specs.Projections.{projected_item, EquationRefuted, AssumptionTermRefuted, TermRefuted, asked}
 use Rattle.goal_kinds.specs.RuleWords.{projection_in, asked_by}
 use Rattle.goal_kinds.specs.declared.rules.assoc_items.AskedItem.{AskedItem}
-use Rattle.goal_kinds.specs.Rules.{given}
-use Rattle.goal_kinds.specs.Settings.{Setting}
-use Rattle.goal_kinds.specs.Words.{SomePair}
-use Rattle.goal_kinds.specs.declared.fast_reject.Parameters.TheVariants.{Rigid}
+use Rattle.goal_lists.specs.RowWords.{given}
+use Rattle.goal_lists.specs.Settings.{Setting}
+use Rattle.goal_lists.specs.Words.{SomePair}
+use Rattle.goal_lists.specs.declared.fast_reject.Parameters.TheVariants.{Rigid}
 use Rattle.goal_kinds.proofs.AcceptedAliases.{accepted_projection-heads}
-use Rattle.goal_kinds.proofs.CandidateTerms.{list-erased}
-use Rattle.goal_kinds.proofs.EntryLemmas.{given-take}
-use Rattle.goal_kinds.proofs.FittingLemmas.{term_refuted}
-use Rattle.goal_kinds.proofs.OtherHeadLemmas.{lists_unequal}
-use Rattle.goal_kinds.proofs.TableKindLemmas.{both_fail, not_false}
-use Rattle.goal_kinds.proofs.WithinLevels.{within-level, alike-itself}
-use Rattle.goal_kinds.proofs.WithinProjections.{within-candidate_gives, within-term_refuted}
-use Rattle.goal_kinds.proofs.WithinWords.{of_row-map}
+use Rattle.goal_lists.proofs.CandidateTerms.{list-erased}
+use Rattle.goal_lists.proofs.EntryLemmas.{given-take}
+use Rattle.goal_lists.proofs.FittingLemmas.{term_refuted}
+use Rattle.goal_lists.proofs.OtherHeadLemmas.{lists_unequal}
+use Rattle.goal_lists.proofs.TableKindLemmas.{both_fail, not_false}
+use Rattle.goal_lists.proofs.WithinLevels.{within-level, alike-itself}
+use Rattle.goal_lists.proofs.WithinProjections.{within-candidate_gives, within-term_refuted}
+use Rattle.goal_lists.proofs.WithinWords.{of_row-map}
 
 -- what is said of a row, if there is one, by what implies it
 if_some-map : {A : Type 0} {P Q : A → Type 0} (o : Option A) → ((x : A) → P x → Q x) → IfSome o P → IfSome o Q

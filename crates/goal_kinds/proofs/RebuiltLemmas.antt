@@ -19,17 +19,18 @@ use Rattle.goal_terms.specs.declared.terms.GenericArg.{GenericArg}
 use Rattle.goal_terms.proofs.InternLemmas.{tree_with-parts}
 use Rattle.goal_terms.proofs.TreeLemmas.{tree_of_alias-record}
 use Rattle.goal_tables.specs.declared.rows.Tables.{Tables}
-use Rattle.goal_kinds.specs.Entries.{Entry, ExpectsNone, AsksNoTerm}
-use Rattle.goal_kinds.specs.Interned.{erased_at, erased_all}
-use Rattle.goal_kinds.specs.InternedEntries.{entry_at, entries_at}
-use Rattle.goal_kinds.specs.NamedRows.{IsAlias, IsSorted, KeepsKey}
+use Rattle.goal_lists.specs.Entries.{Entry, ExpectsNone, AsksNoTerm}
+use Rattle.goal_lists.specs.Interned.{erased_at, erased_all}
+use Rattle.goal_lists.specs.InternedEntries.{entry_at, entries_at}
+use Rattle.goal_lists.specs.NamedRows.{IsAlias, IsSorted}
+use Rattle.goal_kinds.specs.RebuiltKeys.{KeepsKey}
 use Rattle.goal_kinds.specs.RuleLists.{before, names_arguments, entry_of, entries_of}
-use Rattle.goal_kinds.specs.Rules.{given}
+use Rattle.goal_lists.specs.RowWords.{given}
 use Rattle.goal_kinds.specs.RuleWords.{TermIsFor, TermsAreFor}
-use Rattle.goal_kinds.specs.Words.{Each}
-use Rattle.goal_kinds.specs.declared.lists.InternedEntry.{InternedEntry}
+use Rattle.goal_lists.specs.Words.{Each}
+use Rattle.goal_lists.specs.declared.lists.InternedEntry.{InternedEntry}
 use Rattle.goal_kinds.specs.declared.rules.RuleEntry.{RuleEntry}
-use Rattle.goal_kinds.proofs.EachRuleLemmas.{mapped-twice}
+use Rattle.goal_lists.proofs.EachRuleLemmas.{mapped-twice}
 
 -- the sort of a term says nothing of its lifetimes
 head_sort-erased : (h : Head) → sort_of_head (erased_head h) ≡ sort_of_head h
@@ -130,9 +131,6 @@ pub keys-all : (T : List Tree) (es : List InternedEntry) (i : ℕ) (made : List 
 keys-all T es i made l h = subst (λ xs. AllZip (KeepsKey T) xs made) (take_all i es l) h
 
 -- entries that are all there are the list
-some-here : {A : Type 0} (x y : A) → Some x ≡ Some y → x ≡ y
-some-here x y e = cc
-
 pub entries-named : (t : Tables) (rs : List RuleEntry) (es : List Entry) → map (entry_of t) rs ≡ map Some es → entries_of t rs ≡ es
 unfolding entries_of
 entries-named t [] [] e = refl

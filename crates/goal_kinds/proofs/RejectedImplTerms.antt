@@ -16,25 +16,25 @@ use Rattle.goal_tables.specs.declared.rows.ImplRow.{ImplRow}
 use Rattle.goal_tables.specs.declared.rows.ItemRow.{ItemRow}
 use Rattle.goal_tables.specs.declared.rows.TraitRow.{TraitRow}
 use Rattle.goal_tables.specs.declared.rows.Tables.{Tables}
-use Rattle.goal_kinds.specs.FastReject.{lists_may_unify}
-use Rattle.goal_kinds.specs.Headers.{Clashes, Known}
-use Rattle.goal_kinds.specs.ImplTerms.{Projection, trait_args, ImplTermRefuted}
-use Rattle.goal_kinds.specs.KindedTerms.{kinds_of_terms, kinds_over, IsKinded, NoKindFault}
-use Rattle.goal_kinds.specs.Laws.{IsAmong}
-use Rattle.goal_kinds.specs.Level.{nothing}
-use Rattle.goal_kinds.specs.Levels.{level}
-use Rattle.goal_kinds.specs.Projections.{projected_item, asked}
+use Rattle.goal_lists.specs.FastReject.{lists_may_unify}
+use Rattle.goal_lists.specs.Headers.{Clashes, Known}
+use Rattle.goal_lists.specs.ImplTerms.{Projection, trait_args, ImplTermRefuted}
+use Rattle.goal_lists.specs.KindedTerms.{kinds_of_terms, kinds_over, IsKinded, NoKindFault}
+use Rattle.goal_lists.specs.Laws.{IsAmong}
+use Rattle.goal_lists.specs.Level.{nothing}
+use Rattle.goal_lists.specs.Levels.{level}
+use Rattle.goal_lists.specs.Projections.{projected_item, asked}
 use Rattle.goal_kinds.specs.RuleWords.{projection_in}
-use Rattle.goal_kinds.specs.Rules.{given}
-use Rattle.goal_kinds.specs.Settings.{Setting}
-use Rattle.goal_kinds.specs.TraitGoals.{ImplRefuted, header_of}
-use Rattle.goal_kinds.specs.Words.{Each}
-use Rattle.goal_kinds.specs.declared.fast_reject.Parameters.TheVariants.{Inferred}
+use Rattle.goal_lists.specs.RowWords.{given}
+use Rattle.goal_lists.specs.Settings.{Setting}
+use Rattle.goal_lists.specs.TraitGoals.{ImplRefuted, header_of}
+use Rattle.goal_lists.specs.Words.{Each}
+use Rattle.goal_lists.specs.declared.fast_reject.Parameters.TheVariants.{Inferred}
 use Rattle.goal_kinds.proofs.AcceptedAliases.{accepted_projection}
-use Rattle.goal_kinds.proofs.AcceptedLemmas.{traits_of_items, kinds_of_accepted, ref_kinded, header_accepted}
-use Rattle.goal_kinds.proofs.EntryLemmas.{given-take}
-use Rattle.goal_kinds.proofs.KindedLemmas.{lists-kinded}
-use Rattle.goal_kinds.proofs.OtherHeadLemmas.{lists_clash}
+use Rattle.goal_lists.proofs.AcceptedLemmas.{traits_of_items, kinds_of_accepted, ref_kinded, header_accepted}
+use Rattle.goal_lists.proofs.EntryLemmas.{given-take}
+use Rattle.goal_lists.proofs.KindedLemmas.{lists-kinded}
+use Rattle.goal_lists.proofs.OtherHeadLemmas.{lists_clash}
 use Rattle.goal_kinds.proofs.ProjectionKindLaws.{then-found, map-found}
 use Rattle.goal_kinds.proofs.TraitCandidateLaws.{found-among}
 

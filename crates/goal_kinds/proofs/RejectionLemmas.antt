@@ -15,16 +15,16 @@ use Rattle.goal_terms.specs.declared.heads.Node.{Node}
 use Rattle.goal_terms.specs.declared.heads.Node.TheVariants as nodes
 use Rattle.goal_terms.specs.declared.heads.Variable.{Variable}
 use Rattle.goal_terms.specs.declared.terms.AliasTermKind.{AliasTermKind}
-use Rattle.goal_kinds.specs.Equality.{Equal, RowEqual}
-use Rattle.goal_kinds.specs.FastReject.{is_open, agree, row_agrees, lists_agree, have_same_kind}
-use Rattle.goal_kinds.specs.Level.{Level, nothing}
-use Rattle.goal_kinds.specs.Levels.{level}
-use Rattle.goal_kinds.specs.Settings.{Setting}
-use Rattle.goal_kinds.specs.Replacement.{replaced, replaced_row, with_values, with_arguments, AreOfTheirKinds}
-use Rattle.goal_kinds.specs.Words.{Either, Pairs}
-use Rattle.goal_kinds.specs.declared.fast_reject.Parameters.{Parameters}
-use Rattle.goal_kinds.specs.declared.fast_reject.Parameters.TheVariants.{Rigid, Inferred}
-use Rattle.goal_kinds.proofs.KindOfTermLemmas.{kind_of_term, GivesOwnKinds, same_kind-refl, kind-erased, kind-replaced, kind-instance_of, equal_kind}
+use Rattle.goal_lists.specs.Equality.{Equal, RowEqual}
+use Rattle.goal_lists.specs.FastReject.{is_open, agree, row_agrees, lists_agree, have_same_kind}
+use Rattle.goal_lists.specs.Level.{Level, nothing}
+use Rattle.goal_lists.specs.Levels.{level}
+use Rattle.goal_lists.specs.Settings.{Setting}
+use Rattle.goal_lists.specs.Replacement.{replaced, replaced_row, with_values, with_arguments, AreOfTheirKinds}
+use Rattle.goal_lists.specs.Words.{Either, Pairs}
+use Rattle.goal_lists.specs.declared.fast_reject.Parameters.{Parameters}
+use Rattle.goal_lists.specs.declared.fast_reject.Parameters.TheVariants.{Rigid, Inferred}
+use Rattle.goal_lists.proofs.KindOfTermLemmas.{kind_of_term, GivesOwnKinds, same_kind-refl, kind-erased, kind-replaced, kind-instance_of, equal_kind}
 
 -- what a term may become without its lifetimes: its open places take what a claim allows there, and the rest stays
 unfoldable mutual

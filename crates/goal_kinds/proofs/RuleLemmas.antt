@@ -12,39 +12,40 @@ use Rattle.goal_tables.specs.Rows.{impl_of, inherent_impl_of}
 use Rattle.goal_tables.specs.declared.rows.ImplRow.{ImplRow}
 use Rattle.goal_tables.specs.declared.rows.InherentImplRow.{InherentImplRow}
 use Rattle.goal_tables.specs.declared.rows.Tables.{Tables}
-use Rattle.goal_kinds.specs.Answers.{erased_predicate}
-use Rattle.goal_kinds.specs.Aliases.{self_header}
-use Rattle.goal_kinds.specs.Headers.{under, AllKnown, Fits, Clashes}
-use Rattle.goal_kinds.specs.ImplTerms.{header_under}
-use Rattle.goal_kinds.specs.Laws.{IsWithin, IsConsistent}
-use Rattle.goal_kinds.specs.Level.{Level}
-use Rattle.goal_kinds.specs.Levels.{level}
-use Rattle.goal_kinds.specs.Premises.{clauses_under, traits_under, conditions_as}
-use Rattle.goal_kinds.specs.Rules.{given, MatchedHeader, header_in, clauses_in, conditions_in, value_in, Names, NamesKnown, NamesNothing, RowClausesHold, RowClausesRefuted, RowConditionsHold, RowConditionsRefuted, TermIs, TermIsNone, EntriesHold, EntriesRefuted, has_term, RuleHolds, RuleGives, RuleRefuted}
-use Rattle.goal_kinds.specs.Settings.{Setting}
-use Rattle.goal_kinds.specs.TraitGoals.{header_of}
-use Rattle.goal_kinds.specs.Words.{OfRow}
+use Rattle.goal_lists.specs.Answers.{erased_predicate}
+use Rattle.goal_lists.specs.Aliases.{self_header}
+use Rattle.goal_lists.specs.Headers.{under, AllKnown, Fits, Clashes}
+use Rattle.goal_lists.specs.ImplTerms.{header_under}
+use Rattle.goal_lists.specs.Laws.{IsWithin, IsConsistent}
+use Rattle.goal_lists.specs.Level.{Level}
+use Rattle.goal_lists.specs.Levels.{level}
+use Rattle.goal_lists.specs.Premises.{clauses_under, traits_under, conditions_as}
+use Rattle.goal_kinds.specs.Rules.{MatchedHeader, header_in, Names, NamesKnown, NamesNothing, RowClausesHold, RowClausesRefuted, RowConditionsHold, RowConditionsRefuted, TermIs, TermIsNone, EntriesHold, EntriesRefuted, has_term, RuleHolds, RuleGives, RuleRefuted}
+use Rattle.goal_lists.specs.RowWords.{given, clauses_in, conditions_in, value_in}
+use Rattle.goal_lists.specs.Settings.{Setting}
+use Rattle.goal_lists.specs.TraitGoals.{header_of}
+use Rattle.goal_lists.specs.Words.{OfRow}
 use Rattle.goal_kinds.specs.declared.rules.Rule.{Rule}
 use Rattle.goal_kinds.specs.declared.rules.RuleEntry.{RuleEntry}
 use Rattle.goal_kinds.specs.declared.rules.RuleEntry.TheVariants as entry
 use Rattle.goal_kinds.specs.declared.rules.RuleArguments.{RuleArguments}
 use Rattle.goal_kinds.specs.declared.rules.RuleArguments.TheVariants as arguments
-use Rattle.goal_kinds.specs.declared.rules.RuleHeader.{RuleHeader}
-use Rattle.goal_kinds.specs.declared.rules.RuleHeader.TheVariants as header
-use Rattle.goal_kinds.specs.declared.rules.RowClauses.{RowClauses}
+use Rattle.goal_lists.specs.declared.lists.RuleHeader.{RuleHeader}
+use Rattle.goal_lists.specs.declared.lists.RuleHeader.TheVariants as header
+use Rattle.goal_lists.specs.declared.lists.RowClauses.{RowClauses}
 use Rattle.goal_kinds.specs.declared.rules.RuleTerm.{RuleTerm}
 use Rattle.goal_kinds.specs.declared.rules.RuleTerm.TheVariants as term
-use Rattle.goal_kinds.proofs.CandidateLemmas.{no_pair_unequal}
-use Rattle.goal_kinds.proofs.ConsistentLemmas.{each_level_is_consistent}
-use Rattle.goal_kinds.proofs.ContraryWords.{OfRow-twice}
-use Rattle.goal_kinds.proofs.EqualLemmas.{one_head_form, no_head_form_refuted}
-use Rattle.goal_kinds.proofs.PremiseLemmas.{no_clause_refuted, no_premises_refuted}
-use Rattle.goal_kinds.proofs.SubstitutionLemmas.{one_substitution, no_fit_and_clash}
-use Rattle.goal_kinds.proofs.WithinHeaders.{within-fits, within-clashes, within-all_known}
-use Rattle.goal_kinds.proofs.WithinLevels.{within-level}
-use Rattle.goal_kinds.proofs.WithinPremises.{within-clause_holds, within-clause_refuted, within-premises_hold, within-premises_refuted}
-use Rattle.goal_kinds.proofs.WithinTerms.{within-has_head_form, within-head_form_refuted, within-pairs, within-some_pair}
-use Rattle.goal_kinds.proofs.WithinWords.{of_row-map, sum-map}
+use Rattle.goal_lists.proofs.CandidateLemmas.{no_pair_unequal}
+use Rattle.goal_lists.proofs.ConsistentLemmas.{each_level_is_consistent}
+use Rattle.goal_lists.proofs.ContraryWords.{OfRow-twice}
+use Rattle.goal_lists.proofs.EqualLemmas.{one_head_form, no_head_form_refuted}
+use Rattle.goal_lists.proofs.PremiseLemmas.{no_clause_refuted, no_premises_refuted}
+use Rattle.goal_lists.proofs.SubstitutionLemmas.{one_substitution, no_fit_and_clash}
+use Rattle.goal_lists.proofs.WithinHeaders.{within-fits, within-clashes, within-all_known}
+use Rattle.goal_lists.proofs.WithinLevels.{within-level}
+use Rattle.goal_lists.proofs.WithinPremises.{within-clause_holds, within-clause_refuted, within-premises_hold, within-premises_refuted}
+use Rattle.goal_lists.proofs.WithinTerms.{within-has_head_form, within-head_form_refuted, within-pairs, within-some_pair}
+use Rattle.goal_lists.proofs.WithinWords.{of_row-map, sum-map}
 
 -- entries that hold with a term hold with what is said of it
 pub entries_hold-said : (S : Setting) (L : Level) (P Q : Tree → Type 0) → ((u : Tree) → P u → Q u) → (named : List (List Tree)) (es : List RuleEntry) →
@@ -203,21 +204,6 @@ one_known S L c named (arguments.OtherImpl i j n) s z h k =
     (impl_of S.tables i) h k
 one_known S L c named (arguments.Followed n own) s z h k = OfRow-twice _ _ (λ t d e. d ∙ sym e) (slice_get named n) h k
 
--- an entry is known to name one list only
-pub one_list_known : (S : Setting) (L : Level) → IsConsistent L → (named : List (List Tree)) (a : RuleArguments) (s z : List Tree) →
-    NamesKnown S L named a s → NamesKnown S L named a z → s ≡ z
-unfolding NamesKnown
-one_list_known S L c named (arguments.Given args) s z h k = h ∙ sym k
-one_list_known S L c named (arguments.Header i args) s z h k =
-    OfRow-twice _ _ (λ m x y. one_substitution L c m.params m.terms (given args) s z x y) (header_in S.tables i) h k
-one_list_known S L c named (arguments.OtherImpl i j n) s z h k =
-    OfRow-twice _ _
-    (λ q x y. OfRow-twice _ _
-    (λ r v w. OfRow-twice _ _ (λ t d e. one_substitution L c q.params.items (header_of q) (header_under r t) s z d e) (slice_get named n) v w)
-    (impl_of S.tables j) x y)
-    (impl_of S.tables i) h k
-one_list_known S L c named (arguments.Followed n own) s z h k = OfRow-twice _ _ (λ t d e. d ∙ sym e) (slice_get named n) h k
-
 -- what fits is known
 pub names-known : (S : Setting) (L : Level) (named : List (List Tree)) (a : RuleArguments) (s : List Tree) → Names S L named a s → NamesKnown S L named a s
 unfolding Names NamesKnown Fits
@@ -232,11 +218,6 @@ pub of_row-mapped : {A B : Type 0} (f : A → B) (P : B → Type 0) (o : Option 
 unfolding OfRow
 of_row-mapped f P None h = h
 of_row-mapped f P (Some r) h = h
-
-pub of_row-mapped_back : {A B : Type 0} (f : A → B) (P : B → Type 0) (o : Option A) → OfRow o (λ r. P (f r)) → OfRow (option_map f o) P
-unfolding OfRow
-of_row-mapped_back f P None h = h
-of_row-mapped_back f P (Some r) h = h
 
 -- the header of an impl
 abbrev pub matched-impl : ImplRow → MatchedHeader

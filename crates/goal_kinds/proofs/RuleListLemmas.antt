@@ -5,14 +5,15 @@ use Rattle.goal_terms.specs.Tree.{Tree}
 use Rattle.goal_terms.specs.declared.answers.Certainty.TheVariants as certainty
 use Rattle.goal_terms.specs.declared.answers.GoalSource.{GoalSource}
 use Rattle.goal_terms.specs.declared.predicates.ClauseKind.{ClauseKind}
-use Rattle.goal_kinds.specs.Answers.{erased_predicate}
+use Rattle.goal_lists.specs.Answers.{erased_predicate}
 use Rattle.goal_kinds.specs.CandidateRules.{RuleSays, GivesAs, RefutedAs, entries_for, AllHold, OneRefuted, only_given, IsNamedAnswer}
-use Rattle.goal_kinds.specs.Level.{Level}
-use Rattle.goal_kinds.specs.Levels.{level}
-use Rattle.goal_kinds.specs.Premises.{ClauseHolds, ClauseRefuted}
-use Rattle.goal_kinds.specs.Rules.{given, NamesKnown, EntriesHold, EntriesRefuted, has_term, RuleHolds, RuleGives, RuleRefuted}
-use Rattle.goal_kinds.specs.Settings.{Setting}
-use Rattle.goal_kinds.specs.Words.{Each, Exists}
+use Rattle.goal_lists.specs.Level.{Level}
+use Rattle.goal_lists.specs.Levels.{level}
+use Rattle.goal_lists.specs.Premises.{ClauseHolds, ClauseRefuted}
+use Rattle.goal_kinds.specs.Rules.{NamesKnown, EntriesHold, EntriesRefuted, has_term, RuleHolds, RuleGives, RuleRefuted}
+use Rattle.goal_lists.specs.RowWords.{given}
+use Rattle.goal_lists.specs.Settings.{Setting}
+use Rattle.goal_lists.specs.Words.{Each, Exists}
 use Rattle.goal_kinds.specs.declared.faults.Fault.TheVariants as fault
 use Rattle.goal_kinds.specs.declared.rules.Rule.{Rule}
 use Rattle.goal_kinds.specs.declared.rules.RuleArguments.TheVariants as arguments

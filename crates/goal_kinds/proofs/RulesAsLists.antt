@@ -11,28 +11,29 @@ use Rattle.goal_terms.specs.declared.predicates.Clause.{Clause}
 use Rattle.goal_terms.specs.declared.predicates.TraitRef.{TraitRef}
 use Rattle.goal_tables.specs.Rows.{impl_of, inherent_impl_of}
 use Rattle.goal_tables.specs.declared.rows.ImplRow.{ImplRow}
-use Rattle.goal_kinds.specs.Aliases.{self_header}
-use Rattle.goal_kinds.specs.Entries as list
-use Rattle.goal_kinds.specs.Entries.{Arguments, of_header, of_other_header, ExpectedTerm, Entry, arguments, row_clauses, row_conditions, expected, value_under, OfNumbered, Named, NamedKnown, NoTerm, ListHolds, ListGives, ListRefuted}
-use Rattle.goal_kinds.specs.Headers.{AllKnown, Fits, Clashes}
-use Rattle.goal_kinds.specs.Level.{Level}
-use Rattle.goal_kinds.specs.Premises.{PremisesHold, PremisesRefuted, clauses_under, traits_under, conditions_as}
+use Rattle.goal_lists.specs.Aliases.{self_header}
+use Rattle.goal_lists.specs.Entries as list
+use Rattle.goal_lists.specs.Entries.{Arguments, of_header, of_other_header, ExpectedTerm, Entry, arguments, row_clauses, row_conditions, expected, value_under, OfNumbered, Named, NamedKnown, NoTerm, ListHolds, ListGives, ListRefuted}
+use Rattle.goal_lists.specs.Headers.{AllKnown, Fits, Clashes}
+use Rattle.goal_lists.specs.Level.{Level}
+use Rattle.goal_lists.specs.Premises.{PremisesHold, PremisesRefuted, clauses_under, traits_under, conditions_as}
 use Rattle.goal_kinds.specs.Rules as rule
-use Rattle.goal_kinds.specs.Rules.{given, header_in, clauses_in, conditions_in, value_in, Names, NamesKnown, TermIsNone, has_term, RuleHolds, RuleGives, RuleRefuted}
-use Rattle.goal_kinds.specs.RuleLists.{header_arguments, other_arguments, arguments_of, expected_of, before, entries_of, RuleListHolds, RuleListGives, RuleListRefuted}
-use Rattle.goal_kinds.specs.Settings.{Setting}
-use Rattle.goal_kinds.specs.TraitGoals.{header_of}
-use Rattle.goal_kinds.specs.Words.{OfRow, Either}
+use Rattle.goal_kinds.specs.Rules.{header_in, Names, NamesKnown, TermIsNone, has_term, RuleHolds, RuleGives, RuleRefuted}
+use Rattle.goal_lists.specs.RowWords.{given, clauses_in, conditions_in, value_in, header_arguments, other_arguments}
+use Rattle.goal_kinds.specs.RuleLists.{arguments_of, expected_of, before, entries_of, RuleListHolds, RuleListGives, RuleListRefuted}
+use Rattle.goal_lists.specs.Settings.{Setting}
+use Rattle.goal_lists.specs.TraitGoals.{header_of}
+use Rattle.goal_lists.specs.Words.{OfRow, Either}
 use Rattle.goal_kinds.specs.declared.rules.Rule.{Rule}
 use Rattle.goal_kinds.specs.declared.rules.RuleArguments.{RuleArguments}
 use Rattle.goal_kinds.specs.declared.rules.RuleArguments.TheVariants as names
 use Rattle.goal_kinds.specs.declared.rules.RuleEntry.{RuleEntry}
 use Rattle.goal_kinds.specs.declared.rules.RuleEntry.TheVariants as entry
-use Rattle.goal_kinds.specs.declared.rules.RuleHeader.{RuleHeader}
-use Rattle.goal_kinds.specs.declared.rules.RuleHeader.TheVariants as header
+use Rattle.goal_lists.specs.declared.lists.RuleHeader.{RuleHeader}
+use Rattle.goal_lists.specs.declared.lists.RuleHeader.TheVariants as header
 use Rattle.goal_kinds.specs.declared.rules.RuleTerm.{RuleTerm}
 use Rattle.goal_kinds.specs.declared.rules.RuleTerm.TheVariants as term
-use Rattle.goal_kinds.proofs.EntryLemmas.{iff-chain, iff-back, iff-both, iff-either, iff-same}
+use Rattle.goal_lists.proofs.EntryLemmas.{iff-chain, iff-back, iff-both, iff-either, iff-same}
 
 -- what is made of a row, and claims of a row that come to the same
 mapped-row : {A B : Type 0} (o : Option A) (f : A → B) (P : B → Type 0) → OfRow (option_map f o) P ↔ OfRow o (λ x. P (f x))

@@ -17,19 +17,19 @@ use Rattle.goal_tables.specs.declared.lang.LangItem.TheVariants as lang
 use Rattle.goal_tables.specs.declared.rows.ImplRow.{ImplRow}
 use Rattle.goal_tables.specs.declared.rows.Tables.{Tables}
 use Rattle.goal_tables.specs.declared.rows.TraitRow.{TraitRow}
-use Rattle.goal_kinds.specs.Builtins.{lang_of_trait, copied_parts, output_of}
-use Rattle.goal_kinds.specs.Candidates.{Candidate, assumption, implied_bound, by_impl, built_in, error}
-use Rattle.goal_kinds.specs.ConstGoals.{satisfies}
-use Rattle.goal_kinds.specs.ConstRules.{each_const, const_call, const_call_of_head, const_call_rule, destruct_of_head, destruct_rule, lang_const_rule, alias_or_lang_const_rule, const_rule}
-use Rattle.goal_kinds.specs.EffectLists.{effect_assumption_list, const_rule_entries, source_of_const_rule, effect_list}
-use Rattle.goal_kinds.specs.Entries.{Entry, equal_terms, row_conditions, premise_entries}
-use Rattle.goal_kinds.specs.Interned.{AreIn, erased_all}
-use Rattle.goal_kinds.specs.NamedRows.{IsSorted, ListIsSorted}
-use Rattle.goal_kinds.specs.Premises.{TraitTree, Premise, predicate, equation, ConstRule, clauses_under, conditions_as}
-use Rattle.goal_kinds.specs.Settings.{Setting}
-use Rattle.goal_kinds.specs.TraitGoals.{any_error}
-use Rattle.goal_kinds.specs.TraitLists.{is_trait, impl_match}
-use Rattle.goal_kinds.specs.Words.{Each}
+use Rattle.goal_lists.specs.Builtins.{lang_of_trait, copied_parts, output_of}
+use Rattle.goal_lists.specs.Candidates.{Candidate, assumption, implied_bound, by_impl, built_in, error}
+use Rattle.goal_lists.specs.ConstGoals.{satisfies}
+use Rattle.goal_lists.specs.ConstRules.{each_const, const_call, const_call_of_head, const_call_rule, destruct_of_head, destruct_rule, lang_const_rule, alias_or_lang_const_rule, const_rule}
+use Rattle.goal_lists.specs.EffectLists.{effect_assumption_list, const_rule_entries, source_of_const_rule, effect_list}
+use Rattle.goal_lists.specs.Entries.{Entry, equal_terms, row_conditions, premise_entries}
+use Rattle.goal_lists.specs.Interned.{AreIn, erased_all}
+use Rattle.goal_lists.specs.NamedRows.{IsSorted, ListIsSorted}
+use Rattle.goal_lists.specs.Premises.{TraitTree, Premise, predicate, equation, ConstRule, clauses_under, conditions_as}
+use Rattle.goal_lists.specs.Settings.{Setting}
+use Rattle.goal_lists.specs.TraitGoals.{any_error}
+use Rattle.goal_lists.specs.TraitLists.{is_trait, impl_match}
+use Rattle.goal_lists.specs.Words.{Each}
 use Rattle.goal_kinds.proofs.SortedLists.{AreSorted, clauses-sorted, call_premises-sorted, one-sorted, none-sorted, polarity-sorted}
 
 -- const conditions are traits

@@ -32,19 +32,19 @@ use Rattle.goal_tables.specs.declared.rows.ImplPolarity.TheVariants as polarity
 use Rattle.goal_tables.specs.declared.rows.ImplRow.{ImplRow}
 use Rattle.goal_tables.specs.declared.rows.Tables.{Tables}
 use Rattle.goal_tables.specs.declared.rows.TraitRow.{TraitRow}
-use Rattle.goal_kinds.specs.Builtins.{each_is, last_is, constraint_is, sized_of_head, sized_rule, copied_parts, call_premises, output_of, signature_of, call_rule, where_true, is_fn_ptr, is_tuple, field_of, lang_of_trait, lang_rule, alias_or_lang_rule, trait_rule}
-use Rattle.goal_kinds.specs.Candidates.{Candidate, assumption, implied_bound, by_impl, built_in, error, last_of}
-use Rattle.goal_kinds.specs.Entries.{Entry, premise_entries, equal_terms}
-use Rattle.goal_kinds.specs.Headers.{under}
-use Rattle.goal_kinds.specs.Interned.{erased_all, AreIn}
-use Rattle.goal_kinds.specs.NamedRows.{IsAlias, IsSortedPredicate, IsSorted, ListIsSorted}
-use Rattle.goal_kinds.specs.Premises.{Premise, predicate, equation, predicate_under, clauses_under}
-use Rattle.goal_kinds.specs.Settings.{Setting}
-use Rattle.goal_kinds.specs.TraitLists.{is_trait, impl_match, reserved_list, list_by_polarity, trait_assumption_list, source_of_rule, trait_list}
-use Rattle.goal_kinds.specs.TraitGoals.{any_error}
-use Rattle.goal_kinds.specs.Words.{Each}
+use Rattle.goal_lists.specs.Builtins.{each_is, last_is, constraint_is, sized_of_head, sized_rule, copied_parts, call_premises, output_of, signature_of, call_rule, where_true, is_fn_ptr, is_tuple, field_of, lang_of_trait, lang_rule, alias_or_lang_rule, trait_rule}
+use Rattle.goal_lists.specs.Candidates.{Candidate, assumption, implied_bound, by_impl, built_in, error, last_of}
+use Rattle.goal_lists.specs.Entries.{Entry, premise_entries, equal_terms}
+use Rattle.goal_lists.specs.Headers.{under}
+use Rattle.goal_lists.specs.Interned.{erased_all, AreIn}
+use Rattle.goal_lists.specs.NamedRows.{IsAlias, IsSortedPredicate, IsSorted, ListIsSorted}
+use Rattle.goal_lists.specs.Premises.{Premise, predicate, equation, predicate_under, clauses_under}
+use Rattle.goal_lists.specs.Settings.{Setting}
+use Rattle.goal_lists.specs.TraitLists.{is_trait, impl_match, reserved_list, list_by_polarity, trait_assumption_list, source_of_rule, trait_list}
+use Rattle.goal_lists.specs.TraitGoals.{any_error}
+use Rattle.goal_lists.specs.Words.{Each}
 use Rattle.goal_kinds.proofs.RebuiltLemmas.{sort-of_erased}
-use Rattle.goal_kinds.proofs.UnderLemmas.{under-at, are_in-arguments}
+use Rattle.goal_lists.proofs.UnderLemmas.{under-at, are_in-arguments}
 
 -- premises that are sorted
 abbrev pub IsSortedPremise : Premise → Type 0

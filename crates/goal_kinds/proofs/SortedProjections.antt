@@ -26,23 +26,23 @@ use Rattle.goal_tables.specs.declared.rows.OpaqueRow.{OpaqueRow}
 use Rattle.goal_tables.specs.declared.rows.Source.{Source}
 use Rattle.goal_tables.specs.declared.rows.Source.TheVariants as source
 use Rattle.goal_tables.specs.declared.rows.SourceRow.{SourceRow}
-use Rattle.goal_kinds.specs.AliasLists.{row_value, entries_of_row, inherent_alias_list, opaque_list, opaque_alias_list, alias_list}
-use Rattle.goal_kinds.specs.Builtins.{Listed, nothing_listed, listed, listed_rigid, listed_by_size, term_rule}
+use Rattle.goal_lists.specs.AliasLists.{row_value, entries_of_row, inherent_alias_list, opaque_list, opaque_alias_list, alias_list}
+use Rattle.goal_lists.specs.Builtins.{Listed, nothing_listed, listed, listed_rigid, listed_by_size, term_rule}
 use Rattle.goal_kinds.specs.CandidateRules.{said_by}
-use Rattle.goal_kinds.specs.Candidates.{Candidate, assumption, implied_bound, by_impl, built_in, error}
-use Rattle.goal_kinds.specs.Entries.{Entry, expected, premise_entries}
-use Rattle.goal_kinds.specs.ImplTerms.{Projection, error_term, Taken, from_projection, from_impl, from_other, taken}
-use Rattle.goal_kinds.specs.NamedRows.{CandidateIsSorted, IsAlias, IsSorted, IsSortedPredicate, ListIsSorted}
-use Rattle.goal_kinds.specs.Premises.{Premise, predicate, equation}
+use Rattle.goal_lists.specs.Candidates.{Candidate, assumption, implied_bound, by_impl, built_in, error}
+use Rattle.goal_lists.specs.Entries.{Entry, expected, premise_entries}
+use Rattle.goal_lists.specs.ImplTerms.{Projection, error_term, Taken, from_projection, from_impl, from_other, taken}
+use Rattle.goal_lists.specs.NamedRows.{CandidateIsSorted, IsAlias, IsSorted, IsSortedPredicate, ListIsSorted}
+use Rattle.goal_lists.specs.Premises.{Premise, predicate, equation}
 use Rattle.goal_kinds.specs.ProjectionKind.{list_for, asked_projection_list}
-use Rattle.goal_kinds.specs.ProjectionLists.{is_item, same_item_list, equation_clause_list, projection_assumption_list, standing, definition_value, taken_entries, rigid_entries, value_entries, definition_entries, default_entries, source_entries, said_by_row_entries, said_entries, projection_impl_list, listed_list, projection_list}
-use Rattle.goal_kinds.specs.Projections.{projected_item}
-use Rattle.goal_kinds.specs.Rules.{given}
+use Rattle.goal_lists.specs.ProjectionLists.{is_item, same_item_list, equation_clause_list, projection_assumption_list, standing, definition_value, taken_entries, rigid_entries, value_entries, definition_entries, default_entries, source_entries, said_by_row_entries, said_entries, projection_impl_list, listed_list, projection_list}
+use Rattle.goal_lists.specs.Projections.{projected_item}
+use Rattle.goal_lists.specs.RowWords.{given}
 use Rattle.goal_kinds.specs.RuleWords.{projection_in}
-use Rattle.goal_kinds.specs.Settings.{Setting, among}
-use Rattle.goal_kinds.specs.Words.{Each}
-use Rattle.goal_kinds.specs.declared.rules.FirstUse.{FirstUse}
-use Rattle.goal_kinds.specs.declared.rules.FirstUse.TheVariants as first
+use Rattle.goal_lists.specs.Settings.{Setting, among}
+use Rattle.goal_lists.specs.Words.{Each}
+use Rattle.goal_lists.specs.declared.lists.FirstUse.{FirstUse}
+use Rattle.goal_lists.specs.declared.lists.FirstUse.TheVariants as first
 use Rattle.goal_kinds.proofs.ProjectionKindLaws.{asked-of}
 use Rattle.goal_kinds.proofs.RebuiltLemmas.{sort-of_erased}
 use Rattle.goal_kinds.proofs.SortedLists.{AreSorted, polarity-sorted}

@@ -29,13 +29,13 @@ use Rattle.goal_tables.specs.declared.rows.AdtKind.{AdtKind}
 use Rattle.goal_tables.specs.declared.rows.AdtKind.TheVariants as adt
 use Rattle.goal_tables.specs.declared.rows.AdtRow.{AdtRow}
 use Rattle.goal_tables.specs.declared.rows.Tables.{Tables}
-use Rattle.goal_kinds.specs.Builtins.{unit_ty, usize_ty, u8_ty, callable_sig, is_callable_by, closure_sig, signature_of_head, signature_of, output_of, field_of, Listed, nothing_listed, listed, listed_rigid, listed_by_size, listed_term, metadata_of, adt_metadata, dyn_metadata, listed_by_size_of, metadata_of_head, metadata_rule, discriminant_of_head, discriminant_rule, listed_output, output_rule, field_base, field_ty, lang_term, term_of_lang, lang_of_item, term_rule}
-use Rattle.goal_kinds.specs.Candidates.{last_of}
-use Rattle.goal_kinds.specs.Headers.{under}
-use Rattle.goal_kinds.specs.KindedTerms.{FitsThroughout}
-use Rattle.goal_kinds.specs.Words.{Each}
-use Rattle.goal_kinds.proofs.CandidateTerms.{list-erased}
-use Rattle.goal_kinds.proofs.PublicTermLemmas.{arg_through, sig_through}
+use Rattle.goal_lists.specs.Builtins.{unit_ty, usize_ty, u8_ty, callable_sig, is_callable_by, closure_sig, signature_of_head, signature_of, output_of, field_of, Listed, nothing_listed, listed, listed_rigid, listed_by_size, listed_term, metadata_of, adt_metadata, dyn_metadata, listed_by_size_of, metadata_of_head, metadata_rule, discriminant_of_head, discriminant_rule, listed_output, output_rule, field_base, field_ty, lang_term, term_of_lang, lang_of_item, term_rule}
+use Rattle.goal_lists.specs.Candidates.{last_of}
+use Rattle.goal_lists.specs.Headers.{under}
+use Rattle.goal_lists.specs.KindedTerms.{FitsThroughout}
+use Rattle.goal_lists.specs.Words.{Each}
+use Rattle.goal_lists.proofs.CandidateTerms.{list-erased}
+use Rattle.goal_lists.proofs.PublicTermLemmas.{arg_through, sig_through}
 use Rattle.goal_kinds.proofs.RebuiltLemmas.{sort-of_erased}
 use Rattle.goal_kinds.proofs.SortedLists.{AreSorted, call_premises-sorted}
 

@@ -15,27 +15,27 @@ use Rattle.goal_tables.specs.Faults.{IsChecked}
 use Rattle.goal_tables.specs.Rows.{impl_of}
 use Rattle.goal_tables.specs.SourceFaults.{is_positive}
 use Rattle.goal_tables.specs.declared.rows.ImplRow.{ImplRow}
-use Rattle.goal_kinds.specs.Builtins.{trait_rule}
+use Rattle.goal_lists.specs.Builtins.{trait_rule}
 use Rattle.goal_kinds.specs.CandidateRules.{HasNoKindFault, IsAcceptedClause, may_match, refuses_row, said_by, TraitCandidateHolds, TraitCandidateRefuted}
-use Rattle.goal_kinds.specs.Candidates.{Candidate, assumption, implied_bound, by_impl, built_in, error}
-use Rattle.goal_kinds.specs.FastReject.{lists_may_unify}
-use Rattle.goal_kinds.specs.KindedTerms.{IsAcceptedRef}
-use Rattle.goal_kinds.specs.Laws.{IsWithin, IsAmong}
-use Rattle.goal_kinds.specs.Level.{Level, nothing}
-use Rattle.goal_kinds.specs.Levels.{level}
-use Rattle.goal_kinds.specs.Premises.{Premise}
-use Rattle.goal_kinds.specs.Rules.{given}
-use Rattle.goal_kinds.specs.Settings.{Setting}
-use Rattle.goal_kinds.specs.TraitGoals.{AssumptionHolds, AssumptionRefuted, ImplHolds, ImplRefuted, TraitRuleHolds, TraitRuleRefuted, CandidateHolds, CandidateRefuted, only_bars}
-use Rattle.goal_kinds.specs.Words.{Exists}
-use Rattle.goal_kinds.specs.declared.fast_reject.Parameters.TheVariants.{Rigid, Inferred}
-use Rattle.goal_kinds.proofs.AcceptedLemmas.{accepted-heads, rejected-clashes}
-use Rattle.goal_kinds.proofs.OtherHeadLemmas.{lists_unequal}
-use Rattle.goal_kinds.proofs.ListWords.{same_trait}
-use Rattle.goal_kinds.proofs.WithinGoals.{within-impl_holds_under, within-impl_refuted}
-use Rattle.goal_kinds.proofs.WithinLevels.{within-level}
-use Rattle.goal_kinds.proofs.WithinPremises.{within-premises_hold, within-premises_refuted}
-use Rattle.goal_kinds.proofs.WithinTerms.{within-pairs, within-some_pair}
+use Rattle.goal_lists.specs.Candidates.{Candidate, assumption, implied_bound, by_impl, built_in, error}
+use Rattle.goal_lists.specs.FastReject.{lists_may_unify}
+use Rattle.goal_lists.specs.KindedTerms.{IsAcceptedRef}
+use Rattle.goal_lists.specs.Laws.{IsWithin, IsAmong}
+use Rattle.goal_lists.specs.Level.{Level, nothing}
+use Rattle.goal_lists.specs.Levels.{level}
+use Rattle.goal_lists.specs.Premises.{Premise}
+use Rattle.goal_lists.specs.RowWords.{given}
+use Rattle.goal_lists.specs.Settings.{Setting}
+use Rattle.goal_lists.specs.TraitGoals.{AssumptionHolds, AssumptionRefuted, ImplHolds, ImplRefuted, TraitRuleHolds, TraitRuleRefuted, CandidateHolds, CandidateRefuted, only_bars}
+use Rattle.goal_lists.specs.Words.{Exists}
+use Rattle.goal_lists.specs.declared.fast_reject.Parameters.TheVariants.{Rigid, Inferred}
+use Rattle.goal_lists.proofs.AcceptedLemmas.{accepted-heads, rejected-clashes}
+use Rattle.goal_lists.proofs.OtherHeadLemmas.{lists_unequal}
+use Rattle.goal_lists.proofs.ListWords.{same_trait}
+use Rattle.goal_lists.proofs.WithinGoals.{within-impl_holds_under, within-impl_refuted}
+use Rattle.goal_lists.proofs.WithinLevels.{within-level}
+use Rattle.goal_lists.proofs.WithinPremises.{within-premises_hold, within-premises_refuted}
+use Rattle.goal_lists.proofs.WithinTerms.{within-pairs, within-some_pair}
 
 -- a clause
 assumption-higher : {L M : Level} → IsWithin L M → (i : TraitId) (args : List Tree) (p : PredicateTree) → AssumptionHolds L i args p → AssumptionHolds M i args p

@@ -22,28 +22,28 @@ use Rattle.goal_tables.specs.declared.rows.ImplPolarity.{ImplPolarity}
 use Rattle.goal_tables.specs.declared.rows.ImplPolarity.TheVariants as polarity
 use Rattle.goal_tables.specs.declared.rows.ImplRow.{ImplRow}
 use Rattle.goal_tables.specs.declared.rows.Tables.{Tables}
-use Rattle.goal_kinds.specs.Answers.{setting_of}
+use Rattle.goal_lists.specs.Answers.{setting_of}
 use Rattle.goal_kinds.specs.CandidateRules.{GivesAs, RefutedAs, IsRefusal, IsNamedAnswer, TraitCandidateHolds, TraitCandidateRefuted, is_of_trait, refuses_row, refuses_impl, said_by, only_given}
-use Rattle.goal_kinds.specs.Candidates.{Candidate, by_impl, built_in}
-use Rattle.goal_kinds.specs.Entries.{Entry, equal_terms, undecided, ListHolds, ListRefuted, ListAsksNoTerm}
-use Rattle.goal_kinds.specs.Interned.{AreIn, erased_all}
-use Rattle.goal_kinds.specs.InternedEntries.{setting_at}
-use Rattle.goal_kinds.specs.Levels.{level}
-use Rattle.goal_kinds.specs.NamedRows.{ListIsSorted}
+use Rattle.goal_lists.specs.Candidates.{Candidate, by_impl, built_in}
+use Rattle.goal_lists.specs.Entries.{Entry, equal_terms, undecided, ListHolds, ListRefuted, ListAsksNoTerm}
+use Rattle.goal_lists.specs.Interned.{AreIn, erased_all}
+use Rattle.goal_lists.specs.InternedEntries.{setting_at}
+use Rattle.goal_lists.specs.Levels.{level}
+use Rattle.goal_lists.specs.NamedRows.{ListIsSorted}
 use Rattle.goal_kinds.specs.RuleLists.{list_then, IsListed, IsToldBy}
-use Rattle.goal_kinds.specs.Rules.{given}
-use Rattle.goal_kinds.specs.Settings.{Setting, is_coherence}
-use Rattle.goal_kinds.specs.TraitLists.{impl_match, list_by_polarity, trait_assumption_list, trait_impl_list, trait_list}
+use Rattle.goal_lists.specs.RowWords.{given}
+use Rattle.goal_lists.specs.Settings.{Setting, is_coherence}
+use Rattle.goal_lists.specs.TraitLists.{impl_match, list_by_polarity, trait_assumption_list, trait_impl_list, trait_list}
 use Rattle.goal_kinds.specs.declared.faults.Fault.{Fault}
 use Rattle.goal_kinds.specs.declared.faults.Fault.TheVariants as fault
-use Rattle.goal_kinds.specs.declared.lists.ListSetting.{ListSetting}
+use Rattle.goal_lists.specs.declared.lists.ListSetting.{ListSetting}
 use Rattle.goal_kinds.specs.declared.rules.Rule.{Rule}
 use Rattle.goal_kinds.proofs.ListedRules.{some-accepted}
-use Rattle.goal_kinds.proofs.AlikeSettings.{found}
+use Rattle.goal_lists.proofs.AlikeSettings.{found}
 use Rattle.goal_kinds.proofs.FaceLemmas.{IsSomeGiven, one-given, some-given, listed-yes_back, face-gives, face-refuted, face-told, face-refusal, face-named}
-use Rattle.goal_kinds.proofs.ListTerms.{trait_list-asks_none}
+use Rattle.goal_lists.proofs.ListTerms.{trait_list-asks_none}
 use Rattle.goal_kinds.proofs.SortedLists.{trait_list-sorted}
-use Rattle.goal_kinds.proofs.TraitLists.{trait_list-holds, trait_list-refuted}
+use Rattle.goal_lists.proofs.TraitLists.{trait_list-holds, trait_list-refuted}
 
 -- rules that are listed for a goal's trait
 module _ (S : ListSetting) (t : Tables) (m : TypingMode) (env : List Clause) (a : TraitRef) (c : Candidate) (rows : S.rows.now ≡ t) (mode : S.mode.now ≡ m) where

@@ -26,17 +26,18 @@ use Rattle.goal_tables.specs.declared.rows.TraitRow.{TraitRow}
 use Rattle.goal_tables.specs.declared.rows.Tables.{Tables}
 use Rattle.goal_tables.specs.declared.sites.TermFault.{TermFault}
 use Rattle.goal_tables.specs.declared.sites.TermFault.TheVariants.{UnknownItem, WrongArgumentCount, WrongArgumentKind}
-use Rattle.goal_kinds.specs.Answers.{erased_predicate}
-use Rattle.goal_kinds.specs.Builtins.{lang_of_trait}
-use Rattle.goal_kinds.specs.Candidates.{Candidate, assumption}
-use Rattle.goal_kinds.specs.FastReject.{lists_may_unify}
-use Rattle.goal_kinds.specs.Levels.{level}
-use Rattle.goal_kinds.specs.Premises.{TraitTree, ClauseHolds, ClauseRefuted}
-use Rattle.goal_kinds.specs.Rules.{given, RuleHolds, RuleGives, RuleRefuted}
-use Rattle.goal_kinds.specs.Settings.{Setting}
-use Rattle.goal_kinds.specs.TraitGoals.{any_error, only_bars, CandidateHolds, CandidateRefuted}
-use Rattle.goal_kinds.specs.Words.{Each, Exists}
-use Rattle.goal_kinds.specs.declared.fast_reject.Parameters.TheVariants.{Rigid, Inferred}
+use Rattle.goal_lists.specs.Answers.{erased_predicate}
+use Rattle.goal_lists.specs.Builtins.{lang_of_trait}
+use Rattle.goal_lists.specs.Candidates.{Candidate, assumption}
+use Rattle.goal_lists.specs.FastReject.{lists_may_unify}
+use Rattle.goal_lists.specs.Levels.{level}
+use Rattle.goal_lists.specs.Premises.{TraitTree, ClauseHolds, ClauseRefuted}
+use Rattle.goal_kinds.specs.Rules.{RuleHolds, RuleGives, RuleRefuted}
+use Rattle.goal_lists.specs.RowWords.{given}
+use Rattle.goal_lists.specs.Settings.{Setting}
+use Rattle.goal_lists.specs.TraitGoals.{any_error, only_bars, CandidateHolds, CandidateRefuted}
+use Rattle.goal_lists.specs.Words.{Each, Exists}
+use Rattle.goal_lists.specs.declared.fast_reject.Parameters.TheVariants.{Rigid, Inferred}
 use Rattle.goal_kinds.specs.declared.faults.Fault.{Fault}
 use Rattle.goal_kinds.specs.declared.faults.Fault.TheVariants as fault
 use Rattle.goal_kinds.specs.declared.goal_kind.TraitView.{TraitView}

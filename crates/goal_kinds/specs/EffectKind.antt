@@ -13,17 +13,17 @@ use Rattle.goal_terms.specs.declared.terms.AliasTerm.{AliasTerm}
 use Rattle.goal_tables.specs.declared.rows.ImplRow.{ImplRow}
 use Rattle.goal_tables.specs.declared.rows.Tables.{Tables}
 use Rattle.goal_kinds.specs.CandidateRules.{NamedRule, trait_alias, sizedness, copy_clone, fn_ptr_trait, fn_trait, tuple, pointee, discriminant_kind, destruct, field, IsWithSelf, is_rule_for, refuses_row}
-use Rattle.goal_kinds.specs.Candidates.{Candidate, implied_bound, bounds_of}
-use Rattle.goal_kinds.specs.ConstGoals.{satisfies, ConstCandidateHolds, ConstCandidateRefuted}
-use Rattle.goal_kinds.specs.EffectLists.{effect_list}
-use Rattle.goal_kinds.specs.Entries.{Entry}
-use Rattle.goal_kinds.specs.FastReject.{lists_may_unify}
-use Rattle.goal_kinds.specs.Levels.{level}
+use Rattle.goal_lists.specs.Candidates.{Candidate, implied_bound, bounds_of}
+use Rattle.goal_lists.specs.ConstGoals.{satisfies, ConstCandidateHolds, ConstCandidateRefuted}
+use Rattle.goal_lists.specs.EffectLists.{effect_list}
+use Rattle.goal_lists.specs.Entries.{Entry}
+use Rattle.goal_lists.specs.FastReject.{lists_may_unify}
+use Rattle.goal_lists.specs.Levels.{level}
 use Rattle.goal_kinds.specs.RuleLists.{IsListed}
-use Rattle.goal_kinds.specs.Rules.{given}
-use Rattle.goal_kinds.specs.Settings.{Setting}
-use Rattle.goal_kinds.specs.TraitLists.{is_trait}
-use Rattle.goal_kinds.specs.declared.fast_reject.Parameters.TheVariants.{Rigid}
+use Rattle.goal_lists.specs.RowWords.{given}
+use Rattle.goal_lists.specs.Settings.{Setting}
+use Rattle.goal_lists.specs.TraitLists.{is_trait}
+use Rattle.goal_lists.specs.declared.fast_reject.Parameters.TheVariants.{Rigid}
 use Rattle.goal_kinds.specs.declared.rules.Rule.{Rule}
 
 -- whether a clause says that the goal's trait is const, with a constness that satisfies the goal's

@@ -8,17 +8,17 @@ use Rattle.goal_terms.specs.declared.predicates.BoundConstness.{BoundConstness}
 use Rattle.goal_terms.specs.declared.terms.GenericArg as arg
 use Rattle.goal_terms.specs.declared.terms.Term as term
 use Rattle.goal_terms.specs.declared.terms.Ty as ty
-use Rattle.goal_kinds.specs.Entries.{Entry, arguments, given_arguments, of_header, of_other_header, followed_by, row_clauses, row_conditions, expected, as_it_stands, value_under, access, delayed_fault, evaluation, undecided, refused}
+use Rattle.goal_lists.specs.Entries.{Entry, arguments, given_arguments, of_header, of_other_header, followed_by, row_clauses, row_conditions, expected, as_it_stands, value_under, access, delayed_fault, evaluation, undecided, refused}
 use Rattle.goal_kinds.specs.ExampleRows.{assoc_item, plain_item}
 use Rattle.goal_kinds.specs.ExampleSettings.{asked_args, q_ty}
 use Rattle.goal_kinds.specs.ExampleTerms.{alias_of, error_ty, has_trait, i32_ty, impl, item, opaque, param, plain_struct, trait, tuple, u32_ty, u64_ty, vec, vec_of, w_ty}
-use Rattle.goal_kinds.specs.ImplTerms.{Projection}
-use Rattle.goal_kinds.specs.declared.rules.RowClauses.TheVariants as clauses
-use Rattle.goal_kinds.specs.declared.rules.RowValue.TheVariants as of_row
+use Rattle.goal_lists.specs.ImplTerms.{Projection}
+use Rattle.goal_lists.specs.declared.lists.RowClauses.TheVariants as clauses
+use Rattle.goal_lists.specs.declared.lists.RowValue.TheVariants as of_row
 use Rattle.goal_kinds.specs.declared.rules.RuleArguments.TheVariants as named
 use Rattle.goal_kinds.specs.declared.rules.RuleEntry.{RuleEntry}
 use Rattle.goal_kinds.specs.declared.rules.RuleEntry.TheVariants as entry
-use Rattle.goal_kinds.specs.declared.rules.RuleHeader.TheVariants as header
+use Rattle.goal_lists.specs.declared.lists.RuleHeader.TheVariants as header
 use Rattle.goal_kinds.specs.declared.rules.RuleTerm.TheVariants as rule_term
 
 -- `<W as Tr>::A`

@@ -1,9 +1,9 @@
 -- Settings and terms of the worked examples.
-use Rattle.goal_kinds.specs.Builtins.{u8_ty}
+use Rattle.goal_lists.specs.Builtins.{u8_ty}
 use Rattle.goal_kinds.specs.ExampleRows.{plain_impl, tr_for_z, type_in_impl, uses}
 use Rattle.goal_kinds.specs.ExampleTables.{analysis, assuming, example_tables}
 use Rattle.goal_kinds.specs.ExampleTerms.{alias_of, bool_ty, fn_ty, free, has_trait, i32_ty, impl, p_ty, param, plain_struct, projection, struct, struct_of, trait, tuple, u16_ty, u32_ty, u64_ty, vec, vec_of, z_ty}
-use Rattle.goal_kinds.specs.Settings.{Setting}
+use Rattle.goal_lists.specs.Settings.{Setting}
 use Rattle.goal_tables.specs.declared.rows.ImplRow.{ImplRow}
 use Rattle.goal_tables.specs.declared.rows.SourceRow.{SourceRow}
 use Rattle.goal_tables.specs.declared.rows.Tables.{Tables}

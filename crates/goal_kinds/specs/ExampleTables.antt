@@ -16,7 +16,7 @@ use Rattle.goal_tables.specs.declared.rows.SourceRow.{SourceRow}
 use Rattle.goal_tables.specs.declared.rows.Tables.{Tables}
 use Rattle.goal_tables.specs.declared.rows.TraitRow.{TraitRow}
 use Rattle.goal_kinds.specs.ExampleTerms.{vec, struct_of}
-use Rattle.goal_kinds.specs.Settings.{Setting}
+use Rattle.goal_lists.specs.Settings.{Setting}
 use Rattle.goal_kinds.specs.ExampleRows.{plain_trait, trait_of_two, with_item, plain_item, assoc_item, bounded_item, trait_of_i32_for_vec, trait_of_all_for_vec, pair_for_vec, not_tr_for_y, tr_for_z, tr_for_w, tr_for_str, uses, type_in_impl, three_types, no_value, vec_alias, vec_alias_of_tr, u8_alias, hidden_u8, inherent_for_vec, pair_in_vec, unit_struct, struct_with_param, named_trait, named_item}
 
 -- the traits `Sized`, `FnOnce`, `Pointee`, `Tr`, `Trait<U>`, `Pair<U>` and `Own`, with the items `Output`, `Metadata`, `Tr::A`, `Trait::Assoc<V>`, `Pair::A` and `Own::B`

@@ -22,18 +22,18 @@ use Rattle.goal_tables.specs.Rows.{impl_of}
 use Rattle.goal_tables.specs.declared.rows.ImplRow.{ImplRow}
 use Rattle.goal_tables.specs.declared.rows.Tables.{Tables}
 use Rattle.goal_tables.specs.declared.sites.TermFault.{TermFault}
-use Rattle.goal_kinds.specs.Answers.{setting_of}
+use Rattle.goal_lists.specs.Answers.{setting_of}
 use Rattle.goal_kinds.specs.CandidateRules.{NamedRule, IsNamedAnswer, GivesAs, RefutedAs, IsRefusal, AllHold, OneRefuted, HasNoKindFault, IsAcceptedClause, said_by, asked_trait, first_type, is_rule_for, may_match, IsWithSelf, TraitCandidateHolds, TraitCandidateRefuted}
-use Rattle.goal_kinds.specs.Candidates.{Candidate, by_impl, built_in, IsNoImpl}
+use Rattle.goal_lists.specs.Candidates.{Candidate, by_impl, built_in, IsNoImpl}
 use Rattle.goal_kinds.specs.EffectKind.{asked_effect_list, EffectCandidateHolds, EffectCandidateRefuted, implied_bounds_for, IsEffectWithSelf, is_effect_rule_for, may_match_effect}
-use Rattle.goal_kinds.specs.Entries.{Entry}
-use Rattle.goal_kinds.specs.Fitting.{may_fit}
-use Rattle.goal_kinds.specs.Premises.{TraitTree}
+use Rattle.goal_lists.specs.Entries.{Entry}
+use Rattle.goal_lists.specs.Fitting.{may_fit}
+use Rattle.goal_lists.specs.Premises.{TraitTree}
 use Rattle.goal_kinds.specs.ProjectionKind.{asked_projection_list, ProjectionCandidateGives, ProjectionCandidateRefuted, projected_trait, IsAliasWithSelf, IsImplForItem, lang_of_alias, is_for_alias, may_match_term}
 use Rattle.goal_kinds.specs.RuleLists.{IsToldBy}
-use Rattle.goal_kinds.specs.Rules.{given}
-use Rattle.goal_kinds.specs.Settings.{Setting}
-use Rattle.goal_kinds.specs.TraitLists.{trait_list}
+use Rattle.goal_lists.specs.RowWords.{given}
+use Rattle.goal_lists.specs.Settings.{Setting}
+use Rattle.goal_lists.specs.TraitLists.{trait_list}
 use Rattle.goal_kinds.specs.declared.faults.Fault.{Fault}
 use Rattle.goal_kinds.specs.declared.goal_kind.MergeRule.{MergeRule}
 use Rattle.goal_kinds.specs.declared.goal_kind.MergeRule.TheVariants as merge

@@ -27,24 +27,24 @@ use Rattle.goal_tables.specs.Predicates.{some_in_env}
 use Rattle.goal_tables.specs.Rows.{impl_of}
 use Rattle.goal_tables.specs.declared.rows.ImplRow.{ImplRow}
 use Rattle.goal_tables.specs.declared.rows.Tables.{Tables}
-use Rattle.goal_kinds.specs.Answers.{Question, Answer, IsAnswer, setting_of}
+use Rattle.goal_lists.specs.Answers.{Question, Answer, IsAnswer, setting_of}
 use Rattle.goal_kinds.specs.CandidateRules.{HasNoKindFault, said_by}
-use Rattle.goal_kinds.specs.Candidates.{Candidate}
-use Rattle.goal_kinds.specs.FastReject.{lists_may_unify, heads_agree}
-use Rattle.goal_kinds.specs.Fitting.{may_fit}
-use Rattle.goal_kinds.specs.Headers.{Fits, Clashes}
-use Rattle.goal_kinds.specs.ImplTerms.{Projection, ImplTermRefuted}
-use Rattle.goal_kinds.specs.KindedTerms.{kinds_of_terms, IsKinded, IsAcceptedRef, NoKindFault, NoKindFaultInEnv}
-use Rattle.goal_kinds.specs.Laws.{IsAmong, HaveSameImpls, ReadsNoMode}
-use Rattle.goal_kinds.specs.Level.{Level}
-use Rattle.goal_kinds.specs.Levels.{level}
+use Rattle.goal_lists.specs.Candidates.{Candidate}
+use Rattle.goal_lists.specs.FastReject.{lists_may_unify, heads_agree}
+use Rattle.goal_lists.specs.Fitting.{may_fit}
+use Rattle.goal_lists.specs.Headers.{Fits, Clashes}
+use Rattle.goal_lists.specs.ImplTerms.{Projection, ImplTermRefuted}
+use Rattle.goal_lists.specs.KindedTerms.{kinds_of_terms, IsKinded, IsAcceptedRef, NoKindFault, NoKindFaultInEnv}
+use Rattle.goal_lists.specs.Laws.{IsAmong, HaveSameImpls, ReadsNoMode}
+use Rattle.goal_lists.specs.Level.{Level}
+use Rattle.goal_lists.specs.Levels.{level}
 use Rattle.goal_kinds.specs.ProjectionKind.{ProjectionCandidateRefuted, may_match_term}
-use Rattle.goal_kinds.specs.Replacement.{with_values, with_arguments, AreOfTheirKinds, AliasesKeepKinds}
+use Rattle.goal_lists.specs.Replacement.{with_values, with_arguments, AreOfTheirKinds, AliasesKeepKinds}
 use Rattle.goal_kinds.specs.RuleWords.{projection_in}
-use Rattle.goal_kinds.specs.Settings.{Setting, is_headline}
-use Rattle.goal_kinds.specs.Words.{Each, Pairs}
-use Rattle.goal_kinds.specs.declared.fast_reject.Parameters.{Parameters}
-use Rattle.goal_kinds.specs.declared.fast_reject.Parameters.TheVariants.{Rigid, Inferred}
+use Rattle.goal_lists.specs.Settings.{Setting, is_headline}
+use Rattle.goal_lists.specs.Words.{Each, Pairs}
+use Rattle.goal_lists.specs.declared.fast_reject.Parameters.{Parameters}
+use Rattle.goal_lists.specs.declared.fast_reject.Parameters.TheVariants.{Rigid, Inferred}
 
 -- a header that fits some arguments at one level doesn't clash with them at another
 abbrev pub NoFitClashes : Level → Level → List ParamKind → List Tree → Type 0

@@ -16,22 +16,22 @@ use Rattle.goal_tables.specs.declared.lang.LangItem.{LangItem}
 use Rattle.goal_tables.specs.declared.lang.LangItem.TheVariants as lang
 use Rattle.goal_tables.specs.declared.rows.ImplRow.{ImplRow}
 use Rattle.goal_tables.specs.declared.rows.Tables.{Tables}
-use Rattle.goal_kinds.specs.Builtins.{lang_of_item}
-use Rattle.goal_kinds.specs.TraitGoals.{only_bars}
+use Rattle.goal_lists.specs.Builtins.{lang_of_item}
+use Rattle.goal_lists.specs.TraitGoals.{only_bars}
 use Rattle.goal_kinds.specs.CandidateRules.{NamedRule, trait_alias, sizedness, copy_clone, fn_ptr_trait, fn_trait, tuple, pointee, discriminant_kind, destruct, field}
-use Rattle.goal_kinds.specs.Candidates.{Candidate}
-use Rattle.goal_kinds.specs.Entries.{Entry, refused}
-use Rattle.goal_kinds.specs.FastReject.{lists_may_unify}
-use Rattle.goal_kinds.specs.ImplTerms.{Projection, trait_args}
-use Rattle.goal_kinds.specs.Levels.{level}
-use Rattle.goal_kinds.specs.Premises.{TraitTree}
-use Rattle.goal_kinds.specs.ProjectionLists.{projection_list}
-use Rattle.goal_kinds.specs.Projections.{projected_item, CandidateGives, TermRefuted}
-use Rattle.goal_kinds.specs.Rules.{given}
+use Rattle.goal_lists.specs.Candidates.{Candidate}
+use Rattle.goal_lists.specs.Entries.{Entry, refused}
+use Rattle.goal_lists.specs.FastReject.{lists_may_unify}
+use Rattle.goal_lists.specs.ImplTerms.{Projection, trait_args}
+use Rattle.goal_lists.specs.Levels.{level}
+use Rattle.goal_lists.specs.Premises.{TraitTree}
+use Rattle.goal_lists.specs.ProjectionLists.{projection_list}
+use Rattle.goal_lists.specs.Projections.{projected_item, CandidateGives, TermRefuted}
+use Rattle.goal_lists.specs.RowWords.{given}
 use Rattle.goal_kinds.specs.RuleWords.{projection_in}
-use Rattle.goal_kinds.specs.Settings.{Setting}
-use Rattle.goal_kinds.specs.Words.{OfRow}
-use Rattle.goal_kinds.specs.declared.fast_reject.Parameters.TheVariants.{Rigid, Inferred}
+use Rattle.goal_lists.specs.Settings.{Setting}
+use Rattle.goal_lists.specs.Words.{OfRow}
+use Rattle.goal_lists.specs.declared.fast_reject.Parameters.TheVariants.{Rigid, Inferred}
 
 -- whether two aliases are of one kind, with one number
 abbrev pub same_kind_of_alias : AliasTermKind → AliasTermKind → Bool

@@ -16,24 +16,25 @@ use Rattle.goal_terms.specs.declared.predicates.TraitRef.{TraitRef}
 use Rattle.goal_terms.specs.declared.terms.AliasTerm.{AliasTerm}
 use Rattle.goal_tables.specs.Rows.{impl_of}
 use Rattle.goal_tables.specs.declared.rows.ImplRow.{ImplRow}
-use Rattle.goal_kinds.specs.AliasLists.{alias_list}
+use Rattle.goal_lists.specs.AliasLists.{alias_list}
 use Rattle.goal_kinds.specs.CandidateRules.{IsRefusal}
-use Rattle.goal_kinds.specs.Candidates.{Candidate, by_impl, bounds_of}
+use Rattle.goal_lists.specs.Candidates.{Candidate, by_impl, bounds_of}
 use Rattle.goal_kinds.specs.EffectKind.{AreImplied}
-use Rattle.goal_kinds.specs.Entries.{Entry}
-use Rattle.goal_kinds.specs.InternedEntries.{setting_at}
-use Rattle.goal_kinds.specs.Level.{Level}
-use Rattle.goal_kinds.specs.Levels.{level}
+use Rattle.goal_lists.specs.Entries.{Entry}
+use Rattle.goal_lists.specs.InternedEntries.{setting_at}
+use Rattle.goal_lists.specs.Level.{Level}
+use Rattle.goal_lists.specs.Levels.{level}
 use Rattle.goal_kinds.specs.ProjectionKind.{refuses_term}
-use Rattle.goal_kinds.specs.ProjectionLists.{equation_list}
+use Rattle.goal_lists.specs.ProjectionLists.{equation_list}
 use Rattle.goal_kinds.specs.RuleLists.{IsListed, list_then}
 use Rattle.goal_kinds.specs.RuleWords.{RuleMeans, DefinesHidden, projection_in}
-use Rattle.goal_kinds.specs.Rules.{given, RuleGives}
-use Rattle.goal_kinds.specs.Settings.{Setting}
-use Rattle.goal_kinds.specs.TraitLists.{trait_list}
+use Rattle.goal_kinds.specs.Rules.{RuleGives}
+use Rattle.goal_lists.specs.RowWords.{given}
+use Rattle.goal_lists.specs.Settings.{Setting}
+use Rattle.goal_lists.specs.TraitLists.{trait_list}
 use Rattle.goal_kinds.specs.declared.faults.Fault.{Fault}
-use Rattle.goal_kinds.specs.declared.lists.ListSetting.{ListSetting}
-use Rattle.goal_kinds.specs.declared.rules.FirstUse.{FirstUse}
+use Rattle.goal_lists.specs.declared.lists.ListSetting.{ListSetting}
+use Rattle.goal_lists.specs.declared.lists.FirstUse.{FirstUse}
 use Rattle.goal_kinds.specs.declared.rules.Rule.{Rule}
 
 -- a rule stands for the list that a setting with any environment has, with nothing decided behind it by a certainty

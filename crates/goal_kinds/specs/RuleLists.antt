@@ -1,39 +1,27 @@
 -- The list of entries that a rule stands for over the tables, and what it means that both say the same.
-use Rattle.std.specs.Prelude.{◌≡◌, ◌↔◌, ℕ, Bool, true, false, List, [], ◌∷◌, ◌++◌, map, Option, Some, None, IfSome}
-use Rattle.std.specs.Option.{option_map, option_and_then}
+use Rattle.std.specs.Prelude.{◌≡◌, ◌↔◌, Bool, true, false, List, [], ◌∷◌, ◌++◌, map, Option, Some, None, IfSome}
+use Rattle.std.specs.Option.{option_map}
 use Rattle.goal_terms.specs.Erased.{erased}
 use Rattle.goal_terms.specs.PredicateTrees.{tree_of_kind}
 use Rattle.goal_terms.specs.Tree.{Tree}
-use Rattle.goal_terms.specs.TreeOf.{trees_of, tree_of_ty, tree_of_term}
+use Rattle.goal_terms.specs.TreeOf.{tree_of_term}
 use Rattle.goal_terms.specs.declared.answers.Certainty.{Certainty}
 use Rattle.goal_terms.specs.declared.answers.Certainty.TheVariants as certainty
-use Rattle.goal_tables.specs.Rows.{impl_of, inherent_impl_of}
-use Rattle.goal_tables.specs.declared.rows.ImplRow.{ImplRow}
+use Rattle.goal_tables.specs.Rows.{impl_of}
 use Rattle.goal_tables.specs.declared.rows.Tables.{Tables}
-use Rattle.goal_kinds.specs.Answers.{erased_predicate}
-use Rattle.goal_kinds.specs.Entries.{Arguments, given_arguments, of_header, of_other_header, followed_by, ExpectedTerm, as_it_stands, head_form_of, value_under, chosen_by, Entry, arguments, equal_terms, clause, row_clauses, row_conditions, expected, hidden_type, access, delayed_fault, evaluation, ambiguous, undecided, refused, ListHolds, ListGives, ListRefuted}
-use Rattle.goal_kinds.specs.Level.{Level}
-use Rattle.goal_kinds.specs.Rules.{given, clauses_in, conditions_in, value_in, RuleHolds, RuleGives, RuleRefuted}
-use Rattle.goal_kinds.specs.Settings.{Setting}
+use Rattle.goal_lists.specs.RowWords.{header_arguments, other_arguments, given, clauses_in, conditions_in, value_in}
+use Rattle.goal_lists.specs.Answers.{erased_predicate}
+use Rattle.goal_lists.specs.Entries.{Arguments, given_arguments, followed_by, ExpectedTerm, as_it_stands, head_form_of, value_under, chosen_by, Entry, arguments, equal_terms, clause, row_clauses, row_conditions, expected, hidden_type, access, delayed_fault, evaluation, ambiguous, undecided, refused, ListHolds, ListGives, ListRefuted}
+use Rattle.goal_lists.specs.Level.{Level}
+use Rattle.goal_kinds.specs.Rules.{RuleHolds, RuleGives, RuleRefuted}
+use Rattle.goal_lists.specs.Settings.{Setting}
 use Rattle.goal_kinds.specs.declared.rules.Rule.{Rule}
 use Rattle.goal_kinds.specs.declared.rules.RuleArguments.{RuleArguments}
 use Rattle.goal_kinds.specs.declared.rules.RuleArguments.TheVariants as named
 use Rattle.goal_kinds.specs.declared.rules.RuleEntry.{RuleEntry}
 use Rattle.goal_kinds.specs.declared.rules.RuleEntry.TheVariants as entry
-use Rattle.goal_kinds.specs.declared.rules.RuleHeader.{RuleHeader}
-use Rattle.goal_kinds.specs.declared.rules.RuleHeader.TheVariants as header
 use Rattle.goal_kinds.specs.declared.rules.RuleTerm.{RuleTerm}
 use Rattle.goal_kinds.specs.declared.rules.RuleTerm.TheVariants as term
-
--- the arguments of a row's header that is matched with given ones, if the row is there
-abbrev pub header_arguments : Tables → RuleHeader → List Tree → Option Arguments
-header_arguments t (header.Impl i) gs = option_map (λ r. of_header r.params.items (trees_of r.trait_args.items) gs) (impl_of t i)
-header_arguments t (header.InherentImpl i) gs = option_map (λ q. of_header q.params.items (tree_of_ty q.self_ty ∷ []) gs) (inherent_impl_of t i)
-
--- those of an impl whose header is matched with that of a second one, under the arguments of a number
-abbrev pub other_arguments : Option ImplRow → Option ImplRow → ℕ → Option Arguments
-other_arguments q r n =
-    option_and_then (λ x. option_map (λ y. of_other_header x.params.items (trees_of x.trait_args.items) (trees_of y.trait_args.items) n) r) q
 
 -- arguments that later entries take, if their rows are there
 abbrev pub arguments_of : Tables → RuleArguments → Option Arguments

@@ -1,46 +1,36 @@
 -- What a rule's list of entries means on a closed goal: that it holds, gives a term, or is refuted, one height above a level.
-use Rattle.std.specs.Prelude.{ℕ, ◌≡◌, ◌⊎◌, Bool, true, false, List, [], ◌∷◌, ◌++◌, map, Option, Some, None, option_map, option_and_then, slice_get, Vec}
-use Rattle.std.specs.Global.{Global}
+use Rattle.std.specs.Prelude.{ℕ, ◌≡◌, ◌⊎◌, Bool, true, false, List, [], ◌∷◌, ◌++◌, Option, option_map, slice_get}
 use Rattle.goal_terms.specs.Erased.{erased}
 use Rattle.goal_terms.specs.PredicateTrees.{tree_of_kind}
 use Rattle.goal_terms.specs.Tree.{Tree}
-use Rattle.goal_terms.specs.TreeOf.{trees_of, tree_of_ty, tree_of_term}
+use Rattle.goal_terms.specs.TreeOf.{tree_of_term}
 use Rattle.goal_terms.specs.declared.answers.ParamKind.{ParamKind}
 use Rattle.goal_terms.specs.declared.ids.ImplId.{ImplId}
 use Rattle.goal_terms.specs.declared.predicates.BoundConstness.{BoundConstness}
 use Rattle.goal_terms.specs.declared.predicates.Clause.{Clause}
-use Rattle.goal_terms.specs.declared.predicates.TraitRef.{TraitRef}
-use Rattle.goal_terms.specs.declared.terms.GenericArg.{GenericArg}
-use Rattle.goal_tables.specs.Rows.{impl_of, item_of, definition_of, free_of, inherent_of, inherent_impl_of, opaque_of}
-use Rattle.goal_tables.specs.declared.rows.DefValue.{DefValue}
-use Rattle.goal_tables.specs.declared.rows.DefValue.TheVariants as value
+use Rattle.goal_tables.specs.Rows.{impl_of, inherent_impl_of}
 use Rattle.goal_tables.specs.declared.rows.Tables.{Tables}
-use Rattle.goal_kinds.specs.Aliases.{self_header}
-use Rattle.goal_kinds.specs.Answers.{erased_predicate}
-use Rattle.goal_kinds.specs.Headers.{under, AllKnown, Fits, Clashes}
-use Rattle.goal_kinds.specs.ImplTerms.{header_under}
-use Rattle.goal_kinds.specs.Level.{Level, HasHeadForm, HeadFormRefuted}
-use Rattle.goal_kinds.specs.Premises.{ClauseHolds, ClauseRefuted, PremisesHold, PremisesRefuted, clauses_under, traits_under, conditions_as}
-use Rattle.goal_kinds.specs.Settings.{Setting}
-use Rattle.goal_kinds.specs.TraitGoals.{header_of}
-use Rattle.goal_kinds.specs.Words.{OfRow, Pairs, SomePair}
+use Rattle.goal_lists.specs.RowWords.{given, clauses_in, conditions_in, value_in}
+use Rattle.goal_lists.specs.Aliases.{self_header}
+use Rattle.goal_lists.specs.Answers.{erased_predicate}
+use Rattle.goal_lists.specs.Headers.{under, AllKnown, Fits, Clashes}
+use Rattle.goal_lists.specs.ImplTerms.{header_under}
+use Rattle.goal_lists.specs.Level.{Level, HasHeadForm, HeadFormRefuted}
+use Rattle.goal_lists.specs.Premises.{ClauseHolds, ClauseRefuted, PremisesHold, PremisesRefuted, clauses_under, traits_under, conditions_as}
+use Rattle.goal_lists.specs.Settings.{Setting}
+use Rattle.goal_lists.specs.TraitGoals.{header_of}
+use Rattle.goal_lists.specs.Words.{OfRow, Pairs, SomePair}
 use Rattle.goal_kinds.specs.declared.rules.Rule.{Rule}
 use Rattle.goal_kinds.specs.declared.rules.RuleEntry.{RuleEntry}
 use Rattle.goal_kinds.specs.declared.rules.RuleEntry.TheVariants as entry
 use Rattle.goal_kinds.specs.declared.rules.RuleArguments.{RuleArguments}
 use Rattle.goal_kinds.specs.declared.rules.RuleArguments.TheVariants as arguments
-use Rattle.goal_kinds.specs.declared.rules.RuleHeader.{RuleHeader}
-use Rattle.goal_kinds.specs.declared.rules.RuleHeader.TheVariants as header
-use Rattle.goal_kinds.specs.declared.rules.RowClauses.{RowClauses}
-use Rattle.goal_kinds.specs.declared.rules.RowClauses.TheVariants as clauses
+use Rattle.goal_lists.specs.declared.lists.RuleHeader.{RuleHeader}
+use Rattle.goal_lists.specs.declared.lists.RuleHeader.TheVariants as header
+use Rattle.goal_lists.specs.declared.lists.RowClauses.{RowClauses}
+use Rattle.goal_lists.specs.declared.lists.RowClauses.TheVariants as clauses
 use Rattle.goal_kinds.specs.declared.rules.RuleTerm.{RuleTerm}
 use Rattle.goal_kinds.specs.declared.rules.RuleTerm.TheVariants as term
-use Rattle.goal_kinds.specs.declared.rules.RowValue.{RowValue}
-use Rattle.goal_kinds.specs.declared.rules.RowValue.TheVariants as of_row
-
--- arguments as they are given, without lifetimes
-abbrev pub given : Vec GenericArg Global → List Tree
-given args = map erased (trees_of args.items)
 
 -- a header that is matched: the parameters of its row, and its terms
 pub record MatchedHeader : Type 0 where
@@ -51,30 +41,6 @@ pub record MatchedHeader : Type 0 where
 abbrev pub header_in : Tables → RuleHeader → Option MatchedHeader
 header_in t (header.Impl i) = option_map (λ r. record { params = r.params.items; terms = header_of r }) (impl_of t i)
 header_in t (header.InherentImpl i) = option_map (λ q. record { params = q.params.items; terms = self_header q }) (inherent_impl_of t i)
-
--- the clauses of a row
-abbrev pub clauses_in : Tables → RowClauses → Option (List Clause)
-clauses_in t (clauses.Impl i) = option_map (λ r. r.predicates.items) (impl_of t i)
-clauses_in t (clauses.Item i) = option_map (λ r. r.own_predicates.items) (item_of t i)
-clauses_in t (clauses.Free i) = option_map (λ r. r.predicates.items) (free_of t i)
-clauses_in t (clauses.Inherent i) = option_map (λ r. r.predicates.items) (inherent_of t i)
-
--- the const conditions of an impl
-abbrev pub conditions_in : Tables → ImplId → Option (List TraitRef)
-conditions_in t i = option_map (λ r. r.const_conditions.items) (impl_of t i)
-
--- the value of a definition, if it has one that is no constant to be evaluated
-abbrev pub value_term : DefValue → Option Tree
-value_term (value.Term e) = Some (tree_of_term e)
-value_term value.Missing = None
-value_term value.Evaluated = None
-
--- the value of a row
-abbrev pub value_in : Tables → RowValue → Option Tree
-value_in t (of_row.Definition i) = option_and_then (λ d. value_term d.value) (definition_of t i)
-value_in t (of_row.Free i) = option_and_then (λ r. option_map tree_of_term r.value) (free_of t i)
-value_in t (of_row.Inherent i) = option_and_then (λ r. option_map tree_of_term r.value) (inherent_of t i)
-value_in t (of_row.Opaque i) = option_map (λ r. tree_of_ty r.hidden) (opaque_of t i)
 
 -- the arguments of a number, among those that were named, have a property
 abbrev pub OfNumber : List (List Tree) → ℕ → (List Tree → Type 0) → Type 0

@@ -5,12 +5,12 @@ ghost use Rattle.goal_terms.specs.Tree.{Tree as tree};
 ghost use Rattle.goal_terms.specs.TreeOf.{tree_of_ty};
 ghost use Rattle.goal_kinds.specs.CandidateRules.{HoldsError, HasNoKindFault, said_by, seen_trait, only_given};
 ghost use Rattle.goal_kinds.specs.CandidateRules.{trait_alias, sizedness, copy_clone, fn_ptr_trait, fn_trait, tuple, pointee, discriminant_kind, destruct, field};
-ghost use Rattle.goal_kinds.specs.Candidates.{Candidate as candidate, built_in, error};
+ghost use Rattle.goal_lists.specs.Candidates.{Candidate as candidate, built_in, error};
 ghost use Rattle.goal_kinds.specs.KindWords.{KindWords, words_for, Gives, Refutes, HasList, GivesBeside, RefutesBeside, GivesAsImpl, RefutesAsImpl, HasListOfImpl, IsRefusalOf, RefusesFinally};
 ghost use Rattle.goal_kinds.specs.KindWords.{GiveAdditional, RefuteAdditional, ListAdditional, AddNoImpl, AnswersBy, OtherHeadsAreRefuted, RejectionIsFinal};
-ghost use Rattle.goal_kinds.specs.Premises.{TraitTree as trait_tree};
+ghost use Rattle.goal_lists.specs.Premises.{TraitTree as trait_tree};
 ghost use Rattle.goal_kinds.specs.RuleWords.{TermsAreFor, auto_trait_entries};
-ghost use Rattle.goal_kinds.specs.Settings.{Setting as setting};
+ghost use Rattle.goal_lists.specs.Settings.{Setting as setting};
 
 use crate::faults::Fault;
 use crate::rules::Rule;

@@ -16,11 +16,11 @@ ghost use Rattle.goal_terms.specs.declared.predicates.BoundConstness.TheVariants
 ghost use Rattle.goal_terms.specs.declared.predicates.Clause.{Clause};
 ghost use Rattle.goal_tables.specs.declared.rows.ImplRow.{ImplRow};
 ghost use Rattle.goal_tables.specs.declared.rows.Tables.{Tables};
-ghost use Rattle.goal_kinds.specs.Answers.{Question, Answer, IsAnswer, decides};
-ghost use Rattle.goal_kinds.specs.Headers.{Fits, Clashes};
+ghost use Rattle.goal_lists.specs.Answers.{Question, Answer, IsAnswer, decides};
+ghost use Rattle.goal_lists.specs.Headers.{Fits, Clashes};
 ghost use Rattle.goal_kinds.specs.LawWords.{NoFitClashes, HoldsThroughSome, OrderSaysNothing, HeadlinesAgree, AliasesStayClosed, AliasesKeepSorts};
-ghost use Rattle.goal_kinds.specs.Levels.{level};
-ghost use Rattle.goal_kinds.specs.Settings.{Setting};
+ghost use Rattle.goal_lists.specs.Levels.{level};
+ghost use Rattle.goal_lists.specs.Settings.{Setting};
 
 pub mod fast_reject;
 pub mod list_examples;

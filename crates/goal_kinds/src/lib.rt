@@ -1,14 +1,11 @@
-//! What may be derived and what may be refuted: the definitions that the solver's answers are proved
-//! against, and their laws.
+//! Kinds of goals, and the rules of their candidates and of aliases over terms; and the laws of what may be
+//! derived and refuted.
 #![tactic(auto)]
 
-pub mod builtin;
-pub mod candidates;
-pub mod fast_reject;
+pub mod assembly;
 pub mod faults;
 pub mod goal_kind;
 pub mod laws;
-pub mod lists;
-pub mod outcomes;
 pub mod rules;
-pub mod term_errors;
+
+pub use goal_lists::fast_reject;

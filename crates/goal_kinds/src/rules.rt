@@ -12,10 +12,11 @@ pub mod rebuilt;
 pub(crate) mod trait_goal_kind;
 pub mod traits;
 
+pub use goal_lists::lists::{FirstUse, RowClauses, RowValue, RuleHeader};
 use goal_terms::answers::{
     CandidateSource, DelayedFault, GoalSource, OpaqueAccess, OpaqueTypeKey, Response,
 };
-use goal_terms::ids::{DefId, FreeId, ImplId, InherentId, InherentImplId, ItemId, OpaqueId};
+use goal_terms::ids::ImplId;
 use goal_terms::predicates::{BoundConstness, ClauseKind};
 use goal_terms::terms::{GenericArg, Term};
 
@@ -117,23 +118,6 @@ impl Drop for RuleArguments {
     }
 }
 
-/// A row whose header is matched.
-#[derive(Clone, Copy)]
-pub enum RuleHeader {
-    Impl(ImplId),
-    InherentImpl(InherentImplId),
-}
-
-/// A row whose clauses are asked for.
-#[derive(Clone, Copy)]
-pub enum RowClauses {
-    Impl(ImplId),
-    /// The item's own where clauses.
-    Item(ItemId),
-    Free(FreeId),
-    Inherent(InherentId),
-}
-
 /// What the expected variable stands for.
 pub enum RuleTerm {
     /// This term, as it stands.
@@ -155,23 +139,4 @@ impl Drop for RuleTerm {
             RuleTerm::ChosenBy(_, _, _) => {}
         }
     }
-}
-
-/// What the first use of an opaque type that is being defined takes as its hidden type.
-#[derive(Clone, Copy)]
-pub enum FirstUse {
-    /// The expected term, whatever that comes to be.
-    Expected,
-    /// The type that type checking found.
-    TypeChecked,
-}
-
-/// A row whose value is taken.
-#[derive(Clone, Copy)]
-pub enum RowValue {
-    Definition(DefId),
-    Free(FreeId),
-    Inherent(InherentId),
-    /// The hidden type of an opaque type.
-    Opaque(OpaqueId),
 }

@@ -1,6 +1,6 @@
 //! The ids of the program that the rows ask about, and the names of its parts.
 use goal_terms::ids::{AdtId, FreeId, InherentId, ItemId, OpaqueId, TraitId};
-use goal_terms::names::{Name, TermNames};
+use goal_text::names::{Name, TermNames};
 
 /// The trait `Sized`.
 pub const SIZED: TraitId = TraitId(0);

@@ -13,7 +13,7 @@ use std::alloc::{AllocError, Global};
 
 /// The whole tables of the program: its traits, impls, aliases and structs, and the lang items.
 pub fn whole_tables(alloc: Global) -> Result<Tables, AllocError> {
-    let mut tables = empty_tables(alloc);
+    let mut tables = Tables::new(alloc);
     push_rows(alloc, &mut tables)?;
     Ok(tables)
 }
@@ -30,24 +30,6 @@ pub fn tables_with_specialized_impl(alloc: Global) -> Result<Tables, AllocError>
     let mut tables = whole_tables(alloc)?;
     push_more_special_impl(alloc, &mut tables)?;
     Ok(tables)
-}
-
-fn empty_tables(alloc: Global) -> Tables {
-    Tables {
-        traits: Vec::new(alloc),
-        items: Vec::new(alloc),
-        impls: Vec::new(alloc),
-        definitions: Vec::new(alloc),
-        sources: Vec::new(alloc),
-        free_aliases: Vec::new(alloc),
-        inherent_impls: Vec::new(alloc),
-        inherent_items: Vec::new(alloc),
-        opaque_types: Vec::new(alloc),
-        adts: Vec::new(alloc),
-        functions: Vec::new(alloc),
-        closures: Vec::new(alloc),
-        lang_items: Vec::new(alloc),
-    }
 }
 
 fn push_rows(alloc: Global, tables: &mut Tables) -> Result<(), AllocError> {

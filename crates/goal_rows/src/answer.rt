@@ -3,7 +3,7 @@ use goal_solver::eval::goals::GoalFault;
 use goal_solver::faults::{DepthTooLarge, Fault};
 use goal_tables::faults::TableFault;
 use goal_terms::terms::Term;
-use goal_terms::text::Shown;
+use goal_text::text::Shown;
 use std::fmt;
 
 /// The answer of a row. A `Yes` has the type or constant that an alias stands for, `Faults` the number of

@@ -7,7 +7,7 @@ use Rattle.goal_terms.specs.declared.answers.OpaqueAccess.{OpaqueAccess}
 use Rattle.goal_terms.specs.declared.modes.TypingMode.{TypingMode}
 use Rattle.goal_terms.specs.declared.modes.TypingMode.TheVariants as mode
 use Rattle.goal_tables.specs.declared.rows.Tables.{Tables}
-use Rattle.goal_kinds.specs.Causes.{IsCaused}
+use Rattle.goal_lists.specs.Causes.{IsCaused}
 use Rattle.goal_solver.specs.Accesses.{RecordsCaused, EndsFor}
 use Rattle.goal_eval.specs.Entering.{Enters}
 use Rattle.goal_solver.specs.Added.{RecordsAccess}

@@ -5,32 +5,27 @@ use Rattle.goal_terms.specs.declared.answers.Certainty.{Certainty}
 use Rattle.goal_terms.specs.declared.answers.Certainty.TheVariants as certainty
 use Rattle.goal_terms.specs.declared.answers.GoalSource.{GoalSource}
 use Rattle.goal_terms.specs.declared.modes.TypingMode.{TypingMode}
-use Rattle.goal_terms.specs.declared.predicates.Clause.{Clause}
 use Rattle.goal_terms.specs.declared.predicates.Goal.{Goal}
 use Rattle.goal_terms.specs.declared.predicates.Predicate.{Predicate}
 use Rattle.goal_terms.specs.declared.predicates.Predicate.TheVariants as predicate
-use Rattle.goal_terms.specs.PredicateTrees.{PredicateTree}
 use Rattle.goal_infer.specs.Inference as inference
 use Rattle.goal_infer.proofs.UndoLemmas.{item-within}
-use Rattle.goal_kinds.specs.Answers.{setting_of}
-use Rattle.goal_kinds.specs.Levels.{level}
-use Rattle.goal_kinds.specs.Premises.{ClauseHolds, ClauseRefuted}
-use Rattle.goal_kinds.specs.Settings.{Setting}
-use Rattle.goal_kinds.proofs.ConsistentLemmas.{each_level_is_consistent}
-use Rattle.goal_kinds.proofs.PremiseLemmas.{no_clause_refuted}
-use Rattle.goal_solver.specs.AddedGoals.{GoalHolds, GoalRefuted, HoldsIn, IsRefutedIn, IsGoalAnswer, IsVerdict, IsPending, ArePendingClosed, IsPendingAnswer, ArePendingUndecided, ChangesTaken}
-use Rattle.goal_solver.specs.AddedGoals.{same_place, count_of, AreSplit, AreClosedAt, AllHoldAt, SomeRefutedAt, LeavesUndecided, IsAnswerAt}
-use Rattle.goal_solver.specs.Answers.{IsOwed, IsStopped, level_over}
+use Rattle.goal_lists.specs.Answers.{setting_of}
+use Rattle.goal_lists.specs.Levels.{level}
+use Rattle.goal_lists.specs.Settings.{Setting}
+use Rattle.goal_lists.proofs.ConsistentLemmas.{each_level_is_consistent}
+use Rattle.goal_lists.proofs.PremiseLemmas.{no_clause_refuted}
+use Rattle.goal_solver.specs.AddedGoals.{GoalHolds, GoalRefuted, HoldsIn, IsRefutedIn, IsGoalAnswer, IsVerdict, IsPending, ArePendingClosed, IsPendingAnswer, ArePendingUndecided, ChangesTaken, same_place, count_of, AreSplit, AreClosedAt, AllHoldAt, SomeRefutedAt, LeavesUndecided, IsAnswerAt}
+use Rattle.goal_solver.specs.Answers.{IsOwed, IsStopped}
 use Rattle.goal_solver.specs.GoingBack.{GoesBack, restored}
 use Rattle.goal_eval.specs.Outcomes.{Says}
 use Rattle.goal_solver.specs.Relating.{ChangesInference, ChangesRecords, LeavesOpen, IsFaultFor}
 use Rattle.goal_solver.specs.State.{State}
 use Rattle.goal_kinds.specs.declared.faults.Fault.{Fault}
 use Rattle.goal_kinds.specs.declared.faults.Fault.TheVariants as fault
-use Rattle.goal_kinds.specs.declared.outcomes.Outcome.{Outcome}
-use Rattle.goal_kinds.specs.declared.outcomes.Outcome.TheVariants as outcome
+use Rattle.goal_lists.specs.declared.outcomes.Outcome.{Outcome}
+use Rattle.goal_lists.specs.declared.outcomes.Outcome.TheVariants as outcome
 use Rattle.goal_eval.specs.declared.eval.outcomes.Stop.{Stop}
-use Rattle.goal_solver.proofs.GoingBackLemmas.{goes_back-same}
 use Rattle.goal_solver.proofs.PlaceLemmas.{same-is, count-one, count-none, count-pushed, contains-counted, uncounted, is-below, one-below, one_below-once}
 
 -- changes one after the other
@@ -39,25 +34,6 @@ inference-through a b c e h = h ∙ ap (λ (s : State). record s { terms = c.ter
 
 pub records-through : (a b c : State) → ChangesRecords a b → ChangesRecords b c → ChangesRecords a c
 records-through a b c e h = h ∙ ap (λ (s : State). record s { terms = c.terms; inference = c.inference; accesses = c.accesses; delayed_faults = c.delayed_faults }) e
-
--- a context with another inference state that goes back to the one before
-pub goes_back-bound : (a b : State) → b ≡ record a { inference = b.inference } → inference.GoesBack a.inference b.inference → GoesBack a b
-goes_back-bound a b e g =
-    let same : GoesBack a a = goes_back-same a in
-    subst (GoesBack a) (sym e) (record {
-      tables = refl;
-      typing_mode = refl;
-      remaining_depth = refl;
-      stop_on_rerun = refl;
-      terms = same.terms;
-      inference = g;
-      goals = same.goals;
-      taken = same.taken;
-      storage = same.storage;
-      accesses = same.accesses;
-      delayed_faults = same.delayed_faults;
-      mark = refl;
-    })
 
 -- a context that was restored after a fault
 pub restored-owed : (s b z : State) (m : TypingMode) → z ≡ restored s b → GoesBack s b → IsOwed z m → IsOwed b m
@@ -122,13 +98,6 @@ answer-before a b m g (Err fault.NoSolution) e h = subst (λ (s : State). IsRefu
 answer-before a b m g (Err fault.RerunNonErased) e h = tt
 answer-before a b m g (Err fault.OutOfMemory) e h = tt
 answer-before a b m g (Err fault.NotForThisKind) e h = tt
-
--- what is said of a predicate over more terms
-pub said-before : (a b : State) (m : TypingMode) (env : List Clause) (p q : PredicateTree) (o : Result Outcome Stop) → b ≡ record a { terms = b.terms } → p ≡ q →
-    IfOk o (Says (ClauseHolds (level_over b m env) p) (ClauseRefuted (level_over b m env) p)) → IfOk o (Says (ClauseHolds (level_over a m env) q) (ClauseRefuted (level_over a m env) q))
-said-before a b m env p q o e f h =
-    subst (λ (t : PredicateTree). IfOk o (Says (ClauseHolds (level_over a m env) t) (ClauseRefuted (level_over a m env) t))) f
-    (subst (λ (s : State). IfOk o (Says (ClauseHolds (level_over s m env) p) (ClauseRefuted (level_over s m env) p))) e h)
 
 -- a goal that holds isn't refuted
 apart-as : (S : Setting) (n : ℕ) (p : Predicate) → GoalHolds (level S n) p → GoalRefuted (level S n) p → ⊥

@@ -18,14 +18,14 @@ use Rattle.goal_terms.specs.declared.terms.AliasTermKind.TheVariants as alias_ki
 use Rattle.goal_tables.specs.Rows.{opaque_of}
 use Rattle.goal_tables.specs.declared.rows.OpaqueRow.{OpaqueRow}
 use Rattle.goal_tables.specs.declared.rows.Tables.{Tables}
-use Rattle.goal_kinds.specs.AliasLists.{alias_list, entries_of_row, opaque_alias_list, opaque_list}
-use Rattle.goal_kinds.specs.Answers.{setting_of}
-use Rattle.goal_kinds.specs.Entries.{Entry, ambiguous, undecided, arguments, row_clauses, row_conditions, expected}
-use Rattle.goal_kinds.specs.Premises.{TraitTree}
+use Rattle.goal_lists.specs.AliasLists.{alias_list, entries_of_row, opaque_alias_list, opaque_list}
+use Rattle.goal_lists.specs.Answers.{setting_of}
+use Rattle.goal_lists.specs.Entries.{Entry, ambiguous, undecided, arguments, row_clauses, row_conditions, expected}
+use Rattle.goal_lists.specs.Premises.{TraitTree}
 use Rattle.goal_kinds.specs.ProjectionKind.{projected_trait}
-use Rattle.goal_kinds.specs.Projections.{projected_item}
+use Rattle.goal_lists.specs.Projections.{projected_item}
 use Rattle.goal_kinds.specs.RuleLists.{IsListed, entry_of}
-use Rattle.goal_kinds.specs.Rules.{given as given_args}
+use Rattle.goal_lists.specs.RowWords.{given as given_args}
 use Rattle.goal_kinds.specs.declared.faults.Fault.{Fault}
 use Rattle.goal_kinds.specs.declared.rules.Rule.{Rule}
 use Rattle.goal_kinds.specs.declared.rules.RuleEntry.{RuleEntry}

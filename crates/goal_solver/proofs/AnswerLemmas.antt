@@ -5,48 +5,27 @@ use Rattle.goal_terms.specs.declared.answers.Certainty.{Certainty}
 use Rattle.goal_terms.specs.declared.answers.Certainty.TheVariants as certainty
 use Rattle.goal_terms.specs.declared.answers.Response.{Response}
 use Rattle.goal_terms.specs.PredicateTrees.{PredicateTree, holds, equals, holds_const}
-use Rattle.goal_terms.specs.TableMeaning.{Keeps}
 use Rattle.goal_terms.specs.Tree.{Tree}
 use Rattle.goal_terms.specs.declared.ids.TraitId.{TraitId}
 use Rattle.goal_terms.specs.declared.modes.TypingMode.{TypingMode}
 use Rattle.goal_terms.specs.declared.predicates.Clause.{Clause}
 use Rattle.goal_terms.specs.declared.terms.AliasTermKind.{AliasTermKind}
 use Rattle.goal_terms.specs.declared.terms.Term.{Term}
-use Rattle.goal_kinds.specs.Levels.{level}
-use Rattle.goal_kinds.specs.Premises.{ClauseHolds, ClauseRefuted}
-use Rattle.goal_kinds.specs.Settings.{Setting}
-use Rattle.goal_kinds.specs.Level.{Level}
-use Rattle.goal_kinds.proofs.AnswerLaws.{answers-agree}
+use Rattle.goal_lists.specs.Levels.{level}
+use Rattle.goal_lists.specs.Premises.{ClauseHolds, ClauseRefuted}
+use Rattle.goal_lists.specs.Settings.{Setting}
+use Rattle.goal_lists.specs.Level.{Level}
+use Rattle.goal_lists.proofs.AnswerLaws.{answers-agree}
 use Rattle.goal_solver.specs.Answers.{IsOwed, level_over, IsMaybe, IsOpen, IsUndecided, IsAliasOpen, IsTraitResponse, IsTraitAnswer, IsAliasResponse, IsAliasAnswer, IsHoldingResponse, IsPredicateAnswer, IsConclusion}
 use Rattle.goal_solver.specs.Evaluations.{SaysOf}
 use Rattle.goal_solver.specs.GoingBack.{BeginsWith, GoesBack}
 use Rattle.goal_eval.specs.Outcomes.{Says}
 use Rattle.goal_kinds.specs.declared.faults.Fault.{Fault}
 use Rattle.goal_kinds.specs.declared.faults.Fault.TheVariants as fault
-use Rattle.goal_kinds.specs.declared.outcomes.Outcome.{Outcome}
-use Rattle.goal_kinds.specs.declared.outcomes.Outcome.TheVariants as outcome
+use Rattle.goal_lists.specs.declared.outcomes.Outcome.{Outcome}
+use Rattle.goal_lists.specs.declared.outcomes.Outcome.TheVariants as outcome
 use Rattle.goal_eval.specs.declared.eval.outcomes.Stop.{Stop}
 use Rattle.goal_solver.specs.State.{State}
-use Rattle.goal_solver.proofs.GoingBackLemmas.{goes_back-same}
-
--- a context with more terms goes back to the one before
-pub goes_back-grown : (a b : State) → b ≡ record a { terms = b.terms } → Keeps a.terms b.terms → GoesBack a b
-goes_back-grown a b e k =
-    let same : GoesBack a a = goes_back-same a in
-    subst (GoesBack a) (sym e) (record {
-      tables = refl;
-      typing_mode = refl;
-      remaining_depth = refl;
-      stop_on_rerun = refl;
-      terms = k;
-      inference = same.inference;
-      goals = same.goals;
-      taken = same.taken;
-      storage = same.storage;
-      accesses = same.accesses;
-      delayed_faults = same.delayed_faults;
-      mark = refl;
-    })
 
 -- at depth 0 nothing holds, and nothing is refuted
 pub open-ground : (S : Setting) (n : ℕ) → n ≡ zero → (i : TraitId) (ts : List Tree) → IsOpen (level S n) i ts

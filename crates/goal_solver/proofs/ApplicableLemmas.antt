@@ -38,10 +38,10 @@ use Rattle.goal_infer.specs.Resolution.{binding_of, resolution}
 use Rattle.goal_infer.specs.Unification.{is_made_in}
 use Rattle.goal_infer.specs.declared.occurs.Occurrence.TheVariants.{Nowhere}
 use Rattle.goal_infer.proofs.DecisionLemmas.{either-false}
-use Rattle.goal_kinds.specs.Answers.{setting_of, IsAnswer, maybe, which_term}
-use Rattle.goal_kinds.specs.Interned.{erased_at}
-use Rattle.goal_kinds.specs.KindedTerms.{NoKindFault, NoKindFaultInEnv}
-use Rattle.goal_kinds.specs.Levels.{level}
+use Rattle.goal_lists.specs.Answers.{setting_of, IsAnswer, maybe, which_term}
+use Rattle.goal_lists.specs.Interned.{erased_at}
+use Rattle.goal_lists.specs.KindedTerms.{NoKindFault, NoKindFaultInEnv}
+use Rattle.goal_lists.specs.Levels.{level}
 use Rattle.goal_kinds.specs.declared.faults.Fault.{Fault}
 use Rattle.goal_kinds.proofs.ClosedLevels.{closed-public_given}
 use Rattle.goal_kinds.proofs.PlacedLevels.{placed-given}

@@ -9,14 +9,14 @@ use Rattle.goal_terms.specs.declared.predicates.Clause.{Clause}
 use Rattle.goal_terms.specs.declared.predicates.Goal.{Goal}
 use Rattle.goal_terms.specs.declared.predicates.NormalizesTo.{NormalizesTo}
 use Rattle.goal_tables.specs.Faults.{IsChecked}
-use Rattle.goal_kinds.specs.Answers.{setting_of}
-use Rattle.goal_kinds.specs.Levels.{level}
-use Rattle.goal_kinds.specs.Premises.{TraitTree}
+use Rattle.goal_lists.specs.Answers.{setting_of}
+use Rattle.goal_lists.specs.Levels.{level}
+use Rattle.goal_lists.specs.Premises.{TraitTree}
 use Rattle.goal_kinds.specs.declared.faults.Fault.{Fault}
 use Rattle.goal_solver.specs.Answers.{IsOwed, IsMaybe, IsOpen, IsTraitAnswer, AnswersAside, is_closed_alias, expected_variable}
 use Rattle.goal_solver.specs.Assembling.{MergesAsAlias}
 use Rattle.goal_solver.specs.Binding.{IsApplicable}
-use Rattle.goal_solver.specs.Collecting.{Kind}
+use Rattle.goal_kinds.specs.Collecting.{Kind}
 use Rattle.goal_solver.specs.OpenAnswers.{MergesThrough}
 use Rattle.goal_solver.specs.OpenGoals.{WhenAnswered}
 use Rattle.goal_solver.specs.Promises.{AnswersGiven, AnswersThrough, AnswersTraitAbove, AppliesGiven, AppliesProven, ListsTerm, NamesNoClass, Through, given_through, one_deeper, through_of}
@@ -24,7 +24,7 @@ use Rattle.goal_solver.specs.State.{State, kinds_of}
 use Rattle.goal_solver.specs.ThroughClasses.{SoundThrough, DecidesThrough, AppliesThrough}
 use Rattle.goal_solver.proofs.ApplicableLemmas.{accepted-open}
 use Rattle.goal_solver.proofs.AssembledLemmas.{answers-above, decides-above}
-use Rattle.goal_solver.proofs.CollectedTermLemmas.{some-same}
+use Rattle.goal_kinds.proofs.CollectedTermLemmas.{some-same}
 use Rattle.goal_solver.proofs.PromiseLemmas.{answers-trait, answers-through, none-some}
 
 -- a trait goal, asked one above

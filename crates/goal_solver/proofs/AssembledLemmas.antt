@@ -16,22 +16,22 @@ use Rattle.goal_terms.specs.declared.terms.Term.{Term}
 use Rattle.goal_tables.specs.Rows.{item_of, trait_of}
 use Rattle.goal_tables.specs.declared.rows.ItemRow.{ItemRow}
 use Rattle.goal_tables.specs.declared.rows.TraitRow.{TraitRow}
-use Rattle.goal_kinds.specs.Aliases.{AliasGives, AliasRefuted}
-use Rattle.goal_kinds.specs.Answers.{setting_of}
-use Rattle.goal_kinds.specs.Candidates.{Candidate, environment, second_group}
-use Rattle.goal_kinds.specs.ImplTerms.{Projection, own_args}
-use Rattle.goal_kinds.specs.Laws.{IsConsistent}
-use Rattle.goal_kinds.specs.Level.{Level}
-use Rattle.goal_kinds.specs.Levels.{level}
-use Rattle.goal_kinds.specs.Projections.{projected_item, OwnFormed, OwnUnformed, GroupsGive, GroupsRefuted, ItemGives, ItemRefuted, ProjectionGives, ProjectionRefuted}
-use Rattle.goal_kinds.specs.Settings.{Setting}
-use Rattle.goal_kinds.specs.Words.{OfRow}
+use Rattle.goal_lists.specs.Aliases.{AliasGives, AliasRefuted}
+use Rattle.goal_lists.specs.Answers.{setting_of}
+use Rattle.goal_lists.specs.Candidates.{Candidate, environment, second_group}
+use Rattle.goal_lists.specs.ImplTerms.{Projection, own_args}
+use Rattle.goal_lists.specs.Laws.{IsConsistent}
+use Rattle.goal_lists.specs.Level.{Level}
+use Rattle.goal_lists.specs.Levels.{level}
+use Rattle.goal_lists.specs.Projections.{projected_item, OwnFormed, OwnUnformed, GroupsGive, GroupsRefuted, ItemGives, ItemRefuted, ProjectionGives, ProjectionRefuted}
+use Rattle.goal_lists.specs.Settings.{Setting}
+use Rattle.goal_lists.specs.Words.{OfRow}
 use Rattle.goal_kinds.specs.declared.faults.Fault.{Fault}
 use Rattle.goal_kinds.specs.declared.faults.Fault.TheVariants as fault
-use Rattle.goal_kinds.proofs.ConsistentLemmas.{each_level_is_consistent}
-use Rattle.goal_kinds.proofs.ContraryWords.{Exists-Each, OfRow-twice}
-use Rattle.goal_kinds.proofs.EqualLemmas.{one_head_form, no_head_form_refuted}
-use Rattle.goal_kinds.proofs.ProjectionLemmas.{one_group_term, no_group_refuted}
+use Rattle.goal_lists.proofs.ConsistentLemmas.{each_level_is_consistent}
+use Rattle.goal_lists.proofs.ContraryWords.{Exists-Each, OfRow-twice}
+use Rattle.goal_lists.proofs.EqualLemmas.{one_head_form, no_head_form_refuted}
+use Rattle.goal_lists.proofs.ProjectionLemmas.{one_group_term, no_group_refuted}
 use Rattle.goal_eval.specs.ErasedArgs.{erased_args}
 use Rattle.goal_solver.specs.ThroughClasses.{SoundThrough, DecidesThrough}
 use Rattle.goal_solver.specs.Answers.{IsOwed, level_over, is_closed_alias, expected_variable, IsMaybe, IsAliasResponse, IsAliasAnswer, IsAliasOpen}
@@ -40,7 +40,8 @@ use Rattle.goal_eval.specs.Outcomes.{SaysWhich}
 use Rattle.goal_eval.specs.ProjectionParts.{ThroughGives, ThroughRefuted, replaced, ReplacedGives, ReplacedRefuted}
 use Rattle.goal_solver.specs.State.{State}
 use Rattle.goal_eval.specs.declared.eval.outcomes.Found as founds
-use Rattle.goal_eval.proofs.MergingLemmas.{ok-map, which-map}
+use Rattle.goal_eval.proofs.MergingLemmas.{which-map}
+use Rattle.goal_lists.proofs.ResultLemmas.{ok-map}
 
 -- an alias that projects no item, or whose item or trait has no row, says nothing
 pub item-missing : (S : Setting) (k : AliasTermKind) (P : ItemRow → TraitRow → Type 0) → None ≡ projected_item k → OfItem S k P → ⊥

@@ -17,9 +17,7 @@ use Rattle.goal_infer.specs.declared.occurs.Occurrence.TheVariants.{Nowhere}
 use Rattle.goal_infer.specs.declared.unify.Unified.TheVariants.{Yes}
 use Rattle.goal_infer.proofs.SolvedLemmas.{resolution-as, agrees-kept}
 use Rattle.goal_solver.specs.Binding.{bound_term, IsFreeFor, BindsTo}
-use Rattle.goal_solver.specs.GoingBack.{GoesBack}
 use Rattle.goal_solver.specs.State.{State}
-use Rattle.goal_solver.proofs.GoingBackLemmas.{goes_back-same}
 
 -- what holds of an answer, if there is one, and gives more
 pub on_ok-map : {T E P Q : Type 0} (r : Result T E) → (P → Q) → OnOk r P → OnOk r Q
@@ -86,30 +84,6 @@ binds-bound o s z i id v e f advances answer bound =
       alone = refl;
     } in
     subst (λ (a : State). BindsTo a z (tree_at a.terms id) v) e (subst (λ b. BindsTo o b (tree_at o.terms id) v) (sym f) made)
-
--- a context whose inference state goes back goes back
-pub goes_back-inference : (o s z : State) (i : Inference) → o ≡ s → z ≡ record o { inference = i } → GoesBack o (record o { inference = i }) → GoesBack s z
-goes_back-inference o s z i e f g = subst (λ a. GoesBack a z) e (subst (GoesBack o) (sym f) g)
-
--- a context with more terms goes back
-pub goes_back-interned : (o s z : State) (U : List Tree) → o ≡ s → z ≡ record o { terms = U } → Keeps o.terms U → GoesBack s z
-goes_back-interned o s z U e f keeps =
-    let same = goes_back-same o in
-    let grown : GoesBack o (record o { terms = U }) = record {
-      tables = refl;
-      typing_mode = refl;
-      remaining_depth = refl;
-      stop_on_rerun = refl;
-      terms = keeps;
-      inference = same.inference;
-      goals = same.goals;
-      taken = same.taken;
-      storage = same.storage;
-      accesses = same.accesses;
-      delayed_faults = same.delayed_faults;
-      mark = refl;
-    } in
-    subst (λ a. GoesBack a z) e (subst (GoesBack o) (sym f) grown)
 
 -- a variable that is free for a term is free for what has its number
 pub free-interned : (o s : State) (U : List Tree) (t u : Tree) (v : Variable) → o ≡ s → u ≡ t → Keeps o.terms U → IsSolved o.terms o.inference →

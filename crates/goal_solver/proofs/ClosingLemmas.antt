@@ -15,8 +15,7 @@ use Rattle.goal_solver.specs.OpenRuns.{OpenProgress, open_start, Closes, Evaluat
 use Rattle.goal_solver.specs.Responses.{both_certain, ListsSinceMark}
 use Rattle.goal_solver.specs.RunRules.{AreRecorded, IsRecordedAnswer}
 use Rattle.goal_solver.specs.State.{State}
-use Rattle.goal_solver.proofs.AnswerLemmas.{goes_back-grown}
-use Rattle.goal_solver.proofs.GoingBackLemmas.{goes_back-through}
+use Rattle.goal_solver.proofs.GoingBackLemmas.{goes_back-grown, goes_back-through}
 use Rattle.goal_solver.proofs.NormalizingLemmas.{its-later}
 use Rattle.goal_solver.proofs.OpenRecordLemmas.{both-yes}
 use Rattle.goal_solver.proofs.RecordedLemmas.{stays-recorded}

@@ -25,15 +25,15 @@ use Rattle.goal_tables.specs.Clauses.{lies_in_equation}
 use Rattle.goal_tables.specs.Predicates.{lies_in_predicate, normalization_of, some_in_equation, some_in_predicate}
 use Rattle.goal_tables.specs.declared.rows.OpaqueRow.{OpaqueRow}
 use Rattle.goal_tables.specs.declared.rows.Tables.{Tables}
-use Rattle.goal_kinds.specs.Answers.{whether, Answer, yes, yes_with, no, maybe, IsAnswer, decides, setting_of}
-use Rattle.goal_kinds.specs.Interned.{erased_at}
-use Rattle.goal_kinds.specs.Laws.{IsAlike, IsWithin}
-use Rattle.goal_kinds.specs.Level.{Level}
-use Rattle.goal_kinds.specs.Levels.{level}
-use Rattle.goal_kinds.specs.Settings.{Setting, is_empty, is_headline, is_coherence, among, leaves_open, reveals, takes_defaults, hides_defaults}
-use Rattle.goal_kinds.proofs.AlikeSettings.{alike-reordered}
-use Rattle.goal_kinds.proofs.AnswerLaws.{answer-same, answers-agree, impls-not_doubled}
-use Rattle.goal_kinds.proofs.WithinLevels.{within-alike_level, within-alike_level_back}
+use Rattle.goal_lists.specs.Answers.{whether, Answer, yes, yes_with, no, maybe, IsAnswer, decides, setting_of}
+use Rattle.goal_lists.specs.Interned.{erased_at}
+use Rattle.goal_lists.specs.Laws.{IsAlike, IsWithin}
+use Rattle.goal_lists.specs.Level.{Level}
+use Rattle.goal_lists.specs.Levels.{level}
+use Rattle.goal_lists.specs.Settings.{Setting, is_empty, is_headline, is_coherence, among, leaves_open, reveals, takes_defaults, hides_defaults}
+use Rattle.goal_lists.proofs.AlikeSettings.{alike-reordered}
+use Rattle.goal_lists.proofs.AnswerLaws.{answer-same, answers-agree, impls-not_doubled}
+use Rattle.goal_lists.proofs.WithinLevels.{within-alike_level, within-alike_level_back}
 use Rattle.goal_kinds.specs.declared.faults.Fault.{Fault}
 use Rattle.goal_solver.specs.AddedGoals.{IsClosedGoal, GoalHolds, GoalRefuted}
 use Rattle.goal_eval.specs.ErasedArgs.{erased_args}
@@ -230,20 +230,6 @@ run-right t m k g n s r clone tables mode depth may says =
     (subst (λ (q : TypingMode). IsAnswerIn t q g s.remaining_depth (answer_of x)) mode
     (subst (λ (u : Tables). IsAnswerIn u s.typing_mode g s.remaining_depth (answer_of x)) tables h))))
     r (says (ap is_headline mode ∙ clone-headline m k clone may.mode) may.closed (subst (λ (u : Tables). IsAcceptedOver u g) (sym tables) may.accepted))
-
--- what two answers come to
-undecided-is : (x : Answer) → decides x ≡ false → x ≡ maybe
-undecided-is yes d = absurd (cc)
-undecided-is (yes_with t) d = absurd (cc)
-undecided-is no d = absurd (cc)
-undecided-is maybe d = refl
-
-one-by : (x y : Answer) (b : Bool) → decides x ≡ b → (x ≡ y → ⊥) → (decides x ≡ true → decides y ≡ true → ⊥) → decides x ≡ decides y → ⊥
-one-by x y true d differ both e = both d (sym e ∙ d)
-one-by x y false d differ both e = differ (undecided-is x d ∙ sym (undecided-is y (sym e ∙ d)))
-
-pub one-undecided : (x y : Answer) → (x ≡ y → ⊥) → (decides x ≡ true → decides y ≡ true → ⊥) → decides x ≡ decides y → ⊥
-one-undecided x y differ both e = one-by x y (decides x) refl differ both e
 
 -- over tables that differ in the order of their impls alone, decided answers are the same at any depths
 agree-on : (S Z : Setting) (n k : ℕ) → IsWithin (level S n) (level Z n) → IsWithin (level Z n) (level S n) → (p : Predicate) (x y : Answer) → decides x ≡ true → decides y ≡ true →

@@ -14,12 +14,11 @@ use Rattle.goal_terms.specs.declared.terms.AliasTermKind.TheVariants.{Projection
 use Rattle.goal_tables.specs.Rows.{opaque_of}
 use Rattle.goal_tables.specs.declared.rows.OpaqueRow.{OpaqueRow}
 use Rattle.goal_tables.specs.declared.rows.Tables.{Tables}
-use Rattle.goal_kinds.specs.Projections.{projected_item}
-use Rattle.goal_kinds.specs.RuleModes.{first_use, first_use_of}
-use Rattle.goal_kinds.specs.Settings.{is_empty, is_headline, among}
+use Rattle.goal_lists.specs.OpaqueUses.{first_use, first_use_of}
+use Rattle.goal_lists.specs.Settings.{is_empty, is_headline, among}
 use Rattle.goal_kinds.specs.declared.faults.Fault.{Fault}
-use Rattle.goal_kinds.specs.declared.rules.FirstUse.{FirstUse}
-use Rattle.goal_kinds.specs.declared.rules.FirstUse.TheVariants as first
+use Rattle.goal_lists.specs.declared.lists.FirstUse.{FirstUse}
+use Rattle.goal_lists.specs.declared.lists.FirstUse.TheVariants as first
 use Rattle.goal_solver.specs.Answers.{IsOwed, is_closed_alias, expected_variable}
 use Rattle.goal_solver.specs.OpenGoals.{WhenAnswered}
 use Rattle.goal_solver.specs.Promises.{AnswersAlias, DefinesAlias, NamesNoClass, RunsHidden, is_defined, IsNotDefined}
@@ -35,9 +34,6 @@ both-parts false false e = absurd (false≢true e)
 some-of : {A : Type 0} (o : Option A) → is_some o ≡ true → (x : A) × (o ≡ Some x)
 some-of None e = absurd (false≢true e)
 some-of (Some x) e = (x, refl)
-
-is-some : {A : Type 0} (o : Option A) (x : A) → o ≡ Some x → is_some o ≡ true
-is-some o x e = ap is_some e
 
 -- what is so of the goal of such a type
 pub record DefinedGoal (s : State) (g : Goal NormalizesTo) : Type 0 where
@@ -116,17 +112,6 @@ ambiguous-mode mode.ErasedNotCoherence k e = absurd (cc)
 
 pub defined-unambiguous : (s : State) (k : AliasTermKind) (x : FirstUse) → first_use_of s.tables s.typing_mode k ≡ Some x → is_ambiguous s.typing_mode k ≡ true → ⊥
 defined-unambiguous s k x e is = (other-mode s.tables s.typing_mode k x e).2 (ambiguous-mode s.typing_mode k is)
-
--- an opaque type is no projection
-pub defined-unprojected : (t : Tables) (m : TypingMode) (k : AliasTermKind) (x : FirstUse) → first_use_of t m k ≡ Some x → projected_item k ≡ None
-defined-unprojected t m (OpaqueTy i) x e = refl
-defined-unprojected t m (ProjectionTy i) x e = absurd (cc)
-defined-unprojected t m (ProjectionConst i) x e = absurd (cc)
-defined-unprojected t m (InherentTy i) x e = refl
-defined-unprojected t m (InherentConst i) x e = refl
-defined-unprojected t m (FreeTy i) x e = refl
-defined-unprojected t m (FreeConst i) x e = refl
-defined-unprojected t m (UnevaluatedConst i) x e = refl
 
 -- the list that is run names no class
 pub runs-unnamed : (g : Goal NormalizesTo) (f : FirstUse) (s u : State) (r : Result Response Fault) → WhenAnswered r (RunsHidden g f s r u) → IfOk r NamesNoClass

@@ -23,22 +23,19 @@ use Rattle.goal_infer.specs.Resolution.{term_at, binding_of, binding_in, Agrees,
 use Rattle.goal_infer.specs.Unification.{is_open}
 use Rattle.goal_infer.specs.declared.undo.InferVariable.{InferVariable}
 use Rattle.goal_infer.proofs.SolvedLemmas.{agrees-forth, agrees-back, agrees-kept, resolution-as}
-use Rattle.goal_kinds.specs.Interned.{AreIn, erased_at, erased_all}
-use Rattle.goal_kinds.proofs.InternedLemmas.{are_in-grown}
-use Rattle.goal_kinds.proofs.UnderLemmas.{are_in-below}
+use Rattle.goal_lists.specs.Interned.{AreIn, erased_at, erased_all}
+use Rattle.goal_lists.proofs.UnderLemmas.{are_in-below}
 use Rattle.goal_solver.specs.Accesses.{RecordsCausedFaults}
 use Rattle.goal_solver.specs.Answers.{IsOwed, level_over, IsStopped}
 use Rattle.goal_solver.specs.Equating.{IsEquated, certainty_of}
 use Rattle.goal_solver.specs.GoingBack.{GoesBack, restored}
 use Rattle.goal_solver.specs.Relating.{IsRelated, ChangesInference, ChangesRecords, AgreesWith, all_replaced, all_bound, AreDefinite, IsEqualAnswer, LeavesOpen, SaysYes, Refuses, IsFaultFor, all_equated, AreIdentical}
-use Rattle.goal_solver.specs.Settled.{IsPlainOrSame}
 use Rattle.goal_solver.specs.State.{State, IsValid, kinds_of}
 use Rattle.goal_kinds.specs.declared.faults.Fault.{Fault}
 use Rattle.goal_kinds.specs.declared.faults.Fault.TheVariants as fault
-use Rattle.goal_kinds.specs.declared.outcomes.Outcome.{Outcome}
-use Rattle.goal_kinds.specs.declared.outcomes.Outcome.TheVariants as outcome
-use Rattle.goal_solver.proofs.BindingLemmas.{goes_back-interned}
-use Rattle.goal_solver.proofs.GoingBackLemmas.{goes_back-restored, goes_back-through}
+use Rattle.goal_lists.specs.declared.outcomes.Outcome.{Outcome}
+use Rattle.goal_lists.specs.declared.outcomes.Outcome.TheVariants as outcome
+use Rattle.goal_solver.proofs.GoingBackLemmas.{goes_back-interned, goes_back-restored, goes_back-through}
 use Rattle.goal_solver.proofs.AddedGoalLemmas.{restored-owed}
 use Rattle.goal_solver.proofs.AnswerLemmas.{owed-before}
 use Rattle.goal_solver.proofs.RelatedLemmas.{agreed-back}
@@ -217,21 +214,12 @@ related-trees a b env ls rs n k o e rel =
     (subst (λ us. IsRelated a b env (erased_all a.terms ls) us k o) (erased-trees a.terms rs)
     (subst (λ m. IsRelated a b env (erased_all a.terms ls) (erased_all a.terms rs) m o) e rel))
 
-plain-trees : (a : State) (ls rs : List TermId) → IsPlainOrSame a (map erased (map (tree_at a.terms) ls)) (map erased (map (tree_at a.terms) rs)) →
-    IsPlainOrSame a (erased_all a.terms ls) (erased_all a.terms rs)
-plain-trees a ls rs p =
-    subst (λ ts. IsPlainOrSame a ts (erased_all a.terms rs)) (sym (erased-trees a.terms ls))
-    (subst (λ us. IsPlainOrSame a (map erased (map (tree_at a.terms) ls)) us) (sym (erased-trees a.terms rs)) p)
-
 -- numbers keep their trees
 pub trees-kept : (T U : List Tree) → Keeps T U → (ids : List TermId) → AreBelow (length T) ids → map (tree_at U) ids ≡ map (tree_at T) ids
 trees-kept T U k [] b = refl
 trees-kept T U k (id ∷ ids) b =
     ap (λ t. t ∷ map (tree_at U) ids) (k.same id (All-head (λ (x : TermId). x.0 < length T) id ids b))
     ∙ ap (λ ts. tree_at T id ∷ ts) (trees-kept T U k ids (All-tail (λ (x : TermId). x.0 < length T) id ids b))
-
-pub below-kept : (T U : List Tree) → Keeps T U → (ids : List TermId) → AreIn T ids → AreBelow (length U) ids
-below-kept T U k ids h = are_in-below U ids (are_in-grown T U k ids h)
 
 -- a context whose changes were undone, but for what was recorded
 back-undone : (a b y z : State) → GoesBack a b → y ≡ restored a b → GoesBack y z → GoesBack a z

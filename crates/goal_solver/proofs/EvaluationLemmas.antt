@@ -10,8 +10,8 @@ use Rattle.goal_terms.specs.declared.predicates.Clause.{Clause}
 use Rattle.goal_terms.specs.declared.terms.AliasTermKind.{AliasTermKind}
 use Rattle.goal_tables.specs.declared.rows.Tables.{Tables}
 use Rattle.goal_tables.specs.Faults.{IsChecked}
-use Rattle.goal_kinds.specs.Answers.{setting_of}
-use Rattle.goal_kinds.specs.Settings.{Setting, is_headline}
+use Rattle.goal_lists.specs.Answers.{setting_of}
+use Rattle.goal_lists.specs.Settings.{Setting, is_headline}
 use Rattle.goal_solver.specs.Accesses.{RecordsCaused, EndsFor}
 use Rattle.goal_solver.specs.Answers.{IsOwed, level_over}
 use Rattle.goal_eval.specs.Effects.{EndsIn}
@@ -21,11 +21,11 @@ use Rattle.goal_eval.specs.Outcomes.{RunsAs, RunsOver, SaysWhich}
 use Rattle.goal_solver.specs.State.{State}
 use Rattle.goal_eval.specs.declared.eval.outcomes.Found.{Found}
 use Rattle.goal_eval.specs.declared.eval.outcomes.OnAccess.{OnAccess}
-use Rattle.goal_kinds.specs.declared.outcomes.Outcome.{Outcome}
+use Rattle.goal_lists.specs.declared.outcomes.Outcome.{Outcome}
 use Rattle.goal_eval.specs.declared.eval.outcomes.Stop.{Stop}
 use Rattle.goal_eval.specs.declared.eval.outcomes.Stop.TheVariants as stop
 use Rattle.goal_solver.proofs.AccessLemmas.{none-recorded, recorded-then, ends-before}
-use Rattle.goal_solver.proofs.AnswerLemmas.{goes_back-grown}
+use Rattle.goal_solver.proofs.GoingBackLemmas.{goes_back-grown}
 
 -- what is said of a predicate's numbers is said of the predicate
 pub says-interned : (a b z : State) (env : List Clause) (p q : PredicateTree) (r : Result Outcome Stop) → b ≡ record a { terms = b.terms } → p ≡ q → SaysOf b z env p r → SaysOf a z env q r

@@ -4,7 +4,7 @@ use Rattle.std.specs.List.{All, Contains}
 use Rattle.std.proofs.lemmas.List.Elements.{All-nil, All-cons, All-append, All-get_or, All-contains, All-weaker, Contains-append_left, Contains-append_right, Contains-push}
 use Rattle.goal_terms.specs.declared.answers.DelayedFault.{DelayedFault}
 use Rattle.goal_tables.specs.declared.rows.Tables.{Tables}
-use Rattle.goal_kinds.specs.Causes.{IsFaultCaused, has_fault_cause}
+use Rattle.goal_lists.specs.Causes.{IsFaultCaused, has_fault_cause}
 use Rattle.goal_solver.specs.Accesses.{uncaused, uncaused_faults, RecordsCausedFaults}
 use Rattle.goal_eval.specs.Entering.{Enters, EntersAtMost}
 use Rattle.goal_solver.specs.GoingBack.{GoesBack, restored}

@@ -1,5 +1,5 @@
 -- The head form of a term in a context: what is found, and what is answered.
-use Rattle.std.proofs.Common.{◌≡◌, ◌<◌, Bool, true, false, List, length, Some, None, Result, Ok, Err, refl, sym, ap, ◌∙◌, subst}
+use Rattle.std.proofs.Common.{◌≡◌, ◌<◌, Bool, true, false, List, length, None, Result, Ok, refl, sym, ap, ◌∙◌, subst}
 use Rattle.std.proofs.lemmas.Bool.{false≢true}
 use Rattle.std.specs.Prelude.{◌||◌, Option, IfOk, IfErr}
 use Rattle.goal_terms.specs.Erased.{erased}
@@ -13,15 +13,13 @@ use Rattle.goal_terms.specs.declared.terms.Term.{Term}
 use Rattle.goal_tables.specs.Predicates.{some_in_env}
 use Rattle.goal_infer.specs.Following.{sort_at}
 use Rattle.goal_infer.specs.Unification.{is_alias}
-use Rattle.goal_kinds.specs.Interned.{erased_at}
-use Rattle.goal_kinds.specs.Laws.{IsConsistent}
-use Rattle.goal_kinds.specs.Level.{Level, HasHeadForm, HeadFormRefuted}
+use Rattle.goal_lists.specs.Interned.{erased_at}
+use Rattle.goal_lists.specs.Laws.{IsConsistent}
+use Rattle.goal_lists.specs.Level.{Level, HasHeadForm}
 use Rattle.goal_kinds.specs.declared.faults.Fault.{Fault}
 use Rattle.goal_kinds.specs.declared.faults.Fault.TheVariants as fault
-use Rattle.goal_kinds.proofs.EqualLemmas.{one_head_form, no_head_form_refuted}
-use Rattle.goal_solver.specs.HeadForms.{IsClosedForm, IsFormAnswer, IsFormOpen, IsAnswered, IsFormFound, IsFormUnfound, IsFoundItself}
-use Rattle.goal_eval.specs.Outcomes.{SaysWhich}
-use Rattle.goal_eval.specs.declared.eval.outcomes.Found.{Found}
+use Rattle.goal_lists.proofs.EqualLemmas.{one_head_form, no_head_form_refuted}
+use Rattle.goal_solver.specs.HeadForms.{IsClosedForm, IsFormOpen, IsAnswered, IsFormUnfound}
 use Rattle.goal_eval.specs.declared.eval.outcomes.Found.TheVariants as found
 use Rattle.goal_solver.proofs.FoundAnswers.{is_term, sort-erased}
 use Rattle.goal_solver.proofs.SettledLemmas.{closed-erased}
@@ -55,17 +53,6 @@ pub open-unfound : (L : Level) (t : Tree) (T : List Tree) (id : TermId) (env : L
     IsClosedForm t env → IsFormUnfound L t found.Undecided
 open-unfound L t T id env b e f g h = absurd (false≢true (sym h ∙ ap (λ x. some_node is_any_infer x || some_in_env is_any_infer env) (sym e) ∙ sym f ∙ g))
 
--- what the evaluation says of a head form is what is found
-pub says-found : (L : Level) (t : Tree) (T : List Tree) (f : Found) → SaysWhich (HasHeadForm L t) (HeadFormRefuted L t) T f → IsFormFound L t T f
-says-found L t T (found.Is id) h = h
-says-found L t T found.Refuted h = h
-says-found L t T found.Undecided h = tt
-
-pub says-unfound : (L : Level) (t : Tree) (T : List Tree) (f : Found) → SaysWhich (HasHeadForm L t) (HeadFormRefuted L t) T f → IsFormUnfound L t f
-says-unfound L t T (found.Is id) h = tt
-says-unfound L t T found.Refuted h = tt
-says-unfound L t T found.Undecided h = h
-
 -- what is answered of the term of a number
 abbrev pub AnswersAt : List Tree → TermId → Result (Option Term) Fault → Type 0
 AnswersAt T id r =
@@ -73,25 +60,7 @@ AnswersAt T id r =
     × ((HasTerm T id → ⊥) → IfOk r (λ o. o ≡ None))
     × IfErr r (λ f. f ≡ fault.OutOfMemory)
 
--- a term that is answered is the one that was found
-answered-form : (L : Level) (t u : Tree) (o : Option Term) → HasHeadForm L t u → IsAnswered u o → IsFormAnswer L t (Ok o)
-answered-form L t u None h a = tt
-answered-form L t u (Some e) h a = subst (HasHeadForm L t) (sym a) h
-
-answer-by : (L : Level) (t : Tree) (T : List Tree) (id : TermId) → id.0 < length T → HasHeadForm L t (erased_at T id) → (r : Result (Option Term) Fault) → AnswersAt T id r →
-    (b : Bool) → is_term (tree_at T id) ≡ b → IsFormAnswer L t r
-unfolding is_term
-answer-by L t T id l h (Ok o) a true i = answered-form L t (erased_at T id) o h (a.0 (l, i))
-answer-by L t T id l h (Ok o) a false i = subst (λ x. IsFormAnswer L t (Ok x)) (sym (a.1 (λ x. false≢true (sym i ∙ x.1)))) tt
-answer-by L t T id l h (Err f) a b i = subst (λ g. IsFormAnswer L t (Err g)) (sym a.2) tt
-
-pub found-answered : (L : Level) (t : Tree) (T : List Tree) (id : TermId) → id.0 < length T → HasHeadForm L t (erased_at T id) → (r : Result (Option Term) Fault) → AnswersAt T id r → IsFormAnswer L t r
-found-answered L t T id l h r a = answer-by L t T id l h r a (is_term (tree_at T id)) refl
-
 -- it is left open only where no type or constant is the head form
-not-answered : (t : Tree) → IsAnswered t None → ⊥
-not-answered t h = h
-
 open-by : (L : Level) → IsConsistent L → (t : Tree) (T : List Tree) (id : TermId) → id.0 < length T → HasHeadForm L t (erased_at T id) → (r : Result (Option Term) Fault) → AnswersAt T id r →
     r ≡ Ok None → (b : Bool) → is_term (tree_at T id) ≡ b → IsFormOpen L t
 unfolding is_term
@@ -110,7 +79,3 @@ found-left_open L consistent t T id l h r a e = open-by L consistent t T id l h 
 -- where nothing is found, no type and no constant is
 pub unfound-open : (L : Level) (t : Tree) → IsFormUnfound L t found.Undecided → IsFormOpen L t
 unfound-open L t h = ((λ u n g. h.0 u g), h.1)
-
--- a term that is found as it stands is answered as it stands
-pub itself-answered : (t : Tree) (T : List Tree) (id : TermId) → IsFoundItself t T (found.Is id) → (r : Result (Option Term) Fault) → AnswersAt T id r → IfOk r (IsAnswered t)
-itself-answered t T id h r a = subst (λ x. IfOk r (IsAnswered x)) h.1 (a.0 h.0)

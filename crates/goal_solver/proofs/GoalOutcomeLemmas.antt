@@ -9,11 +9,10 @@ use Rattle.goal_terms.specs.declared.term_nodes.TermId.{TermId}
 use Rattle.goal_terms.specs.declared.terms.Term.{Term}
 use Rattle.goal_terms.proofs.SortLemmas.{term_sort}
 use Rattle.goal_infer.specs.Following.{sort_at}
-use Rattle.goal_kinds.specs.Interned.{IsIn, AreIn}
+use Rattle.goal_lists.specs.Interned.{IsIn, AreIn}
 use Rattle.goal_solver.specs.GoingBack.{GoesBack}
 use Rattle.goal_solver.specs.State.{State}
-use Rattle.goal_solver.proofs.AnswerLemmas.{goes_back-grown}
-use Rattle.goal_solver.proofs.GoingBackLemmas.{goes_back-through}
+use Rattle.goal_solver.proofs.GoingBackLemmas.{goes_back-grown, goes_back-through}
 use Rattle.goal_eval.proofs.InterningLemmas.{is_argument-term}
 
 -- the number of a type or a constant is that of an argument

@@ -222,3 +222,42 @@ solved-grown = solved-kept
 
 pub solved-grown_twice : (ts us vs : List Tree) (s : Inference) → Keeps ts us → Keeps us vs → IsSolved ts s → IsSolved vs s
 solved-grown_twice ts us vs s g h solved = solved-kept us vs s h (solved-kept ts us s g solved)
+
+-- so does a context with more terms, and another inference state that goes back to the one before
+goes_back-with : (a : State) (U : List Tree) (i : Inference) → Keeps a.terms U → inference.GoesBack a.inference i → GoesBack a (record a { terms = U; inference = i })
+goes_back-with a U i kept back =
+    let same : GoesBack a a = goes_back-same a in
+    record {
+      tables = refl;
+      typing_mode = refl;
+      remaining_depth = refl;
+      stop_on_rerun = refl;
+      terms = kept;
+      inference = back;
+      goals = same.goals;
+      taken = same.taken;
+      storage = same.storage;
+      accesses = same.accesses;
+      delayed_faults = same.delayed_faults;
+      mark = refl;
+    }
+
+pub goes_back-inferred : (a b : State) → b ≡ record a { terms = b.terms; inference = b.inference } → Keeps a.terms b.terms → inference.GoesBack a.inference b.inference → GoesBack a b
+goes_back-inferred a b e kept back = subst (GoesBack a) (sym e) (goes_back-with a b.terms b.inference kept back)
+
+-- one with more terms alone
+pub goes_back-grown : (a b : State) → b ≡ record a { terms = b.terms } → Keeps a.terms b.terms → GoesBack a b
+goes_back-grown a b e kept =
+    let same : GoesBack a a = goes_back-same a in
+    subst (GoesBack a) (sym e) (goes_back-with a b.terms a.inference kept same.inference)
+
+-- and one with another inference state alone
+pub goes_back-bound : (a b : State) → b ≡ record a { inference = b.inference } → inference.GoesBack a.inference b.inference → GoesBack a b
+goes_back-bound a b e back =
+    let same : GoesBack a a = goes_back-same a in
+    subst (GoesBack a) (sym e) (goes_back-with a a.terms b.inference same.terms back)
+
+pub goes_back-interned : (o s z : State) (U : List Tree) → o ≡ s → z ≡ record o { terms = U } → Keeps o.terms U → GoesBack s z
+goes_back-interned o s z U e f kept =
+    let same : GoesBack o o = goes_back-same o in
+    subst (λ a. GoesBack a z) e (subst (GoesBack o) (sym f) (goes_back-with o U o.inference kept same.inference))

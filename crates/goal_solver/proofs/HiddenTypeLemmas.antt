@@ -14,7 +14,7 @@ use Rattle.goal_terms.specs.declared.predicates.NormalizesTo.{NormalizesTo}
 use Rattle.goal_terms.specs.declared.terms.GenericArg.{GenericArg}
 use Rattle.goal_terms.specs.declared.terms.Ty.{Ty}
 use Rattle.goal_kinds.specs.declared.faults.Fault.{Fault}
-use Rattle.goal_kinds.specs.declared.rules.FirstUse.{FirstUse}
+use Rattle.goal_lists.specs.declared.lists.FirstUse.{FirstUse}
 use Rattle.goal_solver.specs.Added.{EntersType}
 use Rattle.goal_solver.specs.GoingBack.{restored}
 use Rattle.goal_solver.specs.HiddenTypes.{EntersHidden, NormalizesArg, behind_all, NormalizesAll, NormalizesArgs, RefusesArg, RefusesArgs, bounds_in}
@@ -24,7 +24,7 @@ use Rattle.goal_solver.specs.Promises.{RunsHidden}
 use Rattle.goal_solver.specs.State.{State}
 use Rattle.goal_solver.proofs.BelowLemmas.{said-below}
 use Rattle.goal_solver.proofs.BindingLemmas.{on_ok-map}
-use Rattle.goal_solver.proofs.VariableLemmas.{take-more}
+use Rattle.goal_kinds.proofs.ClassRuleLemmas.{take-more}
 
 -- no argument is normalized yet
 pub normalized-none : (env : List Clause) (s : State) → NormalizesArgs env [] s (Some []) s

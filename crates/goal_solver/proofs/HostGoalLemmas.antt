@@ -8,13 +8,13 @@ use Rattle.goal_terms.specs.declared.answers.TraitGoalProvenVia.{TraitGoalProven
 use Rattle.goal_terms.specs.declared.modes.TypingMode.{TypingMode}
 use Rattle.goal_terms.specs.declared.predicates.BoundConstness.{BoundConstness}
 use Rattle.goal_terms.specs.declared.predicates.Clause.{Clause}
-use Rattle.goal_kinds.specs.Answers.{setting_of}
+use Rattle.goal_lists.specs.Answers.{setting_of}
 use Rattle.goal_kinds.specs.CandidateRules.{seen_trait}
-use Rattle.goal_kinds.specs.Premises.{TraitTree, ClauseHolds, ClauseRefuted}
+use Rattle.goal_lists.specs.Premises.{TraitTree, ClauseHolds, ClauseRefuted}
 use Rattle.goal_kinds.specs.declared.faults.Fault.{Fault}
 use Rattle.goal_kinds.specs.declared.faults.Fault.TheVariants as fault
 use Rattle.goal_kinds.specs.declared.goal_kind.TraitView.{TraitView}
-use Rattle.goal_kinds.proofs.WithinLevels.{within-level}
+use Rattle.goal_lists.proofs.WithinLevels.{within-level}
 use Rattle.goal_solver.specs.Answers.{IsConclusion, IsOwed, level_over, IsPredicateAnswer, IsUndecided, IsMaybe, AnswersAside}
 use Rattle.goal_solver.specs.Assembled.{level_above}
 use Rattle.goal_solver.specs.GoingBack.{GoesBack}
@@ -22,8 +22,8 @@ use Rattle.goal_solver.specs.HostGoals.{HostThrough, HoldsThroughClass, SaysHost
 use Rattle.goal_eval.specs.Outcomes.{Says}
 use Rattle.goal_solver.specs.Promises.{LeavesUndecided, NamesNoClass}
 use Rattle.goal_solver.specs.State.{State, kinds_of}
-use Rattle.goal_kinds.specs.declared.outcomes.Outcome.{Outcome}
-use Rattle.goal_kinds.specs.declared.outcomes.Outcome.TheVariants as outcome
+use Rattle.goal_lists.specs.declared.outcomes.Outcome.{Outcome}
+use Rattle.goal_lists.specs.declared.outcomes.Outcome.TheVariants as outcome
 use Rattle.goal_eval.specs.declared.eval.outcomes.Stop.{Stop}
 use Rattle.goal_solver.proofs.AnswerLemmas.{owed-before, answered-soundly, concluded-open}
 use Rattle.goal_solver.proofs.PromiseLemmas.{whether-right, whether-lasts, changes-lifetimes}

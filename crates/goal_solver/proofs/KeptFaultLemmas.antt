@@ -14,7 +14,7 @@ use Rattle.goal_tables.specs.declared.rows.DefRow.{DefRow}
 use Rattle.goal_tables.specs.declared.rows.Tables.{Tables}
 use Rattle.goal_tables.specs.declared.rows.TraitRow.{TraitRow}
 use Rattle.goal_infer.proofs.DecisionLemmas.{either-false}
-use Rattle.goal_kinds.specs.Causes.{IsFaultCaused, has_fault_cause, is_missing}
+use Rattle.goal_lists.specs.Causes.{IsFaultCaused, has_fault_cause, is_missing}
 use Rattle.goal_solver.specs.Accesses.{uncaused}
 
 -- faults that all have their cause leave those before them as they are

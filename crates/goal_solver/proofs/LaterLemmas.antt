@@ -6,7 +6,6 @@ use Rattle.goal_terms.specs.TableMeaning.{Keeps}
 use Rattle.goal_terms.specs.Tree.{Tree, node_of}
 use Rattle.goal_terms.specs.TreeOf.{tree_of_term}
 use Rattle.goal_terms.specs.declared.answers.Response.{Response}
-use Rattle.goal_terms.specs.declared.answers.TraitGoalProvenVia.{TraitGoalProvenVia}
 use Rattle.goal_terms.specs.declared.answers.VarKind.{VarKind}
 use Rattle.goal_terms.specs.declared.heads.Variable.{Variable}
 use Rattle.goal_terms.specs.declared.terms.Term.{Term}
@@ -20,7 +19,6 @@ use Rattle.goal_infer.proofs.SolvedLemmas.{agrees-kept}
 use Rattle.goal_solver.specs.Binding.{bound_term, IsFreeFor, BindsTo, CanBeListed, IsApplicable}
 use Rattle.goal_solver.specs.GoingBack.{restored}
 use Rattle.goal_solver.specs.MergedRules.{IfAnswered}
-use Rattle.goal_solver.specs.OpenGoals.{proven_by}
 use Rattle.goal_solver.specs.Relating.{AgreesWith}
 use Rattle.goal_solver.specs.State.{State, kinds_in}
 use Rattle.goal_solver.specs.Stored.{HasOneTypeAKey}
@@ -91,10 +89,6 @@ applies-later s z r e f keeps solved h =
       values = listed-later (with_variables r.vars.items s) (with_variables r.vars.items z) (with_variables-later s z r.vars.items l) r.var_values.items h.values;
       entries = subst (λ es. HasOneTypeAKey (es ++ r.opaque_entries.items)) (sym f) h.entries;
     }
-
--- so can it with another class
-pub named-applies : (s : State) (c : TraitGoalProvenVia) (r : Response) → IsApplicable s r → IsApplicable s (proven_by c r)
-named-applies s c r h = record { base = h.base; values = h.values; entries = h.entries }
 
 -- so can what rules were merged to
 pub merged-later : (s z : State) (m : Merged) → z ≡ restored s z → Keeps s.terms z.terms → IsSolved s.terms s.inference → IfAnswered m (IsApplicable s) → IfAnswered m (IsApplicable z)

@@ -4,7 +4,6 @@ pub mod StoredLemmas
 pub mod PredicateLemmas
 pub mod AnswerLemmas
 pub mod AssembledAnswers
-pub mod TermErrorLemmas
 pub mod AccessLemmas
 pub mod FaultLemmas
 mod EqualResponses
@@ -51,9 +50,6 @@ mod AssembledLemmas
 pub mod WhereGoalLemmas
 pub mod TranslatedLemmas
 pub mod TranslatedAnswers
-pub mod CollectingLemmas
-pub mod CollectedTermLemmas
-pub mod CollectedObjectLemmas
 mod OpenProjectionLemmas
 mod OpenHostLemmas
 pub mod PromiseLemmas

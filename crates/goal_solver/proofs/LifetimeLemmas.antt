@@ -14,7 +14,7 @@ use Rattle.goal_infer.specs.Inference.{Inference}
 use Rattle.goal_infer.specs.RegionEquations.{AddsRegions, region_variable, equated}
 use Rattle.goal_infer.specs.declared.undo.InferVariable.{InferVariable}
 use Rattle.goal_infer.proofs.RegionStateLemmas.{regions-count}
-use Rattle.goal_kinds.specs.Interned.{erased_at}
+use Rattle.goal_lists.specs.Interned.{erased_at}
 use Rattle.goal_solver.specs.Relating.{ChangesInference, all_equated, AreIdentical}
 use Rattle.goal_solver.specs.State.{State, kinds_in}
 use Rattle.goal_solver.proofs.BindingLemmas.{on_ok-map}

@@ -1,6 +1,5 @@
 -- Merging responses one after the other.
-use Rattle.std.proofs.Common.{◌≡◌, ℕ, ◌+◌, ◌<◌, ◌≤◌, List, [], ◌∷◌, ◌++◌, length, take, get_or, Option, Some, None, inl, inr, refl, sym, ap, ◌∙◌, subst}
-use Rattle.std.proofs.lemmas.List.{take_all}
+use Rattle.std.proofs.Common.{◌≡◌, ℕ, ◌+◌, ◌<◌, List, [], ◌∷◌, ◌++◌, length, take, get_or, Option, Some, None, inl, inr, refl, sym, ap, ◌∙◌, subst}
 use Rattle.std.proofs.lemmas.List.Elements.{All-nil, All-push}
 use Rattle.goal_terms.specs.declared.answers.Response.{Response}
 use Rattle.goal_terms.specs.declared.predicates.Clause.{Clause}
@@ -10,7 +9,7 @@ use Rattle.goal_solver.specs.State.{State}
 use Rattle.goal_solver.specs.declared.assembly.merged_rules.Merged.{Merged}
 use Rattle.goal_solver.specs.declared.assembly.merged_rules.Merged.TheVariants as merged
 use Rattle.goal_eval.proofs.OutcomeLists.{Exists-front, Exists-last}
-use Rattle.goal_solver.proofs.VariableLemmas.{take-more}
+use Rattle.goal_kinds.proofs.ClassRuleLemmas.{take-more}
 
 -- the response in a merged answer
 abbrev first_or : Response → Merged → Response
@@ -78,17 +77,9 @@ runs-more env (p ∷ qs) q s rs z a u h step =
     let rest = runs-more env qs q h.0 h.2 z a u h.4 step in
     (h.0, h.1, h.2 ++ with_answer a [], h.3, rest, ap (λ xs. xs ++ with_answer a []) h.5 ∙ answer-behind h.1 h.2 (with_answer a []))
 
--- one that is refused changes nothing of what is merged
-pub joins-none : (m : Merged) → JoinsTo None m m
-joins-none m rs h = subst (λ xs. MergesTo xs m) (sym (none-behind rs)) h
-
 -- one more rule is run and merged
 pub merged-next : (env : List Clause) (rules : List Rule) (i : ℕ) (q : Rule) (s z u : State) (m n : Merged) (a : Option Response) →
     i < length rules → q ≡ get_or rules i q → MergesRules env (take i rules) s m z → RunsTo env q z a u → JoinsTo a m n → MergesRules env (take (i + 1) rules) s n u
 merged-next env rules i q s z u m n a l at h step joins =
     subst (λ xs. MergesRules env xs s n u) (sym (take-more rules i q l ∙ ap (λ x. take i rules ++ x ∷ []) (sym at)))
     (h.0 ++ with_answer a [], runs-more env (take i rules) q s h.0 z a u h.1 step, joins h.0 h.2)
-
--- after the last rule
-pub merged-all : (env : List Clause) (rules : List Rule) (i : ℕ) (s u : State) (m : Merged) → length rules ≤ i → MergesRules env (take i rules) s m u → MergesRules env rules s m u
-merged-all env rules i s u m l h = subst (λ xs. MergesRules env xs s m u) (take_all i rules l) h

@@ -17,15 +17,15 @@ use Rattle.goal_tables.specs.Rows.{impl_of}
 use Rattle.goal_tables.specs.declared.rows.ImplRow.{ImplRow}
 use Rattle.goal_tables.specs.declared.rows.Tables.{Tables}
 use Rattle.goal_infer.specs.Resolution.{IsSolved}
-use Rattle.goal_kinds.specs.Answers.{setting_of}
+use Rattle.goal_lists.specs.Answers.{setting_of}
 use Rattle.goal_kinds.specs.CandidateRules.{refuses_impl}
-use Rattle.goal_kinds.specs.Candidates.{by_impl}
-use Rattle.goal_kinds.specs.Joined.{one_of}
+use Rattle.goal_lists.specs.Candidates.{by_impl}
+use Rattle.goal_lists.specs.Joined.{one_of}
 use Rattle.goal_kinds.specs.RuleLists.{IsListed, list_then}
-use Rattle.goal_kinds.specs.TraitLists.{trait_list}
+use Rattle.goal_lists.specs.TraitLists.{trait_list}
 use Rattle.goal_kinds.specs.declared.faults.Fault.TheVariants as fault
-use Rattle.goal_kinds.specs.declared.outcomes.Outcome.{Outcome}
-use Rattle.goal_kinds.specs.declared.outcomes.Outcome.TheVariants as outcome
+use Rattle.goal_lists.specs.declared.outcomes.Outcome.{Outcome}
+use Rattle.goal_lists.specs.declared.outcomes.Outcome.TheVariants as outcome
 use Rattle.goal_kinds.specs.declared.rules.Rule.{Rule}
 use Rattle.goal_kinds.specs.declared.rules.RuleEntry.{RuleEntry}
 use Rattle.goal_solver.specs.Binding.{IsApplicable}
@@ -34,7 +34,7 @@ use Rattle.goal_solver.specs.MergedRules.{RunsTo}
 use Rattle.goal_solver.specs.MoreSpecial.{RunsAlone, IsTraitRule, AsksImpl, AsksEach, AsksMoreSpecial, answer_beside, matched_impl}
 use Rattle.goal_solver.specs.State.{State}
 use Rattle.goal_solver.proofs.LaterLemmas.{applies-later}
-use Rattle.goal_solver.proofs.VariableLemmas.{take-more}
+use Rattle.goal_kinds.proofs.ClassRuleLemmas.{take-more}
 
 -- joining outcomes
 one_of-refuted : (a : Outcome) → one_of a outcome.Refuted ≡ a

@@ -29,23 +29,23 @@ use Rattle.goal_tables.specs.declared.rows.Tables.{Tables}
 use Rattle.goal_infer.specs.Binding.{bound_to, MayBecome}
 use Rattle.goal_infer.specs.Inference.{Inference}
 use Rattle.goal_infer.specs.Occurrence.{place_of}
-use Rattle.goal_infer.specs.Replacement.{number_of, takes, replaced}
+use Rattle.goal_infer.specs.Replacement.{number_of, takes}
 use Rattle.goal_infer.specs.Resolution.{binding_at, binding_in, binding_of, resolution, resolved, term_at}
 use Rattle.goal_infer.specs.Unification.{is_made_in}
 use Rattle.goal_infer.specs.declared.occurs.Occurrence.TheVariants.{Nowhere}
 use Rattle.goal_infer.specs.declared.undo.InferVariable.{InferVariable}
 use Rattle.goal_infer.proofs.BindLemmas.{set-elsewhere}
 use Rattle.goal_infer.proofs.BindingLemmas.{own-after}
-use Rattle.goal_kinds.specs.Answers.{setting_of}
-use Rattle.goal_kinds.specs.Interned.{IsIn, erased_at}
-use Rattle.goal_kinds.specs.KindedTerms.{NoKindFault, NoKindFaultInEnv}
-use Rattle.goal_kinds.specs.Level.{Level}
-use Rattle.goal_kinds.specs.Levels.{level}
+use Rattle.goal_lists.specs.Answers.{setting_of}
+use Rattle.goal_lists.specs.Interned.{IsIn, erased_at}
+use Rattle.goal_lists.specs.KindedTerms.{NoKindFault, NoKindFaultInEnv}
+use Rattle.goal_lists.specs.Level.{Level}
+use Rattle.goal_lists.specs.Levels.{level}
 use Rattle.goal_kinds.specs.declared.faults.Fault.{Fault}
-use Rattle.goal_kinds.specs.declared.outcomes.Outcome.{Outcome}
-use Rattle.goal_kinds.specs.declared.outcomes.Outcome.TheVariants as outcome
+use Rattle.goal_lists.specs.declared.outcomes.Outcome.{Outcome}
+use Rattle.goal_lists.specs.declared.outcomes.Outcome.TheVariants as outcome
 use Rattle.goal_kinds.proofs.ClosedLevels.{closed-public_given}
-use Rattle.goal_kinds.proofs.InternedLemmas.{in-grown, same-grown}
+use Rattle.goal_lists.proofs.InternedLemmas.{in-grown, same-grown}
 use Rattle.goal_kinds.proofs.PlacedLevels.{placed-given}
 use Rattle.goal_eval.specs.ErasedArgs.{erased_args}
 use Rattle.goal_eval.specs.Outcomes.{FoundIn, Says, SaysWhich}
@@ -209,13 +209,6 @@ gives-entered e f a b c (Err x) kept same gives k n fits expects free = tt
 
 pub gives-at : (e : Term) (f : Found) (id : TermId) (a c : State) (r : Result Outcome Stop) → f ≡ founds.Is id → GivesFitting e (founds.Is id) a r c → GivesFitting e f a r c
 gives-at e f id a c r is h = subst (λ x. GivesFitting e x a r c) (sym is) h
-
--- and of nothing that is found
-pub gives-refuted : (e : Term) (a : State) → GivesFitting e founds.Refuted a (Ok outcome.Refuted) a
-gives-refuted e a k n fits expects free = record { outcome = refl; others = keeps-same a a refl; given = tt }
-
-pub gives-undecided : (e : Term) (a : State) → GivesFitting e founds.Undecided a (Ok outcome.Undecided) a
-gives-undecided e a k n fits expects free = record { outcome = refl; others = keeps-same a a refl; given = tt }
 
 -- the bindings don't lead on from a closed term
 closed-ends_as : (i : Inference) (t : Tree) → some_node is_any_infer (erased t) ≡ false → binding_at i (node_of t) ≡ None

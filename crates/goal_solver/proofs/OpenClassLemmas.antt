@@ -1,9 +1,6 @@
 -- Trait goals with inference variables: how their forms and their classes answer.
-use Rattle.std.proofs.Common.{◌≡◌, ◌||◌, ◌<◌, length, ℕ, Bool, true, false, Option, Some, None, Result, Ok, Err, List, [], ◌∷◌, inl, inr, get_or, refl, sym, ap, subst, ◌∙◌, ⊎_elim}
-use Rattle.std.specs.List.{All}
+use Rattle.std.proofs.Common.{◌≡◌, Bool, false, Option, Some, None, Result, Ok, Err, List, [], ◌∷◌, inl, inr, refl, sym, ap, subst, ◌∙◌, ⊎_elim}
 use Rattle.std.specs.Prelude.{IfOk}
-use Rattle.std.proofs.lemmas.Option.{slice_get-get_or}
-use Rattle.goal_terms.specs.Erased.{erased}
 use Rattle.goal_terms.specs.Tree.{Tree, node_of}
 use Rattle.goal_terms.specs.TreeOf.{tree_of_term, tree_of_ty}
 use Rattle.goal_terms.specs.declared.answers.Response.{Response}
@@ -14,34 +11,24 @@ use Rattle.goal_terms.specs.declared.predicates.Clause.{Clause}
 use Rattle.goal_terms.specs.declared.predicates.Goal.{Goal}
 use Rattle.goal_terms.specs.declared.terms.Term.{Term}
 use Rattle.goal_terms.specs.declared.terms.Ty.{Ty}
-use Rattle.goal_terms.proofs.TableLemmas.{list_any-none}
-use Rattle.goal_tables.specs.Clauses.{lies_in_clause_kind}
-use Rattle.goal_tables.specs.Predicates.{lies_in_env}
-use Rattle.goal_tables.specs.declared.rows.ImplRow.{ImplRow}
 use Rattle.goal_tables.specs.declared.rows.Tables.{Tables}
 use Rattle.goal_tables.specs.declared.sites.TermFault.{TermFault}
-use Rattle.goal_tables.specs.declared.sites.TermFault.TheVariants.{UnknownItem, WrongArgumentCount, WrongArgumentKind}
-use Rattle.goal_infer.proofs.DecisionLemmas.{either-false}
-use Rattle.goal_kinds.specs.Answers.{setting_of}
-use Rattle.goal_kinds.specs.CandidateRules.{HasNoKindFault, IsAcceptedClause}
-use Rattle.goal_kinds.specs.Candidates.{rest}
-use Rattle.goal_kinds.specs.Premises.{TraitTree}
+use Rattle.goal_lists.specs.Candidates.{rest}
 use Rattle.goal_kinds.specs.declared.faults.Fault.{Fault}
 use Rattle.goal_kinds.specs.declared.faults.Fault.TheVariants as fault
 use Rattle.goal_kinds.specs.declared.rules.Rule.{Rule}
 use Rattle.goal_solver.specs.Answers.{IsOwed, level_over}
-use Rattle.goal_kinds.specs.KindWords.{words_for}
-use Rattle.goal_solver.specs.Collecting.{Kind, Speaks, Lacks, AreCollected, CollectsBounds, CollectsEnvironment, CollectsFor}
+use Rattle.goal_kinds.specs.Collecting.{Kind, CollectsFor, has_kind_fault, rules_of_class}
 use Rattle.goal_solver.specs.GoingBack.{restored}
 use Rattle.goal_solver.specs.HeadForms.{IsClosedForm, IsFormAnswer, IsFormOpen, IsAnswered, bound_term}
 use Rattle.goal_solver.specs.HiddenTypes.{AsksForm}
 use Rattle.goal_solver.specs.OpenAnswers.{MergesGoal}
-use Rattle.goal_solver.specs.OpenGoals.{IsNoForm, IsConsidered, Considers, fault_in, has_kind_fault, IsLeft, IsFormless, FormsGoal, IsClassAnswer, ClassAnswers, rules_of_class, AreOfClass, CollectsClasses, ConsidersRules, ByClasses, trait_classes, WhenAnswered}
+use Rattle.goal_solver.specs.OpenGoals.{IsNoForm, IsConsidered, Considers, IsLeft, IsFormless, FormsGoal, IsClassAnswer, ClassAnswers, AreOfClass, CollectsClasses, ConsidersRules, ByClasses, trait_classes, WhenAnswered}
 use Rattle.goal_solver.specs.MergedRules.{MergesRules}
 use Rattle.goal_eval.specs.Pending.{is_alias}
 use Rattle.goal_solver.specs.State.{State}
 use Rattle.goal_solver.specs.TranslatedArgs.{IsSameEnvironment}
-use Rattle.goal_solver.specs.declared.assembly.class_rules.ClassRules.{ClassRules}
+use Rattle.goal_kinds.specs.declared.assembly.class_rules.ClassRules.{ClassRules}
 use Rattle.goal_solver.specs.declared.assembly.merged_rules.Merged.{Merged}
 
 -- of an error only a refusal is claimed something
@@ -50,53 +37,6 @@ when-refused A fault.NoSolution h = h refl
 when-refused A fault.RerunNonErased h = tt
 when-refused A fault.OutOfMemory h = tt
 when-refused A fault.NotForThisKind h = tt
-
--- a goal whose self type is refuted to have a head form is refused
-pub refused-formless : {P : Type 0} (K : Kind P) (g : Goal P) (s u : State) (f : Fault) → (f ≡ fault.NoSolution → IsFormless K.words.self_type g s u) →
-    WhenAnswered (Err f) (MergesGoal K g s (Err f) u)
-refused-formless K g s u f h = when-refused (MergesGoal K g s (Err f) u) f (λ e. inr (inl (h e, ap Err e)))
-
--- the faults that a goal without some doesn't have
-none-in : {P : Type 0} (lies : P → Tables → TermFault → Bool) (t : Tables) (g : Goal P) → has_kind_fault lies t g ≡ false →
-    (fault_in lies t g UnknownItem ≡ false) × (fault_in lies t g WrongArgumentCount ≡ false) × (fault_in lies t g WrongArgumentKind ≡ false)
-none-in lies t g h =
-    let last = either-false (fault_in lies t g UnknownItem || fault_in lies t g WrongArgumentCount) (fault_in lies t g WrongArgumentKind) h in
-    let two = either-false (fault_in lies t g UnknownItem) (fault_in lies t g WrongArgumentCount) last.0 in
-    (two.0, two.1, last.1)
-
-in-both : {P : Type 0} (lies : P → Tables → TermFault → Bool) (t : Tables) (g : Goal P) (f : TermFault) → fault_in lies t g f ≡ false →
-    (lies g.predicate t f ≡ false) × (lies_in_env t f g.param_env.items ≡ false)
-in-both lies t g f h = either-false (lies g.predicate t f) (lies_in_env t f g.param_env.items) h
-
-pub no-kind-fault : {P : Type 0} (lies : P → Tables → TermFault → Bool) (t : Tables) (g : Goal P) → has_kind_fault lies t g ≡ false → HasNoKindFault (λ f. lies g.predicate t f)
-no-kind-fault lies t g h =
-    let each = none-in lies t g h in
-    ((in-both lies t g UnknownItem each.0).0, (in-both lies t g WrongArgumentCount each.1).0, (in-both lies t g WrongArgumentKind each.2).0)
-
-clause-faultless : (t : Tables) (f : TermFault) (env : List Clause) (k : ℕ) (d : Clause) → k < length env → lies_in_env t f env ≡ false →
-    lies_in_clause_kind t [] f (get_or env k d).kind ≡ false
-clause-faultless t f env k d l h = list_any-none (λ c. lies_in_clause_kind t [] f c.kind) env k (get_or env k d) (slice_get-get_or env k d l) h
-
-pub accepted-clauses : {P : Type 0} (lies : P → Tables → TermFault → Bool) (t : Tables) (g : Goal P) → has_kind_fault lies t g ≡ false → All (λ c. IsAcceptedClause t c.kind) g.param_env.items
-accepted-clauses lies t g h = λ k d l.
-    let each = none-in lies t g h in (
-      clause-faultless t UnknownItem g.param_env.items k d l (in-both lies t g UnknownItem each.0).1,
-      clause-faultless t WrongArgumentCount g.param_env.items k d l (in-both lies t g WrongArgumentCount each.1).1,
-      clause-faultless t WrongArgumentKind g.param_env.items k d l (in-both lies t g WrongArgumentKind each.2).1,
-    )
-
--- the rules of a class are collected, by what is said of each class
-pub collects-for : {P : Type 0} (K : Kind P) (t : Tables) (g : Goal P) (m : TypingMode) (c : TraitGoalProvenVia) (rs : List Rule) → has_kind_fault K.has_fault t g ≡ false →
-    (c ≡ class.ParamEnv → All (λ x. IsAcceptedClause t x.kind) g.param_env.items → CollectsEnvironment (words_for K.words t g m) rs) →
-    ((q : TraitTree) (s : Ty) → c ≡ class.AliasBound → K.words.asked g.predicate t ≡ Some q → K.words.self_type g.predicate ≡ Some s →
-    CollectsBounds (words_for K.words t g m) (K.words.additional g.predicate (setting_of t m g.param_env.items)) s [] rs) →
-    ((q : TraitTree) (s : Ty) → c ≡ class.Misc → K.words.asked g.predicate t ≡ Some q → K.words.self_type g.predicate ≡ Some s →
-    ((r : ImplRow) → r.trait_id ≡ q.def_id → K.words.is_impl_for g.predicate t r) →
-    AreCollected (Speaks (words_for K.words t g m)) (Lacks (words_for K.words t g m)) rs (rest (setting_of t m g.param_env.items) q.def_id (erased (tree_of_ty s)))) →
-    CollectsFor K t g m c rs
-collects-for K t g m class.ParamEnv rs f env bounds others = env refl (accepted-clauses K.has_fault t g f)
-collects-for K t g m class.AliasBound rs f env bounds others = λ q s asked of. bounds q s refl asked of
-collects-for K t g m class.Misc rs f env bounds others = λ q s asked of own. others q s refl asked of own
 
 -- the head form of a term is asked for as that of its tree
 pub asks-form : (es env : List Clause) (x : Term) (t : Tree) (a b : State) (r : Result (Option Term) Fault) → es ≡ env → tree_of_term x ≡ t →
@@ -189,13 +129,6 @@ of-class : {P : Type 0} (K : Kind P) (t : Tables) (h : Goal P) (w : ClassRules) 
     ((x : TraitGoalProvenVia) → CollectsFor K t h mode x (rules_of_class w x)) → AreOfClass mode w m c rs → CollectsFor K t h m c rs
 of-class K t h w mode m c rs collected is = subst (λ xs. CollectsFor K t h m c xs) (sym is.1) (subst (λ x. CollectsFor K t h x c (rules_of_class w c)) (sym is.0) (collected c))
 
--- the rules of all classes are collected
-pub each-class : {P : Type 0} (K : Kind P) (t : Tables) (h : Goal P) (m : TypingMode) (w : ClassRules) → CollectsFor K t h m class.ParamEnv w.environment.items →
-    CollectsFor K t h m class.AliasBound w.bounds.items → CollectsFor K t h m class.Misc w.rest.items → (c : TraitGoalProvenVia) → CollectsFor K t h m c (rules_of_class w c)
-each-class K t h m w first second third class.ParamEnv = first
-each-class K t h m w first second third class.AliasBound = second
-each-class K t h m w first second third class.Misc = third
-
 -- for the goal that is considered in a goal's place
 pub collects-classes : {P : Type 0} (K : Kind P) (g h : Goal P) (s x z : State) (w : ClassRules) (o : Option (Goal P)) → FormsGoal K.words.self_type K.words.is_with_self (has_kind_fault K.has_fault s.tables) g s z o →
     o ≡ Some h → x ≡ z → z ≡ restored s z → w.param_env.items ≡ h.param_env.items → ((c : TraitGoalProvenVia) → CollectsFor K x.tables h x.typing_mode c (rules_of_class w c)) →
@@ -239,9 +172,6 @@ none-left None n = refl
 none-left (Some x) n = absurd (n x refl)
 
 -- a state that is restored thrice is restored
-pub restored-thrice : (a b c d : State) → b ≡ restored a b → c ≡ restored b c → d ≡ restored c d → d ≡ restored a d
-restored-thrice a b c d e f g = g ∙ ap (λ (s : State). restored s d) f ∙ ap (λ (s : State). restored s d) e
-
 pub faulty-in : {P : Type 0} (lies : P → Tables → TermFault → Bool) (x u a : State) (g : Goal P) (r b : Bool) → x ≡ u → u ≡ restored a u → r ≡ has_kind_fault lies x.tables g → r ≡ b →
     has_kind_fault lies a.tables g ≡ b
 faulty-in lies x u a g r b e back is f =

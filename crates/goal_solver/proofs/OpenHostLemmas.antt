@@ -1,5 +1,5 @@
 -- Goals of const traits with inference variables: how their groups answer, and how they are answered by their plain goals.
-use Rattle.std.proofs.Common.{◌≡◌, ◌-◌, ℕ, suc, Option, Some, None, Result, Ok, Err, List, [], ◌∷◌, inl, inr, refl, ap, subst}
+use Rattle.std.proofs.Common.{◌≡◌, ◌-◌, ℕ, suc, Option, Some, None, Result, Ok, Err, List, [], ◌∷◌, inl, inr, refl, subst}
 use Rattle.goal_terms.specs.declared.answers.Certainty.TheVariants as certainty
 use Rattle.goal_terms.specs.declared.answers.Response.{Response}
 use Rattle.goal_terms.specs.declared.answers.TraitGoalProvenVia.{TraitGoalProvenVia}
@@ -10,14 +10,14 @@ use Rattle.goal_terms.specs.declared.predicates.TraitPredicate.{TraitPredicate}
 use Rattle.goal_kinds.specs.declared.faults.Fault.{Fault}
 use Rattle.goal_kinds.specs.declared.faults.Fault.TheVariants as fault
 use Rattle.goal_kinds.specs.declared.rules.Rule.{Rule}
-use Rattle.goal_solver.specs.Collecting.{Kind}
+use Rattle.goal_kinds.specs.Collecting.{Kind}
 use Rattle.goal_solver.specs.GoingBack.{restored}
 use Rattle.goal_solver.specs.MergedRules.{MergesRules}
-use Rattle.goal_solver.specs.OpenGoals.{IsFormless, WhenAnswered, at_depth}
+use Rattle.goal_solver.specs.OpenGoals.{WhenAnswered, at_depth}
 use Rattle.goal_solver.specs.OpenHostGoals.{rules_of_groups, GroupAnswers, ByRuleGroups, MergesConst, host_kind, IsPlain, AnswersPlain, ByPlainClass, MergesHostEffect}
 use Rattle.goal_solver.specs.OpenProjections.{ConsidersGroups, proven_class}
 use Rattle.goal_solver.specs.State.{State}
-use Rattle.goal_solver.specs.declared.normalizes_to.groups.GroupRules.{GroupRules}
+use Rattle.goal_kinds.specs.declared.assembly.group_rules.GroupRules.{GroupRules}
 use Rattle.goal_solver.specs.declared.assembly.merged_rules.Merged.{Merged}
 use Rattle.goal_solver.specs.declared.assembly.merged_rules.Merged.TheVariants as merged
 use Rattle.goal_solver.proofs.BelowLemmas.{said-below}
@@ -58,10 +58,6 @@ group-none env es ds first qs later ls s z u o p e f d l h none k other =
     inr (z, answers-by env es first qs s z o None e f h none, inr (u, answers-by env ds later ls z u p None d l k other, (refl, refl)))
 
 -- a goal is answered through a class
-pub const-formless : {P : Type 0} (K : Kind P) (c : TraitGoalProvenVia) (g : Goal P) (s u : State) (f : Fault) → (f ≡ fault.NoSolution → IsFormless K.words.self_type g s u) →
-    WhenAnswered (Err f) (MergesConst K c g s (Err f) u)
-const-formless K c g s u f h = when-refused (MergesConst K c g s (Err f) u) f (λ e. inr (inl (h e, ap Err e)))
-
 pub const-grouped : {P : Type 0} (K : Kind P) (c : TraitGoalProvenVia) (g : Goal P) (s z u : State) (o : Option GroupRules) (w : GroupRules) (r : Result Response Fault) → ConsidersGroups K c g s o z → o ≡ Some w →
     WhenAnswered r (ByRuleGroups w.param_env.items (rules_of_groups w) z r u) → WhenAnswered r (MergesConst K c g s r u)
 const-grouped K c g s z u o w r h e by =

@@ -3,7 +3,6 @@ use Rattle.std.proofs.Common.{◌≡◌, ℕ, ◌+◌, ◌<◌, Bool, true, fals
 use Rattle.std.specs.Prelude.{IfOk, MatchOption, is_some, if◌then◌else◌}
 use Rattle.std.proofs.lemmas.List.{take-append-drop}
 use Rattle.goal_terms.specs.Erased.{erased}
-use Rattle.goal_terms.specs.Tree.{Tree}
 use Rattle.goal_terms.specs.TreeOf.{tree_of_alias, tree_of_term}
 use Rattle.goal_terms.specs.declared.answers.Certainty as certainties
 use Rattle.goal_terms.specs.declared.answers.Certainty.TheVariants as certainty
@@ -16,10 +15,9 @@ use Rattle.goal_terms.specs.declared.predicates.NormalizesTo.{NormalizesTo}
 use Rattle.goal_terms.specs.declared.predicates.ProjectionPredicate.{ProjectionPredicate}
 use Rattle.goal_terms.specs.declared.predicates.TraitPredicate.{TraitPredicate}
 use Rattle.goal_terms.specs.declared.terms.GenericArg.{GenericArg}
-use Rattle.goal_terms.specs.declared.terms.Term.{Term}
 use Rattle.goal_kinds.specs.ProjectionKind.{projected_trait}
-use Rattle.goal_kinds.specs.ProjectionLists.{equation_list}
-use Rattle.goal_kinds.specs.Projections.{projected_item}
+use Rattle.goal_lists.specs.ProjectionLists.{equation_list}
+use Rattle.goal_lists.specs.Projections.{projected_item}
 use Rattle.goal_kinds.specs.RuleLists.{IsListed}
 use Rattle.goal_kinds.specs.declared.faults.Fault.{Fault}
 use Rattle.goal_kinds.specs.declared.faults.Fault.TheVariants as fault
@@ -28,64 +26,29 @@ use Rattle.goal_kinds.specs.declared.rules.RuleEntry.{RuleEntry}
 use Rattle.goal_infer.specs.Resolution.{IsSolved}
 use Rattle.goal_solver.specs.Binding.{IsApplicable}
 use Rattle.goal_solver.specs.GoingBack.{GoesBack, restored}
-use Rattle.goal_solver.specs.Collecting.{Kind, CollectsFor}
+use Rattle.goal_kinds.specs.Collecting.{Kind, CollectsFor, has_kind_fault, CollectsAll, classes_behind}
 use Rattle.goal_solver.specs.MergedRules.{MergesRules}
-use Rattle.goal_solver.specs.HiddenTypes.{AsksForm, tree_in}
+use Rattle.goal_solver.specs.HiddenTypes.{tree_in}
 use Rattle.goal_solver.specs.OpenAnswers.{AnswersTrait, answers_at, less, MergesProjection, MergesThrough}
-use Rattle.goal_solver.specs.OpenGoals.{FormsGoal, IsFormless, MergesTraitWith, WhenAnswered, at_depth, has_kind_fault}
-use Rattle.goal_solver.specs.OpenProjections.{CollectsAll, is_formed, Forms, FormsAll, RefusesForm, LacksForm, WithForms, IsRigidList, IsRigid, own_args, proven_class, classes_behind, CollectsGroups, ConsidersGroups, ByBounds, ByRest, ByLater, ByGroups, alias_kind, AnswersTraitWith, ByClassWith, MergesThroughWith, IsAliasRule, RunsAlias, RunsEquation, AsksItsTrait}
+use Rattle.goal_solver.specs.OpenGoals.{FormsGoal, MergesTraitWith, WhenAnswered, at_depth}
+use Rattle.goal_solver.specs.OpenProjections.{Forms, FormsAll, RefusesForm, LacksForm, WithForms, IsRigid, own_args, proven_class, CollectsGroups, ConsidersGroups, ByBounds, ByRest, ByLater, ByGroups, alias_kind, AnswersTraitWith, ByClassWith, MergesThroughWith, IsAliasRule, RunsAlias, RunsEquation, AsksItsTrait}
 use Rattle.goal_solver.specs.OpenRuns.{RunsOpen}
 use Rattle.goal_solver.specs.Refusals.{WhenRefused, IsRefusedOpen}
-use Rattle.goal_solver.specs.Relating.{IsFaultFor}
 use Rattle.goal_solver.specs.State.{State}
 use Rattle.goal_solver.specs.declared.assembly.merged_rules.Merged.{Merged}
 use Rattle.goal_solver.specs.declared.assembly.merged_rules.Merged.TheVariants as merged
-use Rattle.goal_solver.specs.declared.normalizes_to.groups.GroupRules.{GroupRules}
+use Rattle.goal_kinds.specs.declared.assembly.group_rules.GroupRules.{GroupRules}
 use Rattle.goal_solver.proofs.LaterLemmas.{applies-later}
 use Rattle.goal_solver.proofs.OpenClassLemmas.{when-refused}
-use Rattle.goal_solver.proofs.VariableLemmas.{take-more}
+use Rattle.goal_kinds.proofs.ClassRuleLemmas.{take-more}
 
 -- what a call left as it was, and then another one, is as it was
 pub restored-through : (s z u : State) → z ≡ restored s z → u ≡ restored z u → u ≡ restored s u
 restored-through s z u e f = f ∙ ap (λ (x : State). restored x u) e
 
--- a fault of a later call is one of both
-pub fault-through : {T : Type 0} (s z u : State) (r : Result T Fault) → z ≡ restored s z → IsFaultFor z u r → IsFaultFor s u r
-fault-through s z u (Ok x) e h = tt
-fault-through s z u (Err fault.NoSolution) e h = tt
-fault-through s z u (Err fault.RerunNonErased) e h = (sym (ap (λ (x : State). x.typing_mode) e) ∙ h.0, h.1)
-fault-through s z u (Err fault.OutOfMemory) e h = tt
-fault-through s z u (Err fault.NotForThisKind) e h = h
-
 -- of want of memory nothing is claimed
 pub memory-unsaid : (A : Type 0) (f : Fault) → f ≡ fault.OutOfMemory → WhenAnswered (Err f) A
 memory-unsaid A f e = subst (λ x. WhenAnswered (Err x) A) (sym e) tt
-
-pub memory-unrefused : (T A : Type 0) (f : Fault) → f ≡ fault.OutOfMemory → WhenRefused {T = T} (Err f) A
-memory-unrefused T A f e = λ h. let d : fault.OutOfMemory ≡ fault.NoSolution = sym e ∙ h in absurd (cc)
-
-none-behind : {A : Type 0} (xs : List A) → xs ++ [] ≡ xs
-none-behind [] = refl
-none-behind (x ∷ xs) = ap (λ ys. x ∷ ys) (none-behind xs)
-
--- the rules of no class
-pub collects-none : (C : TraitGoalProvenVia → List Rule → Type 0) → CollectsAll C [] []
-unfolding CollectsAll
-collects-none C = refl
-
--- those of one more class
-pub collects-last : (C : TraitGoalProvenVia → List Rule → Type 0) (cs : List TraitGoalProvenVia) (c : TraitGoalProvenVia) (rs qs : List Rule) →
-    CollectsAll C cs rs → C c qs → CollectsAll C (cs ++ c ∷ []) (rs ++ qs)
-unfolding CollectsAll
-collects-last C [] c rs qs h k = (qs, [], k, refl, ap (λ xs. xs ++ qs) h ∙ sym (none-behind qs))
-collects-last C (d ∷ cs) c rs qs h k =
-    (h.0, h.1 ++ qs, h.2, collects-last C cs c h.1 qs h.3 k, ap (λ xs. xs ++ qs) h.4 ∙ append_assoc h.0 h.1 qs)
-
-pub collects-next : (C : TraitGoalProvenVia → List Rule → Type 0) (cs : List TraitGoalProvenVia) (i : ℕ) (d : TraitGoalProvenVia) (rs qs ts : List Rule) →
-    i < length cs → CollectsAll C (take i cs) rs → C (get_or cs i d) qs → ts ≡ rs ++ qs → CollectsAll C (take (i + 1) cs) ts
-collects-next C cs i d rs qs ts l h k e =
-    subst (λ xs. CollectsAll C xs ts) (sym (take-more cs i d l))
-    (subst (CollectsAll C (take i cs ++ get_or cs i d ∷ [])) (sym e) (collects-last C (take i cs) (get_or cs i d) rs qs h k))
 
 -- no argument is asked for
 pub forms-none : (env : List Clause) (s : State) → FormsAll env [] s true s
@@ -129,37 +92,7 @@ lacks-at env xs i x s z u a l at h k = record {
   refused = k;
 }
 
--- a list that makes an alias rigid is run, and what comes of it is answered
-pub rigid-run : (env : List Clause) (p : NormalizesTo) (es : List RuleEntry) (s u : State) (r : Result Response Fault) → IsRigidList p es →
-    IfOk r (RunsOpen env es s u) → WhenRefused r (IsRefusedOpen env es s u) → WhenAnswered r (IsRigid env p s r u)
-rigid-run env p es s u (Ok q) l h k = (es, l, h)
-rigid-run env p es s u (Err f) l h k = when-refused (IsRigid env p s (Err f) u) f (λ e. (es, l, k e))
-
--- a lifetime has no head form to be asked for
-pub forms-lifetime : (env : List Clause) (o : Option Tree) (s : State) → None ≡ o → Forms env o s true s
-forms-lifetime env o s e = subst (λ x. Forms env x s true s) e (refl, refl)
-
--- what is answered for a head form
-pub forms-found : (env : List Clause) (o : Option Tree) (t : Tree) (s u : State) (a : Option Term) (b : Bool) → Some t ≡ o → AsksForm env t s u (Ok a) → b ≡ is_formed a → Forms env o s b u
-forms-found env o t s u a b e h f = subst (λ x. Forms env x s b u) e (a, h, f)
-
-pub refuses-form : (env : List Clause) (o : Option Tree) (t : Tree) (s u : State) (f : Fault) → Some t ≡ o → AsksForm env t s u (Err f) → f ≡ fault.NoSolution → RefusesForm env o s u
-refuses-form env o t s u f e h g = (t, sym e, subst (λ x. AsksForm env t s u (Err x)) g h)
-
 -- the response of a group is the answer, or not, by the head forms of own arguments
-pub unsure-given : (env : List Clause) (own : List GenericArg) (q : Response) (s : State) → q.certainty ≡ certainty.Maybe → WithForms env own q s (Ok q) s
-unsure-given env own q s e = inl (e, refl, refl)
-
-pub formed-given : (env : List Clause) (own : List GenericArg) (q : Response) (s u : State) → q.certainty ≡ certainty.Yes → FormsAll env own s true u → WithForms env own q s (Ok q) u
-formed-given env own q s u e h = inr (inl (e, h, refl))
-
-pub unformed-left : (env : List Clause) (own : List GenericArg) (q r : Response) (s u : State) → q.certainty ≡ certainty.Yes → FormsAll env own s false u → r.certainty ≡ certainty.Maybe → WithForms env own q s (Ok r) u
-unformed-left env own q r s u e h f = inr (inr (inl (e, h, f)))
-
-pub formless-refused : (env : List Clause) (own : List GenericArg) (q : Response) (s u : State) (f : Fault) → q.certainty ≡ certainty.Yes → (f ≡ fault.NoSolution → LacksForm env own s u) →
-    WhenAnswered (Err f) (WithForms env own q s (Err f) u)
-formless-refused env own q s u f e h = when-refused (WithForms env own q s (Err f) u) f (λ g. inr (inr (inr (e, h g, ap Err g))))
-
 pub not-maybe : (x : certainties.Certainty) → (x ≡ certainty.Maybe → ⊥) → x ≡ certainty.Yes
 not-maybe certainty.Yes h = refl
 not-maybe certainty.Maybe h = absurd (h refl)
@@ -244,11 +177,6 @@ collects-groups K c g h s x z w o forms is same back env first later =
       first = subst (λ (y : State). CollectsAll (CollectsFor K y.tables h y.typing_mode) (class.ParamEnv ∷ []) w.environment.items) (same ∙ back) first;
       later = subst (λ (y : State). CollectsAll (CollectsFor K y.tables h y.typing_mode) (classes_behind c) w.later.items) (same ∙ back) later;
     }
-
--- a goal is answered through a class
-pub through-formless : {P : Type 0} (K : Kind P) (p : NormalizesTo) (c : TraitGoalProvenVia) (g : Goal P) (s u : State) (f : Fault) →
-    (f ≡ fault.NoSolution → IsFormless K.words.self_type g s u) → WhenAnswered (Err f) (MergesThrough K p c g s (Err f) u)
-through-formless K p c g s u f h = when-refused (MergesThrough K p c g s (Err f) u) f (λ e. inr (inl (h e, ap Err e)))
 
 -- by its groups, where rules are collected for it
 pub through-groups : {P : Type 0} (K : Kind P) (p : NormalizesTo) (c : TraitGoalProvenVia) (g : Goal P) (s z u : State) (r : Result Response Fault) (o : Option GroupRules) (w : GroupRules) →

@@ -5,7 +5,7 @@ use Rattle.goal_terms.specs.declared.predicates.Clause.{Clause}
 use Rattle.goal_kinds.specs.declared.rules.RuleEntry.{RuleEntry}
 use Rattle.goal_solver.specs.OpenRuns.{OpenProgress, Steps, RunsThrough}
 use Rattle.goal_solver.specs.State.{State}
-use Rattle.goal_solver.proofs.VariableLemmas.{take-more}
+use Rattle.goal_kinds.proofs.ClassRuleLemmas.{take-more}
 
 -- no entry, no step
 pub through-none : (env : List Clause) (s : State) (p q : OpenProgress) → q ≡ p → RunsThrough env [] s p s q

@@ -27,10 +27,11 @@ use Rattle.goal_terms.specs.declared.predicates.TraitRef.{TraitRef}
 use Rattle.goal_terms.specs.declared.terms.GenericArg.{GenericArg}
 use Rattle.goal_terms.specs.declared.terms.Term.{Term}
 use Rattle.goal_tables.specs.declared.rows.ImplRow.{ImplRow}
-use Rattle.goal_kinds.specs.Rules.{MatchedHeader, clauses_in, conditions_in}
+use Rattle.goal_kinds.specs.Rules.{MatchedHeader}
+use Rattle.goal_lists.specs.RowWords.{clauses_in, conditions_in}
 use Rattle.goal_kinds.specs.declared.faults.Fault.{Fault}
-use Rattle.goal_kinds.specs.declared.rules.FirstUse.{FirstUse}
-use Rattle.goal_kinds.specs.declared.rules.RowClauses.{RowClauses}
+use Rattle.goal_lists.specs.declared.lists.FirstUse.{FirstUse}
+use Rattle.goal_lists.specs.declared.lists.RowClauses.{RowClauses}
 use Rattle.goal_kinds.specs.declared.rules.RuleArguments.{RuleArguments}
 use Rattle.goal_kinds.specs.declared.rules.RuleEntry.{RuleEntry}
 use Rattle.goal_kinds.specs.declared.rules.RuleEntry.TheVariants as entry
@@ -39,7 +40,7 @@ use Rattle.goal_solver.specs.Accesses.{uncaused_faults, RecordsCausedFaults}
 use Rattle.goal_eval.specs.Entering.{Enters}
 use Rattle.goal_solver.specs.Added.{with_goals, RecordsFault}
 use Rattle.goal_solver.specs.GoingBack.{GoesBack}
-use Rattle.goal_solver.specs.OpenRuns.{OpenProgress, named_trees, after_entry, after_naming, clauses_with, conditions_with, predicate_of, other_header, source_of, AddsGoals, AddsRow, Defines, Equates, Evaluates, Follows, GivesForm, GivesTerm, GivesValue, IsGoalOf, Matches, MatchesIf, NamesOpen, ReadsMode, Steps}
+use Rattle.goal_solver.specs.OpenRuns.{OpenProgress, named_trees, after_entry, after_naming, clauses_with, conditions_with, predicate_of, other_header, source_of, AddsGoals, AddsRow, Defines, Equates, Evaluates, Follows, GivesForm, GivesTerm, GivesValue, IsGoalOf, MatchesIf, NamesOpen, ReadsMode, Steps}
 use Rattle.goal_solver.specs.RunRules.{AreListed}
 use Rattle.goal_solver.specs.State.{State}
 use Rattle.goal_solver.proofs.BindingLemmas.{zip-map}
@@ -47,7 +48,7 @@ use Rattle.goal_solver.proofs.CloneLemmas.{clause-regions, clause-kind}
 use Rattle.goal_solver.proofs.GoingBackLemmas.{goes_back-when_goals}
 use Rattle.goal_solver.proofs.RecordedLemmas.{one-listed, none-listed}
 use Rattle.goal_solver.proofs.StoredLemmas.{some-is}
-use Rattle.goal_solver.proofs.VariableLemmas.{take-more}
+use Rattle.goal_kinds.proofs.ClassRuleLemmas.{take-more}
 
 -- a clause, by its parts
 abbrev clause_tree : ℕ → PredicateTree → ClauseTree
@@ -121,10 +122,6 @@ number-unnamed named n e =
     ap (option_map (λ (xs : Vec GenericArg Global). trees_of xs.items)) e ∙ sym (slice_get-map (λ (xs : Vec GenericArg Global). trees_of xs.items) named n)
 
 -- goals for what a row lists
-pub row-missing : {A : Type 0} (under : List Tree → List A → List PredicateTree) (from : GoalSource) (env : List Clause) (o : Option (List A)) (p : Option (List Tree)) (s : State) → None ≡ o →
-    AddsRow under from env o p s certainty.Maybe s
-row-missing under from env o p s e = subst (λ x. AddsRow under from env x p s certainty.Maybe s) e (refl, refl)
-
 row-lacking : {A : Type 0} (under : List Tree → List A → List PredicateTree) (from : GoalSource) (env : List Clause) (o : Option (List A)) (s : State) → AddsRow under from env o None s certainty.Maybe s
 row-lacking under from env None s = (refl, refl)
 row-lacking under from env (Some xs) s = (refl, refl)
@@ -144,18 +141,6 @@ value-here : (env : List Clause) (v : Tree) (o : Option Tree) (ts : List Tree) (
 value-here env v (Some x) ts t s c u e h = subst (λ y. GivesForm env v y s c u) (some-is t (instance ts x) e) h
 value-here env v None ts t s c u e h = absurd (cc)
 
-pub value-given : (env : List Clause) (v : Tree) (o : Option Tree) (p : Option (List Tree)) (ts : List Tree) (t : Tree) (s : State) (c : Certainty) (u : State) →
-    Some ts ≡ p → Some t ≡ option_map (instance ts) o → GivesForm env v t s c u → GivesValue env v o p s c u
-value-given env v o p ts t s c u f e h = subst (λ x. GivesValue env v o x s c u) f (value-here env v o ts t s c u e h)
-
-value-none : (env : List Clause) (v : Tree) (o : Option Tree) (ts : List Tree) (s : State) → None ≡ option_map (instance ts) o → GivesValue env v o (Some ts) s certainty.Maybe s
-value-none env v (Some x) ts s e = absurd (cc)
-value-none env v None ts s e = (refl, refl)
-
-pub value-missing : (env : List Clause) (v : Tree) (o : Option Tree) (p : Option (List Tree)) (ts : List Tree) (s : State) → Some ts ≡ p → None ≡ option_map (instance ts) o →
-    GivesValue env v o p s certainty.Maybe s
-value-missing env v o p ts s f e = subst (λ x. GivesValue env v o x s certainty.Maybe s) f (value-none env v o ts s e)
-
 value-lacking : (env : List Clause) (v : Tree) (o : Option Tree) (s : State) → GivesValue env v o None s certainty.Maybe s
 value-lacking env v None s = (refl, refl)
 value-lacking env v (Some x) s = (refl, refl)
@@ -164,10 +149,6 @@ pub value-unnamed : (env : List Clause) (v : Tree) (o : Option Tree) (p : Option
 value-unnamed env v o p s e = subst (λ x. GivesValue env v o x s certainty.Maybe s) e (value-lacking env v o s)
 
 -- arguments of a header where something is missing
-pub match-missing : (env : List Clause) (o : Option MatchedHeader) (g : Option (List Tree)) (s : State) (ts : List Tree) (c : Certainty) → None ≡ o → ts ≡ [] → c ≡ certainty.Maybe →
-    MatchesIf env o g s ts c s
-match-missing env o g s ts c e f h = subst (λ x. MatchesIf env x g s ts c s) e (f, (refl, h))
-
 match-lacking : (env : List Clause) (o : Option MatchedHeader) (s : State) (ts : List Tree) (c : Certainty) → ts ≡ [] → c ≡ certainty.Maybe → MatchesIf env o None s ts c s
 match-lacking env None s ts c f h = (f, (refl, h))
 match-lacking env (Some x) s ts c f h = (f, (refl, h))
@@ -176,14 +157,7 @@ pub match-ungiven : (env : List Clause) (o : Option MatchedHeader) (g : Option (
     MatchesIf env o g s ts c s
 match-ungiven env o g s ts c e f h = subst (λ x. MatchesIf env o x s ts c s) e (match-lacking env o s ts c f h)
 
-pub match-there : (env : List Clause) (h : MatchedHeader) (o : Option MatchedHeader) (given : List Tree) (s : State) (ts : List Tree) (c : Certainty) (u : State) → Some h ≡ o →
-    Matches env h given s ts c u → MatchesIf env o (Some given) s ts c u
-match-there env h o given s ts c u e m = subst (λ x. MatchesIf env x (Some given) s ts c u) e m
-
 -- the header of another impl
-pub other-missing : (o : Option ImplRow) (p : Option (List Tree)) → None ≡ o → None ≡ other_header o p
-other-missing o p e = subst (λ x. None ≡ other_header x p) e refl
-
 other-lacking : (o : Option ImplRow) → None ≡ other_header o None
 other-lacking None = refl
 other-lacking (Some r) = refl
@@ -195,9 +169,6 @@ pub other-given : (r : ImplRow) (o : Option ImplRow) (z : List Tree) (p : Option
 other-given r o z p e f = ap₂ other_header e f
 
 -- earlier arguments
-pub follows-unnamed : (p : Option (List Tree)) (own : List Tree) (s : State) (ts : List Tree) (c : Certainty) → None ≡ p → ts ≡ [] → c ≡ certainty.Maybe → Follows p own s ts c s
-follows-unnamed p own s ts c e f h = subst (λ x. Follows x own s ts c s) e (f, (refl, h))
-
 pub follows-named : (z : List Tree) (p : Option (List Tree)) (own : List Tree) (s : State) (ts : List Tree) (c : Certainty) → Some z ≡ p → ts ≡ z ++ own → c ≡ certainty.Yes → Follows p own s ts c s
 follows-named z p own s ts c e f h = subst (λ x. Follows x own s ts c s) e (f, refl, h)
 

@@ -19,21 +19,21 @@ use Rattle.goal_kinds.specs.declared.faults.Fault.{Fault}
 use Rattle.goal_kinds.specs.declared.faults.Fault.TheVariants as fault
 use Rattle.goal_solver.specs.Answers.{IsMaybe, IsQuiet}
 use Rattle.goal_solver.specs.Binding.{IsApplicable, bound_term}
-use Rattle.goal_solver.specs.Collecting.{Kind}
+use Rattle.goal_kinds.specs.Collecting.{Kind, has_kind_fault}
 use Rattle.goal_solver.specs.GoingBack.{GoesBack, begun, restored}
 use Rattle.goal_solver.specs.HeadForms.{bound_term as form_bound, is_open_form}
 use Rattle.goal_solver.specs.OpenAnswers.{answers_at, answers_term, InTrial, MergesGoal, MergesOpened, MergesThrough}
 use Rattle.goal_solver.specs.OpenForms.{OpensFrom}
-use Rattle.goal_solver.specs.OpenGoals.{MergesOpenedWith, AsksOpenSelf, IsSelfAlias, IsLeft, WhenAnswered, WhenTried, PassesSelf, ClassesForSelf, ClassesForForm, IsAfterTrial, IsListedIn, IsBeside, ByFormedClasses, has_kind_fault, FormedBy}
+use Rattle.goal_solver.specs.OpenGoals.{MergesOpenedWith, AsksOpenSelf, IsSelfAlias, IsLeft, WhenAnswered, WhenTried, PassesSelf, ClassesForSelf, ClassesForForm, IsAfterTrial, IsListedIn, IsBeside, ByFormedClasses, FormedBy}
 use Rattle.goal_solver.specs.OpenHostGoals.{ByFormedRuleGroups, MergesConst}
 use Rattle.goal_solver.specs.OpenProjections.{ByFormedGroups, GroupsForForm, GroupsForSelf}
 use Rattle.goal_solver.specs.Relating.{ChangesRecords, IsFaultFor}
 use Rattle.goal_solver.specs.State.{State, kinds_of}
 use Rattle.goal_solver.specs.Stored.{HasOneTypeAKey}
-use Rattle.goal_solver.specs.declared.assembly.class_rules.ClassRules.{ClassRules}
-use Rattle.goal_solver.specs.declared.normalizes_to.groups.GroupRules.{GroupRules}
+use Rattle.goal_kinds.specs.declared.assembly.class_rules.ClassRules.{ClassRules}
+use Rattle.goal_kinds.specs.declared.assembly.group_rules.GroupRules.{GroupRules}
 use Rattle.goal_solver.proofs.ApplicableLemmas.{nothing-applies-after}
-use Rattle.goal_solver.proofs.CollectedTermLemmas.{some-same}
+use Rattle.goal_kinds.proofs.CollectedTermLemmas.{some-same}
 use Rattle.goal_solver.proofs.ListedLemmas.{listed-applies}
 use Rattle.goal_solver.proofs.OpenFormLemmas.{restored-grown}
 use Rattle.goal_solver.proofs.OpenProjectionLemmas.{memory-unsaid}
@@ -62,14 +62,6 @@ by-self self_of g s (Some t) e = by-test self_of g s t (is_open_form (bound_term
 
 pub asks-open_self : {P : Type 0} (self_of : P → Option Ty) (g : Goal P) (s : State) → AsksOpenSelf self_of g s ⊎ (AsksOpenSelf self_of g s → ⊥)
 asks-open_self self_of g s = by-self self_of g s (self_of g.predicate) refl
-
--- so it is in a context that has more terms and records
-pub asks-earlier : {P : Type 0} (self_of : P → Option Ty) (g : Goal P) (s z : State) → z ≡ restored s z → GoesBack s z → IsSolved s.terms s.inference → AsksOpenSelf self_of g z → AsksOpenSelf self_of g s
-asks-earlier self_of g s z e back solved a = record {
-  self = a.self;
-  asked = a.asked;
-  holds_some = ap (λ x. is_open_form x g.param_env.items) (sym (tree-restored s z (tree_of_ty a.self) e back solved)) ∙ a.holds_some;
-}
 
 -- of no answer both can be claimed
 not-both : (A : Type 0) (r : Result Response Fault) → WhenAnswered r (IsMaybe r) → (IsMaybe r → A) → WhenAnswered r A

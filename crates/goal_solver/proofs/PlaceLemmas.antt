@@ -41,12 +41,6 @@ one-below i zero h = absurd (omega (arith, h))
 one-below zero (suc n) h = refl
 one-below (suc i) (suc n) h = one-below i n (omega (arith, h))
 
-pub none-beyond : (i n : ℕ) → n ≤ i → one_below i n ≡ 0
-unfolding one_below
-none-beyond i zero h = refl
-none-beyond zero (suc n) h = absurd (omega (arith, h))
-none-beyond (suc i) (suc n) h = none-beyond i n (omega (arith, h))
-
 pub is-below : (i n : ℕ) → 0 < one_below i n → i < n
 unfolding one_below
 is-below i zero h = absurd (omega (arith, h))

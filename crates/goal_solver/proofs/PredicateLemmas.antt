@@ -2,10 +2,10 @@
 use Rattle.std.specs.Prelude.{IfOk, Result}
 use Rattle.goal_terms.specs.PredicateTrees.{equals}
 use Rattle.goal_terms.specs.Tree.{Tree}
-use Rattle.goal_kinds.specs.Level.{Level}
-use Rattle.goal_kinds.specs.Premises.{predicate, ClauseHolds, ClauseRefuted, PremiseHolds, PremiseRefuted}
+use Rattle.goal_lists.specs.Level.{Level}
+use Rattle.goal_lists.specs.Premises.{predicate, ClauseHolds, ClauseRefuted, PremiseHolds, PremiseRefuted}
 use Rattle.goal_eval.specs.Outcomes.{Says}
-use Rattle.goal_kinds.specs.declared.outcomes.Outcome.{Outcome}
+use Rattle.goal_lists.specs.declared.outcomes.Outcome.{Outcome}
 use Rattle.goal_eval.specs.declared.eval.outcomes.Stop.{Stop}
 
 -- the premise of an equation says what the equation does

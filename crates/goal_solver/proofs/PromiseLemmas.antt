@@ -1,7 +1,6 @@
 -- What the calls that answer goals promise follows from what their bodies answer.
-use Rattle.std.proofs.Common.{◌≡◌, ◌≢◌, ℕ, true, false, Bool, List, [], ◌∷◌, length, Option, Some, None, Result, Ok, Err, refl, sym, ap, subst, inl, inr, ◌⊎◌}
+use Rattle.std.proofs.Common.{◌≡◌, ◌≢◌, ℕ, true, false, Bool, List, [], ◌∷◌, length, Option, Some, None, Result, Ok, Err, refl, sym, ap, subst, inl, inr, ◌⊎◌, suc, arith, ◌∙◌}
 use Rattle.std.specs.Prelude.{IfOk, IfSome}
-use Rattle.std.proofs.Common.{suc, arith, ◌∙◌}
 use Rattle.goal_terms.specs.NodeTests.{general_variable_at}
 use Rattle.goal_terms.specs.PredicateTrees.{PredicateTree, holds, holds_const}
 use Rattle.goal_terms.specs.Tree.{Tree, node_of}
@@ -26,18 +25,18 @@ use Rattle.goal_terms.specs.declared.terms.AliasTermKind.{AliasTermKind}
 use Rattle.goal_terms.specs.declared.terms.InferTy.TheVariants as infer
 use Rattle.goal_terms.specs.declared.terms.Term.{Term}
 use Rattle.goal_tables.specs.declared.rows.Tables.{Tables}
-use Rattle.goal_kinds.specs.Answers.{Question, whether, which_term, yes, no, maybe, IsAnswer, setting_of}
-use Rattle.goal_kinds.specs.Laws.{IsWithin}
-use Rattle.goal_kinds.specs.Level.{Level}
-use Rattle.goal_kinds.specs.Levels.{level}
-use Rattle.goal_kinds.specs.Premises.{TraitTree, ClauseHolds, ClauseRefuted}
+use Rattle.goal_lists.specs.Answers.{Question, whether, which_term, yes, no, maybe, IsAnswer, setting_of}
+use Rattle.goal_lists.specs.Laws.{IsWithin}
+use Rattle.goal_lists.specs.Level.{Level}
+use Rattle.goal_lists.specs.Levels.{level}
+use Rattle.goal_lists.specs.Premises.{TraitTree, ClauseHolds, ClauseRefuted}
 use Rattle.goal_kinds.specs.declared.faults.Fault.{Fault}
 use Rattle.goal_kinds.specs.declared.faults.Fault.TheVariants as fault
 use Rattle.goal_kinds.specs.declared.goal_kind.MergeRule.{MergeRule}
 use Rattle.goal_kinds.specs.declared.goal_kind.MergeRule.TheVariants as merge
-use Rattle.goal_kinds.specs.Settings.{Setting}
-use Rattle.goal_kinds.proofs.AnswerLaws.{answer-within, answers-agree, const-agrees, const-plain}
-use Rattle.goal_kinds.proofs.WithinLevels.{within-level}
+use Rattle.goal_lists.specs.Settings.{Setting}
+use Rattle.goal_lists.proofs.AnswerLaws.{answer-within, answers-agree, const-agrees, const-plain}
+use Rattle.goal_lists.proofs.WithinLevels.{within-level}
 use Rattle.goal_eval.specs.ErasedArgs.{erased_args}
 use Rattle.goal_solver.specs.Answers.{IsOwed, level_over, IsMaybe, IsOpen, IsUndecided, IsTraitResponse, IsTraitAnswer, IsHoldingResponse, IsPredicateAnswer, IsAliasResponse, IsAliasAnswer, AnswersAside, IsQuiet, ListsNothing, expected_variable, IsAliasOpen}
 use Rattle.goal_solver.specs.Assembled.{level_above}
@@ -355,8 +354,3 @@ trait_not_host m e f = absurd (cc)
 
 pub host_not_projections : (m : MergeRule) → m ≡ merge.HostEffectGoals → m ≡ merge.Projections → ⊥
 host_not_projections m e f = absurd (cc)
-
--- a goal that isn't closed is open
-pub is-open : (b e : Bool) → b ≡ e → (e ≡ false → ⊥) → b ≡ true
-is-open true e h f = refl
-is-open false e h f = absurd (f (sym h))

@@ -1,20 +1,16 @@
 -- What the entries of a rule record.
 use Rattle.std.proofs.Common.{◌≡◌, ◌<◌, ◌≤◌, ◌+◌, ◌⊎◌, ℕ, List, [], ◌∷◌, length, get_or, take, drop, inl, inr, sym, ap, ◌∙◌, subst, arith, ⊎_elim}
 use Rattle.std.specs.List.{All, Contains}
-use Rattle.std.specs.Prelude.{IfOk, Result, Ok, Err, ◌≢◌}
 use Rattle.std.proofs.lemmas.List.{take_all, take-append-drop}
 use Rattle.std.proofs.lemmas.List.Elements.{All-more, All-weaker, Contains-push, Contains-push_cases, Contains-append_left, Contains-get_or}
 use Rattle.goal_terms.specs.declared.answers.DelayedFault.{DelayedFault}
-use Rattle.goal_terms.specs.declared.answers.Response.{Response}
-use Rattle.goal_terms.specs.declared.answers.Certainty.TheVariants as certainty
-use Rattle.goal_kinds.specs.declared.faults.Fault.{Fault}
 use Rattle.goal_kinds.specs.declared.rules.RuleEntry.{RuleEntry}
 use Rattle.goal_kinds.specs.declared.rules.RuleEntry.TheVariants as entry
-use Rattle.goal_kinds.specs.Causes.{IsFaultCaused}
+use Rattle.goal_lists.specs.Causes.{IsFaultCaused}
 use Rattle.goal_solver.specs.Accesses.{RecordsCausedFaults}
 use Rattle.goal_eval.specs.Entering.{Enters}
 use Rattle.goal_solver.specs.GoingBack.{BeginsWith, GoesBack}
-use Rattle.goal_solver.specs.RunRules.{to_record, IsRecorded, AreRecorded, IsRecordedAnswer, AreListed}
+use Rattle.goal_solver.specs.RunRules.{to_record, IsRecorded, AreRecorded, AreListed}
 use Rattle.goal_solver.specs.State.{State}
 use Rattle.goal_solver.specs.declared.eval.run_rule.recorded.ToRecord.{ToRecord}
 use Rattle.goal_solver.specs.declared.eval.run_rule.recorded.ToRecord.TheVariants as recorded
@@ -142,11 +138,6 @@ pub listed-through : (s a b : State) (es : List RuleEntry) → GoesBack s a → 
 unfolding AreListed
 listed-through s a b es back before here f p =
     ⊎_elim (before f) (λ q. inr (⊎_elim inl (λ k. inr (subst (λ t. IsFaultCaused t f) back.tables k)) q)) (here f p)
-
--- an answer that isn't sure says nothing of what is recorded
-pub unsure-recorded : (a : State) (es : List RuleEntry) (x : Result Response Fault) → IfOk x (λ r. r.certainty ≢ certainty.Yes) → IfOk x (IsRecordedAnswer a es)
-unsure-recorded a es (Ok r) h = λ yes. absurd (h yes)
-unsure-recorded a es (Err f) h = tt
 
 -- a context that has more delayed faults, and then more still
 pub faults-alone : (a b c : State) → b ≡ record a { delayed_faults = b.delayed_faults } → c ≡ record b { delayed_faults = c.delayed_faults } → c ≡ record a { delayed_faults = c.delayed_faults }

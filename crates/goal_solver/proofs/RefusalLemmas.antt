@@ -1,9 +1,8 @@
 -- What the refusal of a list of entries with inference variables rests on.
-use Rattle.std.proofs.Common.{◌≡◌, ◌⊎◌, ℕ, zero, suc, ◌+◌, ◌<◌, ◌≤◌, arith, List, [], ◌∷◌, ◌++◌, length, map, take, drop, get_or, Option, Some, None, refl, sym, ap, ◌∙◌, subst, inl, inr}
+use Rattle.std.proofs.Common.{◌≡◌, ◌⊎◌, ℕ, zero, suc, ◌+◌, ◌<◌, ◌≤◌, arith, List, [], ◌∷◌, ◌++◌, length, take, drop, get_or, refl, sym, ap, ◌∙◌, subst, inl, inr}
 use Rattle.std.proofs.lemmas.List.{take-append-drop, drop_more}
 use Rattle.std.specs.Global.{Global}
-use Rattle.std.specs.Prelude.{Vec, option_map, Result, Ok, Err, IfErr, IsErrAnd, OnErr}
-use Rattle.goal_terms.specs.Folding.{instance}
+use Rattle.std.specs.Prelude.{Vec, Result, Ok, Err, IfErr, IsErrAnd, OnErr}
 use Rattle.goal_terms.specs.Tree.{Tree}
 use Rattle.goal_terms.specs.TreeOf.{trees_of, tree_of_term}
 use Rattle.goal_terms.specs.declared.answers.Certainty.{Certainty}
@@ -16,10 +15,9 @@ use Rattle.goal_terms.specs.declared.predicates.Goal.{Goal}
 use Rattle.goal_terms.specs.declared.predicates.Predicate.{Predicate}
 use Rattle.goal_terms.specs.declared.terms.GenericArg.{GenericArg}
 use Rattle.goal_terms.specs.declared.terms.Term.{Term}
-use Rattle.goal_kinds.specs.Rules.{MatchedHeader}
 use Rattle.goal_kinds.specs.declared.faults.Fault.{Fault}
 use Rattle.goal_kinds.specs.declared.faults.Fault.TheVariants as fault
-use Rattle.goal_kinds.specs.declared.rules.FirstUse.{FirstUse}
+use Rattle.goal_lists.specs.declared.lists.FirstUse.{FirstUse}
 use Rattle.goal_kinds.specs.declared.rules.RuleArguments.{RuleArguments}
 use Rattle.goal_kinds.specs.declared.rules.RuleEntry.{RuleEntry}
 use Rattle.goal_kinds.specs.declared.rules.RuleEntry.TheVariants as entry
@@ -29,12 +27,10 @@ use Rattle.goal_solver.specs.Answers.{IsOwed}
 use Rattle.goal_solver.specs.Equating.{IsEquated}
 use Rattle.goal_solver.specs.GoingBack.{BeginsWith, GoesBack, restored, begun}
 use Rattle.goal_solver.specs.OpenRuns.{OpenProgress, open_start, RunsThrough}
-use Rattle.goal_solver.specs.Refusals.{WhenRefused, RefusesGoal, RefusesListed, RefusesOne, RefusesEqual, RefusesPending, RefusesMatch, RefusesMatchIf, RefusesNames, RefusesForm, RefusesValue, RefusesTerm, RefusesHidden, StepRefused, StopsAtEntry, StopsSomewhere, IsRefusedOpen}
+use Rattle.goal_solver.specs.Refusals.{WhenRefused, RefusesGoal, RefusesListed, RefusesOne, RefusesEqual, RefusesPending, RefusesNames, RefusesTerm, RefusesHidden, StepRefused, StopsAtEntry, StopsSomewhere, IsRefusedOpen}
 use Rattle.goal_solver.specs.Relating.{ChangesRecords, SaysYes, Refuses}
-use Rattle.goal_solver.specs.State.{State, kinds_of}
-use Rattle.goal_solver.specs.Variables.{with_variables, kind_for, fresh_args}
+use Rattle.goal_solver.specs.State.{State}
 use Rattle.goal_solver.proofs.AddedGoalLemmas.{listed-pending, restored-owed}
-use Rattle.goal_solver.proofs.StoredLemmas.{some-is}
 
 -- where only memory is refused, there is no other refusal
 pub memory-only : {T : Type 0} (P : Type 0) (r : Result T Fault) → IfErr r (λ f. f ≡ fault.OutOfMemory) → WhenRefused r P
@@ -128,27 +124,6 @@ restored-refused s b z r e g h =
 -- a refusal of the goals that are pending
 pub pending-refused : (s u : State) → RefusesOne s u → u ≡ restored s u → GoesBack s u → RefusesPending s u
 pending-refused s u h e b = record { one = h; undone = e; back = b }
-
--- a refusal of a header, by its terms
-pub match-refused : (env : List Clause) (h : MatchedHeader) (given : List Tree) (s a u : State) (ts us : List Tree) → a ≡ with_variables (map kind_for h.params) s →
-    ts ≡ fresh_args h.params (length (kinds_of s)) → us ≡ map (instance ts) h.terms → RefusesEqual env us given a u → RefusesMatch env h given s u
-match-refused env h given s a u ts us made fresh terms r =
-    subst (λ zs. RefusesEqual env (map (instance zs) h.terms) given (with_variables (map kind_for h.params) s) u) fresh
-    (subst (λ (z : State). RefusesEqual env (map (instance ts) h.terms) given z u) made (subst (λ xs. RefusesEqual env xs given a u) terms r))
-
-pub match-refused_there : (env : List Clause) (h : MatchedHeader) (o : Option MatchedHeader) (given : List Tree) (s u : State) → Some h ≡ o → RefusesMatch env h given s u →
-    RefusesMatchIf env o (Some given) s u
-match-refused_there env h o given s u e m = subst (λ x. RefusesMatchIf env x (Some given) s u) e m
-
--- a refusal of a row's value
-value-refused_here : (env : List Clause) (v : Tree) (o : Option Tree) (ts : List Tree) (t : Tree) (s u : State) → Some t ≡ option_map (instance ts) o →
-    RefusesForm env v t s u → RefusesValue env v o (Some ts) s u
-value-refused_here env v (Some x) ts t s u e h = subst (λ y. RefusesForm env v y s u) (some-is t (instance ts x) e) h
-value-refused_here env v None ts t s u e h = absurd (cc)
-
-pub value-refused : (env : List Clause) (v : Tree) (o : Option Tree) (p : Option (List Tree)) (ts : List Tree) (t : Tree) (s u : State) →
-    Some ts ≡ p → Some t ≡ option_map (instance ts) o → RefusesForm env v t s u → RefusesValue env v o p s u
-value-refused env v o p ts t s u f e h = subst (λ x. RefusesValue env v o x s u) f (value-refused_here env v o ts t s u e h)
 
 -- the steps that are refused, by the entries
 pub arguments-refused : (env : List Clause) (e : RuleEntry) (a : RuleArguments) (s : State) (p : OpenProgress) (u : State) → e ≡ entry.Arguments a → RefusesNames env p.named a s u →

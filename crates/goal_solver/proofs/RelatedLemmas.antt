@@ -4,7 +4,7 @@ use Rattle.std.specs.Prelude.{if◌then◌else◌, slice_get, not, unwrap_or, If
 use Rattle.std.specs.List.{All, list_any}
 use Rattle.std.proofs.lemmas.List.Elements.{All-nil, All-cons, All-head, All-tail, All-weaker}
 use Rattle.goal_terms.specs.Erased.{erased}
-use Rattle.goal_terms.specs.NodeTests.{some_node, some_in_row, is_any_infer}
+use Rattle.goal_terms.specs.NodeTests.{some_node, some_in_row, is_any_infer, same_var_kind}
 use Rattle.std.proofs.lemmas.Bool.{false≢true}
 use Rattle.goal_terms.specs.SameTree.{same_node, same_tree}
 use Rattle.goal_terms.specs.declared.heads.Node.TheVariants as nodes
@@ -21,7 +21,6 @@ use Rattle.goal_infer.specs.Following.{sort_at}
 use Rattle.goal_infer.specs.Inference as inference
 use Rattle.goal_infer.specs.Inference.{Inference}
 use Rattle.goal_infer.specs.ListUnification.{MakesAllSame, AllClosed, ListsClash, AreDecidedWherePlain, AreIdentified, AreClashing, AreUntouched, lists_are_plain}
-use Rattle.goal_terms.specs.NodeTests.{same_var_kind}
 use Rattle.goal_terms.specs.declared.answers.VarKind.{VarKind}
 use Rattle.goal_infer.specs.Replacement.{replaced, number_of, kind_of_variable}
 use Rattle.goal_infer.specs.Resolution.{resolution, resolved, term_at, binding_of, binding_in, Agrees, IsSolved}
@@ -32,16 +31,16 @@ use Rattle.goal_infer.specs.declared.undo.InferVariable.{InferVariable}
 use Rattle.goal_infer.specs.declared.unify.Unified.{Unified}
 use Rattle.goal_infer.specs.declared.unify.Unified.TheVariants as unified
 use Rattle.goal_infer.proofs.SolvedLemmas.{agrees-kept, resolved-kept}
-use Rattle.goal_kinds.proofs.InternedLemmas.{are_in-grown}
-use Rattle.goal_kinds.proofs.UnderLemmas.{are_in-below}
+use Rattle.goal_lists.proofs.InternedLemmas.{are_in-grown}
+use Rattle.goal_lists.proofs.UnderLemmas.{are_in-below}
 use Rattle.goal_tables.specs.Faults.{IsChecked}
-use Rattle.goal_kinds.specs.Answers.{setting_of}
-use Rattle.goal_kinds.specs.Equality.{Unequal, RowUnequal}
-use Rattle.goal_kinds.specs.Interned.{IsIn, AreIn, erased_at, erased_all}
-use Rattle.goal_kinds.specs.Level.{Level, nothing}
-use Rattle.goal_kinds.specs.Levels.{level}
-use Rattle.goal_kinds.specs.Settings.{Setting, is_coherence}
-use Rattle.goal_kinds.specs.Words.{Pairs, SomePair}
+use Rattle.goal_lists.specs.Answers.{setting_of}
+use Rattle.goal_lists.specs.Equality.{Unequal, RowUnequal}
+use Rattle.goal_lists.specs.Interned.{IsIn, AreIn, erased_at, erased_all}
+use Rattle.goal_lists.specs.Level.{Level, nothing}
+use Rattle.goal_lists.specs.Levels.{level}
+use Rattle.goal_lists.specs.Settings.{Setting, is_coherence}
+use Rattle.goal_lists.specs.Words.{Pairs, SomePair}
 use Rattle.goal_solver.specs.Answers.{IsOwed, IsFinalIn}
 use Rattle.goal_solver.specs.GoingBack.{GoesBack, restored}
 use Rattle.goal_eval.specs.Outcomes.{RunsAs, RunsFor}
@@ -51,10 +50,9 @@ use Rattle.goal_solver.specs.Settled.{AreSettled, AreSettledIn, outcome_in, IsPl
 use Rattle.goal_solver.specs.State.{State, IsValid, kinds_of}
 use Rattle.goal_eval.specs.declared.eval.outcomes.OnAccess.{OnAccess}
 use Rattle.goal_eval.specs.declared.eval.outcomes.Setting as over
-use Rattle.goal_kinds.specs.declared.outcomes.Outcome.{Outcome}
-use Rattle.goal_kinds.specs.declared.outcomes.Outcome.TheVariants as outcome
+use Rattle.goal_lists.specs.declared.outcomes.Outcome.{Outcome}
+use Rattle.goal_lists.specs.declared.outcomes.Outcome.TheVariants as outcome
 use Rattle.goal_eval.specs.declared.eval.outcomes.Stop.{Stop}
-use Rattle.goal_solver.proofs.GoingBackLemmas.{goes_back-same}
 use Rattle.goal_solver.proofs.SettledLemmas.{replaced-closed}
 
 -- what an option holds
@@ -110,25 +108,6 @@ agreed-weaker a b back ρ h v id e = h v id (binding-stays a.inference b.inferen
 
 pub agreed-back : (a b : State) → IsValid a → GoesBack a b → (ρ : Variable → Tree) → AgreesWith b ρ → AgreesWith a ρ
 agreed-back a b valid back ρ h = (agrees-kept a.terms b.terms a.inference back.terms valid.solved ρ).0 (agreed-weaker a b back ρ h)
-
--- a context with more terms and other inference state
-pub goes_back-inferred : (a b : State) → b ≡ record a { terms = b.terms; inference = b.inference } → Keeps a.terms b.terms → inference.GoesBack a.inference b.inference → GoesBack a b
-goes_back-inferred a b e k i =
-    let same : GoesBack a a = goes_back-same a in
-    subst (GoesBack a) (sym e) (record {
-      tables = refl;
-      typing_mode = refl;
-      remaining_depth = refl;
-      stop_on_rerun = refl;
-      terms = k;
-      inference = i;
-      goals = same.goals;
-      taken = same.taken;
-      storage = same.storage;
-      accesses = same.accesses;
-      delayed_faults = same.delayed_faults;
-      mark = refl;
-    })
 
 -- followed terms are of the kind of arguments
 pub followed-kinds : (T U : List Tree) (ids rs : List TermId) → AreIn T ids → AreBelow (length U) rs → map (sort_at U) rs ≡ map (sort_at T) ids → All (IsOfKind U true) rs
@@ -481,25 +460,6 @@ module _ (a b z : State) (env : List Clause) (n : ℕ) (ls rs : List TermId) (u 
               state ∙ un.closed (closed-resolved a ls sides.1) (closed-resolved a rs sides.2),
             );
       }
-
--- a context in which only bindings came goes back
-pub goes_back-unified : (a b : State) → b ≡ record a { inference = b.inference } → inference.GoesBack a.inference b.inference → GoesBack a b
-goes_back-unified a b e i =
-    let same : GoesBack a a = goes_back-same a in
-    subst (GoesBack a) (sym e) (record {
-      tables = refl;
-      typing_mode = refl;
-      remaining_depth = refl;
-      stop_on_rerun = refl;
-      terms = same.terms;
-      inference = i;
-      goals = same.goals;
-      taken = same.taken;
-      storage = same.storage;
-      accesses = same.accesses;
-      delayed_faults = same.delayed_faults;
-      mark = refl;
-    })
 
 -- and then terms
 pub changes-unified : (a b : State) → b ≡ record a { inference = b.inference } → ChangesRecords a b

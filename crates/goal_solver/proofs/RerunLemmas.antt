@@ -10,11 +10,11 @@ use Rattle.goal_terms.specs.declared.modes.TypingMode.TheVariants as mode
 use Rattle.goal_terms.specs.declared.predicates.Clause.{Clause}
 use Rattle.goal_terms.specs.declared.terms.AliasTermKind.{AliasTermKind}
 use Rattle.goal_terms.specs.declared.terms.AliasTermKind.TheVariants.{ProjectionTy, ProjectionConst, InherentTy, InherentConst, OpaqueTy, FreeTy, FreeConst, UnevaluatedConst}
-use Rattle.goal_kinds.specs.Aliases.{OpaqueGives, OpaqueRefuted, AliasGives, AliasRefuted}
-use Rattle.goal_kinds.specs.Answers.{setting_of, which_term, maybe, IsAnswer}
-use Rattle.goal_kinds.specs.Level.{Level}
-use Rattle.goal_kinds.specs.Levels.{level}
-use Rattle.goal_kinds.specs.Words.{OfRow, Either}
+use Rattle.goal_lists.specs.Aliases.{OpaqueGives, OpaqueRefuted, AliasGives, AliasRefuted}
+use Rattle.goal_lists.specs.Answers.{setting_of, which_term, maybe, IsAnswer}
+use Rattle.goal_lists.specs.Level.{Level}
+use Rattle.goal_lists.specs.Levels.{level}
+use Rattle.goal_lists.specs.Words.{OfRow, Either}
 use Rattle.goal_eval.specs.Outcomes.{RunsAs}
 use Rattle.goal_eval.specs.declared.eval.outcomes.OnAccess.TheVariants as on_access
 use Rattle.goal_solver.specs.Added.{RecordsAccess}
@@ -59,9 +59,6 @@ accesses-alone a b c e f = f ∙ ap (λ (s : State). record s { accesses = c.acc
 -- what three calls leave one after the other
 pub restored-twice : (a b c : State) → b ≡ restored a b → c ≡ restored b c → c ≡ restored a c
 restored-twice a b c e f = f ∙ ap (λ (s : State). restored s c) e
-
-pub restored-between : (a b c d : State) → b ≡ restored a b → c ≡ record b { accesses = c.accesses } → d ≡ restored c d → d ≡ restored a d
-restored-between a b c d e f g = restored-twice a c d (restored-twice a b c e (f ∙ sym (ap (λ (s : State). restored b s) f))) g
 
 -- what is so over what the first run and its access leave is so over the context before
 pub rerun-over : (P : Tables → ℕ → Type 0) (a f b : State) → f ≡ restored a f → b ≡ record f { accesses = b.accesses } → P b.tables b.remaining_depth → P a.tables a.remaining_depth

@@ -26,7 +26,7 @@ use Rattle.goal_solver.specs.Relating.{ChangesInference}
 use Rattle.goal_solver.specs.State.{State}
 use Rattle.goal_solver.specs.Stored.{HasOneTypeAKey, IsSameKey}
 use Rattle.goal_solver.specs.Variables.{with_variables}
-use Rattle.goal_solver.proofs.VariableLemmas.{take-more}
+use Rattle.goal_kinds.proofs.ClassRuleLemmas.{take-more}
 use Rattle.goal_solver.proofs.StoredLemmas.{apart-taken}
 
 -- a variable that was made is one of those that there are

@@ -14,7 +14,7 @@ use Rattle.goal_terms.specs.declared.predicates.NormalizesTo.{NormalizesTo}
 use Rattle.goal_terms.specs.declared.predicates.Predicate.{Predicate}
 use Rattle.goal_terms.specs.declared.predicates.Predicate.TheVariants as predicate
 use Rattle.goal_infer.specs.Inference.{Inference}
-use Rattle.goal_kinds.specs.Level.{Level}
+use Rattle.goal_lists.specs.Level.{Level}
 use Rattle.goal_kinds.specs.declared.faults.Fault.{Fault}
 use Rattle.goal_kinds.specs.declared.faults.Fault.TheVariants as fault
 use Rattle.goal_solver.specs.AddedGoals.{AllTakeAt, TakesIts, HoldsIn, IsRefutedIn, IsAnswerable, AreAnswerableAt, BindsItsOwn, BindsFor, expected_in, IsGoalAnswer, count_of, AreSplit, AllHoldAt, SomeRefutedAt, LeavesUndecided, IsListed, IsRefusalAt, IsAnswerAt, IsGoneOver}

@@ -11,20 +11,20 @@ use Rattle.goal_terms.specs.declared.modes.TypingMode.{TypingMode}
 use Rattle.goal_terms.specs.declared.predicates.Clause.{Clause}
 use Rattle.goal_terms.specs.declared.term_nodes.TermId.{TermId}
 use Rattle.goal_tables.specs.declared.rows.Tables.{Tables}
-use Rattle.goal_kinds.specs.Answers.{setting_of}
-use Rattle.goal_kinds.specs.Entries.{ListGives, ListHoldsWith}
-use Rattle.goal_kinds.specs.Headers.{no_lifetime}
-use Rattle.goal_kinds.specs.Interned.{erased_at}
-use Rattle.goal_kinds.specs.Level.{Level}
-use Rattle.goal_kinds.specs.Levels.{level}
+use Rattle.goal_lists.specs.Answers.{setting_of}
+use Rattle.goal_lists.specs.Entries.{ListGives, ListHoldsWith}
+use Rattle.goal_lists.specs.Headers.{no_lifetime}
+use Rattle.goal_lists.specs.Interned.{erased_at}
+use Rattle.goal_lists.specs.Level.{Level}
+use Rattle.goal_lists.specs.Levels.{level}
 use Rattle.goal_kinds.specs.RuleLists.{names_arguments, entry_of, before, entries_of, list_of_rule}
 use Rattle.goal_kinds.specs.Rules.{RuleHolds, RuleGives}
-use Rattle.goal_kinds.specs.Settings.{Setting}
+use Rattle.goal_lists.specs.Settings.{Setting}
 use Rattle.goal_kinds.specs.declared.faults.Fault.{Fault}
 use Rattle.goal_kinds.specs.declared.faults.Fault.TheVariants as fault
 use Rattle.goal_kinds.specs.declared.rules.Rule.{Rule}
 use Rattle.goal_kinds.specs.declared.rules.RuleEntry.{RuleEntry}
-use Rattle.goal_kinds.proofs.ListTerms.{asks_none-gives, asks_none-with, weaker}
+use Rattle.goal_lists.proofs.ListTerms.{asks_none-gives, asks_none-with, weaker}
 use Rattle.goal_kinds.proofs.RuleLemmas.{entries_hold-said, one_given, gives-not_refuted, holds-not_refuted}
 use Rattle.goal_kinds.proofs.RulesAsLists.{rule_list-holds, rule_list-gives, rule_list-refuted}
 use Rattle.goal_solver.specs.Answers.{IsMaybe, level_over}

@@ -8,14 +8,15 @@ use Rattle.goal_terms.specs.TableMeaning.{Keeps}
 use Rattle.goal_terms.specs.Tree.{Tree}
 use Rattle.goal_terms.proofs.InternLemmas.{keeps-refl}
 use Rattle.goal_tables.specs.declared.rows.Tables.{Tables}
-use Rattle.goal_kinds.specs.Entries.{Arguments, Entry, arguments, row_clauses, row_conditions, expected, access, delayed_fault, undecided, EntriesHold, EntriesRefuted, AsksNoTerm}
-use Rattle.goal_kinds.specs.InternedEntries.{entry_at}
-use Rattle.goal_kinds.specs.Level.{Level}
+use Rattle.goal_lists.specs.Entries.{Arguments, Entry, arguments, row_clauses, row_conditions, expected, access, delayed_fault, undecided, EntriesHold, EntriesRefuted, AsksNoTerm}
+use Rattle.goal_lists.specs.InternedEntries.{entry_at}
+use Rattle.goal_lists.specs.Level.{Level}
 use Rattle.goal_kinds.specs.RuleLists.{arguments_of, expected_of, entry_of, names_arguments, before, entries_of}
-use Rattle.goal_kinds.specs.Rules.{clauses_in, conditions_in, has_term}
-use Rattle.goal_kinds.specs.Causes.{IsCausedEntry}
-use Rattle.goal_kinds.specs.declared.lists.InternedEntry.{InternedEntry}
-use Rattle.goal_kinds.specs.declared.lists.InternedEntry.TheVariants as interned
+use Rattle.goal_kinds.specs.Rules.{has_term}
+use Rattle.goal_lists.specs.RowWords.{clauses_in, conditions_in}
+use Rattle.goal_lists.specs.Causes.{IsCausedEntry}
+use Rattle.goal_lists.specs.declared.lists.InternedEntry.{InternedEntry}
+use Rattle.goal_lists.specs.declared.lists.InternedEntry.TheVariants as interned
 use Rattle.goal_kinds.specs.declared.rules.RuleEntry.{RuleEntry}
 use Rattle.goal_kinds.specs.declared.rules.RuleEntry.TheVariants as entry
 use Rattle.goal_terms.specs.declared.answers.DelayedFault.{DelayedFault}
@@ -28,7 +29,7 @@ use Rattle.goal_solver.specs.RunRules.{asked_by, asked_of, IsAskedOnce, asked_as
 use Rattle.goal_eval.specs.declared.eval.lists.progress.ListRun.{ListRun}
 use Rattle.goal_eval.specs.declared.eval.lists.progress.Reached.{Reached}
 use Rattle.goal_eval.specs.declared.eval.lists.progress.Reached.TheVariants as reached
-use Rattle.goal_kinds.specs.declared.outcomes.Outcome.TheVariants as outcome
+use Rattle.goal_lists.specs.declared.outcomes.Outcome.TheVariants as outcome
 use Rattle.goal_eval.specs.declared.eval.outcomes.Stop.{Stop}
 use Rattle.goal_solver.specs.declared.eval.run_rule.asked.Asked.{Asked}
 use Rattle.goal_solver.specs.declared.eval.run_rule.asked.Asked.TheVariants as asked

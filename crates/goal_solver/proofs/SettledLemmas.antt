@@ -16,30 +16,29 @@ use Rattle.goal_terms.specs.declared.term_nodes.TermId.{TermId}
 use Rattle.goal_infer.specs.ListUnification.{AllClosed}
 use Rattle.goal_infer.specs.Replacement.{replaced, replaced_row}
 use Rattle.goal_infer.specs.Unification.{IsClosed}
-use Rattle.goal_kinds.specs.Equality.{Equal, Unequal, EqualByForm, UnequalByForm, RowEqual, RowUnequal}
-use Rattle.goal_kinds.specs.Interned.{erased_at, erased_all}
-use Rattle.goal_kinds.specs.Level.{nothing, HasHeadForm, HeadFormRefuted}
-use Rattle.goal_kinds.specs.Levels.{level}
-use Rattle.goal_kinds.specs.Settings.{Setting}
-use Rattle.goal_kinds.specs.Words.{Pairs, SomePair}
-use Rattle.goal_kinds.proofs.EqualLemmas.{no_pair_apart}
-use Rattle.goal_kinds.specs.Joined.{both}
+use Rattle.goal_lists.specs.Equality.{Equal, Unequal, EqualByForm, UnequalByForm, RowEqual, RowUnequal}
+use Rattle.goal_lists.specs.Interned.{erased_at, erased_all}
+use Rattle.goal_lists.specs.Level.{nothing, HasHeadForm, HeadFormRefuted}
+use Rattle.goal_lists.specs.Levels.{level}
+use Rattle.goal_lists.specs.Settings.{Setting}
+use Rattle.goal_lists.specs.Words.{Pairs, SomePair}
+use Rattle.goal_lists.proofs.EqualLemmas.{no_pair_apart}
+use Rattle.goal_lists.specs.Joined.{both}
 use Rattle.goal_eval.specs.Outcomes.{RunsFor, Says, level_in, setting_in}
 use Rattle.goal_eval.specs.Pending.{HaveOneHead, IsOfKind}
 use Rattle.goal_terms.specs.Sorts.{sort_of, is_argument_sort}
 use Rattle.goal_solver.specs.Relating.{all_replaced, SaysEqual}
 use Rattle.goal_solver.specs.Settled.{IsSettled, AreSettled, HoldsWithMemory}
 use Rattle.goal_eval.specs.declared.eval.outcomes.Setting as over
-use Rattle.goal_kinds.specs.declared.outcomes.Outcome.{Outcome}
-use Rattle.goal_kinds.specs.declared.outcomes.Outcome.TheVariants as outcome
+use Rattle.goal_lists.specs.declared.outcomes.Outcome.{Outcome}
+use Rattle.goal_lists.specs.declared.outcomes.Outcome.TheVariants as outcome
 use Rattle.goal_eval.specs.declared.eval.outcomes.Stop.{Stop}
 use Rattle.goal_eval.specs.declared.eval.outcomes.Stop.TheVariants as stop
 use Rattle.goal_eval.proofs.MergingLemmas.{both-says, says-map}
 use Rattle.goal_eval.proofs.PendingLemmas.{parts-at}
-use Rattle.goal_eval.proofs.OutcomeLists.{take-whole}
-use Rattle.goal_solver.proofs.TermErrorLemmas.{some-passes}
 use Rattle.goal_eval.proofs.TopLemmas.{Compares, compares, same-settled}
 use Rattle.goal_terms.proofs.NodeTestLemmas.{some_node-erased}
+use Rattle.goal_solver.proofs.TrailLemmas.{row_of, first_or, rest_of}
 
 -- below every height only identical terms are equal
 mutual
@@ -66,19 +65,6 @@ abbrev head_or : Head → Tree → Head
 head_or d (node h ts) = h
 head_or d (alias k ts) = d
 head_or d (variable v) = d
-
-abbrev row_of : Tree → Trees
-row_of (node h ts) = ts
-row_of (alias k ts) = ts
-row_of (variable v) = none
-
-abbrev first_or : Tree → Trees → Tree
-first_or d none = d
-first_or d (more t ts) = t
-
-abbrev rest_of : Trees → Trees
-rest_of none = none
-rest_of (more t ts) = ts
 
 mutual
   unfolding Unequal UnequalByForm HasHeadForm HeadFormRefuted replaced
@@ -147,30 +133,6 @@ variable-parts (variable v) = either-none (is_any_infer (nodes.Variable v)) wher
   either-none true = refl
   either-none false = refl
 
--- a term that is a variable
-pub is_variable-has : (t : Tree) → is_any_infer (node_of t) ≡ true → some_node is_any_infer t ≡ true
-is_variable-has t e = variable-parts t ∙ ap (λ b. b || list_any (some_node is_any_infer) (parts_of t)) e
-
--- one with a variable in a part
-pub part_variable-has : (T : List Tree) (t : Tree) (ids : List TermId) (i : ℕ) (d : TermId) → map (tree_at T) ids ≡ parts_of t → i < length ids →
-    some_node is_any_infer (tree_at T (get_or ids i d)) ≡ true → some_node is_any_infer t ≡ true
-part_variable-has T t ids i d e l h =
-    variable-parts t ∙ ap (λ ts. is_any_infer (node_of t) || list_any (some_node is_any_infer) ts) (sym e)
-    ∙ either-true (is_any_infer (node_of t)) (list_any (some_node is_any_infer) (map (tree_at T) ids)) (some-passes (tree_at T) (some_node is_any_infer) ids i d l h) where
-      either-true : (a b : Bool) → b ≡ true → a || b ≡ true
-      either-true true b x = refl
-      either-true false b x = x
-
--- one that is none, and has none in its parts
-pub no_variable : (T : List Tree) (t : Tree) (ids : List TermId) (i : ℕ) → map (tree_at T) ids ≡ parts_of t → length ids ≤ i → is_any_infer (node_of t) ≡ false →
-    list_any (some_node is_any_infer) (take i (map (tree_at T) ids)) ≡ false → some_node is_any_infer t ≡ false
-no_variable T t ids i e l n h =
-    variable-parts t
-    ∙ either-false (is_any_infer (node_of t)) (list_any (some_node is_any_infer) (parts_of t)) n
-    (ap (list_any (some_node is_any_infer)) (sym e) ∙ ap (list_any (some_node is_any_infer)) (sym (take-whole (tree_at T) ids i l)) ∙ h) where
-      either-false : (a b : Bool) → a ≡ false → b ≡ false → a || b ≡ false
-      either-false a b x y = ap (λ z. z || b) x ∙ y
-
 -- lifetimes hold none
 pub closed-erased : (t : Tree) → some_node is_any_infer (erased t) ≡ some_node is_any_infer t
 closed-erased t = some_node-erased is_any_infer (λ h. refl) t
@@ -211,9 +173,6 @@ unfolding replaced
 parts-replaced ρ (node h ts) k e = row-replaced ρ ts
 parts-replaced ρ (alias h ts) k e = absurd (cc)
 parts-replaced ρ (variable v) k e = absurd (cc)
-
-closed-row : (ts : Trees) → some_in_row is_any_infer ts ≡ false → AllClosed (list_of ts)
-closed-row ts e = sym (row-variables ts) ∙ e
 
 closed-parts : (t : Tree) → IsClosed t → AllClosed (parts_of t)
 closed-parts t e = (neither (is_any_infer (node_of t)) (list_any (some_node is_any_infer) (parts_of t)) (sym (variable-parts t) ∙ e)).1

@@ -35,7 +35,7 @@ use Rattle.goal_infer.proofs.SolvedLemmas.{resolution-as}
 use Rattle.goal_solver.specs.Responses.{variable_of_kind, variable_made, variable_at, variables_at, bound_since_mark, bindings_of, IsValueOf, IsWithBindings, IsEntryOf, ListsSinceMark}
 use Rattle.goal_solver.specs.State.{State}
 use Rattle.goal_solver.proofs.StoredLemmas.{some-is}
-use Rattle.goal_solver.proofs.VariableLemmas.{take-more}
+use Rattle.goal_kinds.proofs.ClassRuleLemmas.{take-more}
 
 -- over a table that grows the same stands for each variable
 pub resolution-kept : (T U : List Tree) (s : Inference) → Keeps T U → IsSolved T s → resolution U s ≡ resolution T s
@@ -126,10 +126,6 @@ pub values-skipped : (ρ : Variable → Tree) (s : Inference) (ns : List ℕ) (i
 values-skipped ρ s ns i n ps l at is so_far =
     subst (λ (vs : List Variable). AllZip (IsValueOf ρ) vs ps)
     (sym (variables-more s ns i n l at ∙ ap (λ o. variables_at s (take i ns) ++ cons_option o []) is ∙ append-nil (variables_at s (take i ns)))) so_far
-
-pub values-all : (ρ : Variable → Tree) (s : Inference) (ns : List ℕ) (i : ℕ) (ps : List (ℕ × Term)) → length ns ≤ i →
-    AllZip (IsValueOf ρ) (variables_at s (take i ns)) ps → AllZip (IsValueOf ρ) (variables_at s ns) ps
-values-all ρ s ns i ps l so_far = subst (λ (ms : List ℕ). AllZip (IsValueOf ρ) (variables_at s ms) ps) (take_all i ns l) so_far
 
 -- one more entry
 pub entries-more : (ρ : Variable → Tree) (es : List (OpaqueTypeKey × Ty)) (i : ℕ) (e f : OpaqueTypeKey × Ty) (fs gs : List (OpaqueTypeKey × Ty)) → i < length es → e ≡ get_or es i e →

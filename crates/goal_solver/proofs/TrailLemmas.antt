@@ -23,16 +23,16 @@ use Rattle.goal_solver.specs.Responses.{variable_of_kind, variable_made, variabl
 use Rattle.goal_solver.proofs.StoredLemmas.{some-is}
 
 -- the row of a tree, and what a row begins with
-abbrev row_of : Tree → Trees
+abbrev pub row_of : Tree → Trees
 row_of (node h ts) = ts
 row_of (alias k ts) = ts
 row_of (variable v) = none
 
-abbrev first_or : Tree → Trees → Tree
+abbrev pub first_or : Tree → Trees → Tree
 first_or d none = d
 first_or d (more t ts) = t
 
-abbrev rest_of : Trees → Trees
+abbrev pub rest_of : Trees → Trees
 rest_of none = none
 rest_of (more t ts) = ts
 

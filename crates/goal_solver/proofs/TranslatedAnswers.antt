@@ -25,11 +25,11 @@ use Rattle.goal_infer.specs.Inference.{Inference}
 use Rattle.goal_infer.specs.Replacement.{OfKinds}
 use Rattle.goal_infer.specs.Resolution.{IsSolved}
 use Rattle.goal_infer.proofs.SolvedLemmas.{agrees-kept, solved-more}
-use Rattle.goal_kinds.specs.Headers.{under}
-use Rattle.goal_kinds.specs.ImplTerms.{Taken, from_projection, from_impl, from_other}
-use Rattle.goal_kinds.specs.Level.{Level}
-use Rattle.goal_kinds.specs.TraitGoals.{header_of}
-use Rattle.goal_kinds.specs.Words.{Pairs}
+use Rattle.goal_lists.specs.Headers.{under}
+use Rattle.goal_lists.specs.ImplTerms.{Taken, from_projection, from_impl, from_other}
+use Rattle.goal_lists.specs.Level.{Level}
+use Rattle.goal_lists.specs.TraitGoals.{header_of}
+use Rattle.goal_lists.specs.Words.{Pairs}
 use Rattle.goal_kinds.specs.declared.faults.Fault.{Fault}
 use Rattle.goal_eval.specs.ErasedArgs.{erased_args}
 use Rattle.goal_solver.specs.Answers.{IsOwed, level_over}

@@ -24,14 +24,14 @@ use Rattle.goal_infer.specs.Inference.{Inference}
 use Rattle.goal_infer.specs.Replacement.{replaced, number_of, kind_of_variable}
 use Rattle.goal_infer.specs.Resolution.{term_at, binding_in, binding_of, resolution, resolved, IsSolved, Agrees}
 use Rattle.goal_infer.specs.declared.undo.InferVariable.{InferVariable}
-use Rattle.goal_kinds.specs.Headers.{under, PartsFrom, AllKnown, Fits, Clashes}
-use Rattle.goal_kinds.specs.Interned.{erased_at, erased_all}
-use Rattle.goal_kinds.specs.Laws.{IsConsistent}
-use Rattle.goal_kinds.specs.Level.{Level}
-use Rattle.goal_kinds.specs.TraitGoals.{header_of}
+use Rattle.goal_lists.specs.Headers.{under, PartsFrom, AllKnown, Fits, Clashes}
+use Rattle.goal_lists.specs.Interned.{erased_at, erased_all}
+use Rattle.goal_lists.specs.Laws.{IsConsistent}
+use Rattle.goal_lists.specs.Level.{Level}
+use Rattle.goal_lists.specs.TraitGoals.{header_of}
 use Rattle.goal_kinds.specs.declared.faults.Fault.{Fault}
-use Rattle.goal_kinds.proofs.SubstitutionLemmas.{one_substitution}
-use Rattle.goal_kinds.proofs.UnderLemmas.{under-erased_term}
+use Rattle.goal_lists.proofs.SubstitutionLemmas.{one_substitution}
+use Rattle.goal_lists.proofs.UnderLemmas.{under-erased_term}
 use Rattle.goal_eval.specs.ErasedArgs.{erased_args}
 use Rattle.goal_solver.specs.Answers.{IsOwed}
 use Rattle.goal_eval.specs.Outcomes.{SaysMatch}

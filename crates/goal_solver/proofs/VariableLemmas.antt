@@ -1,7 +1,7 @@
 -- What fresh variables do to a context.
-use Rattle.std.proofs.Common.{◌≡◌, ℕ, zero, suc, ◌+◌, ◌<◌, List, [], ◌∷◌, ◌++◌, length, map, take, get_or, refl, sym, ap, ◌∙◌, subst, arith, append_assoc}
+use Rattle.std.proofs.Common.{◌≡◌, ℕ, suc, ◌+◌, ◌<◌, List, [], ◌∷◌, ◌++◌, length, map, take, get_or, refl, sym, ap, ◌∙◌, subst, arith, append_assoc}
 use Rattle.std.specs.Prelude.{Result, Ok, Err, OnErr}
-use Rattle.std.proofs.lemmas.List.{append-nil, map-append, length-map, length-append}
+use Rattle.std.proofs.lemmas.List.{map-append, length-map, length-append}
 use Rattle.std.proofs.Math.Seq.{take-length, take-append_seam, drop-length}
 use Rattle.goal_terms.specs.Tree.{Tree}
 use Rattle.goal_terms.specs.declared.answers.ParamKind.{ParamKind}
@@ -13,6 +13,7 @@ use Rattle.goal_infer.specs.declared.undo.InferVariable.{InferVariable}
 use Rattle.goal_infer.specs.Resolution.{IsSolved}
 use Rattle.goal_infer.proofs.SolvedLemmas.{solved-more}
 use Rattle.goal_infer.proofs.UndoLemmas.{state-is}
+use Rattle.goal_kinds.proofs.ClassRuleLemmas.{take-more}
 use Rattle.goal_solver.specs.GoingBack.{GoesBack, restored}
 use Rattle.goal_solver.specs.State.{State, kinds_in, kinds_of}
 use Rattle.goal_solver.specs.Variables.{unbound, with_kinds, with_variables, kind_for, fresh_arg, fresh_args}
@@ -48,10 +49,6 @@ goes_back-variables s ks =
 pub goes_back-when_made : (s z : State) (ks : List VarKind) → z ≡ with_variables ks s → GoesBack s z
 goes_back-when_made s z ks e = subst (GoesBack s) (sym e) (goes_back-variables s ks)
 
--- no fresh variables change nothing
-pub with_variables-none : (s : State) → with_variables [] s ≡ s
-with_variables-none s = ap (λ vs. record s { inference = record s.inference { variables = vs } }) (append-nil s.inference.variables)
-
 -- fresh variables are made in any pieces
 pub with_variables-append : (ks ms : List VarKind) (s : State) → with_variables ms (with_variables ks s) ≡ with_variables (ks ++ ms) s
 with_variables-append ks ms s =
@@ -68,18 +65,6 @@ count-with_variables ks s =
     ∙ length-append s.inference.variables (map unbound ks)
     ∙ ap (λ n. n + length (map unbound ks)) (sym (length-map s.inference.variables (λ (v : InferVariable). v.kind)))
     ∙ ap (λ n. length (kinds_of s) + n) (length-map ks unbound)
-
--- one more of the elements
-take-suc : {A : Type 0} (xs : List A) (i : ℕ) (d : A) → i < length xs → take (suc i) xs ≡ take i xs ++ get_or xs i d ∷ []
-take-suc [] i d h = absurd (omega arith)
-take-suc (x ∷ xs) zero d h = refl
-take-suc (x ∷ xs) (suc i) d h = ap (λ ys. x ∷ ys) (take-suc xs i d (omega arith))
-
-plus-one : (i : ℕ) → i + 1 ≡ suc i
-plus-one i = omega arith
-
-pub take-more : {A : Type 0} (xs : List A) (i : ℕ) (d : A) → i < length xs → take (i + 1) xs ≡ take i xs ++ get_or xs i d ∷ []
-take-more xs i d h = ap (λ n. take n xs) (plus-one i) ∙ take-suc xs i d h
 
 -- a fresh argument after others has a number after theirs
 pub fresh_args-append : (ks : List ParamKind) (k : ParamKind) (n : ℕ) →

@@ -4,7 +4,7 @@ use Rattle.std.specs.List.{Contains}
 use Rattle.goal_terms.specs.declared.answers.DelayedFault.{DelayedFault}
 use Rattle.goal_terms.specs.declared.answers.OpaqueAccess.{OpaqueAccess}
 use Rattle.goal_tables.specs.declared.rows.Tables.{Tables}
-use Rattle.goal_kinds.specs.Causes.{IsCaused, has_fault_cause}
+use Rattle.goal_lists.specs.Causes.{IsCaused, has_fault_cause}
 use Rattle.goal_eval.specs.Effects.{EndsIn}
 use Rattle.goal_solver.specs.State.{State}
 use Rattle.goal_eval.specs.declared.eval.outcomes.Stop.{Stop}

@@ -15,16 +15,16 @@ use Rattle.goal_terms.specs.declared.predicates.Goal.{Goal}
 use Rattle.goal_terms.specs.declared.predicates.Predicate.{Predicate}
 use Rattle.goal_terms.specs.declared.predicates.Predicate.TheVariants as predicate
 use Rattle.goal_terms.specs.declared.terms.Term.{Term}
-use Rattle.goal_kinds.specs.Level.{Level}
-use Rattle.goal_kinds.specs.Premises.{ClauseHolds, ClauseRefuted}
+use Rattle.goal_lists.specs.Level.{Level}
+use Rattle.goal_lists.specs.Premises.{ClauseHolds, ClauseRefuted}
 use Rattle.goal_eval.specs.ErasedArgs.{erased_args}
 use Rattle.goal_solver.specs.Answers.{IsOwed, IsStopped, level_over, AreClosed, IsClosedEquation}
 use Rattle.goal_solver.specs.Normalizing.{IsNormalizable, KeepsAll, BindsOutcome, TakesTerm}
 use Rattle.goal_solver.specs.State.{State}
 use Rattle.goal_kinds.specs.declared.faults.Fault.{Fault}
 use Rattle.goal_kinds.specs.declared.faults.Fault.TheVariants as fault
-use Rattle.goal_kinds.specs.declared.outcomes.Outcome.{Outcome}
-use Rattle.goal_kinds.specs.declared.outcomes.Outcome.TheVariants as outcome
+use Rattle.goal_lists.specs.declared.outcomes.Outcome.{Outcome}
+use Rattle.goal_lists.specs.declared.outcomes.Outcome.TheVariants as outcome
 use Rattle.goal_eval.specs.declared.eval.outcomes.Stop.{Stop}
 use Rattle.goal_terms.specs.NodeTests.{is_any_infer}
 use Rattle.goal_tables.specs.Predicates.{some_in_predicate, some_in_env}

@@ -8,7 +8,7 @@ use Rattle.goal_kinds.specs.KindWords.{KindWords}
 use Rattle.goal_kinds.specs.declared.faults.Fault.{Fault}
 use Rattle.goal_kinds.specs.declared.goal_kind.MergeRule.TheVariants as merge
 use Rattle.goal_solver.specs.Answers.{is_closed_alias, expected_variable}
-use Rattle.goal_solver.specs.Collecting.{Kind}
+use Rattle.goal_kinds.specs.Collecting.{Kind}
 use Rattle.goal_solver.specs.HostGoals.{AnswersHostGiven, host_through}
 use Rattle.goal_solver.specs.OpenAnswers.{MergesGoal, MergesThrough}
 use Rattle.goal_solver.specs.OpenGoals.{WhenAnswered}

@@ -9,11 +9,11 @@ use Rattle.goal_terms.specs.declared.predicates.Predicate.{Predicate}
 use Rattle.goal_terms.specs.declared.predicates.Predicate.TheVariants as predicate
 use Rattle.goal_tables.specs.Predicates.{lies_in_predicate, some_in_predicate, normalization_of}
 use Rattle.goal_tables.specs.declared.rows.Tables.{Tables}
-use Rattle.goal_kinds.specs.Answers.{whether, Answer, yes, yes_with, no, maybe, IsAnswer, decides, setting_of}
-use Rattle.goal_kinds.specs.Laws.{HaveSameImpls}
-use Rattle.goal_kinds.specs.Level.{Level}
-use Rattle.goal_kinds.specs.Levels.{level}
-use Rattle.goal_kinds.specs.Settings.{is_headline}
+use Rattle.goal_lists.specs.Answers.{whether, Answer, yes, yes_with, no, maybe, IsAnswer, decides, setting_of}
+use Rattle.goal_lists.specs.Laws.{HaveSameImpls}
+use Rattle.goal_lists.specs.Level.{Level}
+use Rattle.goal_lists.specs.Levels.{level}
+use Rattle.goal_lists.specs.Settings.{is_headline}
 use Rattle.goal_solver.specs.AddedGoals.{IsClosedGoal}
 use Rattle.goal_solver.specs.Answers.{is_closed_alias, level_over}
 use Rattle.goal_solver.specs.Goals.{IsAcceptedBy, goal_has}

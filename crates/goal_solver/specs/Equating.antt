@@ -9,13 +9,13 @@ use Rattle.goal_terms.specs.declared.modes.TypingMode.{TypingMode}
 use Rattle.goal_terms.specs.declared.predicates.Clause.{Clause}
 use Rattle.goal_infer.specs.ListUnification.{lists_are_plain}
 use Rattle.goal_infer.specs.Replacement.{OfKinds}
-use Rattle.goal_kinds.specs.Words.{Pairs}
+use Rattle.goal_lists.specs.Words.{Pairs}
 use Rattle.goal_solver.specs.Answers.{IsOwed, IsOwedBeyond, level_over}
 use Rattle.goal_solver.specs.Relating.{AgreesWith, Identifies, all_replaced, all_bound, AreDefinite, AreClosedSides, IsEqualAnswer, AreUndecided, LeavesOpen, SaysYes, Refuses, all_equated, AreIdentical}
 use Rattle.goal_solver.specs.State.{State, kinds_of}
 use Rattle.goal_kinds.specs.declared.faults.Fault.{Fault}
-use Rattle.goal_kinds.specs.declared.outcomes.Outcome.{Outcome}
-use Rattle.goal_kinds.specs.declared.outcomes.Outcome.TheVariants as outcome
+use Rattle.goal_lists.specs.declared.outcomes.Outcome.{Outcome}
+use Rattle.goal_lists.specs.declared.outcomes.Outcome.TheVariants as outcome
 
 -- what is answered of lists that aren't refuted
 abbrev pub certainty_of : Outcome → Certainty

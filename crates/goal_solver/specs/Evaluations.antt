@@ -5,9 +5,9 @@ use Rattle.goal_terms.specs.Tree.{Tree}
 use Rattle.goal_terms.specs.declared.modes.TypingMode.{TypingMode}
 use Rattle.goal_terms.specs.declared.predicates.Clause.{Clause}
 use Rattle.goal_terms.specs.declared.terms.AliasTermKind.{AliasTermKind}
-use Rattle.goal_kinds.specs.Level.{Level}
-use Rattle.goal_kinds.specs.Premises.{ClauseHolds, ClauseRefuted}
-use Rattle.goal_kinds.specs.Settings.{is_headline}
+use Rattle.goal_lists.specs.Level.{Level}
+use Rattle.goal_lists.specs.Premises.{ClauseHolds, ClauseRefuted}
+use Rattle.goal_lists.specs.Settings.{is_headline}
 use Rattle.goal_eval.specs.ErasedArgs.{erased_args}
 use Rattle.goal_solver.specs.Answers.{IsOwed, level_over}
 use Rattle.goal_eval.specs.Outcomes.{RunsAs, Says, SaysWhich, SaysThrough}
@@ -15,15 +15,15 @@ use Rattle.goal_solver.specs.Promises.{const_asked, equation_asked}
 use Rattle.goal_solver.specs.State.{State}
 use Rattle.goal_eval.specs.declared.eval.outcomes.Found.{Found}
 use Rattle.goal_eval.specs.declared.eval.outcomes.OnAccess.{OnAccess}
-use Rattle.goal_kinds.specs.declared.outcomes.Outcome.{Outcome}
+use Rattle.goal_lists.specs.declared.outcomes.Outcome.{Outcome}
 use Rattle.goal_eval.specs.declared.eval.outcomes.Stop.{Stop}
 use Rattle.goal_eval.specs.declared.eval.outcomes.Stop.TheVariants as stop
 use Rattle.goal_solver.specs.declared.eval.predicate_views.PredicateView.{PredicateView}
 use Rattle.goal_solver.specs.declared.eval.predicate_views.PredicateView.TheVariants as view
-use Rattle.goal_kinds.specs.Answers.{setting_of}
-use Rattle.goal_kinds.specs.Levels.{level}
+use Rattle.goal_lists.specs.Answers.{setting_of}
+use Rattle.goal_lists.specs.Levels.{level}
 use Rattle.goal_terms.specs.declared.ids.TraitId.{TraitId}
-use Rattle.goal_kinds.specs.declared.outcomes.TraitOutcome.{TraitOutcome}
+use Rattle.goal_lists.specs.declared.outcomes.TraitOutcome.{TraitOutcome}
 use Rattle.goal_terms.specs.declared.terms.AliasTerm.{AliasTerm}
 
 -- a predicate as it stands in a goal, lifetimes aside

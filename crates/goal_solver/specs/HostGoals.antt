@@ -1,18 +1,17 @@
 -- Host effect goals whose plain goals are taken to hold through a class, and what their candidates answer.
-use Rattle.std.specs.Prelude.{◌<◌, ℕ, Option, Some, None, Result, IfOk, IfSome}
+use Rattle.std.specs.Prelude.{◌<◌, ℕ, Option, Some, None, Result, IfOk, IfSome, List}
 use Rattle.goal_terms.specs.PredicateTrees.{PredicateTree, holds_const}
 use Rattle.goal_terms.specs.declared.answers.Response.{Response}
 use Rattle.goal_terms.specs.declared.answers.TraitGoalProvenVia.{TraitGoalProvenVia}
 use Rattle.goal_terms.specs.declared.modes.TypingMode.{TypingMode}
 use Rattle.goal_terms.specs.declared.predicates.BoundConstness.{BoundConstness}
 use Rattle.goal_terms.specs.declared.predicates.Clause.{Clause}
-use Rattle.std.specs.Prelude.{List}
-use Rattle.goal_kinds.specs.Answers.{IsAnswer, setting_of, whether}
+use Rattle.goal_lists.specs.Answers.{IsAnswer, setting_of, whether}
 use Rattle.goal_kinds.specs.CandidateRules.{seen_trait}
-use Rattle.goal_kinds.specs.Level.{Level}
-use Rattle.goal_kinds.specs.Levels.{level}
-use Rattle.goal_kinds.specs.Premises.{TraitTree}
-use Rattle.goal_kinds.specs.Settings.{Setting}
+use Rattle.goal_lists.specs.Level.{Level}
+use Rattle.goal_lists.specs.Levels.{level}
+use Rattle.goal_lists.specs.Premises.{TraitTree}
+use Rattle.goal_lists.specs.Settings.{Setting}
 use Rattle.goal_kinds.specs.declared.faults.Fault.{Fault}
 use Rattle.goal_solver.specs.Answers.{IsOwed, level_over}
 use Rattle.goal_solver.specs.Assembled.{level_above}
@@ -20,7 +19,7 @@ use Rattle.goal_eval.specs.Outcomes.{Says}
 use Rattle.goal_solver.specs.Promises.{whether_answered, decided_in, ChangesLifetimes, NamesNoClass, LeavesUndecided}
 use Rattle.goal_solver.specs.State.{State}
 use Rattle.goal_solver.specs.declared.effect_goals.proven_via.HostEffectThrough.{HostEffectThrough}
-use Rattle.goal_kinds.specs.declared.outcomes.Outcome.{Outcome}
+use Rattle.goal_lists.specs.declared.outcomes.Outcome.{Outcome}
 
 -- a const goal whose plain goal is taken to hold through a class
 pub record HostThrough : Type 0 where

@@ -24,7 +24,6 @@ pub mod OpenRuns
 pub mod Refusals
 pub mod Assembled
 pub mod TranslatedArgs
-pub mod Collecting
 pub mod OpenForms
 pub mod OpenGoals
 pub mod OpenProjections

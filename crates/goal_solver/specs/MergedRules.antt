@@ -9,8 +9,8 @@ use Rattle.goal_terms.specs.declared.ids.OpaqueId.{OpaqueId}
 use Rattle.goal_terms.specs.declared.predicates.Clause.{Clause}
 use Rattle.goal_terms.specs.declared.terms.Term.{Term}
 use Rattle.goal_terms.specs.declared.terms.Ty.{Ty}
-use Rattle.goal_kinds.specs.Words.{Exists}
-use Rattle.goal_kinds.specs.declared.outcomes.Outcome.{Outcome}
+use Rattle.goal_lists.specs.Words.{Exists}
+use Rattle.goal_lists.specs.declared.outcomes.Outcome.{Outcome}
 use Rattle.goal_kinds.specs.declared.rules.Rule.{Rule}
 use Rattle.goal_kinds.specs.declared.rules.RuleEntry.{RuleEntry}
 use Rattle.goal_solver.specs.MoreSpecial.{RunsAlone, AsksMoreSpecial, matched_impl, answer_beside}

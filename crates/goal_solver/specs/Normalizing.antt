@@ -13,11 +13,11 @@ use Rattle.goal_terms.specs.declared.terms.Term.{Term}
 use Rattle.goal_infer.specs.Binding.{bound_to}
 use Rattle.goal_infer.specs.Resolution.{binding_at, binding_of}
 use Rattle.goal_infer.specs.declared.undo.InferVariable.{InferVariable}
-use Rattle.goal_kinds.specs.Level.{Level}
-use Rattle.goal_kinds.specs.Interned.{IsIn, erased_at}
-use Rattle.goal_kinds.specs.KindedTerms.{NoKindFault, NoKindFaultInEnv}
-use Rattle.goal_kinds.specs.declared.outcomes.Outcome.{Outcome}
-use Rattle.goal_kinds.specs.declared.outcomes.Outcome.TheVariants as outcome
+use Rattle.goal_lists.specs.Level.{Level}
+use Rattle.goal_lists.specs.Interned.{IsIn, erased_at}
+use Rattle.goal_lists.specs.KindedTerms.{NoKindFault, NoKindFaultInEnv}
+use Rattle.goal_lists.specs.declared.outcomes.Outcome.{Outcome}
+use Rattle.goal_lists.specs.declared.outcomes.Outcome.TheVariants as outcome
 use Rattle.goal_eval.specs.ErasedArgs.{erased_args}
 use Rattle.goal_eval.specs.declared.eval.outcomes.Found.{Found}
 use Rattle.goal_eval.specs.declared.eval.outcomes.Found.TheVariants as found

@@ -12,7 +12,7 @@ use Rattle.goal_terms.specs.declared.terms.Ty.{Ty}
 use Rattle.goal_kinds.specs.declared.faults.Fault.{Fault}
 use Rattle.goal_eval.specs.ErasedArgs.{erased_args}
 use Rattle.goal_solver.specs.Answers.{IsOwed, level_over, AreClosed, IsTraitAnswer, IsOpen, IsMaybe}
-use Rattle.goal_solver.specs.Collecting.{Kind}
+use Rattle.goal_kinds.specs.Collecting.{Kind}
 use Rattle.goal_solver.specs.GoingBack.{restored}
 use Rattle.goal_solver.specs.OpenForms.{Answering, with_taking}
 use Rattle.goal_solver.specs.OpenGoals.{AsksOpenSelf, FormedBy, InTrialWith, MergesGoalWith, MergesOpenedWith, MergesTraitWith, WhenAnswered, at_depth}

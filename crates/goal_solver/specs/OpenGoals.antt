@@ -1,5 +1,5 @@
 -- How a trait goal with inference variables is answered: by its candidates, class by class.
-use Rattle.std.specs.Prelude.{◌≡◌, ◌⊎◌, ℕ, Bool, true, false, ◌||◌, List, [], ◌∷◌, Option, Some, None, Result, Ok, Err}
+use Rattle.std.specs.Prelude.{◌≡◌, ◌⊎◌, ℕ, Bool, true, false, List, [], ◌∷◌, Option, Some, None, Result, Ok, Err}
 use Rattle.goal_terms.specs.NodeTests.{general_variable_at}
 use Rattle.goal_terms.specs.Tree.{Tree, node_of}
 use Rattle.goal_terms.specs.Erased.{erased}
@@ -17,15 +17,12 @@ use Rattle.goal_terms.specs.declared.terms.AliasTerm.{AliasTerm}
 use Rattle.goal_terms.specs.declared.terms.Term.{Term}
 use Rattle.goal_terms.specs.declared.terms.Term.TheVariants as term
 use Rattle.goal_terms.specs.declared.terms.Ty.{Ty}
-use Rattle.goal_tables.specs.Predicates.{lies_in_env}
 use Rattle.goal_tables.specs.declared.rows.Tables.{Tables}
-use Rattle.goal_tables.specs.declared.sites.TermFault.{TermFault}
-use Rattle.goal_tables.specs.declared.sites.TermFault.TheVariants.{UnknownItem, WrongArgumentCount, WrongArgumentKind}
 use Rattle.goal_kinds.specs.declared.faults.Fault.{Fault}
 use Rattle.goal_kinds.specs.declared.faults.Fault.TheVariants as fault
 use Rattle.goal_kinds.specs.declared.rules.Rule.{Rule}
+use Rattle.goal_kinds.specs.Collecting.{has_kind_fault, rules_of_class, Kind, trait_kind, CollectsFor}
 use Rattle.goal_solver.specs.Answers.{IsMaybe}
-use Rattle.goal_solver.specs.Collecting.{Kind, trait_kind, CollectsFor}
 use Rattle.goal_solver.specs.Binding.{Applies, bound_term}
 use Rattle.goal_solver.specs.GoingBack.{begun, restored}
 use Rattle.goal_solver.specs.HeadForms.{is_open_form}
@@ -36,7 +33,7 @@ use Rattle.goal_solver.specs.Responses.{ListsSinceMark}
 use Rattle.goal_solver.specs.MergedRules.{MergesRules}
 use Rattle.goal_solver.specs.State.{State}
 use Rattle.goal_solver.specs.TranslatedArgs.{IsSameEnvironment}
-use Rattle.goal_solver.specs.declared.assembly.class_rules.ClassRules.{ClassRules}
+use Rattle.goal_kinds.specs.declared.assembly.class_rules.ClassRules.{ClassRules}
 use Rattle.goal_solver.specs.declared.assembly.merged_rules.Merged.{Merged}
 use Rattle.goal_solver.specs.declared.assembly.merged_rules.Merged.TheVariants as merged
 
@@ -60,13 +57,6 @@ pub record Considers {P : Type 0} (self_of : P → Option Ty) (with_self : P →
   pub general : general_variable_at (node_of (tree_of_ty form)) ≡ None
   pub replaced : with_self g.predicate (tree_of_ty form) h.predicate
   pub environment : IsSameEnvironment g.param_env.items h.param_env.items
-
--- whether an id, a number of arguments or a kind is wrong in a goal
-abbrev pub fault_in : {P : Type 0} → (P → Tables → TermFault → Bool) → Tables → Goal P → TermFault → Bool
-fault_in lies t g f = lies g.predicate t f || lies_in_env t f g.param_env.items
-
-abbrev pub has_kind_fault : {P : Type 0} → (P → Tables → TermFault → Bool) → Tables → Goal P → Bool
-has_kind_fault lies t g = fault_in lies t g UnknownItem || fault_in lies t g WrongArgumentCount || fault_in lies t g WrongArgumentKind
 
 -- there is no such form, or the goal for it isn't one that a check accepts
 abbrev pub IsLeft : {P : Type 0} → (P → Option Ty) → (P → Tree → P → Type 0) → (Goal P → Bool) → Goal P → State → State → Type 0
@@ -114,12 +104,7 @@ ByClasses Collects env (c ∷ cs) s r u =
 abbrev pub trait_classes : List TraitGoalProvenVia
 trait_classes = class.ParamEnv ∷ class.AliasBound ∷ class.Misc ∷ []
 
--- the rules of a class, and that some are these, in a mode
-abbrev pub rules_of_class : ClassRules → TraitGoalProvenVia → List Rule
-rules_of_class w class.ParamEnv = w.environment.items
-rules_of_class w class.AliasBound = w.bounds.items
-rules_of_class w class.Misc = w.rest.items
-
+-- some rules are those of a class, in a mode
 abbrev pub AreOfClass : TypingMode → ClassRules → TypingMode → TraitGoalProvenVia → List Rule → Type 0
 AreOfClass mode w m c rs = (m ≡ mode) × (rs ≡ rules_of_class w c)
 

@@ -20,14 +20,14 @@ use Rattle.goal_terms.specs.declared.terms.GenericArg.{GenericArg}
 use Rattle.goal_terms.specs.declared.terms.Term.{Term}
 use Rattle.goal_tables.specs.Clauses.{lies_in_equation}
 use Rattle.goal_tables.specs.declared.rows.Tables.{Tables}
-use Rattle.goal_kinds.specs.AliasLists.{alias_list}
-use Rattle.goal_kinds.specs.Answers.{setting_of}
-use Rattle.goal_kinds.specs.Premises.{TraitTree}
+use Rattle.goal_lists.specs.AliasLists.{alias_list}
+use Rattle.goal_lists.specs.Answers.{setting_of}
+use Rattle.goal_lists.specs.Premises.{TraitTree}
 use Rattle.goal_kinds.specs.ProjectionKind.{projected_trait}
-use Rattle.goal_kinds.specs.ProjectionLists.{equation_list}
-use Rattle.goal_kinds.specs.Projections.{projected_item}
+use Rattle.goal_lists.specs.ProjectionLists.{equation_list}
+use Rattle.goal_lists.specs.Projections.{projected_item}
 use Rattle.goal_kinds.specs.RuleLists.{IsListed}
-use Rattle.goal_kinds.specs.Rules.{given as given_args}
+use Rattle.goal_lists.specs.RowWords.{given as given_args}
 use Rattle.goal_kinds.specs.RuleWords.{TermsAreFor}
 use Rattle.goal_kinds.specs.declared.faults.Fault.{Fault}
 use Rattle.goal_kinds.specs.declared.faults.Fault.TheVariants as fault
@@ -37,20 +37,20 @@ use Rattle.goal_kinds.specs.declared.rules.RuleEntry.TheVariants as entry
 use Rattle.goal_kinds.specs.KindWords.{alias_words}
 use Rattle.goal_kinds.specs.declared.rules.RuleTerm.TheVariants as given
 use Rattle.goal_eval.specs.ErasedArgs.{erased_args}
+use Rattle.goal_kinds.specs.Collecting.{CollectsAll, classes_behind, Kind, kind_of, CollectsFor, has_kind_fault}
 use Rattle.goal_solver.specs.Answers.{IsOwed, level_over, AreClosed, IsTraitAnswer, IsOpen, IsMaybe}
-use Rattle.goal_solver.specs.Collecting.{Kind, kind_of, CollectsFor}
 use Rattle.goal_solver.specs.GoingBack.{restored}
 use Rattle.goal_solver.specs.MergedRules.{MergesRules}
 use Rattle.goal_solver.specs.HiddenTypes.{AsksForm, tree_in}
 use Rattle.goal_solver.specs.OpenForms.{Answering}
-use Rattle.goal_solver.specs.OpenGoals.{AnswersBeside, AsksOpenSelf, Considers, IsFormless, IsLeft, MergesOpenedWith, MergesTraitWith, PassesSelf, TakesSelf, WhenAnswered, at_depth, has_kind_fault}
+use Rattle.goal_solver.specs.OpenGoals.{AnswersBeside, AsksOpenSelf, Considers, IsFormless, IsLeft, MergesOpenedWith, MergesTraitWith, PassesSelf, TakesSelf, WhenAnswered, at_depth}
 use Rattle.goal_solver.specs.OpenRuns.{RunsOpen}
 use Rattle.goal_solver.specs.Refusals.{IsRefusedOpen}
 use Rattle.goal_solver.specs.State.{State}
 use Rattle.goal_solver.specs.TranslatedArgs.{IsSameEnvironment}
 use Rattle.goal_solver.specs.declared.assembly.merged_rules.Merged.{Merged}
 use Rattle.goal_solver.specs.declared.assembly.merged_rules.Merged.TheVariants as merged
-use Rattle.goal_solver.specs.declared.normalizes_to.groups.GroupRules.{GroupRules}
+use Rattle.goal_kinds.specs.declared.assembly.group_rules.GroupRules.{GroupRules}
 
 -- a class, if something is certain
 abbrev pub class_if : Certainty → Option TraitGoalProvenVia → Option TraitGoalProvenVia
@@ -84,17 +84,6 @@ args_behind (Some q) args = drop (length q.args) args
 -- the own arguments of a projection
 abbrev pub own_args : Tables → AliasTerm → List GenericArg
 own_args t a = args_behind (projected_trait t a) a.args.items
-
--- the rules of some classes, one after the other
-unfoldable pub CollectsAll : (TraitGoalProvenVia → List Rule → Type 0) → List TraitGoalProvenVia → List Rule → Type 0
-CollectsAll Collects [] rs = rs ≡ []
-CollectsAll Collects (c ∷ cs) rs = (ps : List Rule) × (qs : List Rule) × Collects c ps × CollectsAll Collects cs qs × (rs ≡ ps ++ qs)
-
--- the classes whose candidates are looked at after the environment, by the class through which the trait goal holds
-abbrev pub classes_behind : TraitGoalProvenVia → List TraitGoalProvenVia
-classes_behind class.ParamEnv = class.AliasBound ∷ []
-classes_behind class.AliasBound = class.AliasBound ∷ []
-classes_behind class.Misc = class.AliasBound ∷ class.Misc ∷ []
 
 -- whether a head form is there, and no general variable
 abbrev pub is_formed : Option Term → Bool

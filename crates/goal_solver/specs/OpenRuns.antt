@@ -30,20 +30,21 @@ use Rattle.goal_terms.specs.declared.terms.Ty.{Ty}
 use Rattle.goal_tables.specs.Rows.{impl_of, inherent_impl_of}
 use Rattle.goal_tables.specs.declared.rows.ImplRow.{ImplRow}
 use Rattle.goal_tables.specs.declared.rows.Tables.{Tables}
-use Rattle.goal_kinds.specs.Rules.{MatchedHeader, clauses_in, conditions_in, value_in}
-use Rattle.goal_kinds.specs.Settings.{is_headline}
+use Rattle.goal_kinds.specs.Rules.{MatchedHeader}
+use Rattle.goal_lists.specs.RowWords.{clauses_in, conditions_in, value_in}
+use Rattle.goal_lists.specs.Settings.{is_headline}
 use Rattle.goal_kinds.specs.declared.faults.Fault.{Fault}
 use Rattle.goal_kinds.specs.declared.faults.Fault.TheVariants as fault
-use Rattle.goal_kinds.specs.declared.rules.FirstUse.{FirstUse}
-use Rattle.goal_kinds.specs.declared.rules.FirstUse.TheVariants as first
-use Rattle.goal_kinds.specs.declared.rules.RowClauses.{RowClauses}
-use Rattle.goal_kinds.specs.declared.rules.RowClauses.TheVariants as clauses
+use Rattle.goal_lists.specs.declared.lists.FirstUse.{FirstUse}
+use Rattle.goal_lists.specs.declared.lists.FirstUse.TheVariants as first
+use Rattle.goal_lists.specs.declared.lists.RowClauses.{RowClauses}
+use Rattle.goal_lists.specs.declared.lists.RowClauses.TheVariants as clauses
 use Rattle.goal_kinds.specs.declared.rules.RuleArguments.{RuleArguments}
 use Rattle.goal_kinds.specs.declared.rules.RuleArguments.TheVariants as arguments
 use Rattle.goal_kinds.specs.declared.rules.RuleEntry.{RuleEntry}
 use Rattle.goal_kinds.specs.declared.rules.RuleEntry.TheVariants as entry
-use Rattle.goal_kinds.specs.declared.rules.RuleHeader.{RuleHeader}
-use Rattle.goal_kinds.specs.declared.rules.RuleHeader.TheVariants as header
+use Rattle.goal_lists.specs.declared.lists.RuleHeader.{RuleHeader}
+use Rattle.goal_lists.specs.declared.lists.RuleHeader.TheVariants as header
 use Rattle.goal_kinds.specs.declared.rules.RuleTerm.{RuleTerm}
 use Rattle.goal_kinds.specs.declared.rules.RuleTerm.TheVariants as term
 use Rattle.goal_solver.specs.Added.{has_goals, with_goals, RecordsAccess, RecordsFault}

@@ -22,18 +22,18 @@ use Rattle.goal_terms.specs.declared.predicates.TraitPredicate.{TraitPredicate}
 use Rattle.goal_terms.specs.declared.terms.Term.{Term}
 use Rattle.goal_tables.specs.Predicates.{some_in_env}
 use Rattle.goal_tables.specs.declared.rows.Tables.{Tables}
-use Rattle.goal_kinds.specs.Answers.{Question, whether, which_term, Answer, yes, yes_with, no, maybe, IsAnswer, decides, setting_of}
-use Rattle.goal_kinds.specs.Level.{Level}
-use Rattle.goal_kinds.specs.Levels.{level}
-use Rattle.goal_kinds.specs.Premises.{TraitTree}
+use Rattle.goal_lists.specs.Answers.{Question, whether, which_term, Answer, yes, yes_with, no, maybe, IsAnswer, decides, setting_of}
+use Rattle.goal_lists.specs.Level.{Level}
+use Rattle.goal_lists.specs.Levels.{level}
+use Rattle.goal_lists.specs.Premises.{TraitTree}
 use Rattle.goal_kinds.specs.declared.faults.Fault.{Fault}
 use Rattle.goal_kinds.specs.declared.faults.Fault.TheVariants as fault
-use Rattle.goal_kinds.specs.RuleModes.{first_use_of}
+use Rattle.goal_lists.specs.OpaqueUses.{first_use_of}
 use Rattle.goal_kinds.specs.RuleWords.{DefinesHidden}
-use Rattle.goal_kinds.specs.Settings.{is_headline}
+use Rattle.goal_lists.specs.Settings.{is_headline}
 use Rattle.goal_kinds.specs.declared.goal_kind.MergeRule.{MergeRule}
 use Rattle.goal_kinds.specs.declared.goal_kind.MergeRule.TheVariants as merge
-use Rattle.goal_kinds.specs.declared.rules.FirstUse.{FirstUse}
+use Rattle.goal_lists.specs.declared.lists.FirstUse.{FirstUse}
 use Rattle.goal_kinds.specs.declared.rules.RuleEntry.{RuleEntry}
 use Rattle.goal_eval.specs.ErasedArgs.{erased_args}
 use Rattle.goal_solver.specs.Answers.{IsOwed, IsOwedBeyond, level_over, AreClosed, is_closed_alias, IsClosedEquation, IsMaybe, IsAliasOpen, IsQuiet, IsQuietAside, expected_variable, IsTraitAnswer, IsAliasAnswer, IsOpen}

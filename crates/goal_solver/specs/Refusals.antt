@@ -15,16 +15,17 @@ use Rattle.goal_terms.specs.declared.terms.Term.{Term}
 use Rattle.goal_terms.specs.declared.terms.Term.TheVariants as expected
 use Rattle.goal_terms.specs.declared.terms.Ty.{Ty}
 use Rattle.goal_tables.specs.Rows.{impl_of}
-use Rattle.goal_kinds.specs.Rules.{MatchedHeader, value_in}
+use Rattle.goal_kinds.specs.Rules.{MatchedHeader}
+use Rattle.goal_lists.specs.RowWords.{value_in}
 use Rattle.goal_kinds.specs.declared.faults.Fault.{Fault}
 use Rattle.goal_kinds.specs.declared.faults.Fault.TheVariants as fault
-use Rattle.goal_kinds.specs.declared.rules.FirstUse.{FirstUse}
-use Rattle.goal_kinds.specs.declared.rules.FirstUse.TheVariants as first
+use Rattle.goal_lists.specs.declared.lists.FirstUse.{FirstUse}
+use Rattle.goal_lists.specs.declared.lists.FirstUse.TheVariants as first
 use Rattle.goal_kinds.specs.declared.rules.RuleArguments.{RuleArguments}
 use Rattle.goal_kinds.specs.declared.rules.RuleArguments.TheVariants as arguments
 use Rattle.goal_kinds.specs.declared.rules.RuleEntry.{RuleEntry}
 use Rattle.goal_kinds.specs.declared.rules.RuleEntry.TheVariants as entry
-use Rattle.goal_kinds.specs.declared.rules.RuleHeader.TheVariants as header
+use Rattle.goal_lists.specs.declared.lists.RuleHeader.TheVariants as header
 use Rattle.goal_kinds.specs.declared.rules.RuleTerm.{RuleTerm}
 use Rattle.goal_kinds.specs.declared.rules.RuleTerm.TheVariants as term
 use Rattle.goal_solver.specs.AddedGoals.{IsClosedGoal, IsRefutedIn, IsPending, count_of}

@@ -17,19 +17,19 @@ use Rattle.goal_infer.specs.ListUnification.{lists_are_plain, AllClosed}
 use Rattle.goal_infer.specs.Replacement.{replaced, OfKinds}
 use Rattle.goal_infer.specs.Resolution.{resolution, Agrees}
 use Rattle.goal_infer.specs.Unification.{is_open}
-use Rattle.goal_kinds.specs.Answers.{setting_of}
-use Rattle.goal_kinds.specs.Level.{Level}
-use Rattle.goal_kinds.specs.Levels.{level}
-use Rattle.goal_kinds.specs.Words.{Pairs, SomePair}
+use Rattle.goal_lists.specs.Answers.{setting_of}
+use Rattle.goal_lists.specs.Level.{Level}
+use Rattle.goal_lists.specs.Levels.{level}
+use Rattle.goal_lists.specs.Words.{Pairs, SomePair}
 use Rattle.goal_solver.specs.Answers.{IsOwed, IsOwedBeyond}
 use Rattle.goal_eval.specs.Outcomes.{Says}
 use Rattle.goal_solver.specs.State.{State, kinds_of}
 use Rattle.goal_kinds.specs.declared.faults.Fault.{Fault}
 use Rattle.goal_kinds.specs.declared.faults.Fault.TheVariants as fault
-use Rattle.goal_kinds.specs.declared.outcomes.Outcome.{Outcome}
-use Rattle.goal_kinds.specs.declared.outcomes.Outcome.TheVariants as outcome
+use Rattle.goal_lists.specs.declared.outcomes.Outcome.{Outcome}
+use Rattle.goal_lists.specs.declared.outcomes.Outcome.TheVariants as outcome
 use Rattle.goal_terms.specs.declared.term_nodes.TermId.{TermId}
-use Rattle.goal_kinds.specs.Interned.{erased_at, erased_all}
+use Rattle.goal_lists.specs.Interned.{erased_at, erased_all}
 use Rattle.goal_terms.specs.TableMeaning.{tree_at}
 
 -- a replacement of the variables of a context by trees agrees with what they are bound to

@@ -14,17 +14,17 @@ use Rattle.goal_terms.specs.declared.modes.TypingMode.{TypingMode}
 use Rattle.goal_terms.specs.declared.predicates.Clause.{Clause}
 use Rattle.goal_tables.specs.Predicates.{some_in_args, some_in_clause_kind, some_in_env}
 use Rattle.goal_tables.specs.declared.rows.Tables.{Tables}
-use Rattle.goal_kinds.specs.Causes.{IsFaultCaused}
-use Rattle.goal_kinds.specs.Answers.{setting_of, erased_predicate}
-use Rattle.goal_kinds.specs.Entries.{Arguments, of_header, Entry, ExpectedTerm, chosen_by}
-use Rattle.goal_kinds.specs.InternedEntries.{header_trees}
-use Rattle.goal_kinds.specs.Level.{Level}
+use Rattle.goal_lists.specs.Causes.{IsFaultCaused}
+use Rattle.goal_lists.specs.Answers.{setting_of, erased_predicate}
+use Rattle.goal_lists.specs.Entries.{Arguments, of_header, Entry, ExpectedTerm, chosen_by}
+use Rattle.goal_lists.specs.InternedEntries.{header_trees}
+use Rattle.goal_lists.specs.Level.{Level}
 use Rattle.goal_kinds.specs.RuleLists.{names_arguments, entry_of, before}
 use Rattle.goal_kinds.specs.Rules.{has_term, RuleHolds, RuleGives, RuleRefuted}
-use Rattle.goal_kinds.specs.Settings.{Setting}
+use Rattle.goal_lists.specs.Settings.{Setting}
 use Rattle.goal_kinds.specs.declared.faults.Fault.{Fault}
 use Rattle.goal_kinds.specs.declared.faults.Fault.TheVariants as fault
-use Rattle.goal_kinds.specs.declared.lists.RowHeader.{RowHeader}
+use Rattle.goal_lists.specs.declared.lists.RowHeader.{RowHeader}
 use Rattle.goal_kinds.specs.declared.rules.Candidate.{Candidate}
 use Rattle.goal_kinds.specs.declared.rules.Rule.{Rule}
 use Rattle.goal_kinds.specs.declared.rules.RuleArguments.{RuleArguments}
@@ -39,7 +39,7 @@ use Rattle.goal_solver.specs.State.{State}
 use Rattle.goal_eval.specs.declared.eval.lists.ListOutcome.{ListOutcome}
 use Rattle.goal_eval.specs.declared.eval.lists.progress.ListRun.{ListRun}
 use Rattle.goal_eval.specs.declared.eval.lists.progress.Reached.{Reached}
-use Rattle.goal_kinds.specs.declared.outcomes.Outcome.TheVariants as outcome
+use Rattle.goal_lists.specs.declared.outcomes.Outcome.TheVariants as outcome
 use Rattle.goal_solver.specs.declared.eval.run_rule.asked.Asked.{Asked}
 use Rattle.goal_solver.specs.declared.eval.run_rule.asked.Asked.TheVariants as asked
 use Rattle.goal_solver.specs.declared.eval.run_rule.recorded.ToRecord.{ToRecord}

@@ -8,15 +8,15 @@ use Rattle.goal_terms.specs.declared.predicates.Clause.{Clause}
 use Rattle.goal_infer.specs.ListUnification.{AllClosed, lists_are_plain}
 use Rattle.goal_infer.specs.Replacement.{replaced}
 use Rattle.goal_infer.specs.Unification.{IsClosed}
-use Rattle.goal_kinds.specs.Answers.{setting_of}
-use Rattle.goal_kinds.specs.Levels.{level}
-use Rattle.goal_kinds.specs.Words.{Pairs}
+use Rattle.goal_lists.specs.Answers.{setting_of}
+use Rattle.goal_lists.specs.Levels.{level}
+use Rattle.goal_lists.specs.Words.{Pairs}
 use Rattle.goal_eval.specs.Outcomes.{RunsFor, Says, level_in}
 use Rattle.goal_solver.specs.Relating.{Identifies, all_replaced, all_bound, AreClosedSides, SaysEqual}
 use Rattle.goal_solver.specs.State.{State, kinds_of}
 use Rattle.goal_eval.specs.declared.eval.outcomes.Setting as over
-use Rattle.goal_kinds.specs.declared.outcomes.Outcome.{Outcome}
-use Rattle.goal_kinds.specs.declared.outcomes.Outcome.TheVariants as outcome
+use Rattle.goal_lists.specs.declared.outcomes.Outcome.{Outcome}
+use Rattle.goal_lists.specs.declared.outcomes.Outcome.TheVariants as outcome
 use Rattle.goal_eval.specs.declared.eval.outcomes.Stop.{Stop}
 use Rattle.goal_eval.specs.declared.eval.outcomes.Stop.TheVariants as stop
 

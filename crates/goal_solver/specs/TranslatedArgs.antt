@@ -29,11 +29,11 @@ use Rattle.goal_tables.specs.declared.rows.Container.{Container}
 use Rattle.goal_tables.specs.declared.rows.Container.TheVariants as container
 use Rattle.goal_tables.specs.declared.rows.ImplRow.{ImplRow}
 use Rattle.goal_infer.specs.Replacement.{OfKinds}
-use Rattle.goal_kinds.specs.Headers.{under, AllKnown, Fits, Clashes}
-use Rattle.goal_kinds.specs.ImplTerms.{Taken, from_projection, from_impl, from_other}
-use Rattle.goal_kinds.specs.Level.{Level}
-use Rattle.goal_kinds.specs.TraitGoals.{header_of}
-use Rattle.goal_kinds.specs.Words.{Pairs}
+use Rattle.goal_lists.specs.Headers.{under, AllKnown, Fits, Clashes}
+use Rattle.goal_lists.specs.ImplTerms.{Taken, from_projection, from_impl, from_other}
+use Rattle.goal_lists.specs.Level.{Level}
+use Rattle.goal_lists.specs.TraitGoals.{header_of}
+use Rattle.goal_lists.specs.Words.{Pairs}
 use Rattle.goal_kinds.specs.declared.faults.Fault.{Fault}
 use Rattle.goal_kinds.specs.declared.faults.Fault.TheVariants as fault
 use Rattle.goal_solver.specs.Added.{with_goals}

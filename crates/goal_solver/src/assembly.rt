@@ -1,10 +1,10 @@
 //! The candidates of goals of each kind, assembled and merged.
 ghost use Rattle.std.specs.Prelude.{◌≡◌, suc, length, Some, None, IfOk, IsOkUnless};
-ghost use Rattle.goal_kinds.specs.Answers.{maybe};
+ghost use Rattle.goal_lists.specs.Answers.{maybe};
 ghost use Rattle.goal_solver.specs.Answers.{IsQuiet, IsQuietAside, IsFaultOf};
 ghost use Rattle.goal_solver.specs.Assembling.{AnswersAsTrait, MergesAsTrait, AnswersAsHost, MergesAsHost, AnswersAsAlias, MergesAsAlias};
 ghost use Rattle.goal_solver.specs.Binding.{IsApplicable};
-ghost use Rattle.goal_solver.specs.Collecting.{kind_of};
+ghost use Rattle.goal_kinds.specs.Collecting.{kind_of};
 ghost use Rattle.goal_solver.specs.GoingBack.{GoesBack, restored};
 ghost use Rattle.goal_solver.specs.HostGoals.{AnswersHostGiven, host_with};
 ghost use Rattle.goal_solver.specs.OpenAnswers.{MergesGoal};
@@ -13,8 +13,7 @@ ghost use Rattle.goal_solver.specs.OpenHostGoals.{MergesConst};
 ghost use Rattle.goal_solver.specs.Promises.{AnswersGiven, AnswersTraitAbove, AppliesGiven, IsClosedGoal, IsUndecidedResponse, asked_through, given_through};
 ghost use Rattle.goal_solver.specs.State.{kinds_of};
 
-pub(crate) mod class_rules;
-pub(crate) mod collecting;
+pub(crate) mod formed_rules;
 pub(crate) mod merged_rules;
 pub(crate) mod more_special;
 

@@ -3,9 +3,9 @@ ghost use Rattle.std.specs.Prelude.{◌≡◌, ◌≢◌, ◌↔◌, true, IsTru
 ghost use Rattle.goal_terms.specs.TableMeaning.{HasTerm};
 ghost use Rattle.goal_tables.specs.Faults.{IsChecked};
 ghost use Rattle.goal_tables.specs.Predicates.{normalization_of};
-ghost use Rattle.goal_kinds.specs.Answers.{decides, yes_with};
-ghost use Rattle.goal_kinds.specs.Interned.{erased_at};
-ghost use Rattle.goal_kinds.specs.Settings.{is_headline};
+ghost use Rattle.goal_lists.specs.Answers.{decides, yes_with};
+ghost use Rattle.goal_lists.specs.Interned.{erased_at};
+ghost use Rattle.goal_lists.specs.Settings.{is_headline};
 ghost use Rattle.goal_solver.specs.Comparisons.{AreComparable, DifferInOrder, IsAcceptedOver, IsAnswerHere, IsAnswerIn, IsCompared, IsComparison, MayRun, answer_of, WhereAsked};
 
 use crate::context::{EvalCtxt, GREATEST_LIMIT};
@@ -22,7 +22,7 @@ use goal_terms::term_nodes::TermId;
 use goal_terms::terms::Term;
 
 /// What two runs of one goal come to.
-#[derive(Clone, Copy, Debug, PartialEq, Eq, Hash)]
+#[derive(Clone, Copy, Debug, PartialEq, Eq)]
 pub enum Comparison {
     /// Both leave the goal undecided, both refute it, or both answer `Yes` with the same term, lifetimes aside.
     Same,

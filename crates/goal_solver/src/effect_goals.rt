@@ -1,6 +1,6 @@
 //! Goals that a trait holds as a const trait.
 ghost use Rattle.std.specs.Prelude.{◌≡◌, IfOk};
-ghost use Rattle.goal_kinds.specs.Answers.{whether};
+ghost use Rattle.goal_lists.specs.Answers.{whether};
 ghost use Rattle.goal_solver.specs.Accesses.{RecordsCaused, RecordsCausedFaults};
 ghost use Rattle.goal_solver.specs.Answers.{IsFaultOf};
 ghost use Rattle.goal_solver.specs.Binding.{IsApplicable};

@@ -3,8 +3,8 @@ ghost use Rattle.std.specs.Prelude.{◌≡◌, ◌⊎◌, ◌∷◌, true, false
 ghost use Rattle.goal_terms.specs.TableMeaning.{HasTerm};
 ghost use Rattle.goal_terms.specs.declared.answers.Certainty.TheVariants as certainty;
 ghost use Rattle.goal_terms.specs.declared.terms.Term.{Term as term};
-ghost use Rattle.goal_kinds.specs.Answers.{maybe};
-ghost use Rattle.goal_kinds.specs.Interned.{erased_at};
+ghost use Rattle.goal_lists.specs.Answers.{maybe};
+ghost use Rattle.goal_lists.specs.Interned.{erased_at};
 ghost use Rattle.goal_solver.specs.Accesses.{RecordsCaused, RecordsCausedFaults};
 ghost use Rattle.goal_solver.specs.Answers.{is_closed_alias, GivesTo, expected_variable, AnswersAside, AnswersQuietly, IsFaultOf};
 ghost use Rattle.goal_solver.specs.Binding.{IsApplicable};
@@ -14,7 +14,6 @@ ghost use Rattle.goal_solver.specs.Promises.{AnswersAlias, DefinesAlias, IsClose
 ghost use Rattle.goal_solver.specs.Recording.{is_ambiguous};
 ghost use Rattle.goal_solver.specs.State.{kinds_of};
 
-pub(crate) mod groups;
 pub(crate) mod hidden_types;
 pub(crate) mod open;
 pub(crate) mod proven_via;

@@ -2,7 +2,7 @@
 ghost use Rattle.std.specs.Prelude.{◌≡◌, ◌∷◌, [], map, OnErr};
 ghost use Rattle.goal_terms.specs.TableMeaning.{tree_at};
 ghost use Rattle.goal_terms.specs.TreeOf.{tree_of_term, trees_of};
-ghost use Rattle.goal_kinds.specs.Interned.{AreIn};
+ghost use Rattle.goal_lists.specs.Interned.{AreIn};
 ghost use Rattle.goal_solver.specs.Accesses.{RecordsCausedFaults};
 ghost use Rattle.goal_solver.specs.Equating.{IsEquated, certainty_of};
 ghost use Rattle.goal_solver.specs.GoingBack.{GoesBack, restored};
@@ -17,7 +17,7 @@ use crate::context::EvalCtxt;
 use crate::faults::Fault;
 use goal_eval::eval::interning::{intern_args, intern_pair};
 use goal_eval::eval::outcomes::Stop;
-use goal_kinds::outcomes::Outcome;
+use goal_lists::outcomes::Outcome;
 use goal_terms::answers::Certainty;
 use goal_terms::predicates::Clause;
 use goal_terms::term_nodes::TermId;

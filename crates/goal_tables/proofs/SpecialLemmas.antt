@@ -1,12 +1,12 @@
 -- The search for the impls that are more special than one, step by step.
-use Rattle.std.proofs.Common.{◌≡◌, ℕ, zero, suc, ◌+◌, ◌-◌, ◌<◌, ◌≤◌, Bool, true, false, List, [], ◌∷◌, ◌++◌, length, take, set, get_or, map, Option, Some, None, ◌⊎◌, inl, inr, refl, sym, ap, ◌∙◌, subst, append_assoc, append-nil, length-append, length-set, get_or-set_same, get_or-set_other, arith}
-use Rattle.std.specs.Prelude.{slice_get, slice_index_or, find, ◌==◌, ◌||◌, ◌≢◌, Vec}
-use Rattle.std.specs.List.{All, Contains, list_any, Any}
+use Rattle.std.proofs.Common.{◌≡◌, ℕ, zero, suc, ◌+◌, ◌-◌, ◌<◌, ◌≤◌, Bool, true, false, List, [], ◌∷◌, ◌++◌, length, take, set, get_or, map, Option, Some, None, ◌⊎◌, inl, inr, refl, sym, ap, ◌∙◌, subst, append_assoc, append-nil, length-append, length-set, get_or-set_other, arith}
+use Rattle.std.specs.Prelude.{slice_get, find, ◌==◌, ◌||◌, ◌≢◌, Vec}
+use Rattle.std.specs.List.{All, Contains, list_any}
 use Rattle.std.proofs.lemmas.List.{take_more, length_push, get_or_append_left, get_or-append-add, get_or_default}
-use Rattle.std.proofs.lemmas.List.Elements.{All-nil, All-cons, All-head, All-tail, All-from_get_or, All-append, All-weaker, All-contains, Contains-append_left, Contains-append_right, Contains-push, Contains-append_cases}
+use Rattle.std.proofs.lemmas.List.Elements.{All-nil, All-cons, All-head, All-tail, All-from_get_or, All-append, All-weaker, All-contains, Contains-append_left, Contains-append_right, Contains-push}
 use Rattle.std.proofs.lemmas.List.Folds.{Any-from_list_any, list_any-from_Any, list_any_more}
 use Rattle.std.proofs.lemmas.Bool.{eqb-true, eqb-false}
-use Rattle.std.proofs.lemmas.Option.{slice_get-get_or, get_or_from_slice_get, slice_get_within}
+use Rattle.std.proofs.lemmas.Option.{get_or_from_slice_get, slice_get_within}
 use Rattle.goal_terms.specs.declared.ids.ImplId.{ImplId}
 use Rattle.goal_tables.specs.Options.{option_holds}
 use Rattle.goal_tables.specs.Indexed.{IsReachedAt, StandsAmong, AreMoreSpecial, AreSpecialLists}
@@ -67,17 +67,6 @@ finds-nothing t s h = record {
 }
 
 -- one that finds an impl again
-pub finds-again : (t : Tables) (s : Search) (p : ℕ) (q : ImplRow) → IsSearch (length t.impls.items) s → get_or s.marks.items p false ≡ true →
-    slice_get t.impls.items p ≡ Some q → Finds t (q ∷ []) s s
-finds-again t s p q h marked e = record {
-  valid = h;
-  new = [];
-  found = sym (append-nil s.found.items);
-  balance = refl;
-  sound = All-nil (IsOfList t (q ∷ []));
-  whole = All-cons (StandsAmong t.impls.items s.found.items) q [] (p, h.marked p marked, e) (All-nil (StandsAmong t.impls.items s.found.items));
-}
-
 marked-on : (marks : List Bool) (found : List ℕ) (p m : ℕ) → p < length marks → ((k : ℕ) → get_or marks k false ≡ true → Contains found k) →
     get_or (set marks p true) m false ≡ true → (p ≡ m) ⊎ (p ≢ m) → Contains (found ++ p ∷ []) m
 marked-on marks found p m l h e (inl same) = subst (Contains (found ++ p ∷ [])) same (Contains-push found p)

@@ -1,5 +1,5 @@
 -- The row of an id: the first that has it.
-use Rattle.std.specs.Prelude.{Bool, ◌==◌, ◌&&◌, ◌||◌, List, [], Option, Some, None, find, filter, map}
+use Rattle.std.specs.Prelude.{ℕ, ◌+◌, Bool, ◌==◌, ◌&&◌, ◌||◌, List, [], length, Option, Some, None, find, filter, map}
 use Rattle.std.specs.Option.{option_and_then}
 use Rattle.goal_tables.specs.Places.{same_pair, has_double}
 use Rattle.goal_terms.specs.declared.ids.TraitId.{TraitId}
@@ -94,10 +94,6 @@ impls_of t id = filter (λ r. r.trait_id.0 == id.0) t.impls.items
 abbrev pub items_of : Tables → TraitId → List ItemId
 items_of t id = items_listed (trait_of t id)
 
--- the inherent impl of an inherent item
-abbrev pub impl_of_inherent : Tables → InherentId → Option InherentImplRow
-impl_of_inherent t id = option_and_then (λ r. inherent_impl_of t r.impl_id) (inherent_of t id)
-
 -- whether two lang items are the same
 abbrev pub same_lang_item : LangItem → LangItem → Bool
 same_lang_item a b = (items.ghosts).eq a b
@@ -164,3 +160,20 @@ doubled_source t = has_double same_pair (map (λ r. (r.impl_id.0, r.item_id.0)) 
 unfoldable pub doubled_lang : Tables → Bool
 doubled_lang t =
     has_double same_lang_item (map (λ r. r.item) t.lang_items.items) || has_double same_lang_target (map (λ r. r.target) t.lang_items.items)
+
+-- how many rows there are, in all lists
+abbrev pub row_count : Tables → ℕ
+row_count t =
+    length t.traits.items
+    + length t.items.items
+    + length t.impls.items
+    + length t.definitions.items
+    + length t.sources.items
+    + length t.free_aliases.items
+    + length t.inherent_impls.items
+    + length t.inherent_items.items
+    + length t.opaque_types.items
+    + length t.adts.items
+    + length t.functions.items
+    + length t.closures.items
+    + length t.lang_items.items

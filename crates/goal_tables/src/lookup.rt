@@ -11,7 +11,7 @@ ghost use Rattle.goal_tables.specs.declared.rows.ImplRow.{ImplRow as impl_row};
 ghost use Rattle.goal_tables.specs.declared.rows.Tables.{Tables as tables_of};
 ghost use Rattle.goal_tables.specs.Places.{same_pair};
 ghost use Rattle.goal_tables.specs.Indexed.{IsRowIndex, IsSourceIndex, IsLangIndex, AreListings, AreMoreSpecial, AreSpecialLists, IfSpecialLists, list_at, lists_number as lists_item_number, lists_twice};
-ghost use Rattle.goal_tables.specs.Rows.{trait_of, item_of, impl_of, definition_of, free_of, inherent_impl_of, inherent_of, opaque_of, adt_of, function_of, closure_of, source_of, impls_of, items_of, impl_of_inherent, same_lang_item, same_lang_target, lang_of, lang_naming, lang_trait_of, lang_item_of, lang_adt_of, doubled_id, doubled_source, doubled_lang};
+ghost use Rattle.goal_tables.specs.Rows.{trait_of, item_of, impl_of, definition_of, free_of, inherent_impl_of, inherent_of, opaque_of, adt_of, function_of, closure_of, source_of, impls_of, items_of, same_lang_item, same_lang_target, lang_of, lang_naming, lang_trait_of, lang_item_of, lang_adt_of, doubled_id, doubled_source, doubled_lang};
 
 use crate::impls_by_head::places_with_head;
 use crate::index::{RowIndex, place_of, row_at};
@@ -252,14 +252,6 @@ impl IndexedTables {
             None => &[],
             Some(row) => row.items.as_slice(),
         }
-    }
-
-    /// The inherent impl of an inherent item.
-    pub fn impl_of_inherent(&self, id: InherentId) -> Option<&InherentImplRow>
-        ensures { option_copied result ≡ impl_of_inherent self.now id }
-    {
-        let row = self.inherent_row(id)?;
-        self.inherent_impl_row(row.impl_id)
     }
 
     /// The row of a lang item.

@@ -1,3 +1,6 @@
+ghost use Rattle.std.specs.Prelude.{◌≡◌};
+ghost use Rattle.goal_tables.specs.Rows.{row_count};
+
 use crate::lang::LangRow;
 use goal_terms::answers::ParamKind;
 use goal_terms::ids::{
@@ -6,6 +9,7 @@ use goal_terms::ids::{
 };
 use goal_terms::predicates::{Clause, TraitRef};
 use goal_terms::terms::{FnSig, GenericArg, Term, Ty};
+use std::alloc::Global;
 
 /// A trait. Parameter 0 is the self type. `predicates` and `const_conditions` are those of a trait
 /// alias, and are under the trait's parameters.
@@ -381,6 +385,29 @@ pub struct Tables {
     pub functions: Vec<FnRow>,
     pub closures: Vec<ClosureRow>,
     pub lang_items: Vec<LangRow>,
+}
+
+impl Tables {
+    /// Tables without rows, whose lists grow by this allocator. It takes no memory.
+    pub fn new(alloc: Global) -> Self
+        ensures empty { row_count result ≡ 0 }
+    {
+        Tables {
+            traits: Vec::new(alloc),
+            items: Vec::new(alloc),
+            impls: Vec::new(alloc),
+            definitions: Vec::new(alloc),
+            sources: Vec::new(alloc),
+            free_aliases: Vec::new(alloc),
+            inherent_impls: Vec::new(alloc),
+            inherent_items: Vec::new(alloc),
+            opaque_types: Vec::new(alloc),
+            adts: Vec::new(alloc),
+            functions: Vec::new(alloc),
+            closures: Vec::new(alloc),
+            lang_items: Vec::new(alloc),
+        }
+    }
 }
 
 impl Drop for Tables {

@@ -1,6 +1,6 @@
 -- Rewriting, variant by variant.
 use Rattle.std.proofs.Common.{◌≡◌, ℕ, List, [], ◌∷◌, ◌++◌, length, map, Vec, Box, Global, refl, ap, ◌∙◌}
-use Rattle.goal_terms.specs.Folding.{Folding, raised, depth_below, folded_node, folded, folded_row, entering, entered_parts}
+use Rattle.goal_terms.specs.Folding.{Folding, raised, depth_below, folded_node, folded, folded_row}
 use Rattle.goal_terms.specs.Tops.{depth_of_parts}
 use Rattle.goal_terms.specs.Tree.{Tree, Trees, node, alias, variable, none, more, forest, list_of, node_of, parts_of}
 use Rattle.goal_terms.specs.TreeOf.{leaf, at_type, at_const, tree_of_ty, tree_of_const, tree_of_arg, tree_of_term, tree_of_clause, tree_of_alias, tree_of_sig}
@@ -277,18 +277,3 @@ folded_sig f d s =
 
 -- what becomes of each variant
 pub ruleset folding_equations = (trees.tree_equations, folded_ty-Bool, folded_ty-Char, folded_ty-Int, folded_ty-Uint, folded_ty-Float, folded_ty-Str, folded_ty-Never, folded_ty-Adt, folded_ty-Foreign, folded_ty-Array, folded_ty-Slice, folded_ty-RawPtr, folded_ty-Ref, folded_ty-FnDef, folded_ty-FnPtr, folded_ty-Closure, folded_ty-Dynamic, folded_ty-Tuple, folded_ty-Param, folded_ty-Placeholder, folded_ty-Alias, folded_const-Alias, folded_ty-Infer, folded_ty-Error, folded_const-Value, folded_const-Param, folded_const-Placeholder, folded_const-Infer, folded_const-Error, folded_arg-Ty, folded_arg-Const, folded_arg-Lifetime, folded_term-Ty, folded_term-Const, folded_clause-Trait, folded_clause-Projection, folded_alias, folded_sig)
-
-pub entered_clause-Trait : (rs : List (ℕ × Region)) (i : TraitId) (args : Vec GenericArg Global) → entered_parts rs (tree_of_clause (clause.Trait i args)) ≡ node (head.DynTrait i (length args.items)) (forest (map (folded (entering rs) 0) (map tree_of_arg args.items)))
-entered_clause-Trait rs i args =
-    ap (entered_parts rs) (trees.tree_of_clause-Trait i args) ∙ ap (λ us. node (head.DynTrait i (length args.items)) us) (folded_row-forest (entering rs) 0 (map tree_of_arg args.items))
-
-pub entered_clause-Projection : (rs : List (ℕ × Region)) (i : ItemId) (args : Vec GenericArg Global) (t : Term) → entered_parts rs (tree_of_clause (clause.Projection i args t)) ≡ node (head.DynProjection i (length args.items)) (forest (map (folded (entering rs) 0) (map tree_of_arg args.items) ++ folded (entering rs) 0 (tree_of_term t) ∷ []))
-entered_clause-Projection rs i args t =
-    ap (entered_parts rs) (trees.tree_of_clause-Projection i args t) ∙ ap (λ us. node (head.DynProjection i (length args.items)) us) (folded_row-forest (entering rs) 0 (map tree_of_arg args.items ++ tree_of_term t ∷ []) ∙ ap forest (map_append_last (entering rs) 0 (map tree_of_arg args.items) (tree_of_term t)))
-
-pub entered_sig : (rs : List (ℕ × Region)) (s : FnSig) → entered_parts rs (tree_of_sig s) ≡ node (head.FnPtr s.bound_regions (length s.inputs.items) s.fn_traits) (forest (map (folded (entering rs) 0) (map tree_of_ty s.inputs.items) ++ folded (entering rs) 0 (tree_of_ty s.output) ∷ []))
-entered_sig rs s =
-    ap (entered_parts rs) (trees.tree_of_sig-record s) ∙ ap (λ us. node (head.FnPtr s.bound_regions (length s.inputs.items) s.fn_traits) us) (folded_row-forest (entering rs) 0 (map tree_of_ty s.inputs.items ++ tree_of_ty s.output ∷ []) ∙ ap forest (map_append_last (entering rs) 0 (map tree_of_ty s.inputs.items) (tree_of_ty s.output)))
-
--- what becomes of a binder that is entered
-pub ruleset entering_equations = (trees.tree_equations, entered_clause-Trait, entered_clause-Projection, entered_sig)

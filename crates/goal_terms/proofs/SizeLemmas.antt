@@ -35,11 +35,6 @@ sizes-take [] (suc i) = omega arith
 sizes-take (t ∷ ts) zero = omega arith
 sizes-take (t ∷ ts) (suc i) = omega (arith, sizes-take ts i)
 
-pub sizes-none : (ts : List Tree) → sizes (take 0 ts) ≡ 0
-unfolding sizes
-sizes-none [] = refl
-sizes-none (t ∷ ts) = refl
-
 -- after a part: the front with it is no larger than the whole
 pub grown-part : (ts : List Tree) (i : ℕ) (t whole : Tree) (old mid new : ℕ) → slice_get ts i ≡ Some t → ts ≡ parts_of whole →
     mid ≤ old + sizes (take i ts) → new ≤ mid + tree_size t → new ≤ old + tree_size whole

@@ -2,11 +2,11 @@
 use Rattle.std.proofs.Common.{◌≡◌, ℕ, zero, suc, Bool, true, false, List, [], ◌∷◌, length, map, get_or, take, ◌<◌, ◌≤◌, Option, Some, None, refl, sym, ap, ◌∙◌, subst, arith}
 use Rattle.std.specs.Prelude.{slice_get, if◌then◌else◌}
 use Rattle.std.specs.List.{All}
-use Rattle.std.specs.Option.{option_map, option_and_then, unwrap_or}
+use Rattle.std.specs.Option.{option_map, unwrap_or}
 use Rattle.std.proofs.lemmas.List.{length-map, take_all}
 use Rattle.std.proofs.lemmas.Option.{slice_get-map, slice_get-get_or}
 use Rattle.std.proofs.lemmas.List.Elements.{All-head, All-tail, All-cons, All-nil, All-weaker}
-use Rattle.goal_terms.specs.Folding.{Folding, depth_below, folded_head, folded_node, folded, folded_row, shifting, shifted, argument_of, lifetime_of, instantiating}
+use Rattle.goal_terms.specs.Folding.{Folding, depth_below, folded_head, folded_node, folded, folded_row, shifting, shifted, argument_of, instantiating}
 use Rattle.goal_terms.specs.Kinds.{kind_of, kind_of_head, same_kind}
 use Rattle.goal_terms.specs.Sorts.{sort_of, sort_of_head, is_argument_sort, is_term_sort, IsSort, IsArgument, Are, tree_in, part_at, HeadFits, Fits}
 use Rattle.goal_terms.specs.TableMeaning.{tree_at, AreBelow, Keeps}
@@ -26,7 +26,6 @@ use Rattle.goal_terms.specs.declared.sorts.Sort.TheVariants as sorts
 use Rattle.goal_terms.specs.declared.term_nodes.TermId.{TermId}
 use Rattle.goal_terms.specs.declared.terms.AliasTermKind.{AliasTermKind}
 use Rattle.goal_terms.specs.declared.terms.AliasTermKind.TheVariants.{ProjectionTy, ProjectionConst, InherentTy, InherentConst, OpaqueTy, FreeTy, FreeConst, UnevaluatedConst}
-use Rattle.goal_terms.specs.declared.terms.Region.{Region}
 use Rattle.goal_terms.specs.declared.terms.Ty.{Ty}
 use Rattle.goal_terms.proofs.FitLemmas.{IsFit}
 use Rattle.goal_terms.proofs.FoldLemmas.{rewritten, folded-walk}
@@ -269,20 +268,6 @@ module _ (g : TermId → Tree) where
       let t : Tree = g (get_or ids n z) in
       sym (argument_at ids j n z l
       ∙ ap (λ c. if c then Some t else None) (sym (same ∙ ap (λ i. same_kind i j) (kind_is ∙ ap kind_of top)) ∙ e))
-
--- the lifetime that an argument with this at its top is
-abbrev pub lifetime_at : Node → Option Region
-lifetime_at (nodes.Head (head.Lifetime r)) = Some r
-lifetime_at _ = None
-
-lifetime_of_top : (t : Tree) → lifetime_of t ≡ lifetime_at (node_of t)
-lifetime_of_top (node (head.Lifetime r) ts) = refl
-lifetime_of_top (node h ts) = refl
-lifetime_of_top (alias k ts) = refl
-lifetime_of_top (variable v) = refl
-
-pub lifetime-read : (o : Option Tree) (t : Tree) (n : Node) → Some t ≡ o → n ≡ node_of t → lifetime_at n ≡ option_and_then lifetime_of o
-lifetime-read o t n e top = ap lifetime_at top ∙ sym (lifetime_of_top t) ∙ ap (option_and_then lifetime_of) e
 
 -- a table that has grown
 pub trees-same : (old new : List Tree) (ids : List TermId) → Keeps old new → AreBelow (length old) ids → map (tree_at new) ids ≡ map (tree_at old) ids

@@ -147,11 +147,6 @@ entering by_number = record { region = region_entered by_number; ty_param = λ d
 abbrev pub entered : List (ℕ × Region) → Tree → Tree
 entered by_number t = folded (entering by_number) 0 t
 
--- a binder with its parts entered
-abbrev pub entered_parts : List (ℕ × Region) → Tree → Tree
-entered_parts by_number (node h ts) = node h (folded_row (entering by_number) 0 ts)
-entered_parts by_number t = t
-
 -- below the pointer's binder the one that is entered is one level out
 entered-below_binder : entered ((0, regions.Static) ∷ []) (pointer_to (bounded_by 1)) ≡ pointer_to (node (Dynamic 0 regions.Static) none)
 unfolding folded folded_node depth_below shifted_region first_region region_entered

@@ -13,11 +13,9 @@ pub mod Kinds
 pub mod Folding
 pub mod Tops
 pub mod PredicateTrees
-pub mod Concrete
 pub mod TreeWith
 pub mod TreeCode
 pub mod Sorts
 pub mod TableMeaning
 pub mod TermFlags
 pub mod SameHead
-pub mod NameText

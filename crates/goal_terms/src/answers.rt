@@ -35,7 +35,7 @@ pub enum CandidateSource {
 }
 
 /// The class of candidates through which a trait goal holds.
-#[derive(Clone, Copy, Debug, PartialEq, Eq)]
+#[derive(Clone, Copy, PartialEq, Eq)]
 pub enum TraitGoalProvenVia {
     ParamEnv,
     AliasBound,
@@ -43,7 +43,7 @@ pub enum TraitGoalProvenVia {
 }
 
 /// What an inference variable stands for.
-#[derive(Clone, Copy, Debug, PartialEq, Eq, Hash)]
+#[derive(Clone, Copy, PartialEq, Eq, Hash)]
 pub enum VarKind {
     Ty,
     Int,
@@ -61,7 +61,7 @@ pub enum ParamKind {
 }
 
 /// An opaque type with its arguments.
-#[derive(Clone, Debug, PartialEq, Eq, Hash, Drop)]
+#[derive(Clone, PartialEq, Eq, Hash, Drop)]
 pub struct OpaqueTypeKey {
     pub def_id: OpaqueId,
     pub args: Vec<GenericArg>,
@@ -69,7 +69,7 @@ pub struct OpaqueTypeKey {
 
 /// An answer, with what it would change. Of all variables, one below `base` stood before the call,
 /// and `base + k` is the k-th of `vars`.
-#[derive(Clone, Debug, PartialEq, Eq, Drop)]
+#[derive(PartialEq, Eq, Drop)]
 pub struct Response {
     pub certainty: Certainty,
     /// The class of a trait goal that is answered `Yes`.
@@ -82,7 +82,7 @@ pub struct Response {
 }
 
 /// What an answer in the erased mode would have read of the typing mode.
-#[derive(Clone, Copy, Debug, PartialEq, Eq)]
+#[derive(Clone, Copy, PartialEq, Eq)]
 pub enum OpaqueAccess {
     IfDefining(OpaqueId),
     IfPostAnalysis,

@@ -1,12 +1,13 @@
 //! Terms with other leaves: instances, shifted terms and binders that are entered.
 ghost use Rattle.std.specs.Prelude.{◌≡◌, ◌++◌, map, drop, IfOk};
-ghost use Rattle.goal_terms.specs.Folding.{shifting, instantiating, instance, entering, entered_parts};
-ghost use Rattle.goal_terms.specs.TreeOf.{tree_of_sig, tree_of_clause, trees_of};
+ghost use Rattle.goal_terms.specs.Folding.{instantiating, instance, entering};
+ghost use Rattle.goal_terms.specs.TreeOf.{trees_of};
 
-use crate::fold::{fold_args, fold_term, fold_ty, fold_tys};
+use crate::fold::fold_args;
 use crate::foldable::TermFoldable;
-use crate::folders::{ArgFolder, BoundFolder, Shifter};
-use crate::terms::{DynClause, FnSig, GenericArg, Region};
+use crate::folders::{ArgFolder, BoundFolder};
+use crate::slices::behind;
+use crate::terms::{GenericArg, Region};
 use std::alloc::{AllocError, Global};
 
 /// The value with arguments in place of its parameters. An argument that comes to stand below
@@ -33,14 +34,6 @@ pub fn instantiate_args(
     fold_args(&ArgFolder { args }, alloc, 0, list)
 }
 
-/// The value as it reads below `by` more binders: a lifetime that is bound outside of it is bound
-/// that much further out, and at the largest number stays there.
-pub fn shift<T: TermFoldable>(alloc: Global, value: &T, by: u32) -> Result<T, AllocError>
-    ensures { IfOk result (λ new. T.is_folded (shifting by) 0 value.now new) }
-{
-    value.fold_with(&Shifter { by }, alloc, 0)
-}
-
 /// What stands right below a binder, with lifetimes in place of those that it binds. They are given
 /// by their numbers, and the first of a number counts; one that is not given stays.
 pub fn enter_binder<T: TermFoldable>(
@@ -51,42 +44,6 @@ pub fn enter_binder<T: TermFoldable>(
     ensures { IfOk result (λ new. T.is_folded (entering regions.now) 0 value.now new) }
 {
     value.fold_with(&BoundFolder { regions }, alloc, 0)
-}
-
-#[tactic(auto, using(crate::proofs::FoldLemmas::entering_equations))]
-/// The signature with the types in it entered.
-pub fn enter_sig(alloc: Global, sig: &FnSig, regions: &[(u32, Region)]) -> Result<FnSig, AllocError>
-    ensures { IfOk result (λ new. tree_of_sig new ≡ entered_parts regions.now (tree_of_sig sig.now)) }
-{
-    let folder = BoundFolder { regions };
-    Ok(FnSig {
-        bound_regions: sig.bound_regions,
-        inputs: fold_tys(&folder, alloc, 0, &sig.inputs)?,
-        output: fold_ty(&folder, alloc, 0, &sig.output)?,
-        fn_traits: sig.fn_traits,
-    })
-}
-
-#[tactic(auto, using(crate::proofs::FoldLemmas::entering_equations))]
-/// The clause of a `dyn` type with its arguments, and its term, entered.
-pub fn enter_clause(
-    alloc: Global,
-    clause: &DynClause,
-    regions: &[(u32, Region)],
-) -> Result<DynClause, AllocError>
-    ensures { IfOk result (λ new. tree_of_clause new ≡ entered_parts regions.now (tree_of_clause clause.now)) }
-{
-    let folder = BoundFolder { regions };
-    match clause {
-        DynClause::Trait(id, args) => Ok(DynClause::Trait(
-            *id,
-            fold_args(&folder, alloc, 0, args)?,
-        )),
-        DynClause::Projection(id, args, term) => {
-            let new = fold_args(&folder, alloc, 0, args)?;
-            Ok(DynClause::Projection(*id, new, fold_term(&folder, alloc, 0, term)?))
-        }
-    }
 }
 
 #[tactic(auto, using(crate::proofs::ArgumentLemmas::rebasing))]
@@ -102,19 +59,8 @@ pub fn rebase_onto(
 {
     let mut all = Vec::new(alloc);
     push_clones(&mut all, first)?;
-    push_clones(&mut all, own_args(args, replaced))?;
+    push_clones(&mut all, behind(args, replaced))?;
     Ok(all)
-}
-
-#[tactic(auto, using(crate::proofs::ArgumentLemmas::rebasing))]
-fn own_args(args: &[GenericArg], replaced: usize) -> &[GenericArg]
-    ensures { result.now ≡ drop replaced args.entry.now }
-{
-    if replaced < args.len() {
-        &args[replaced..]
-    } else {
-        &[]
-    }
 }
 
 fn push_clones(all: &mut Vec<GenericArg>, args: &[GenericArg]) -> Result<(), AllocError>

@@ -21,7 +21,7 @@ use crate::view::TermRef;
 impl Node {
     #[tactic(auto, unfolding(crate::specs::Folding::depth_below))]
     /// How many binders stand above the parts, where so many stand above the whole.
-    pub(crate) fn binders_below(self, binders: u32) -> u32
+    pub fn binders_below(self, binders: u32) -> u32
         ensures { result ≡ depth_of_parts self binders }
     {
         match self {

@@ -1,7 +1,7 @@
 use crate::ids::OpaqueId;
 
 /// The phase of checking on whose behalf a goal is asked.
-#[derive(Clone, PartialEq, Eq, Hash, Drop)]
+#[derive(Clone, Drop)]
 pub enum TypingMode {
     Coherence,
     Analysis {

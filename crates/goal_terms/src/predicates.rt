@@ -2,27 +2,27 @@ use crate::ids::TraitId;
 use crate::terms::{AliasTerm, GenericArg, Term};
 
 /// A trait with its arguments, of which the first is the self type.
-#[derive(Clone, PartialEq, Eq, Hash, Drop)]
+#[derive(Clone, PartialEq, Eq, Drop)]
 pub struct TraitRef {
     pub def_id: TraitId,
     pub args: Vec<GenericArg>,
 }
 
 /// That a type implements a trait.
-#[derive(Clone, PartialEq, Eq, Hash, Drop)]
+#[derive(Clone, PartialEq, Eq, Drop)]
 pub struct TraitPredicate {
     pub trait_ref: TraitRef,
 }
 
 /// That an alias normalizes to a term. In a goal the term is the variable that takes the answer.
-#[derive(Clone, PartialEq, Eq, Hash, Drop)]
+#[derive(Drop)]
 pub struct NormalizesTo {
     pub alias: AliasTerm,
     pub term: Term,
 }
 
 /// That an alias and a term are equal.
-#[derive(Clone, PartialEq, Eq, Hash, Drop)]
+#[derive(Clone, PartialEq, Eq, Drop)]
 pub struct ProjectionPredicate {
     pub projection_term: AliasTerm,
     pub term: Term,
@@ -36,14 +36,14 @@ pub enum BoundConstness {
 }
 
 /// That a type implements a trait as a const trait.
-#[derive(Clone, PartialEq, Eq, Hash, Drop)]
+#[derive(Clone, PartialEq, Eq, Drop)]
 pub struct HostEffectPredicate {
     pub trait_ref: TraitRef,
     pub constness: BoundConstness,
 }
 
 /// What a clause says.
-#[derive(Clone, PartialEq, Eq, Hash, Drop)]
+#[derive(Clone, PartialEq, Eq, Drop)]
 pub enum ClauseKind {
     Trait(TraitPredicate),
     Projection(ProjectionPredicate),
@@ -51,14 +51,14 @@ pub enum ClauseKind {
 }
 
 /// A where clause or a bound. It is a binder of `bound_regions` lifetimes.
-#[derive(Clone, PartialEq, Eq, Hash, Drop)]
+#[derive(Clone, PartialEq, Eq, Drop)]
 pub struct Clause {
     pub bound_regions: u32,
     pub kind: ClauseKind,
 }
 
 /// What a goal may ask.
-#[derive(Clone, PartialEq, Eq, Hash, Drop)]
+#[derive(Drop)]
 pub enum Predicate {
     Trait(TraitPredicate),
     Projection(ProjectionPredicate),
@@ -69,7 +69,7 @@ pub enum Predicate {
 }
 
 /// A predicate, asked under an environment of clauses.
-#[derive(Clone, PartialEq, Eq, Hash, Drop)]
+#[derive(Drop)]
 pub struct Goal<P> {
     pub param_env: Vec<Clause>,
     pub predicate: P,

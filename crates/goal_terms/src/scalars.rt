@@ -1,5 +1,5 @@
 /// A signed integer type.
-#[derive(Clone, Copy, Debug, PartialEq, Eq, Hash)]
+#[derive(Clone, Copy, PartialEq, Eq, Hash)]
 pub enum IntTy {
     Isize,
     I8,
@@ -10,7 +10,7 @@ pub enum IntTy {
 }
 
 /// An unsigned integer type.
-#[derive(Clone, Copy, Debug, PartialEq, Eq, Hash)]
+#[derive(Clone, Copy, PartialEq, Eq, Hash)]
 pub enum UintTy {
     Usize,
     U8,
@@ -21,7 +21,7 @@ pub enum UintTy {
 }
 
 /// A floating type.
-#[derive(Clone, Copy, Debug, PartialEq, Eq, Hash)]
+#[derive(Clone, Copy, PartialEq, Eq, Hash)]
 pub enum FloatTy {
     F16,
     F32,
@@ -30,7 +30,7 @@ pub enum FloatTy {
 }
 
 /// Whether a pointer or a reference may be written through.
-#[derive(Clone, Copy, Debug, PartialEq, Eq, Hash)]
+#[derive(Clone, Copy, PartialEq, Eq, Hash)]
 pub enum Mutability {
     Not,
     Mut,

@@ -5,7 +5,7 @@ use crate::scalars::{FloatTy, IntTy, Mutability, UintTy};
 
 /// A type. An `Error` stands for every type with a fault, numbered by the row that has it.
 #[cycle(terms)]
-#[derive(Debug, Drop)]
+#[derive(Drop)]
 pub enum Ty {
     Bool,
     Char,
@@ -33,7 +33,7 @@ pub enum Ty {
 }
 
 /// An inference variable that stands for a type: any type, an integer type or a floating type.
-#[derive(Clone, Copy, Debug, PartialEq, Eq, Hash)]
+#[derive(Clone, Copy, PartialEq, Eq, Hash)]
 pub enum InferTy {
     TyVar(u32),
     IntVar(u32),
@@ -42,7 +42,7 @@ pub enum InferTy {
 
 /// A constant.
 #[cycle(terms)]
-#[derive(Debug, Drop)]
+#[derive(Drop)]
 pub enum Const {
     Value(u128),
     Param(u32),
@@ -53,7 +53,7 @@ pub enum Const {
 }
 
 /// A lifetime. `Bound(b, k)` is lifetime `k` of the binder `b` levels out, 0 being the innermost.
-#[derive(Clone, Copy, Debug, PartialEq, Eq, Hash)]
+#[derive(Clone, Copy, PartialEq, Eq, Hash)]
 pub enum Region {
     Static,
     Erased,
@@ -65,7 +65,7 @@ pub enum Region {
 
 /// What stands for a parameter.
 #[cycle(terms)]
-#[derive(Debug, Drop)]
+#[derive(Drop)]
 pub enum GenericArg {
     Ty(Ty),
     Const(Const),
@@ -74,7 +74,7 @@ pub enum GenericArg {
 
 /// A type or a constant.
 #[cycle(terms)]
-#[derive(Debug, Drop)]
+#[derive(Drop)]
 pub enum Term {
     Ty(Ty),
     Const(Const),
@@ -83,7 +83,7 @@ pub enum Term {
 /// The signature of a function. It binds `bound_regions` lifetimes. `fn_traits` says whether a
 /// function with it may be called through `Fn`, `FnMut` and `FnOnce`.
 #[cycle(terms)]
-#[derive(Debug, Drop)]
+#[derive(Drop)]
 pub struct FnSig {
     pub bound_regions: u32,
     pub inputs: Vec<Ty>,
@@ -93,7 +93,7 @@ pub struct FnSig {
 
 /// A bound of a `dyn` type, whose arguments leave the self type out. It is a binder.
 #[cycle(terms)]
-#[derive(Debug, Drop)]
+#[derive(Drop)]
 pub enum DynClause {
     Trait(TraitId, Vec<GenericArg>),
     Projection(ItemId, Vec<GenericArg>, Term),
@@ -101,14 +101,14 @@ pub enum DynClause {
 
 /// An alias with its arguments.
 #[cycle(terms)]
-#[derive(Debug, Drop)]
+#[derive(Drop)]
 pub struct AliasTerm {
     pub kind: AliasTermKind,
     pub args: Vec<GenericArg>,
 }
 
 /// What an alias names.
-#[derive(Clone, Copy, Debug, PartialEq, Eq, Hash)]
+#[derive(Clone, Copy, PartialEq, Eq, Hash)]
 pub enum AliasTermKind {
     ProjectionTy(ItemId),
     ProjectionConst(ItemId),

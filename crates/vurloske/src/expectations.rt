@@ -4,7 +4,7 @@ ghost use Rattle.vurloske.specs.Expected.{IsSameTerm, MayMeet};
 
 use crate::endings::{Ending, Unexpected};
 use goal_terms::terms::Term;
-use goal_terms::text::Shown;
+use goal_text::text::Shown;
 use std::alloc::{AllocError, Global};
 use vurloske_answers::answers::{Answer, ShownAnswer};
 use vurloske_ast::ast::{Ast, Attr, AttrArg, AttrValue, Ident, Position, Run, Symbol, TermId};

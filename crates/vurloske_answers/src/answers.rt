@@ -5,10 +5,10 @@ ghost use Rattle.vurloske_answers.specs.Answers.{IsListed, IsTermFor, Says};
 use goal_solver::eval::goals::GoalFault;
 use goal_solver::faults::{DepthTooLarge, Fault};
 use goal_terms::answers::{Certainty, Response};
-use goal_terms::names::TermNames;
+use goal_text::names::TermNames;
 use goal_terms::term_nodes::OutOfMemory;
 use goal_terms::terms::Term;
-use goal_terms::text::Shown;
+use goal_text::text::Shown;
 use std::fmt;
 
 /// What a goal is answered. A `Yes` has the term of the alias that was asked for.

@@ -3,7 +3,7 @@ use crate::scope::Params;
 use goal_terms::ids::{
     AdtId, ClosureId, FnId, ForeignId, FreeId, InherentId, ItemId, OpaqueId, TraitId,
 };
-use goal_terms::names::{Name, TermNames, parameter_name};
+use goal_text::names::{Name, TermNames, parameter_name};
 use vurloske_ast::ast::{Ast, Ident};
 use vurloske_names::definitions::places::Places;
 

@@ -36,7 +36,7 @@ pub fn lower_items(
     ast: &Ast,
     definitions: &Definitions,
 ) -> Result<Tables, ItemFault> {
-    let mut tables = empty_tables(alloc);
+    let mut tables = Tables::new(alloc);
     let text = Text {
         alloc,
         ast,
@@ -44,24 +44,6 @@ pub fn lower_items(
     };
     text.push_rows(&mut tables)?;
     Ok(tables)
-}
-
-fn empty_tables(alloc: Global) -> Tables {
-    Tables {
-        traits: Vec::new(alloc),
-        items: Vec::new(alloc),
-        impls: Vec::new(alloc),
-        definitions: Vec::new(alloc),
-        sources: Vec::new(alloc),
-        free_aliases: Vec::new(alloc),
-        inherent_impls: Vec::new(alloc),
-        inherent_items: Vec::new(alloc),
-        opaque_types: Vec::new(alloc),
-        adts: Vec::new(alloc),
-        functions: Vec::new(alloc),
-        closures: Vec::new(alloc),
-        lang_items: Vec::new(alloc),
-    }
 }
 
 /// A text with what its names are: all that rows are made of.

@@ -1,11 +1,11 @@
-use Rattle.goal_kinds.specs.Level.{HasHeadForm, HeadFormRefuted}
-use Rattle.goal_kinds.proofs.InternedLemmas.{are_in-grown, all_same-grown, same-grown, in-grown}
+use Rattle.goal_lists.specs.Level.{HasHeadForm, HeadFormRefuted}
+use Rattle.goal_lists.proofs.InternedLemmas.{are_in-grown, all_same-grown, same-grown, in-grown}
 use Rattle.goal_eval.proofs.TraitOutcomeLemmas.{candidate-in, undecided-refuted, environment-decides, bounds-decide, rest-decides, none-decides, trait-ground, trait-bare, trait-unformed, trait-formless, trait-formed, replaced-in, replaced-formed}
-use Rattle.goal_kinds.specs.Fitting.{trees_at}
-use Rattle.goal_kinds.specs.Causes.{IsCausedEntry}
-use Rattle.goal_kinds.specs.Interned.{AreIn, erased_at, erased_all, predicate_at, premise_at, candidate_at, IsIn, trait_at, CandidateIn}
+use Rattle.goal_lists.specs.Fitting.{trees_at}
+use Rattle.goal_lists.specs.Causes.{IsCausedEntry}
+use Rattle.goal_lists.specs.Interned.{AreIn, erased_at, erased_all, predicate_at, premise_at, candidate_at, IsIn, trait_at, CandidateIn}
 use Rattle.goal_eval.proofs.PremiseOutcomes.{PremisesSay, SaysClause, const-predicate, equation-predicate, equation-premise, predicate-premise, premise-at, premises-end, premises-refuted, premises-start, premises-step, trait-predicate, conditions-step, conditions-refuted, conditions-end, condition-at, condition_at, equation-ground, equation-result}
-use Rattle.goal_kinds.specs.Joined.{both}
+use Rattle.goal_lists.specs.Joined.{both}
 use Rattle.goal_eval.proofs.EffectLemmas.{sound-met}
 use Rattle.goal_eval.proofs.CacheLemmas.{caching, cache-grown, sound-grown, sound-aside, known-trait, keep-trait, known-const, keep-const, known-alias, known-within, keep-alias, sound-of, sound-parts}
 use Rattle.goal_terms.specs.Erased.{erased}
@@ -17,24 +17,24 @@ use Rattle.goal_terms.specs.Sorts.{IsArgument}
 use Rattle.goal_terms.specs.TreeOf.{trees_of}
 use Rattle.goal_terms.specs.TableMeaning.{tree_at, Keeps}
 use Rattle.goal_terms.specs.View.{tree_of_ref}
-use Rattle.goal_kinds.proofs.ConsistentLemmas.{each_level_is_consistent}
+use Rattle.goal_lists.proofs.ConsistentLemmas.{each_level_is_consistent}
 use Rattle.goal_eval.proofs.HeadFormLemmas.{own_form, alias_found, parts_in}
 use Rattle.goal_eval.proofs.AliasTermLemmas.{depth-zero, projection-above}
-use Rattle.goal_kinds.specs.Premises.{clauses_under, conditions_as}
-use Rattle.goal_kinds.specs.Headers.{under}
+use Rattle.goal_lists.specs.Premises.{clauses_under, conditions_as}
+use Rattle.goal_lists.specs.Headers.{under}
 use Rattle.std.proofs.lemmas.List.{map-append, take_all, length_push}
 use Rattle.goal_eval.specs.HeaderWords.{AreFilled, KnownIn, OptionIn, known_trees, IsKnown, erased_ref, ClashAt, Fills}
 use Rattle.goal_eval.proofs.HeaderPlaceLemmas.{heads-same, heads-other, stand-arguments}
 use Rattle.goal_eval.proofs.HeaderPartLemmas.{behind-zero, behind-refuted, behind-undecided, behind-other, behind-form, found-is, found-refuted, found-undecided, among-known, known-start, known-more, known-all, known-same_given}
-use Rattle.goal_kinds.proofs.UnderLemmas.{are_in-below, are_in-arguments}
+use Rattle.goal_lists.proofs.UnderLemmas.{are_in-below, are_in-arguments}
 use Rattle.goal_eval.proofs.HeaderArgLemmas.{known_in-grown}
 use Rattle.goal_eval.proofs.HeaderOutcomeLemmas.{behind_clash-zero, behind_clash-refuted, behind_clash-undecided, behind_clash-other, behind_clash-form, any-found, any-more, any-none, any-end, asked-of, instance-unknown, instance-says}
-use Rattle.goal_kinds.specs.Words.{SomePair, Pairs}
+use Rattle.goal_lists.specs.Words.{SomePair, Pairs}
 use Rattle.goal_eval.proofs.HeaderMatchLemmas.{fit-says, filled-fills, match-fits, match-clashes, match-known, match-unknown, known-outcome-grown, match-given, known-outcome-given, match-says}
 use Rattle.goal_eval.proofs.ProjectionTermLemmas.{consistent, decided-start, decided-more, given-none, given-beside, formed-says, forms-end, forms-more, forms-refuted, forms-unknown, group-back, group-end, group-fitting, group-more, group-stop, same_element}
-use Rattle.goal_kinds.specs.Answers.{setting_of}
-use Rattle.goal_kinds.specs.Candidates.{by_impl, environment, second_group, class_of}
-use Rattle.goal_kinds.specs.TraitLists.{trait_list}
+use Rattle.goal_lists.specs.Answers.{setting_of}
+use Rattle.goal_lists.specs.Candidates.{by_impl, environment, second_group, class_of}
+use Rattle.goal_lists.specs.TraitLists.{trait_list}
 use Rattle.goal_eval.specs.SpecialImpls.{IsOfRows, SaysMoreSpecial}
 use Rattle.goal_eval.proofs.CandidateRowLemmas.{class-rows, second-rows}
 use Rattle.goal_eval.proofs.OutcomeLists.{All-at}
@@ -51,7 +51,7 @@ use Rattle.goal_eval.proofs.PartKinds.{parts-of_one_kind, lists-of_one_kind}
 use Rattle.goal_eval.proofs.TopLemmas.{nodes-same, nodes-differ}
 use Rattle.goal_eval.proofs.ConstOutcomeLemmas.{const-ground, const-no_self}
 use Rattle.std.specs.Option.{option_copied}
-use Rattle.goal_kinds.specs.InternedEntries.{list_at, arguments_at, term_at, entry_at, ArgumentsIn, header_trees, TermIn, value_tree}
+use Rattle.goal_lists.specs.InternedEntries.{list_at, arguments_at, term_at, entry_at, ArgumentsIn, header_trees, TermIn, value_tree}
 use Rattle.goal_eval.specs.Lists.{IsListFor, LeadsOn, progress_at, SaysRow, numbered_at, premises_of, NamedIn, named_at}
 use Rattle.goal_eval.proofs.ListAnswerLemmas.{none-says, list-says, caused-at, runs-next, runs-refuted, runs-undecided, runs-end, entry-in}
 use Rattle.goal_eval.proofs.ListRunLemmas.{end-in, asking-leads, giving-leads, giving-in, naming-leads, naming-in, terms-ask, clause-asks, row-asks, conditions-ask, access-asks, fault-asks, evaluation-asks, ambiguous-asks, undecided-asks, refused-asks, hidden-asks}
@@ -61,12 +61,12 @@ use Rattle.goal_eval.proofs.ListEntryLemmas.{given-named, header-named, other-un
 use Rattle.goal_eval.specs.AskedTraits.{candidate_list, SaysListed}
 use Rattle.goal_eval.proofs.AskedTraitLemmas.{asked-says, asked-out, asked-beside, impl-says, asked_in-grown, asked-start, asked-more, asked-shown, asked-end, asked-listed, plain-class, groups-first, groups-second}
 use Rattle.goal_eval.proofs.HostEffectLemmas.{SaysHost, plain-decides, host-unformed, host-formed}
-use Rattle.goal_kinds.specs.AliasLists.{alias_list}
+use Rattle.goal_lists.specs.AliasLists.{alias_list}
 use Rattle.goal_eval.proofs.ListedTermLemmas.{alias-says, no_item, candidate-says}
-use Rattle.goal_kinds.specs.ProjectionLists.{projection_list}
+use Rattle.goal_lists.specs.ProjectionLists.{projection_list}
 use Rattle.std.specs.List.{All}
 use Rattle.goal_terms.specs.declared.answers.TraitGoalProvenVia.TheVariants as class
-use Rattle.goal_kinds.specs.declared.outcomes.Outcome.TheVariants as outcome
+use Rattle.goal_lists.specs.declared.outcomes.Outcome.TheVariants as outcome
 use Rattle.goal_eval.specs.declared.eval.lists.entries.RowPremises.TheVariants as row
 use Rattle.goal_eval.specs.declared.eval.lists.progress.Reached.TheVariants as reached
 use Rattle.goal_eval.proofs.+closed.Goals as goal
@@ -519,19 +519,19 @@ pub normalizes_to::projections::own_args_normalized-returns-in-Undecided-clause-
     goal.normalizes_to::projections::own_args_normalized-returns-in-Undecided-clause-says
 normalizes_to::projections::own_args_normalized-returns-in-Undecided-clause-says t c = λ m s.
     formed-says (level_in c.args.setting.now m c.args.depth) c.args.terms.now c.head_forms_outcome.new.terms c.head_forms_outcome.ensures.kept c.args.projection.now c.args.term c.requires.term
-    c.later_args-own.result.now c.later_args-own.ensures outcome.Undecided (rw c.in-Undecided.is at (c.in_ok-head_forms_outcome.ensures.says m s))
+    c.behind-own.result.now c.behind-own.ensures outcome.Undecided (rw c.in-Undecided.is at (c.in_ok-head_forms_outcome.ensures.says m s))
 
 pub normalizes_to::projections::own_args_normalized-returns-in-Refuted-clause-says :
     goal.normalizes_to::projections::own_args_normalized-returns-in-Refuted-clause-says
 normalizes_to::projections::own_args_normalized-returns-in-Refuted-clause-says t c = λ m s.
     formed-says (level_in c.args.setting.now m c.args.depth) c.args.terms.now c.head_forms_outcome.new.terms c.head_forms_outcome.ensures.kept c.args.projection.now c.args.term c.requires.term
-    c.later_args-own.result.now c.later_args-own.ensures outcome.Refuted (rw c.in-Refuted.is at (c.in_ok-head_forms_outcome.ensures.says m s))
+    c.behind-own.result.now c.behind-own.ensures outcome.Refuted (rw c.in-Refuted.is at (c.in_ok-head_forms_outcome.ensures.says m s))
 
 pub normalizes_to::projections::own_args_normalized-returns-in-Holds-clause-says :
     goal.normalizes_to::projections::own_args_normalized-returns-in-Holds-clause-says
 normalizes_to::projections::own_args_normalized-returns-in-Holds-clause-says t c = λ m s.
     formed-says (level_in c.args.setting.now m c.args.depth) c.args.terms.now c.head_forms_outcome.new.terms c.head_forms_outcome.ensures.kept c.args.projection.now c.args.term c.requires.term
-    c.later_args-own.result.now c.later_args-own.ensures outcome.Holds (rw c.in-Holds.is at (c.in_ok-head_forms_outcome.ensures.says m s))
+    c.behind-own.result.now c.behind-own.ensures outcome.Holds (rw c.in-Holds.is at (c.in_ok-head_forms_outcome.ensures.says m s))
 
 pub normalizes_to::projections::group_term-returns-in-Undecided-clause-says :
     goal.normalizes_to::projections::group_term-returns-in-Undecided-clause-says
@@ -663,22 +663,22 @@ pub normalizes_to::projections::item_term-returns-in-Undecided-clause-says :
     goal.normalizes_to::projections::item_term-returns-in-Undecided-clause-says
 normalizes_to::projections::item_term-returns-in-Undecided-clause-says t c = λ m s.
     item-undecided (setting_in c.args.setting.now m) (level_in c.args.setting.now m c.args.depth) c.args.kind c.args.item.now c.args.trait_row.now c.args.terms.now c.args.args.now
-    c.first_args-trait_args.result.now c.len-trait_params.result (c.len-trait_params.ensures ∙ c.args.trait_row.now.params.ok.0) c.first_args-trait_args.ensures
+    c.first_of-trait_args.result.now c.len-trait_params.result (c.len-trait_params.ensures ∙ c.args.trait_row.now.params.ok.0) c.first_of-trait_args.ensures
     (rw c.in-Undecided.is at (c.in_ok-plain.ensures.says m s))
 
 pub normalizes_to::projections::item_term-returns-in-Refuted-clause-says :
     goal.normalizes_to::projections::item_term-returns-in-Refuted-clause-says
 normalizes_to::projections::item_term-returns-in-Refuted-clause-says t c = λ m s.
     item-refuted (setting_in c.args.setting.now m) (level_in c.args.setting.now m c.args.depth) c.args.kind c.args.item.now c.args.trait_row.now c.args.terms.now c.args.args.now
-    c.first_args-trait_args.result.now (some_args c.args.args.now c.is_empty.result c.is_empty.ensures c.if-is_empty.false) c.len-trait_params.result
-    (c.len-trait_params.ensures ∙ c.args.trait_row.now.params.ok.0) c.first_args-trait_args.ensures (rw c.in-Refuted.is at (c.in_ok-plain.ensures.says m s))
+    c.first_of-trait_args.result.now (some_args c.args.args.now c.is_empty.result c.is_empty.ensures c.if-is_empty.false) c.len-trait_params.result
+    (c.len-trait_params.ensures ∙ c.args.trait_row.now.params.ok.0) c.first_of-trait_args.ensures (rw c.in-Refuted.is at (c.in_ok-plain.ensures.says m s))
 
 pub normalizes_to::projections::item_term-returns-in-Holds-clause-says :
     goal.normalizes_to::projections::item_term-returns-in-Holds-clause-says
 normalizes_to::projections::item_term-returns-in-Holds-clause-says t c = λ m s.
     item-says (setting_in c.args.setting.now m) (level_in c.args.setting.now m c.args.depth) (consistent c.args.setting.now m c.args.depth) c.args.kind c.args.item.now c.args.trait_row.now c.in-Holds.class
-    c.args.terms.now c.evaluate_trait_goal.new.terms c.term_proven_via.new.terms c.in_ok-plain.ensures.kept c.args.args.now c.first_args-trait_args.result.now c.requires.args
-    c.len-trait_params.result (c.len-trait_params.ensures ∙ c.args.trait_row.now.params.ok.0) c.first_args-trait_args.ensures
+    c.args.terms.now c.evaluate_trait_goal.new.terms c.term_proven_via.new.terms c.in_ok-plain.ensures.kept c.args.args.now c.first_of-trait_args.result.now c.requires.args
+    c.len-trait_params.result (c.len-trait_params.ensures ∙ c.args.trait_row.now.params.ok.0) c.first_of-trait_args.ensures
     (rw c.in-Holds.is at (c.in_ok-plain.ensures.says m s)) c.term_proven_via.result (c.term_proven_via.ensures.says m s)
 
 pub normalizes_to::projections::later_term-returns-in_default-class-clause-says :
@@ -745,7 +745,7 @@ pub normalizes_to::projections::second_term-returns-clause-says :
     goal.normalizes_to::projections::second_term-returns-clause-says
 normalizes_to::projections::second_term-returns-clause-says t c = λ m s.
     group-fitting (setting_in c.args.setting.now m) c.args.depth c.args.terms.now c.second_group.new.terms c.group_term.new.terms c.in_ok-candidates.ensures.kept
-    c.args.projection.now c.requires.projection c.first_args.result.now c.first_args.ensures (map (candidate_at c.second_group.new.terms) c.as_slice.result.now)
+    c.args.projection.now c.requires.projection c.first_of.result.now c.first_of.ensures (map (candidate_at c.second_group.new.terms) c.as_slice.result.now)
     (second_group (setting_in c.args.setting.now m) c.args.projection.now.item.now.trait_id (erased_at c.args.terms.now c.args.self_ty) c.args.class)
     (ap (map (candidate_at c.second_group.new.terms)) c.as_slice.ensures.value ∙ c.in_ok-candidates.ensures.candidates m c.args.setting.now.environment.now)
     c.group_term.result (c.group_term.ensures.says m s)
@@ -763,7 +763,7 @@ normalizes_to::projections::second_term-group_term-requires t c = (
       (
         subst (All (CandidateIn c.second_group.new.terms)) (sym c.as_slice.ensures.value) c.in_ok-candidates.ensures.within,
         second-rows (setting_of c.args.setting.now.rows.now mode.ErasedNotCoherence c.args.setting.now.environment.now) c.second_group.new.terms
-            (trees_at c.args.terms.now c.first_args.result.now) c.args.projection.now.item.now.trait_id (erased_at c.args.terms.now c.args.self_ty) c.args.class c.as_slice.result.now
+            (trees_at c.args.terms.now c.first_of.result.now) c.args.projection.now.item.now.trait_id (erased_at c.args.terms.now c.args.self_ty) c.args.class c.as_slice.result.now
             (ap (map (candidate_at c.second_group.new.terms)) c.as_slice.ensures.value
             ∙ c.in_ok-candidates.ensures.candidates mode.ErasedNotCoherence c.args.setting.now.environment.now),
       ),
@@ -774,7 +774,7 @@ normalizes_to::projections::second_term-group_term-requires t c = (
 pub normalizes_to::projections::second_term-second_group-requires : goal.normalizes_to::projections::second_term-second_group-requires
 normalizes_to::projections::second_term-second_group-requires t c = record {
   self_ty = c.requires.self_ty;
-  args = subst (AreIn c.args.terms.now) (sym c.first_args.ensures) (All-take (IsIn c.args.terms.now) c.args.projection.now.trait_params c.args.projection.now.args.now c.requires.projection.0);
+  args = subst (AreIn c.args.terms.now) (sym c.first_of.ensures) (All-take (IsIn c.args.terms.now) c.args.projection.now.trait_params c.args.projection.now.args.now c.requires.projection.0);
 }
 
 pub normalizes_to::projections::term_proven_via-returns-in-Refuted-clause-says :
@@ -1107,17 +1107,17 @@ eval::lists::entries::arguments_match-returns-in_default-clause-says t c = λ m 
     c.in-OfOtherHeader.header.params.now (header_trees c.in-OfOtherHeader.header.terms) (trees_of c.in-OfOtherHeader.of.now) c.in-OfOtherHeader.number
     (ap (arguments_at c.args.terms.now) c.in-OfOtherHeader.is) (c.in_default.ensures.numbered c.args.terms.now)
 
-pub eval::lists::entries::arguments_match-instances_of-requires : goal.eval::lists::entries::arguments_match-instances_of-requires
-eval::lists::entries::arguments_match-instances_of-requires t c = c.in-Some.ensures.within c.args.terms.now c.requires.named
+pub eval::lists::entries::arguments_match-instances-requires : goal.eval::lists::entries::arguments_match-instances-requires
+eval::lists::entries::arguments_match-instances-requires t c = c.in-Some.ensures.within c.args.terms.now c.requires.named
 
 pub eval::lists::entries::arguments_match-returns-in_ok-given-in-OfOtherHeader-clause-says : goal.eval::lists::entries::arguments_match-returns-in_ok-given-in-OfOtherHeader-clause-says
 eval::lists::entries::arguments_match-returns-in_ok-given-in-OfOtherHeader-clause-says t c = λ m s.
     other-named (level_in c.args.setting.now m c.args.depth) (named_at c.args.terms.now c.args.named.now) c.header_match-in-OfOtherHeader.new.terms
     (arguments_at c.args.terms.now c.args.arguments.now) c.in-OfOtherHeader.header.params.now (header_trees c.in-OfOtherHeader.header.terms) (trees_of c.in-OfOtherHeader.of.now)
     c.in-OfOtherHeader.number (ap (arguments_at c.args.terms.now) c.in-OfOtherHeader.is) (each_level_is_consistent (setting_in c.args.setting.now m) c.args.depth)
-    (erased_all c.args.terms.now c.in-Some.args.now) (erased_all c.instances_of.new.terms c.deref-in-OfOtherHeader.result.now) c.header_match-in-OfOtherHeader.result
+    (erased_all c.args.terms.now c.in-Some.args.now) (erased_all c.instances.new.terms c.deref-in-OfOtherHeader.result.now) c.header_match-in-OfOtherHeader.result
     (c.in-Some.ensures.numbered c.args.terms.now)
-    (ap (erased_all c.instances_of.new.terms) c.deref-in-OfOtherHeader.ensures.value ∙ c.in_ok-given-in-OfOtherHeader.ensures.trees)
+    (ap (erased_all c.instances.new.terms) c.deref-in-OfOtherHeader.ensures.value ∙ c.in_ok-given-in-OfOtherHeader.ensures.trees)
     (c.header_match-in-OfOtherHeader.ensures.says m s)
 
 pub eval::lists::entries::arguments_match-returns-in_default-named_args-clause-says : goal.eval::lists::entries::arguments_match-returns-in_default-named_args-clause-says
@@ -1496,7 +1496,7 @@ normalizes_to::projection_candidates::consider_term-returns-in-Refuted-clause-sa
 pub normalizes_to::projection_candidates::consider_term-returns-clause-says : goal.normalizes_to::projection_candidates::consider_term-returns-clause-says
 normalizes_to::projection_candidates::consider_term-returns-clause-says t c m s =
     given-beside (setting_in c.args.setting.now m) c.args.depth c.args.terms.now c.candidate_term.new.terms c.more_special_outcome.new.terms c.in_ok-found.ensures.kept c.in_ok-special.ensures.kept
-    c.args.projection.now c.requires.projection c.args.candidate.now c.requires.candidate c.first_args-args.result.now c.first_args-args.ensures c.in_ok-found.found c.in_ok-found.ensures.within
+    c.args.projection.now c.requires.projection c.args.candidate.now c.requires.candidate c.first_of-args.result.now c.first_of-args.ensures c.in_ok-found.found c.in_ok-found.ensures.within
     c.in_ok-special.special c.given_beside.result c.given_beside.ensures (c.in_ok-found.ensures.says m s) (c.in_ok-special.ensures.says m s)
 
 pub eval::lists::run_entries-run_entry-requires : goal.eval::lists::run_entries-run_entry-requires
@@ -1648,6 +1648,6 @@ normalizes_to::projections::item_term-evaluate_trait_goal-requires t c = (
   omega (arith, c.decreases),
   (
     sound-aside _ _ _ _ c.leave_out_regions-lists.ensures.aside c.requires.effects,
-    subst (AreIn c.args.terms.now) (sym c.first_args-trait_args.ensures) (All-take (IsIn c.args.terms.now) c.len-trait_params.result c.args.args.now c.requires.args),
+    subst (AreIn c.args.terms.now) (sym c.first_of-trait_args.ensures) (All-take (IsIn c.args.terms.now) c.len-trait_params.result c.args.args.now c.requires.args),
   ),
 )

@@ -1,15 +1,15 @@
 use Rattle.std.proofs.Common.{◌+◌, ◌-◌, ◌*◌, length, ◌≡◌, take, drop}
 use Rattle.goal_terms.specs.TableMeaning.{Keeps}
-use Rattle.goal_kinds.specs.Interned.{premise_at, erased_all, erased_at}
+use Rattle.goal_lists.specs.Interned.{premise_at, erased_all, erased_at}
 use Rattle.goal_eval.proofs.PremiseOutcomes.{PremisesSay, condition_at}
 use Rattle.goal_eval.specs.Effects.{AreSound}
 use Rattle.goal_eval.specs.Outcomes.{RunsFor, header_terms, setting_in, level_in, FoundIn}
 use Rattle.goal_eval.specs.HeaderWords.{KnownIn, known_trees, KnownOutcome, ClashAt}
 use Rattle.goal_terms.specs.declared.modes.TypingMode.{TypingMode}
-use Rattle.goal_kinds.specs.Words.{Exists}
+use Rattle.goal_lists.specs.Words.{Exists}
 use Rattle.goal_eval.proofs.MergingLemmas.{AgreeBefore, HeldBefore}
 use Rattle.goal_eval.proofs.ProjectionTermLemmas.{GivesOf, NoneOf, DecidesOf, ToldBefore}
-use Rattle.goal_kinds.specs.Level.{HeadFormRefuted}
+use Rattle.goal_lists.specs.Level.{HeadFormRefuted}
 use Rattle.goal_eval.specs.ProjectionParts.{IsFormed}
 use Rattle.goal_eval.proofs.FormLemmas.{Narrows}
 use Rattle.goal_eval.specs.Lists.{RunIn}

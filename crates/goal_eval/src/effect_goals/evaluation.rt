@@ -1,7 +1,7 @@
 //! Host effect goals: whether a trait holds as a const trait.
 ghost use Rattle.std.specs.Prelude.{IfErr, ◌≢◌, IfOk};
 ghost use Rattle.goal_terms.specs.TableMeaning.{Keeps};
-ghost use Rattle.goal_kinds.specs.Interned.{AreIn, erased_all};
+ghost use Rattle.goal_lists.specs.Interned.{AreIn, erased_all};
 ghost use Rattle.goal_eval.specs.AskedTraits.{AskedIn, SaysGroups};
 ghost use Rattle.goal_eval.specs.Outcomes.{ForEachMode, SaysConst};
 ghost use Rattle.goal_eval.specs.Effects.{AreSound, IsStop};
@@ -14,8 +14,8 @@ use crate::eval::listed_regions::KeptGoal;
 use crate::eval::outcomes::{Found, Setting, Stop};
 use crate::eval::self_types::{split_self_type, with_self_type};
 use crate::trait_goals::evaluation::evaluate_trait_goal;
-use goal_kinds::candidates::lists::{Sought, second_group};
-use goal_kinds::outcomes::{Outcome, TraitOutcome};
+use goal_lists::candidates::lists::{Sought, second_group};
+use goal_lists::outcomes::{Outcome, TraitOutcome};
 use goal_terms::answers::TraitGoalProvenVia;
 use goal_terms::ids::TraitId;
 use goal_terms::predicates::BoundConstness;

@@ -3,10 +3,10 @@ ghost use Rattle.std.specs.Prelude.{◌≡◌, ◌==◌, [], IfSome};
 ghost use Rattle.indexmap.specs.IndexMap.{get};
 ghost use Rattle.goal_eval.specs.CacheEntries.{IsKnownAt, entry_of, kept, trait_decided, outcome_decided, found_decided, EntersBy, IsKeptAt};
 ghost use Rattle.goal_eval.specs.EvaluationCache.{IsEmptyCache, consts_of, KeepsButConsts};
-ghost use Rattle.goal_kinds.specs.declared.outcomes.Outcome.{Outcome as outcomes};
+ghost use Rattle.goal_lists.specs.declared.outcomes.Outcome.{Outcome as outcomes};
 
 use crate::eval::outcomes::Found;
-use goal_kinds::outcomes::{Outcome, TraitOutcome};
+use goal_lists::outcomes::{Outcome, TraitOutcome};
 use goal_terms::predicates::BoundConstness;
 use goal_terms::term_nodes::TermId;
 use indexmap::IndexMap;

@@ -3,16 +3,16 @@ ghost use Rattle.std.specs.Prelude.{IfErr, IfOk};
 ghost use Rattle.goal_terms.specs.TableMeaning.{Keeps};
 ghost use Rattle.goal_terms.specs.Sorts.{IsArgument};
 ghost use Rattle.goal_terms.specs.View.{tree_of_ref};
-ghost use Rattle.goal_kinds.specs.Headers.{under};
-ghost use Rattle.goal_kinds.specs.Interned.{IsIn, AreIn, erased_at, erased_all};
+ghost use Rattle.goal_lists.specs.Headers.{under};
+ghost use Rattle.goal_lists.specs.Interned.{IsIn, AreIn, erased_at, erased_all};
 ghost use Rattle.goal_eval.specs.Outcomes.{FoundIn, ForEachMode, SaysForm};
 ghost use Rattle.goal_eval.specs.Effects.{AreSound, IsStop};
 
 use crate::eval::effects::Effects;
-use crate::eval::id_lists::own_list;
-use crate::eval::instances::instance_of;
 use crate::eval::outcomes::{Found, Setting, Stop};
 use crate::normalizes_to::alias_terms::alias_term;
+use goal_lists::candidates::premises::term_under;
+use goal_lists::lists::parts::copied;
 use goal_terms::heads::Node;
 use goal_terms::term_nodes::TermId;
 use goal_terms::term_table::TermTable;
@@ -38,7 +38,7 @@ pub fn head_form(
     let Node::Alias(kind) = terms.node(id) else {
         return Ok(Found::Is(id));
     };
-    let args = own_list(setting, terms.parts(id))?;
+    let args = copied(setting.allocator(), terms.parts(id))?;
     alias_term(setting, terms, effects, kind, args.as_slice(), depth)
 }
 
@@ -62,6 +62,6 @@ pub(crate) fn head_form_under(
     ensures stops { IfErr result (IsStop setting.now) }
     ensures says { ForEachMode setting.now depth (λ _ L. IfOk result (SaysForm L (under (erased_all terms.old args.now) (tree_of_ref term.entry)) terms.new)) }
 {
-    let id = instance_of(terms, term, args)?;
+    let id = term_under(terms, term, args)?;
     head_form(setting, terms, effects, id, depth)
 }

@@ -21,10 +21,3 @@ pub(crate) fn joined(
     }
     Ok(made)
 }
-
-/// Some numbers, in a list of their own.
-pub fn own_list(setting: &Setting<'_>, ids: &[TermId]) -> Result<Vec<TermId>, OutOfMemory>
-    ensures { IfOk result (λ made. made.items ≡ ids.now) }
-{
-    joined(setting, ids, &[])
-}

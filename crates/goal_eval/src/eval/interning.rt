@@ -5,10 +5,10 @@ ghost use Rattle.goal_terms.specs.TableMeaning.{tree_at, Keeps};
 ghost use Rattle.goal_terms.specs.Tree.{node, forest};
 ghost use Rattle.goal_terms.specs.declared.heads.Head.{Head as heads};
 ghost use Rattle.goal_terms.specs.TreeOf.{tree_of_alias, tree_of_arg, tree_of_term};
-ghost use Rattle.goal_kinds.specs.Interned.{IsIn, AreIn, erased_at, erased_all};
+ghost use Rattle.goal_lists.specs.Interned.{IsIn, AreIn, erased_at, erased_all};
 ghost use Rattle.goal_eval.specs.ErasedArgs.{erased_args};
 
-use crate::normalizes_to::projection_args::copied_args;
+use goal_lists::lists::parts::copied;
 use goal_terms::heads::{Head, Node};
 use goal_terms::ids::TraitId;
 use goal_terms::term_nodes::{OutOfMemory, TermId};
@@ -80,6 +80,6 @@ pub(crate) fn intern_trait_ref(
     ensures within { IfOk result (λ id. id.0 < length terms.new) }
     ensures tree { IfOk result (λ id. erased_at terms.new id ≡ node (heads.DynTrait trait_id (length args.now)) (forest (erased_all terms.old args.now))) }
 {
-    let parts = copied_args(alloc, args)?;
+    let parts = copied(alloc, args)?;
     terms.intern_node(Node::Head(Head::DynTrait(trait_id, args.len())), parts)
 }

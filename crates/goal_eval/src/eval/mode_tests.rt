@@ -1,6 +1,6 @@
 //! What a typing mode says.
 ghost use Rattle.std.specs.Prelude.{◌≡◌, true};
-ghost use Rattle.goal_kinds.specs.Settings.{is_headline as is_of_headline};
+ghost use Rattle.goal_lists.specs.Settings.{is_headline as is_of_headline};
 
 use goal_terms::modes::TypingMode;
 

@@ -5,15 +5,15 @@ ghost use Rattle.goal_eval.specs.CacheEntries.{IsKeptAt};
 ghost use Rattle.goal_eval.specs.Effects.{KeepsButRegions};
 ghost use Rattle.goal_eval.specs.EvaluationCache.{consts_of};
 ghost use Rattle.goal_eval.specs.declared.eval.outcomes.Found.{Found as founds};
-ghost use Rattle.goal_kinds.specs.declared.outcomes.Outcome.{Outcome as outcomes};
-ghost use Rattle.goal_kinds.specs.declared.outcomes.TraitOutcome.{TraitOutcome as trait_outcomes};
+ghost use Rattle.goal_lists.specs.declared.outcomes.Outcome.{Outcome as outcomes};
+ghost use Rattle.goal_lists.specs.declared.outcomes.TraitOutcome.{TraitOutcome as trait_outcomes};
 
 use crate::eval::effects::Effects;
 use crate::eval::listed_regions::{KeptGoal, RegionMark};
 use crate::eval::outcomes::Found;
 use crate::eval::region_constraints::RegionConstraints;
 use crate::relate::region_pairs::{equate_forms, equate_lists, equate_terms};
-use goal_kinds::outcomes::{Outcome, TraitOutcome};
+use goal_lists::outcomes::{Outcome, TraitOutcome};
 use goal_terms::predicates::BoundConstness;
 use goal_terms::term_nodes::{OutOfMemory, TermId};
 use goal_terms::term_table::TermTable;

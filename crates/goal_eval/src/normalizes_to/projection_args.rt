@@ -1,48 +1,17 @@
 //! The arguments of projections.
-ghost use Rattle.std.specs.Prelude.{◌≡◌, ◌∷◌, IfOk, take, drop};
+ghost use Rattle.std.specs.Prelude.{◌≡◌, ◌∷◌, IfOk};
 ghost use Rattle.goal_terms.specs.TableMeaning.{Keeps};
 ghost use Rattle.goal_terms.specs.Tree.{alias, forest};
-ghost use Rattle.goal_kinds.specs.Interned.{IsIn, AreIn, erased_at, erased_all};
+ghost use Rattle.goal_lists.specs.Interned.{IsIn, AreIn, erased_at, erased_all};
 ghost use Rattle.goal_eval.specs.ProjectionParts.{rest_of};
 
+use goal_lists::lists::parts::copied;
 use goal_terms::heads::Node;
+use goal_terms::slices::behind;
 use goal_terms::term_nodes::{OutOfMemory, TermId};
 use goal_terms::term_table::TermTable;
 use goal_terms::terms::AliasTermKind;
 use std::alloc::Global;
-
-/// The first arguments, at most so many.
-pub(crate) fn first_args(args: &[TermId], count: usize) -> &[TermId]
-    ensures { result.now ≡ take count args.now }
-{
-    if count < args.len() {
-        &args[..count]
-    } else {
-        args
-    }
-}
-
-/// The arguments after so many.
-pub(crate) fn later_args(args: &[TermId], count: usize) -> &[TermId]
-    ensures { result.now ≡ drop count args.now }
-{
-    if count < args.len() {
-        &args[count..]
-    } else {
-        &[]
-    }
-}
-
-/// Some arguments, in a list of their own.
-pub(crate) fn copied_args(alloc: Global, args: &[TermId]) -> Result<Vec<TermId>, OutOfMemory>
-    ensures { IfOk result (λ made. made.items ≡ args.now) }
-{
-    let mut made = Vec::new(alloc);
-    for id in args {
-        made.push(*id)?;
-    }
-    Ok(made)
-}
 
 /// The arguments with another self type.
 pub(crate) fn with_self(
@@ -54,7 +23,7 @@ pub(crate) fn with_self(
 {
     let mut made = Vec::new(alloc);
     made.push(self_ty)?;
-    for id in later_args(args, 1) {
+    for id in behind(args, 1) {
         made.push(*id)?;
     }
     Ok(made)
@@ -73,6 +42,6 @@ pub(crate) fn intern_alias(
     ensures within { IfOk result (IsIn terms.new) }
     ensures tree { IfOk result (λ id. erased_at terms.new id ≡ alias kind (forest (erased_all terms.old args.now))) }
 {
-    let parts = copied_args(alloc, args)?;
+    let parts = copied(alloc, args)?;
     terms.intern_node(Node::Alias(kind), parts)
 }

@@ -1,9 +1,9 @@
 //! The terms that candidates give projections, by their lists.
 ghost use Rattle.std.specs.Prelude.{◌≡◌, IfErr, IfOk};
 ghost use Rattle.goal_terms.specs.TableMeaning.{Keeps};
-ghost use Rattle.goal_kinds.specs.Causes.{IsCausedList};
-ghost use Rattle.goal_kinds.specs.Interned.{CandidateIn, candidate_at};
-ghost use Rattle.goal_kinds.specs.InternedEntries.{ListIn};
+ghost use Rattle.goal_lists.specs.Causes.{IsCausedList};
+ghost use Rattle.goal_lists.specs.Interned.{CandidateIn, candidate_at};
+ghost use Rattle.goal_lists.specs.InternedEntries.{ListIn};
 ghost use Rattle.goal_eval.specs.Lists.{GoesBy};
 ghost use Rattle.goal_eval.specs.Outcomes.{FoundIn, ProjectionIn, ForEachMode, ForEachSetting};
 ghost use Rattle.goal_eval.specs.SpecialImpls.{IsOfRows, is_term, given_beside};
@@ -14,12 +14,12 @@ use crate::assembly::specialized::more_special_outcome;
 use crate::eval::effects::Effects;
 use crate::eval::lists::run_list;
 use crate::eval::outcomes::{Found, Projection, Setting, Stop};
-use crate::normalizes_to::projection_args::first_args;
-use goal_kinds::candidates::interned::InternedCandidate;
-use goal_kinds::lists::projections::projection_list;
-use goal_kinds::lists::{AskedProjection, InternedEntry};
-use goal_kinds::outcomes::Outcome;
+use goal_lists::candidates::interned::InternedCandidate;
+use goal_lists::lists::projections::projection_list;
+use goal_lists::lists::{AskedProjection, InternedEntry};
+use goal_lists::outcomes::Outcome;
 use goal_terms::modes::TypingMode;
+use goal_terms::slices::first_of;
 use goal_terms::term_nodes::OutOfMemory;
 use goal_terms::term_table::TermTable;
 
@@ -85,7 +85,7 @@ pub(crate) fn consider_term(
             decides: false,
         });
     }
-    let args = first_args(projection.args, projection.trait_params);
+    let args = first_of(projection.args, projection.trait_params);
     let own = effects.regions.mark();
     let special = more_special_outcome(setting, terms, effects, args, candidate, depth)?;
     effects.end_special(before, own, special);

@@ -2,8 +2,8 @@
 ghost use Rattle.std.specs.Prelude.{◌≡◌, IfErr, IfOk, map};
 ghost use Rattle.std.specs.List.{All};
 ghost use Rattle.goal_terms.specs.TableMeaning.{Keeps};
-ghost use Rattle.goal_kinds.specs.Candidates.{environment};
-ghost use Rattle.goal_kinds.specs.Interned.{IsIn, AreIn, CandidateIn, erased_all, candidate_at};
+ghost use Rattle.goal_lists.specs.Candidates.{environment};
+ghost use Rattle.goal_lists.specs.Interned.{IsIn, AreIn, CandidateIn, erased_all, candidate_at};
 ghost use Rattle.goal_eval.specs.Outcomes.{Says, FoundIn, ProjectionIn, ForEachMode};
 ghost use Rattle.goal_eval.specs.ProjectionParts.{HaveHeadForms, SomeUnformed};
 ghost use Rattle.goal_eval.specs.SpecialImpls.{IsOfRows, if_decided};
@@ -14,15 +14,16 @@ use crate::assembly::merging::merge_terms;
 use crate::eval::effects::Effects;
 use crate::eval::head_forms::head_form;
 use crate::eval::outcomes::{Found, Projection, Setting, Stop};
-use crate::normalizes_to::projection_args::{first_args, intern_alias, later_args, with_self};
+use crate::normalizes_to::projection_args::{intern_alias, with_self};
 use crate::normalizes_to::projection_candidates::consider_term;
 use crate::trait_goals::evaluation::evaluate_trait_goal;
-use goal_kinds::candidates::interned::InternedCandidate;
-use goal_kinds::candidates::lists::{Sought, candidates_of_class, second_group};
-use goal_kinds::outcomes::{Outcome, TraitOutcome};
+use goal_lists::candidates::interned::InternedCandidate;
+use goal_lists::candidates::lists::{Sought, candidates_of_class, second_group};
+use goal_lists::outcomes::{Outcome, TraitOutcome};
 use goal_tables::rows::{ItemRow, TraitRow};
 use goal_terms::answers::TraitGoalProvenVia;
-use goal_terms::ids::{ItemId, TraitId};
+use goal_terms::ids::ItemId;
+use goal_terms::slices::{behind, first_of};
 use goal_terms::term_nodes::TermId;
 use goal_terms::term_table::TermTable;
 use goal_terms::terms::AliasTermKind;
@@ -91,7 +92,7 @@ fn item_term(
         return Ok(Found::Undecided);
     }
     let trait_params = trait_row.params.len();
-    let trait_args = first_args(args, trait_params);
+    let trait_args = first_of(args, trait_params);
     let lists = effects.leave_out_regions();
     let plain = evaluate_trait_goal(setting, terms, effects, item.trait_id, trait_args, depth)?;
     effects.list_regions_again(lists);
@@ -308,7 +309,7 @@ fn second_term(
     let sought = Sought {
         trait_id: projection.item.trait_id,
         self_ty,
-        args: first_args(projection.args, projection.trait_params),
+        args: first_of(projection.args, projection.trait_params),
     };
     let candidates = second_group(setting.rows, terms, &sought, class)?;
     group_term(
@@ -340,7 +341,7 @@ fn own_args_normalized(
     ensures stops { IfErr result (IsStop setting.now) }
     ensures says { ForEachMode setting.now depth (λ _ L. IfOk result (SaysOwnFormed L terms.old projection.now term terms.new)) }
 {
-    let own = later_args(projection.args, projection.trait_params);
+    let own = behind(projection.args, projection.trait_params);
     match head_forms_outcome(setting, terms, effects, own, depth)? {
         Outcome::Undecided => Ok(Found::Undecided),
         Outcome::Refuted => Ok(Found::Refuted),

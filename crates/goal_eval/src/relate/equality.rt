@@ -2,7 +2,7 @@
 ghost use Rattle.std.specs.Prelude.{IfErr, IfOk};
 ghost use Rattle.std.specs.List.{All};
 ghost use Rattle.goal_terms.specs.TableMeaning.{Keeps};
-ghost use Rattle.goal_kinds.specs.Interned.{IsIn, AreIn, erased_at, erased_all};
+ghost use Rattle.goal_lists.specs.Interned.{IsIn, AreIn, erased_at, erased_all};
 ghost use Rattle.goal_eval.specs.Outcomes.{Says, ForEachMode, SaysEqual, SaysAllEqual, SaysSameForm};
 ghost use Rattle.goal_eval.specs.Pending.{IsOpen, Relates, SaysPending};
 ghost use Rattle.goal_eval.specs.Effects.{AreSound, IsStop};
@@ -11,7 +11,7 @@ use crate::eval::effects::Effects;
 use crate::eval::head_forms::head_form;
 use crate::eval::outcomes::{Setting, Stop};
 use crate::relate::pairs::{Forms, Pending, TermPair, collect, collect_lists, pair_forms};
-use goal_kinds::outcomes::Outcome;
+use goal_lists::outcomes::Outcome;
 use goal_terms::compare::Regions;
 use goal_terms::term_nodes::TermId;
 use goal_terms::term_table::TermTable;

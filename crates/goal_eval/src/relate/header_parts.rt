@@ -1,8 +1,8 @@
 //! The terms of a header's parameters, as given arguments have them.
 ghost use Rattle.std.specs.Prelude.{IfErr, ◌≡◌, length, IfOk};
 ghost use Rattle.goal_terms.specs.TableMeaning.{Keeps};
-ghost use Rattle.goal_kinds.specs.Headers.{PartAmong};
-ghost use Rattle.goal_kinds.specs.Interned.{AreIn, erased_at, erased_all};
+ghost use Rattle.goal_lists.specs.Headers.{PartAmong};
+ghost use Rattle.goal_lists.specs.Interned.{AreIn, erased_at, erased_all};
 ghost use Rattle.goal_eval.specs.Outcomes.{header_terms};
 ghost use Rattle.goal_eval.specs.HeaderWords.{is_this, erased_ref, IsBehind, GivesPart, PlaceIn, OptionIn, KnownIn, known_trees, SaysKnown, PartOutcome, KnownOutcome, TermOutcome};
 ghost use Rattle.goal_eval.specs.Effects.{AreSound, IsStop};

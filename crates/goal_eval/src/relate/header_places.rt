@@ -2,8 +2,8 @@
 ghost use Rattle.std.specs.Prelude.{◌≡◌, ◌<◌, length, map};
 ghost use Rattle.goal_terms.specs.TableMeaning.{tree_at, AreBelow};
 ghost use Rattle.goal_terms.specs.View.{tree_of_ref, trees_seen};
-ghost use Rattle.goal_kinds.specs.Headers.{is_number, has_place, PartAmong};
-ghost use Rattle.goal_kinds.specs.Interned.{erased_at};
+ghost use Rattle.goal_lists.specs.Headers.{is_number, has_place, PartAmong};
+ghost use Rattle.goal_lists.specs.Interned.{erased_at};
 ghost use Rattle.goal_eval.specs.HeaderWords.{parameter_at, erased_ref, MayStand, MayAllStand, PlaceIn, FindsPart, erased_refs, erased_trees};
 
 use goal_terms::compare::Regions;

@@ -3,7 +3,7 @@ ghost use Rattle.std.specs.Prelude.{◌≡◌, ◌<◌, ◌↔◌, length, map, 
 ghost use Rattle.std.specs.List.{All};
 ghost use Rattle.goal_terms.specs.TableMeaning.{tree_at, AreBelow};
 ghost use Rattle.goal_terms.specs.View.{tree_of_ref, trees_seen};
-ghost use Rattle.goal_kinds.specs.Interned.{erased_at, erased_all, AreIn};
+ghost use Rattle.goal_lists.specs.Interned.{erased_at, erased_all, AreIn};
 ghost use Rattle.goal_eval.specs.Outcomes.{header_terms};
 ghost use Rattle.goal_eval.specs.HeaderWords.{erased_ref, is_whole, IsKnown, MayStand, MayAllStand, QuestionIn, MeetingClashes, MeetingIn, AddsClash, AsksClash, ForEachKnown, SomeClash, erased_refs, erased_trees};
 

@@ -1,7 +1,7 @@
 //! Whether a header fits given arguments.
 ghost use Rattle.std.specs.Prelude.{IfErr, ◌≡◌, true, false, length, IfOk};
 ghost use Rattle.goal_terms.specs.TableMeaning.{Keeps};
-ghost use Rattle.goal_kinds.specs.Interned.{AreIn, erased_all};
+ghost use Rattle.goal_lists.specs.Interned.{AreIn, erased_all};
 ghost use Rattle.goal_eval.specs.Outcomes.{header_terms, SaysMatch, MatchIn, ForEachMode};
 ghost use Rattle.goal_eval.specs.HeaderWords.{KnownIn, known_trees, AreFilled, is_complete, TestOutcome, KnownOutcome, MatchOutcome, EqualUnder};
 ghost use Rattle.goal_eval.specs.Effects.{AreSound, IsStop};
@@ -12,7 +12,7 @@ use crate::relate::equality::compare_lists;
 use crate::relate::header_args::{filled_args, instances, is_complete};
 use crate::relate::header_clashes::header_clashes;
 use crate::relate::header_parts::known_args;
-use goal_kinds::outcomes::Outcome;
+use goal_lists::outcomes::Outcome;
 use goal_terms::answers::ParamKind;
 use goal_terms::term_nodes::TermId;
 use goal_terms::term_table::TermTable;

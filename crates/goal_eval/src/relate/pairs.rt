@@ -1,13 +1,13 @@
 //! Comparisons of terms as far as no alias has to be opened, and what they leave to be compared.
 ghost use Rattle.std.specs.Prelude.{◌≡◌, ◌||◌, ◌<◌, [], IfOk, length};
 ghost use Rattle.std.specs.List.{All};
-ghost use Rattle.goal_kinds.specs.Interned.{erased_at, erased_all};
-ghost use Rattle.goal_kinds.specs.Words.{Pairs, SomePair};
-ghost use Rattle.goal_kinds.specs.Joined.{both};
+ghost use Rattle.goal_lists.specs.Interned.{erased_at, erased_all};
+ghost use Rattle.goal_lists.specs.Words.{Pairs, SomePair};
+ghost use Rattle.goal_lists.specs.Joined.{both};
 ghost use Rattle.goal_eval.specs.Pending.{is_alias, is_variable, AreOfOneKind, AreListsOfOneKind, forms_of, TopsSay, IsOpen, Adds};
 
 use crate::eval::outcomes::Found;
-use goal_kinds::outcomes::Outcome;
+use goal_lists::outcomes::Outcome;
 use goal_tables::lookup::IndexedTables;
 use goal_terms::compare::Regions;
 use goal_terms::heads::Node;

@@ -1,7 +1,7 @@
 //! Trait goals: by which class of candidates they hold.
 ghost use Rattle.std.specs.Prelude.{IfErr, ◌≡◌, ◌≢◌, None, IfOk};
 ghost use Rattle.goal_terms.specs.TableMeaning.{Keeps};
-ghost use Rattle.goal_kinds.specs.Interned.{AreIn, erased_all};
+ghost use Rattle.goal_lists.specs.Interned.{AreIn, erased_all};
 ghost use Rattle.goal_eval.specs.AskedTraits.{AskedIn};
 ghost use Rattle.goal_eval.specs.Outcomes.{ForEachMode, SaysTrait};
 ghost use Rattle.goal_eval.specs.TraitOutcomes.{SaysAskedClasses};
@@ -14,7 +14,7 @@ use crate::eval::interning::intern_trait_ref;
 use crate::eval::listed_regions::KeptGoal;
 use crate::eval::outcomes::{Found, Setting, Stop};
 use crate::eval::self_types::{split_self_type, with_self_type};
-use goal_kinds::outcomes::TraitOutcome;
+use goal_lists::outcomes::TraitOutcome;
 use goal_terms::answers::TraitGoalProvenVia;
 use goal_terms::ids::TraitId;
 use goal_terms::term_nodes::TermId;

@@ -12,19 +12,19 @@ ghost use Rattle.goal_terms.specs.declared.terms.GenericArg.{GenericArg};
 ghost use Rattle.goal_tables.specs.Faults.{IsChecked};
 ghost use Rattle.goal_tables.specs.declared.rows.ImplRow.{ImplRow};
 ghost use Rattle.goal_tables.specs.declared.rows.Tables.{Tables};
-ghost use Rattle.goal_kinds.specs.Candidates.{Candidate};
-ghost use Rattle.goal_kinds.specs.ConstGoals.{ConstCandidateRefuted};
-ghost use Rattle.goal_kinds.specs.FastReject.{heads_agree};
-ghost use Rattle.goal_kinds.specs.Headers.{Clashes};
-ghost use Rattle.goal_kinds.specs.ImplTerms.{Projection, trait_args};
+ghost use Rattle.goal_lists.specs.Candidates.{Candidate};
+ghost use Rattle.goal_lists.specs.ConstGoals.{ConstCandidateRefuted};
+ghost use Rattle.goal_lists.specs.FastReject.{heads_agree};
+ghost use Rattle.goal_lists.specs.Headers.{Clashes};
+ghost use Rattle.goal_lists.specs.ImplTerms.{Projection, trait_args};
 ghost use Rattle.goal_kinds.specs.LawWords.{Apart, ApartUnder, RejectionIsFinal, RejectionIsFinalUnder, IfKindsStay, IsUnfit, RefutesUnfit, HeadsDecide, HaveSameKinds, AreKinded, ForAccepted, ForAllAccepted, RejectedHeaderClashes};
-ghost use Rattle.goal_kinds.specs.Levels.{level};
-ghost use Rattle.goal_kinds.specs.Projections.{TermRefuted};
-ghost use Rattle.goal_kinds.specs.Settings.{Setting};
-ghost use Rattle.goal_kinds.specs.TraitGoals.{CandidateRefuted};
-ghost use Rattle.goal_kinds.specs.Words.{SomePair};
-ghost use Rattle.goal_kinds.specs.declared.fast_reject.Parameters.{Parameters};
-ghost use Rattle.goal_kinds.specs.declared.fast_reject.Parameters.TheVariants.{Rigid, Inferred};
+ghost use Rattle.goal_lists.specs.Levels.{level};
+ghost use Rattle.goal_lists.specs.Projections.{TermRefuted};
+ghost use Rattle.goal_lists.specs.Settings.{Setting};
+ghost use Rattle.goal_lists.specs.TraitGoals.{CandidateRefuted};
+ghost use Rattle.goal_lists.specs.Words.{SomePair};
+ghost use Rattle.goal_lists.specs.declared.fast_reject.Parameters.{Parameters};
+ghost use Rattle.goal_lists.specs.declared.fast_reject.Parameters.TheVariants.{Rigid, Inferred};
 
 /// Lists that may not become the same are equal at no height, whatever terms of their kinds stand in
 /// place of their inference variables, and whatever arguments in place of the right list's parameters

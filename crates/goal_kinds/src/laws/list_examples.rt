@@ -2,16 +2,16 @@
 //! those of `specs/ExampleTables.antt`, and the lists stand in `specs/ExampleLists.antt`.
 ghost use Rattle.std.specs.Prelude.{◌≡◌, [], ◌∷◌};
 ghost use Rattle.goal_terms.specs.declared.predicates.BoundConstness.{BoundConstness};
-ghost use Rattle.goal_kinds.specs.AliasLists.{alias_list};
-ghost use Rattle.goal_kinds.specs.Candidates.{by_impl};
-ghost use Rattle.goal_kinds.specs.EffectLists.{effect_list};
+ghost use Rattle.goal_lists.specs.AliasLists.{alias_list};
+ghost use Rattle.goal_lists.specs.Candidates.{by_impl};
+ghost use Rattle.goal_lists.specs.EffectLists.{effect_list};
 ghost use Rattle.goal_kinds.specs.ExampleLists.{type_of_w, w_list, assoc_of_vec, assoc_list, vec_list, opaque_entries, w_rule, no_impl_rule, no_impl_list, no_value_rule, no_value_list};
 ghost use Rattle.goal_kinds.specs.ExampleRows.{tr_for_w, trait_of_i32_for_vec};
 ghost use Rattle.goal_kinds.specs.ExampleSettings.{asked_args, const_tr_for_vec, q_ty, with_const};
 ghost use Rattle.goal_kinds.specs.ExampleTables.{example_tables, plainly};
 ghost use Rattle.goal_kinds.specs.ExampleTerms.{alias_of, opaque, projection, trait, vec_of, w_ty};
-ghost use Rattle.goal_kinds.specs.ListModes.{erased_setting};
-ghost use Rattle.goal_kinds.specs.ProjectionLists.{projection_list};
+ghost use Rattle.goal_lists.specs.ListModes.{erased_setting};
+ghost use Rattle.goal_lists.specs.ProjectionLists.{projection_list};
 ghost use Rattle.goal_kinds.specs.RuleLists.{entries_of};
 
 /// The lists of an impl whose value is missing, of one whose definition stands in another impl, of a

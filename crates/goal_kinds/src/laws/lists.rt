@@ -8,20 +8,20 @@ ghost use Rattle.goal_terms.specs.declared.ids.TraitId.{TraitId};
 ghost use Rattle.goal_terms.specs.declared.modes.TypingMode.{TypingMode};
 ghost use Rattle.goal_terms.specs.declared.predicates.BoundConstness.{BoundConstness};
 ghost use Rattle.goal_terms.specs.declared.terms.AliasTermKind.{AliasTermKind};
-ghost use Rattle.goal_kinds.specs.AliasLists.{alias_list};
-ghost use Rattle.goal_kinds.specs.Candidates.{Candidate};
-ghost use Rattle.goal_kinds.specs.Causes.{IsCaused};
-ghost use Rattle.goal_kinds.specs.EffectLists.{effect_list};
-ghost use Rattle.goal_kinds.specs.Entries.{Entry, ListHolds, ListGives, ListRefuted, ListAsksNoTerm};
-ghost use Rattle.goal_kinds.specs.ImplTerms.{Projection};
-ghost use Rattle.goal_kinds.specs.Levels.{level};
-ghost use Rattle.goal_kinds.specs.ListLaws.{TraitListHolds, TraitListRefuted, EffectListHolds, EffectListRefuted, ProjectionListGives, ProjectionListRefuted};
-ghost use Rattle.goal_kinds.specs.ListLaws.{AliasListGives, AliasListRefuted, EquationListHolds, EquationListRefuted};
-ghost use Rattle.goal_kinds.specs.ListLaws.{TraitListStands, EffectListStands, ProjectionListStands, AliasListStands, ProjectionListStandsIn, AliasListStandsIn};
-ghost use Rattle.goal_kinds.specs.ListModes.{accesses_in, list_accesses};
-ghost use Rattle.goal_kinds.specs.ProjectionLists.{projection_list};
-ghost use Rattle.goal_kinds.specs.Settings.{Setting};
-ghost use Rattle.goal_kinds.specs.TraitLists.{trait_list};
+ghost use Rattle.goal_lists.specs.AliasLists.{alias_list};
+ghost use Rattle.goal_lists.specs.Candidates.{Candidate};
+ghost use Rattle.goal_lists.specs.Causes.{IsCaused};
+ghost use Rattle.goal_lists.specs.EffectLists.{effect_list};
+ghost use Rattle.goal_lists.specs.Entries.{Entry, ListHolds, ListGives, ListRefuted, ListAsksNoTerm};
+ghost use Rattle.goal_lists.specs.ImplTerms.{Projection};
+ghost use Rattle.goal_lists.specs.Levels.{level};
+ghost use Rattle.goal_lists.specs.ListLaws.{TraitListHolds, TraitListRefuted, EffectListHolds, EffectListRefuted, ProjectionListGives, ProjectionListRefuted};
+ghost use Rattle.goal_lists.specs.ListLaws.{AliasListGives, AliasListRefuted, EquationListHolds, EquationListRefuted};
+ghost use Rattle.goal_lists.specs.ListLaws.{TraitListStands, EffectListStands, ProjectionListStands, AliasListStands, ProjectionListStandsIn, AliasListStandsIn};
+ghost use Rattle.goal_lists.specs.ListModes.{accesses_in, list_accesses};
+ghost use Rattle.goal_lists.specs.ProjectionLists.{projection_list};
+ghost use Rattle.goal_lists.specs.Settings.{Setting};
+ghost use Rattle.goal_lists.specs.TraitLists.{trait_list};
 
 /// The list of a candidate for a trait goal holds, and is refuted, where the candidate is.
 pub fn trait_lists_say_what_candidates_do()

@@ -5,13 +5,13 @@ ghost use Rattle.goal_terms.specs.declared.predicates.ClauseKind.{ClauseKind};
 ghost use Rattle.goal_terms.specs.declared.terms.AliasTerm.{AliasTerm};
 ghost use Rattle.goal_terms.specs.declared.terms.Term.{Term};
 ghost use Rattle.goal_kinds.specs.CandidateRules.{IsAcceptedClause};
-ghost use Rattle.goal_kinds.specs.Candidates.{Candidate};
+ghost use Rattle.goal_lists.specs.Candidates.{Candidate};
 ghost use Rattle.goal_kinds.specs.LawWords.{IfAccepted, RejectedIsRefuted, RejectedImplIsRefuted};
 ghost use Rattle.goal_kinds.specs.ProjectionKind.{ProjectionCandidateGives, ProjectionCandidateRefuted};
-ghost use Rattle.goal_kinds.specs.Settings.{Setting};
+ghost use Rattle.goal_lists.specs.Settings.{Setting};
 ghost use Rattle.goal_terms.specs.declared.ids.ImplId.{ImplId};
 ghost use Rattle.goal_tables.specs.declared.rows.ImplRow.{ImplRow};
-ghost use Rattle.goal_kinds.specs.ImplTerms.{Projection};
+ghost use Rattle.goal_lists.specs.ImplTerms.{Projection};
 
 /// What a candidate gives a projection at a height it gives at every greater one, and so is it refuted.
 pub fn more_height_keeps_terms()

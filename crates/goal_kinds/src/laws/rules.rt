@@ -2,10 +2,10 @@
 //! settings, heights and lists of entries.
 ghost use Rattle.std.specs.Prelude.{◌≡◌, ◌≤◌, ℕ};
 ghost use Rattle.goal_terms.specs.Tree.{Tree};
-ghost use Rattle.goal_kinds.specs.Levels.{level};
+ghost use Rattle.goal_lists.specs.Levels.{level};
 ghost use Rattle.goal_kinds.specs.RuleLists.{RuleListHolds, RuleListGives, RuleListRefuted};
 ghost use Rattle.goal_kinds.specs.Rules.{RuleHolds, RuleGives, RuleRefuted};
-ghost use Rattle.goal_kinds.specs.Settings.{Setting};
+ghost use Rattle.goal_lists.specs.Settings.{Setting};
 ghost use Rattle.goal_kinds.specs.declared.rules.Rule.{Rule};
 
 /// A rule that holds, gives a term or is refuted at a height does so at every greater one.

@@ -1,11 +1,11 @@
 //! Worked examples of the definitions, each the contract of a function that does nothing. Each says what
 //! holds or is refuted at a height, and that it is not so one lower (`_lower`). The tables are those of
 //! `specs/ExampleTables.antt`.
-ghost use Rattle.goal_kinds.specs.Builtins.{u8_ty, unit_ty, usize_ty};
+ghost use Rattle.goal_lists.specs.Builtins.{u8_ty, unit_ty, usize_ty};
 ghost use Rattle.goal_kinds.specs.ExampleSettings.{asked_args, assuming_maybe_const, assuming_own, assuming_own_trait, assuming_sized, assuming_z, bounded, called_with, disagreeing, f_alias, inherent_item, metadata_of_bool, own_args_of, pair_args, q_ty, specialized, three, unspecialized, with_const, with_default};
 ghost use Rattle.goal_kinds.specs.ExampleTables.{analysis, plainly, revealing};
 ghost use Rattle.goal_kinds.specs.ExampleTerms.{alias_of, bool_ty, box_of, error_ty, free, i32_ty, opaque, p_ty, param, projection, str_ty, trait, tuple, u16_ty, u32_ty, u64_ty, vec_of, w_ty, y_ty, z_ty};
-ghost use Rattle.goal_kinds.specs.Levels.{level};
+ghost use Rattle.goal_lists.specs.Levels.{level};
 ghost use Rattle.goal_terms.specs.Tree.{Tree};
 ghost use Rattle.goal_terms.specs.declared.answers.TraitGoalProvenVia.{TraitGoalProvenVia};
 ghost use Rattle.goal_terms.specs.declared.predicates.BoundConstness.{BoundConstness};

@@ -1,7 +1,6 @@
 //! The rules of free, inherent and opaque aliases.
-ghost use Rattle.std.specs.Prelude.{◌≡◌, ◌==◌, ℕ, List, IfOk, IfErr, None, Some, is_some, if◌then◌else◌};
-ghost use Rattle.std.specs.List.{All, list_any};
-ghost use Rattle.goal_terms.specs.TableMeaning.{tree_at};
+ghost use Rattle.std.specs.Prelude.{◌≡◌, ℕ, List, IfOk, IfErr, None, Some, is_some, if◌then◌else◌};
+ghost use Rattle.std.specs.List.{All};
 ghost use Rattle.goal_terms.specs.Tree.{Tree};
 ghost use Rattle.goal_terms.specs.TreeOf.{tree_of_term};
 ghost use Rattle.goal_terms.specs.declared.answers.BuiltinImplSource.TheVariants.{Misc};
@@ -9,46 +8,37 @@ ghost use Rattle.goal_terms.specs.declared.answers.CandidateSource.TheVariants.{
 ghost use Rattle.goal_terms.specs.declared.ids.OpaqueId.{OpaqueId};
 ghost use Rattle.goal_terms.specs.declared.predicates.Clause.{Clause as clause};
 ghost use Rattle.goal_terms.specs.declared.terms.AliasTermKind.TheVariants.{OpaqueTy};
-ghost use Rattle.goal_kinds.specs.AliasLists.{alias_list};
-ghost use Rattle.goal_kinds.specs.Answers.{setting_of};
-ghost use Rattle.goal_kinds.specs.InternedEntries.{EntriesIn, entries_at, setting_at};
-ghost use Rattle.goal_kinds.specs.NamedRows.{NamesItsRows, Defines};
-ghost use Rattle.goal_kinds.specs.Projections.{projected_item};
+ghost use Rattle.goal_lists.specs.AliasLists.{alias_list};
+ghost use Rattle.goal_lists.specs.Answers.{setting_of};
+ghost use Rattle.goal_lists.specs.InternedEntries.{EntriesIn, entries_at, setting_at};
+ghost use Rattle.goal_lists.specs.NamedRows.{NamesItsRows, Defines};
+ghost use Rattle.goal_lists.specs.Projections.{projected_item};
 ghost use Rattle.goal_kinds.specs.RuleClauses.{asked_alias_list, MeansAlias, GivesNot, IsCoherence, DefinesAsked};
 ghost use Rattle.goal_kinds.specs.RuleLists.{IsListed};
-ghost use Rattle.goal_kinds.specs.Rules.{given};
-ghost use Rattle.goal_kinds.specs.RuleModes.{IsRuleIn, opaque_use, first_use_of, accesses_of, accesses_for};
+ghost use Rattle.goal_lists.specs.RowWords.{given};
+ghost use Rattle.goal_kinds.specs.RuleModes.{IsRuleIn, accesses_of};
+ghost use Rattle.goal_lists.specs.OpaqueUses.{first_use_of, accesses_for};
 ghost use Rattle.goal_kinds.specs.RuleWords.{TermsAreFor};
-ghost use Rattle.goal_kinds.specs.Settings.{Setting, among};
+ghost use Rattle.goal_lists.specs.Settings.{Setting};
 
 use crate::faults::Fault;
-use crate::lists::aliases::alias_list;
-use crate::lists::{InternedEntry, ListSetting};
-use crate::rules::assoc_items::projected;
 use crate::rules::parts::alias_given;
 use crate::rules::rebuilt::rule_of_list;
 use crate::rules::trait_goal_kind::setting_of;
 use crate::rules::{FirstUse, Rule};
+use goal_lists::lists::aliases::alias_list;
+use goal_lists::lists::projected::projected;
+use goal_lists::lists::{InternedEntry, ListSetting};
 use goal_tables::checked::CheckedTables;
 use goal_tables::lookup::IndexedTables;
 use goal_tables::rows::OpaqueRow;
-use goal_terms::answers::{BuiltinImplSource, CandidateSource, Certainty, OpaqueAccess};
+use goal_terms::answers::{BuiltinImplSource, CandidateSource, Certainty};
 use goal_terms::ids::OpaqueId;
 use goal_terms::modes::TypingMode;
 use goal_terms::predicates::{Goal, NormalizesTo};
 use goal_terms::term_nodes::OutOfMemory;
 use goal_terms::term_table::TermTable;
-use goal_terms::terms::{AliasTerm, AliasTermKind};
-
-/// What a typing mode makes of an opaque type: its hidden type, itself, itself with an access recorded,
-/// the hidden type that is being defined, or nothing that is decided here.
-pub(crate) enum OpaqueUse {
-    Revealed,
-    Rigid,
-    Recorded(OpaqueAccess),
-    Defining(FirstUse),
-    Undecided,
-}
+use goal_terms::terms::AliasTerm;
 
 /// The rule of a free, inherent or opaque alias, for a goal whose bindings are followed: its list (`list`). A
 /// free alias asks for its where clauses and gives its value; an inherent one matches its self type with that
@@ -107,83 +97,4 @@ fn asked_list<'t>(
         alias.args.as_slice(),
         alias.id,
     )
-}
-
-/// What the first use of an alias takes as its hidden type, if it is an opaque type that a mode defines. It
-/// takes no memory.
-pub fn first_use_of(
-    rows: &IndexedTables,
-    mode: &TypingMode,
-    kind: AliasTermKind,
-) -> Option<FirstUse>
-    ensures { result ≡ first_use_of rows.now mode.now kind }
-{
-    let AliasTermKind::OpaqueTy(id) = kind else {
-        return None;
-    };
-    match use_of(mode, rows.opaque_row(id)?) {
-        OpaqueUse::Defining(first) => Some(first),
-        OpaqueUse::Revealed => None,
-        OpaqueUse::Rigid => None,
-        OpaqueUse::Recorded(_) => None,
-        OpaqueUse::Undecided => None,
-    }
-}
-
-/// What a typing mode makes of an opaque type.
-pub(crate) fn use_of(mode: &TypingMode, row: &OpaqueRow) -> OpaqueUse
-    ensures { result ≡ opaque_use mode.now row.now }
-{
-    match mode {
-        TypingMode::Coherence => OpaqueUse::Undecided,
-        TypingMode::Analysis {
-            defining_opaque_types,
-        } => {
-            if is_among(defining_opaque_types, row) {
-                OpaqueUse::Defining(FirstUse::Expected)
-            } else {
-                OpaqueUse::Rigid
-            }
-        }
-        TypingMode::Borrowck {
-            defining_opaque_types,
-        } => {
-            if is_among(defining_opaque_types, row) {
-                OpaqueUse::Defining(FirstUse::TypeChecked)
-            } else {
-                OpaqueUse::Rigid
-            }
-        }
-        TypingMode::PostBorrowckAnalysis {
-            defined_opaque_types,
-        } => {
-            if is_among(defined_opaque_types, row) {
-                OpaqueUse::Revealed
-            } else {
-                OpaqueUse::Rigid
-            }
-        }
-        TypingMode::PostAnalysis => OpaqueUse::Revealed,
-        TypingMode::ErasedNotCoherence => {
-            let access = if row.is_local {
-                OpaqueAccess::IfDefining(row.id)
-            } else {
-                OpaqueAccess::IfPostAnalysis
-            };
-            OpaqueUse::Recorded(access)
-        }
-    }
-}
-
-/// Whether an opaque type is local and among these.
-fn is_among(ids: &[OpaqueId], row: &OpaqueRow) -> bool
-    ensures { result ≡ among ids.now row.now }
-{
-    row.is_local && has_id(ids, row.id)
-}
-
-fn has_id(ids: &[OpaqueId], id: OpaqueId) -> bool
-    ensures { result ≡ list_any (λ i. i.0 == id.0) ids.now }
-{
-    ids.iter().any(|i| *i == id)
 }

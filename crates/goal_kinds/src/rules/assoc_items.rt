@@ -1,13 +1,13 @@
 //! The item that a projection asks for.
-ghost use Rattle.std.specs.Prelude.{◌≡◌, ◌≢◌, true, false, Some, None, MatchOption, ⊤};
+ghost use Rattle.std.specs.Prelude.{◌≡◌, Some, None, MatchOption, ⊤};
 ghost use Rattle.goal_tables.specs.Rows.{item_of};
-ghost use Rattle.goal_kinds.specs.Projections.{projected_item};
 ghost use Rattle.goal_kinds.specs.RuleWords.{projection_in, asked_by};
 
+use goal_lists::lists::projected::projected;
 use goal_tables::lookup::IndexedTables;
 use goal_tables::rows::ItemRow;
 use goal_terms::ids::ItemId;
-use goal_terms::terms::{AliasTerm, AliasTermKind};
+use goal_terms::terms::AliasTerm;
 
 /// The item of a projection, and how many of its arguments are the trait's.
 #[derive(Clone, Copy)]
@@ -15,32 +15,6 @@ pub(crate) struct AskedItem<'t> {
     pub(crate) id: ItemId,
     pub(crate) row: &'t ItemRow,
     pub(crate) trait_params: usize,
-}
-
-/// The item that a kind of alias projects.
-pub(crate) fn projected(kind: AliasTermKind) -> Option<ItemId>
-    ensures { result ≡ projected_item kind }
-{
-    match kind {
-        AliasTermKind::ProjectionTy(id) | AliasTermKind::ProjectionConst(id) => Some(id),
-        AliasTermKind::InherentTy(_)
-        | AliasTermKind::InherentConst(_)
-        | AliasTermKind::OpaqueTy(_)
-        | AliasTermKind::FreeTy(_)
-        | AliasTermKind::FreeConst(_)
-        | AliasTermKind::UnevaluatedConst(_) => None,
-    }
-}
-
-/// Whether a kind of alias projects an item.
-pub(crate) fn projects(kind: AliasTermKind, id: ItemId) -> bool
-    ensures same { result ≡ true → projected_item kind ≡ Some id }
-    ensures other { result ≡ false → projected_item kind ≢ Some id }
-{
-    match projected(kind) {
-        None => false,
-        Some(item) => item == id,
-    }
 }
 
 /// The item that an alias projects, if it and its trait have rows.

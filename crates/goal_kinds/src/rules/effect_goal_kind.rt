@@ -2,14 +2,13 @@
 ghost use Rattle.std.specs.Prelude.{◌≡◌, true, false, List, None, Err, IfOk, IfErr};
 ghost use Rattle.goal_terms.specs.declared.predicates.Clause.{Clause as clause};
 ghost use Rattle.goal_kinds.specs.CandidateRules.{IsRefusal};
-ghost use Rattle.goal_kinds.specs.Candidates.{built_in};
+ghost use Rattle.goal_lists.specs.Candidates.{built_in};
 ghost use Rattle.goal_kinds.specs.EffectKind.{asked_effect_list};
-ghost use Rattle.goal_kinds.specs.InternedEntries.{setting_at};
+ghost use Rattle.goal_lists.specs.InternedEntries.{setting_at};
 ghost use Rattle.goal_kinds.specs.RuleLists.{IsListed};
 
 use crate::faults::Fault;
 use crate::goal_kind::{GoalKind, MergeRule, TraitView};
-use crate::lists::ListSetting;
 use crate::rules::Rule;
 use crate::rules::effects::{
     const_built_in_rule, const_error_rule, const_impl_rule, implied_rules, match_effect,
@@ -17,6 +16,7 @@ use crate::rules::effects::{
 };
 use crate::rules::named::{is_alias, is_copy_clone, is_destruct, is_fn_trait, lang_item};
 use crate::rules::trait_goal_kind::{first_type, setting_of, with_self};
+use goal_lists::lists::ListSetting;
 use goal_tables::checked::CheckedTables;
 use goal_terms::answers::{CandidateSource, Certainty};
 use goal_terms::ids::{ImplId, TraitId};

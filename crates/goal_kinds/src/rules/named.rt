@@ -1,7 +1,7 @@
 //! For which traits the functions of the trait alias and of the built-in rules are.
 ghost use Rattle.std.specs.Prelude.{◌≡◌};
 ghost use Rattle.goal_tables.specs.Rows.{trait_of};
-ghost use Rattle.goal_kinds.specs.Builtins.{lang_of_trait};
+ghost use Rattle.goal_lists.specs.Builtins.{lang_of_trait};
 ghost use Rattle.goal_kinds.specs.CandidateRules.{is_alias_row, is_rule_of, sizedness, copy_clone, fn_ptr_trait, fn_trait, tuple, pointee, discriminant_kind, destruct, field};
 
 use goal_tables::lang::{LangItem, LangTarget};

@@ -4,11 +4,11 @@ ghost use Rattle.goal_terms.specs.TableMeaning.{Keeps, tree_at};
 ghost use Rattle.goal_terms.specs.Tree.{alias, forest};
 ghost use Rattle.goal_terms.specs.TreeOf.{trees_of, tree_of_term};
 ghost use Rattle.goal_kinds.specs.CandidateRules.{after};
-ghost use Rattle.goal_kinds.specs.Interned.{AreIn, IsIn, erased_all, erased_at};
-ghost use Rattle.goal_kinds.specs.Rules.{given};
+ghost use Rattle.goal_lists.specs.Interned.{AreIn, IsIn, erased_all, erased_at};
+ghost use Rattle.goal_lists.specs.RowWords.{given};
 
-use crate::lists::parts::copied;
 use crate::rules::RuleEntry;
+use goal_lists::lists::parts::copied;
 use goal_terms::answers::Certainty;
 use goal_terms::term_nodes::{OutOfMemory, TermId};
 use goal_terms::term_table::TermTable;

@@ -3,22 +3,23 @@ ghost use Rattle.std.specs.Prelude.{◌≡◌, ◌||◌, true, false, List, None
 ghost use Rattle.goal_terms.specs.TreeOf.{tree_of_ty};
 ghost use Rattle.goal_terms.specs.declared.predicates.Clause.{Clause as clause};
 ghost use Rattle.goal_kinds.specs.CandidateRules.{IsRefusal};
-ghost use Rattle.goal_kinds.specs.Candidates.{built_in};
-ghost use Rattle.goal_kinds.specs.InternedEntries.{setting_at};
+ghost use Rattle.goal_lists.specs.Candidates.{built_in};
+ghost use Rattle.goal_lists.specs.InternedEntries.{setting_at};
 ghost use Rattle.goal_kinds.specs.ProjectionKind.{asked_projection_list, lang_of_alias, is_lang, IsAliasWithSelf as is_goal_with_self};
 ghost use Rattle.goal_kinds.specs.RuleLists.{IsListed};
 ghost use Rattle.goal_tables.specs.declared.lang.LangItem.TheVariants as lang_items;
 
 use crate::faults::Fault;
 use crate::goal_kind::{GoalKind, MergeRule, TraitView};
-use crate::lists::ListSetting;
 use crate::rules::Rule;
-use crate::rules::assoc_items::{asked_item, projected};
+use crate::rules::assoc_items::asked_item;
 use crate::rules::parts::{copied_term, first_of};
 use crate::rules::projections::{
     built_in_term_rule, impl_term_rule, match_projection, may_match_projection,
 };
 use crate::rules::trait_goal_kind::{first_type, setting_of};
+use goal_lists::lists::ListSetting;
+use goal_lists::lists::projected::projected;
 use goal_tables::checked::CheckedTables;
 use goal_tables::lang::{LangItem, LangTarget};
 use goal_terms::answers::{CandidateSource, Certainty};

@@ -4,20 +4,20 @@ ghost use Rattle.goal_terms.specs.TreeOf.{tree_of_ty};
 ghost use Rattle.goal_terms.specs.declared.predicates.Clause.{Clause as clause};
 ghost use Rattle.goal_tables.specs.Faults.{IsChecked};
 ghost use Rattle.goal_kinds.specs.CandidateRules.{IsRefusal, IsWithSelf as is_trait_with_self, first_type as first_of};
-ghost use Rattle.goal_kinds.specs.Candidates.{built_in};
-ghost use Rattle.goal_kinds.specs.InternedEntries.{setting_at};
+ghost use Rattle.goal_lists.specs.Candidates.{built_in};
+ghost use Rattle.goal_lists.specs.InternedEntries.{setting_at};
 ghost use Rattle.goal_kinds.specs.RuleClauses.{asked_trait_list};
 ghost use Rattle.goal_kinds.specs.RuleLists.{IsListed};
 
 use crate::faults::Fault;
 use crate::goal_kind::{GoalKind, MergeRule, TraitView};
-use crate::lists::ListSetting;
 use crate::rules::Rule;
 use crate::rules::named::{
     is_alias, is_copy_clone, is_destruct, is_discriminant_kind, is_field, is_fn_ptr_trait,
     is_fn_trait, is_pointee, is_sizedness, is_tuple, lang_item,
 };
 use crate::rules::traits::{built_in_rule, error_rule, impl_rule, match_trait, may_match_trait};
+use goal_lists::lists::ListSetting;
 use goal_tables::checked::CheckedTables;
 use goal_terms::answers::{CandidateSource, Certainty};
 use goal_terms::ids::{ImplId, TraitId};

@@ -2,7 +2,7 @@
 ghost use Rattle.std.specs.Prelude.{◌≡◌, map, IfOk};
 ghost use Rattle.goal_terms.specs.TableMeaning.{tree_at};
 ghost use Rattle.goal_terms.specs.TreeOf.{tree_of_arg, trees_of};
-ghost use Rattle.goal_kinds.specs.Interned.{IsIn, AreIn};
+ghost use Rattle.goal_lists.specs.Interned.{IsIn, AreIn};
 
 use goal_terms::heads::{Head, Node};
 use goal_terms::term_nodes::{OutOfMemory, TermId};

@@ -3,7 +3,7 @@ ghost use Rattle.std.specs.Prelude.{◌≡◌, ◌⊎◌, ◌↔◌, true, take,
 ghost use Rattle.std.specs.List.{All, Contains};
 ghost use Rattle.goal_terms.specs.declared.answers.DelayedFault.{DelayedFault as Delayed};
 ghost use Rattle.goal_terms.specs.declared.answers.OpaqueAccess.{OpaqueAccess as Access};
-ghost use Rattle.goal_kinds.specs.Causes.{IsFaultCaused, is_missing};
+ghost use Rattle.goal_lists.specs.Causes.{IsFaultCaused, is_missing};
 ghost use Rattle.goal_solver.specs.Accesses.{RecordsCausedFaults, uncaused, uncaused_faults};
 ghost use Rattle.goal_eval.specs.Entering.{EntersAtMost};
 ghost use Rattle.goal_solver.specs.Added.{RecordsAccess, RecordsFault};

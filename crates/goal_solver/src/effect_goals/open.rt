@@ -2,7 +2,7 @@
 ghost use Rattle.std.specs.Prelude.{◌≡◌, ◌<◌, ℕ, suc, Option, Result, Err, IfOk, IfSome, IsOkUnless};
 ghost use Rattle.goal_solver.specs.Answers.{IsMaybe};
 ghost use Rattle.goal_solver.specs.Binding.{IsApplicable};
-ghost use Rattle.goal_solver.specs.Collecting.{kind_of};
+ghost use Rattle.goal_kinds.specs.Collecting.{kind_of};
 ghost use Rattle.goal_solver.specs.GoingBack.{GoesBack, restored};
 ghost use Rattle.goal_solver.specs.OpenAnswers.{InTrial, MergesOpened, OpensIfAsked};
 ghost use Rattle.goal_solver.specs.OpenGoals.{AsksOpenSelf, IsListedIn, IsSelfAlias, WhenAnswered, WhenTried, at_depth};
@@ -11,18 +11,19 @@ ghost use Rattle.goal_solver.specs.Promises.{LeavesUndecided, MergesOpenHostEffe
 ghost use Rattle.goal_solver.specs.Relating.{IsFaultFor};
 ghost use Rattle.goal_solver.specs.State.{State as state};
 
+use crate::assembly::formed_rules::groups_for_form;
 use crate::assembly::merged_rules::Merged;
 use crate::context::EvalCtxt;
 use crate::context::respond::copied_args;
 use crate::eval::where_goals::copied_clauses;
 use crate::faults::Fault;
-use crate::normalizes_to::groups::{GroupRules, groups_for_form};
 use crate::normalizes_to::open::proven_class;
+use goal_kinds::assembly::group_rules::GroupRules;
 use goal_kinds::goal_kind::GoalKind;
 use goal_kinds::rules::Rule;
 use goal_terms::answers::{Certainty, Response, TraitGoalProvenVia};
 use goal_terms::predicates::{Clause, Goal, HostEffectPredicate, TraitPredicate, TraitRef};
-use goal_terms::terms::{AliasTerm, Term};
+use goal_terms::terms::AliasTerm;
 
 impl EvalCtxt<'_> {
     /// What `compute_host_effect_goal` answers to a goal with inference variables. At depth 0 that is undecided.

@@ -2,7 +2,7 @@
 ghost use Rattle.std.specs.Prelude.{◌≡◌, ◌↔◌, ◌<◌, ℕ, List, [], ◌∷◌, ◌++◌, length, true, false, Some, slice_get, Err, IfOk, IfErr, OnOk, OnErr, IsTrue, IsOkUnless};
 ghost use Rattle.std.specs.List.{Contains};
 ghost use Rattle.goal_terms.specs.declared.modes.TypingMode.{TypingMode as modes};
-ghost use Rattle.goal_kinds.specs.Settings.{is_headline};
+ghost use Rattle.goal_lists.specs.Settings.{is_headline};
 ghost use Rattle.goal_solver.specs.Accesses.{RecordsCausedFaults};
 ghost use Rattle.goal_solver.specs.Added.{has_goals};
 ghost use Rattle.goal_solver.specs.AddedGoals.{IsClosedGoal, AnswersGoal, BindsAtMost, IsVerdict, IsPendingAnswer, AllPendingTake, ArePendingClosed, ArePendingAnswerable, ArePendingUndecided, ChangesTaken};
@@ -20,7 +20,7 @@ use crate::eval::goal_outcomes::OpenGoal;
 use crate::eval::open_asked::answer_of;
 use crate::faults::Fault;
 use goal_eval::eval::outcomes::Stop;
-use goal_kinds::outcomes::Outcome;
+use goal_lists::outcomes::Outcome;
 use goal_terms::answers::{Certainty, GoalSource, Response};
 use goal_terms::predicates::{Goal, Predicate};
 use goal_terms::terms::AliasTerm;

@@ -2,7 +2,7 @@
 ghost use Rattle.std.specs.Prelude.{◌≡◌, ◌≢◌, ◌⊎◌, true, false, [], None, Ok, Err, IfOk, IfErr};
 ghost use Rattle.goal_terms.specs.declared.answers.Certainty.TheVariants as certainty;
 ghost use Rattle.goal_terms.specs.declared.modes.TypingMode.{TypingMode as modes};
-ghost use Rattle.goal_kinds.specs.Settings.{is_headline};
+ghost use Rattle.goal_lists.specs.Settings.{is_headline};
 ghost use Rattle.goal_solver.specs.Accesses.{RecordsCaused, EndsFor, RecordsCausedFaults};
 ghost use Rattle.goal_solver.specs.Answers.{IsOwed, level_over, IsPredicateAnswer, IsUndecided, IsMaybe, IsFaultOf, IsStopped, AnswersQuietly, AnswersAside, ListsNothing, IsConclusion};
 ghost use Rattle.goal_solver.specs.Binding.{IsApplicable};
@@ -18,7 +18,7 @@ use crate::eval::predicate_views::PredicateView;
 use crate::faults::Fault;
 use goal_eval::eval::outcomes::Stop;
 use goal_eval::eval::region_constraints::RegionConstraints;
-use goal_kinds::outcomes::Outcome;
+use goal_lists::outcomes::Outcome;
 use goal_terms::answers::{Certainty, Response};
 use goal_terms::modes::TypingMode;
 use goal_terms::predicates::Clause;

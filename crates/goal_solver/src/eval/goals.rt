@@ -14,7 +14,7 @@ use goal_terms::predicates::Goal;
 use thiserror::Error;
 
 /// Why a goal is refused. Of several faults that apply, the one of the smallest number is answered.
-#[derive(Clone, Copy, Debug, PartialEq, Eq, Hash, Error)]
+#[derive(Clone, Copy, Debug, PartialEq, Eq, Error)]
 pub enum GoalFault {
     /// An id stands that no row has.
     #[error("unknown item")]

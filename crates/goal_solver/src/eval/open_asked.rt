@@ -8,7 +8,7 @@ use crate::eval::goal_outcomes::OpenGoal;
 use crate::eval::where_goals::copied_clauses;
 use crate::faults::Fault;
 use goal_infer::state::InferState;
-use goal_kinds::outcomes::Outcome;
+use goal_lists::outcomes::Outcome;
 use goal_tables::predicate_terms::some_in_env;
 use goal_terms::answers::Certainty;
 use goal_terms::ids::TraitId;

@@ -4,7 +4,7 @@ ghost use Rattle.goal_terms.specs.Erased.{erased};
 ghost use Rattle.goal_terms.specs.Tree.{variable};
 ghost use Rattle.goal_terms.specs.TableMeaning.{Keeps};
 ghost use Rattle.goal_terms.specs.TreeOf.{tree_of_alias, tree_of_term};
-ghost use Rattle.goal_kinds.specs.Interned.{IsIn, erased_at};
+ghost use Rattle.goal_lists.specs.Interned.{IsIn, erased_at};
 ghost use Rattle.goal_solver.specs.Accesses.{RecordsCausedFaults};
 ghost use Rattle.goal_solver.specs.GoingBack.{GoesBack, restored};
 ghost use Rattle.goal_solver.specs.HeadForms.{bound_term, is_open_form, IsOpenForm};

@@ -1,7 +1,7 @@
 //! Goals of opaque types that are being defined.
 ghost use Rattle.std.specs.Prelude.{◌≡◌, ◌<◌, true, Some, IfOk};
-ghost use Rattle.goal_kinds.specs.RuleModes.{first_use_of};
-ghost use Rattle.goal_kinds.specs.declared.rules.FirstUse.{FirstUse};
+ghost use Rattle.goal_lists.specs.OpaqueUses.{first_use_of};
+ghost use Rattle.goal_lists.specs.declared.lists.FirstUse.{FirstUse};
 ghost use Rattle.goal_solver.specs.Binding.{IsApplicable};
 ghost use Rattle.goal_solver.specs.GoingBack.{GoesBack, restored};
 ghost use Rattle.goal_solver.specs.OpenGoals.{WhenAnswered};
@@ -11,7 +11,8 @@ ghost use Rattle.goal_solver.specs.Relating.{IsFaultFor};
 use crate::context::EvalCtxt;
 use crate::eval::closed_goals::is_closed_alias;
 use crate::faults::Fault;
-use goal_kinds::rules::aliases::{alias_rule, first_use_of};
+use goal_kinds::rules::aliases::alias_rule;
+use goal_lists::lists::opaque_uses::first_use_of;
 use goal_terms::answers::Response;
 use goal_terms::node_tests::general_variable;
 use goal_terms::predicates::{Goal, NormalizesTo};

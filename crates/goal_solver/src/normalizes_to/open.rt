@@ -1,11 +1,11 @@
 //! Goals of the terms of projections with inference variables.
-ghost use Rattle.std.specs.Prelude.{◌≡◌, ◌<◌, ◌⊎◌, ℕ, suc, true, false, drop, Option, Result, None, IfOk, IfErr, IfSome, IsOkUnless, MatchOption};
+ghost use Rattle.std.specs.Prelude.{◌≡◌, ◌<◌, ◌⊎◌, ℕ, suc, true, false, Option, Result, None, IfOk, IfErr, IfSome, IsOkUnless, MatchOption};
 ghost use Rattle.std.specs.Option.{option_map};
 ghost use Rattle.goal_terms.specs.TreeOf.{tree_of_alias, tree_of_term};
 ghost use Rattle.goal_kinds.specs.ProjectionKind.{projected_trait};
 ghost use Rattle.goal_solver.specs.Answers.{is_closed_alias, expected_variable, IsMaybe};
 ghost use Rattle.goal_solver.specs.Binding.{IsApplicable};
-ghost use Rattle.goal_solver.specs.Collecting.{kind_of};
+ghost use Rattle.goal_kinds.specs.Collecting.{kind_of};
 ghost use Rattle.goal_solver.specs.GoingBack.{GoesBack, restored};
 ghost use Rattle.goal_solver.specs.HiddenTypes.{tree_in};
 ghost use Rattle.goal_solver.specs.OpenAnswers.{InTrial, MergesOpened, MergesProjection, MergesThrough, OpensIfAsked};
@@ -15,13 +15,14 @@ ghost use Rattle.goal_solver.specs.Refusals.{WhenRefused};
 ghost use Rattle.goal_solver.specs.Relating.{IsFaultFor};
 ghost use Rattle.goal_solver.specs.State.{State as state};
 
+use crate::assembly::formed_rules::groups_for_form;
 use crate::assembly::merged_rules::Merged;
 use crate::context::EvalCtxt;
 use crate::context::respond::copied_args;
 use crate::eval::closed_goals::is_closed_alias;
 use crate::eval::where_goals::copied_clauses;
 use crate::faults::Fault;
-use crate::normalizes_to::groups::{GroupRules, groups_for_form, rules_by_group};
+use goal_kinds::assembly::group_rules::{GroupRules, rules_by_group};
 use goal_kinds::goal_kind::GoalKind;
 use goal_kinds::rules::aliases::alias_rule;
 use goal_kinds::rules::{RuleEntry, RuleTerm};
@@ -29,6 +30,7 @@ use goal_tables::checked::CheckedTables;
 use goal_terms::answers::{Certainty, Response, TraitGoalProvenVia};
 use goal_terms::node_tests::general_variable;
 use goal_terms::predicates::{Clause, Goal, NormalizesTo, TraitPredicate, TraitRef};
+use goal_terms::slices::behind;
 use goal_terms::term_nodes::OutOfMemory;
 use goal_terms::terms::{AliasTerm, Const, GenericArg, Term, Ty};
 
@@ -502,17 +504,7 @@ fn own_args<'a>(tables: &'a CheckedTables, asked: &'a NormalizesTo) -> &'a [Gene
     let Some(view) = asked.trait_ref(tables) else {
         return &[];
     };
-    args_behind(&asked.alias.args, view.args.len())
-}
-
-/// The arguments behind a number of them.
-fn args_behind(args: &[GenericArg], count: usize) -> &[GenericArg]
-    ensures { result.now ≡ drop count args.now }
-{
-    if count >= args.len() {
-        return &[];
-    }
-    &args[count..]
+    behind(&asked.alias.args, view.args.len())
 }
 
 /// The type or the constant that an argument is.

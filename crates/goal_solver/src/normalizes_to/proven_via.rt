@@ -3,8 +3,8 @@ ghost use Rattle.std.specs.Prelude.{◌≡◌, ◌⊎◌, true, [], length, Some
 ghost use Rattle.goal_terms.specs.declared.answers.Certainty.TheVariants as certainty;
 ghost use Rattle.goal_terms.specs.TableMeaning.{Keeps};
 ghost use Rattle.goal_terms.specs.declared.modes.TypingMode.{TypingMode};
-ghost use Rattle.goal_kinds.specs.Projections.{projected_item};
-ghost use Rattle.goal_kinds.specs.Settings.{is_headline};
+ghost use Rattle.goal_lists.specs.Projections.{projected_item};
+ghost use Rattle.goal_lists.specs.Settings.{is_headline};
 ghost use Rattle.goal_solver.specs.Answers.{IsOwed, is_closed_alias, AnswersAside, IsFaultOf};
 ghost use Rattle.goal_solver.specs.GoingBack.{GoesBack, restored};
 ghost use Rattle.goal_eval.specs.Outcomes.{RunsAs, RunsFor, setting_in, level_in, FoundIn};

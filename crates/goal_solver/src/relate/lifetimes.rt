@@ -5,7 +5,7 @@ ghost use Rattle.goal_terms.specs.Tree.{Tree};
 ghost use Rattle.goal_infer.specs.Inference as inferences;
 ghost use Rattle.goal_infer.specs.RegionEquations.{AddsRegions, equated};
 ghost use Rattle.goal_infer.specs.Resolution.{IsSolved};
-ghost use Rattle.goal_kinds.specs.Interned.{erased_at};
+ghost use Rattle.goal_lists.specs.Interned.{erased_at};
 ghost use Rattle.goal_solver.specs.GoingBack.{GoesBack};
 ghost use Rattle.goal_solver.specs.Relating.{ChangesInference, EquatesIdentical, EquatesPair};
 ghost use Rattle.goal_solver.specs.State.{kinds_in};

@@ -2,17 +2,17 @@
 ghost use Rattle.std.specs.Prelude.{◌≡◌, ◌<◌, ◌||◌, not, IfOk, IfErr, length};
 ghost use Rattle.goal_terms.specs.NodeTests.{some_node, is_any_infer};
 ghost use Rattle.goal_terms.specs.TableMeaning.{tree_at, Keeps};
-ghost use Rattle.goal_kinds.specs.Interned.{erased_at, erased_all};
+ghost use Rattle.goal_lists.specs.Interned.{erased_at, erased_all};
 ghost use Rattle.goal_eval.specs.Pending.{AreOfOneKind, AreListsOfOneKind, NeedForms};
 ghost use Rattle.goal_solver.specs.Settled.{IsSettled, AreSettled, HoldsWithMemory};
 ghost use Rattle.goal_eval.specs.Effects.{AreSound, IsStop};
 
 use goal_eval::eval::effects::Effects;
-use goal_eval::eval::id_lists::own_list;
 use goal_eval::eval::outcomes::{Setting, Stop};
 use goal_eval::relate::equality::compare_terms;
 use goal_eval::relate::pairs::{Tops, compare_tops};
-use goal_kinds::outcomes::Outcome;
+use goal_lists::lists::parts::copied;
+use goal_lists::outcomes::Outcome;
 use goal_terms::term_nodes::TermId;
 use goal_terms::term_table::TermTable;
 
@@ -44,8 +44,8 @@ pub(crate) fn relate_resolved(
             setting, terms, effects, left, right, opens, depth,
         ),
         Tops::NeedParts => {
-            let parts = own_list(setting, terms.parts(left))?;
-            let others = own_list(setting, terms.parts(right))?;
+            let parts = copied(setting.allocator(), terms.parts(left))?;
+            let others = copied(setting.allocator(), terms.parts(right))?;
             relate_resolved_lists(setting, terms, effects, &parts, &others, opens, depth)
         }
     }

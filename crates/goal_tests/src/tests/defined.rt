@@ -124,7 +124,7 @@ fn assert_use(
     assert_eq!(rt; response.opaque_entries.len(), asked.entered);
     context.apply_response(&response)?;
     let term = context.structurally_normalize_term(&[], &goal.predicate.term)?;
-    assert_eq!(rt; term, Some(Term::Ty(ty_of(alloc, &asked.value)?)));
+    assert!(rt; term == Some(Term::Ty(ty_of(alloc, &asked.value)?)));
     Ok(())
 }
 

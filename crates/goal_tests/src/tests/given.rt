@@ -63,7 +63,7 @@ fn assert_fresh(
     number: u32,
 ) -> Result<(), Fail> {
     let made = fresh(context, kind)?;
-    assert_eq!(rt; made, variable_of(kind, number));
+    assert!(rt; made == variable_of(kind, number));
     Ok(())
 }
 
@@ -76,7 +76,7 @@ fn assert_fresh_arguments(
     made: &[(VarKind, u32)],
 ) -> Result<(), Fail> {
     let expected = variables_of(alloc, made)?;
-    assert_eq!(rt; context.fresh_args_for_item(params), Ok(expected));
+    assert!(rt; context.fresh_args_for_item(params) == Ok(expected));
     Ok(())
 }
 
@@ -99,6 +99,6 @@ fn assert_hidden(
     let ty = ty_of(alloc, types.0)?;
     let args = Vec::new(alloc);
     let old = context.register_hidden_type_in_storage(OpaqueTypeKey { def_id, args }, ty)?;
-    assert_eq!(rt; old, some_ty_of(alloc, types.1)?);
+    assert!(rt; old == some_ty_of(alloc, types.1)?);
     Ok(())
 }

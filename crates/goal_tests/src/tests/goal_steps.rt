@@ -107,7 +107,7 @@ fn assert_response(
     expected: &ResponseSketch,
 ) -> Result<(), Fail> {
     let response = context.evaluate_added_goals_and_make_canonical_response(Certainty::Yes)?;
-    assert_eq!(rt; response, response_of(alloc, expected)?);
+    assert!(rt; response == response_of(alloc, expected)?);
     Ok(())
 }
 
@@ -189,7 +189,7 @@ fn assert_values(
 ) -> Result<(), Fail> {
     for (number, ty) in values {
         let term = Term::Ty(ty_of(alloc, ty)?);
-        assert_eq!(rt; lists(response, *number, &term), true, "{number} {term:?}");
+        assert_eq!(rt; lists(response, *number, &term), true, "{number}");
     }
     Ok(())
 }

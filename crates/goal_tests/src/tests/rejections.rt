@@ -1,6 +1,6 @@
 //! Lists of arguments that can't become the same, by fast rejection.
 use crate::tests::sketches::{A_OF_Z, T, TypeSketch, U8, U16, V0, args_of};
-use goal_kinds::fast_reject::{args_may_unify_infer, args_may_unify_rigid};
+use goal_lists::fast_reject::{args_may_unify_infer, args_may_unify_rigid};
 use goal_program::names::{BOX, VEC};
 use std::alloc::Global;
 use std::process::Abort;

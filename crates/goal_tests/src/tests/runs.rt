@@ -68,7 +68,7 @@ fn assert_list_to(
 ) -> Result<(), Fail> {
     let rule = rule_of(alloc, entries)?;
     let response = response_to(context, &rule)?;
-    assert_eq!(rt; response, response_of(alloc, expected)?);
+    assert!(rt; response == response_of(alloc, expected)?);
     Ok(())
 }
 
@@ -80,6 +80,6 @@ fn assert_recorded(
     accesses: &[OpaqueAccess],
 ) -> Result<(), Fail> {
     assert_eq!(rt; context.delayed_faults().len(), faults);
-    assert_eq!(rt; context.opaque_accesses(), accesses);
+    assert!(rt; context.opaque_accesses() == accesses);
     Ok(())
 }

@@ -124,7 +124,7 @@ fn assert_recorded(rt: &impl Abort, alloc: Global, context: &mut EvalCtxt<'_>) -
     let goal = alias_goal_of(alloc, AliasTermKind::OpaqueTy(HID), &[], &V0)?;
     assert_eq!(rt; try_in_vain(context, &goal), NO);
     let expected = [OpaqueAccess::IfPostAnalysis];
-    assert_eq!(rt; context.opaque_accesses(), expected.as_slice());
+    assert!(rt; context.opaque_accesses() == expected.as_slice());
     Ok(())
 }
 

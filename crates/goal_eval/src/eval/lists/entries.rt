@@ -4,30 +4,32 @@ ghost use Rattle.std.specs.Option.{ForSome, option_copied};
 ghost use Rattle.goal_terms.specs.TableMeaning.{Keeps};
 ghost use Rattle.goal_terms.specs.Tree.{Tree};
 ghost use Rattle.goal_terms.specs.View.{tree_of_ref};
-ghost use Rattle.goal_kinds.specs.Causes.{IsCaused, IsCausedEntry};
-ghost use Rattle.goal_kinds.specs.Interned.{AreIn, erased_all};
-ghost use Rattle.goal_kinds.specs.InternedEntries.{value_tree, arguments_at, ArgumentsIn, term_at, TermIn, entry_at, EntryIn};
-ghost use Rattle.goal_kinds.specs.ListModes.{IsAccess};
-ghost use Rattle.goal_kinds.specs.Settings.{is_headline as is_of_headline};
+ghost use Rattle.goal_lists.specs.Causes.{IsCaused, IsCausedEntry};
+ghost use Rattle.goal_lists.specs.Interned.{AreIn, erased_all};
+ghost use Rattle.goal_lists.specs.InternedEntries.{value_tree, arguments_at, ArgumentsIn, term_at, TermIn, entry_at, EntryIn};
+ghost use Rattle.goal_lists.specs.ListModes.{IsAccess};
+ghost use Rattle.goal_lists.specs.Settings.{is_headline as is_of_headline};
 ghost use Rattle.goal_eval.specs.Lists.{AtEachLevel, NamedIn, named_at, RunIn, RunsOn, SaysNamed, SaysHeader, SaysTerm, SaysRow, numbered_at, chosen_term};
 ghost use Rattle.goal_eval.specs.Outcomes.{FoundIn, MatchIn};
 ghost use Rattle.goal_eval.specs.Effects.{AreSound, IsStop};
 
 use crate::eval::effects::Effects;
 use crate::eval::head_forms::{head_form, head_form_under};
-use crate::eval::id_lists::{joined, own_list};
-use crate::eval::instances::{header_of_type, instances_of};
+use crate::eval::id_lists::joined;
+use crate::eval::instances::header_of_type;
 use crate::eval::lists::progress::{ListRun, Reached};
 use crate::eval::mode_tests::is_headline;
 use crate::eval::outcomes::{Found, HeaderMatch, OnAccess, Setting, Stop};
 use crate::eval::premises::{clauses_outcome, conditions_outcome, predicate_outcome};
 use crate::relate::equality::compare_lists;
+use crate::relate::header_args::instances;
 use crate::relate::headers::match_header;
-use goal_kinds::candidates::premises::traits_under;
-use goal_kinds::lists::{
+use goal_lists::candidates::premises::traits_under;
+use goal_lists::lists::parts::copied;
+use goal_lists::lists::{
     HeaderTerms, InternedArguments, InternedEntry, InternedTerm, RowHeader, RowValueTerm,
 };
-use goal_kinds::outcomes::Outcome;
+use goal_lists::outcomes::Outcome;
 use goal_terms::answers::{DelayedFault, OpaqueAccess};
 use goal_terms::predicates::{BoundConstness, Clause, TraitRef};
 use goal_terms::term_nodes::TermId;
@@ -167,7 +169,7 @@ fn arguments_match(
 {
     match arguments {
         InternedArguments::Given(ids) => {
-            let args = own_list(setting, ids)?;
+            let args = copied(setting.allocator(), ids)?;
             Ok(HeaderMatch::Fits(args))
         }
         InternedArguments::OfHeader(_, header, given) => {
@@ -177,7 +179,7 @@ fn arguments_match(
             let Some(args) = named_args(named, *number) else {
                 return Ok(HeaderMatch::Unknown);
             };
-            let given = instances_of(setting, terms, of, args)?;
+            let given = instances(setting.allocator(), terms, of, args)?;
             header_match(setting, terms, effects, header, &given, depth)
         }
         InternedArguments::FollowedBy(number, own) => {

@@ -1,12 +1,12 @@
 //! How far a list of entries was run.
 ghost use Rattle.std.specs.Prelude.{◌≡◌, [], true, false, IfOk, None};
 ghost use Rattle.goal_eval.specs.Lists.{TakenIn, NamesOn, run_asking, reached_asking, TakesOn, GivesOn, reached_giving};
-ghost use Rattle.goal_kinds.specs.Interned.{IsIn};
+ghost use Rattle.goal_lists.specs.Interned.{IsIn};
 ghost use Rattle.goal_eval.specs.Outcomes.{FoundIn};
 
 use crate::eval::lists::ListOutcome;
 use crate::eval::outcomes::{Found, HeaderMatch};
-use goal_kinds::outcomes::Outcome;
+use goal_lists::outcomes::Outcome;
 use goal_terms::term_nodes::{OutOfMemory, TermId};
 use goal_terms::term_table::TermTable;
 use std::alloc::Global;

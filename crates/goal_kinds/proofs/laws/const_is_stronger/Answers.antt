@@ -1,4 +1,4 @@
-use Rattle.goal_kinds.proofs.AnswerLaws.{const-agrees}
+use Rattle.goal_lists.proofs.AnswerLaws.{const-agrees}
 use Rattle.goal_kinds.proofs.laws.const_is_stronger.Goals as goal
 
 pub returns : goal.returns

@@ -1,8 +1,8 @@
 use Rattle.std.proofs.Common.{refl}
-use Rattle.goal_kinds.specs.Laws.{is_default_source}
-use Rattle.goal_kinds.proofs.AlikeSettings.{alike-any_mode, headlines-coherent}
-use Rattle.goal_kinds.proofs.AnswerLaws.{answer-same}
-use Rattle.goal_kinds.proofs.WithinLevels.{within-alike_level, within-alike_level_back}
+use Rattle.goal_lists.specs.Laws.{is_default_source}
+use Rattle.goal_lists.proofs.AlikeSettings.{alike-any_mode, headlines-coherent}
+use Rattle.goal_lists.proofs.AnswerLaws.{answer-same}
+use Rattle.goal_lists.proofs.WithinLevels.{within-alike_level, within-alike_level_back}
 use Rattle.goal_kinds.proofs.laws.headline_modes_agree.Goals as goal
 
 pub returns : goal.returns

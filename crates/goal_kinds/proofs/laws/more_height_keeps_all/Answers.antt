@@ -1,6 +1,6 @@
-use Rattle.goal_kinds.proofs.AnswerLaws.{answer-within}
-use Rattle.goal_kinds.proofs.WithinHeaders.{within-fits, within-clashes}
-use Rattle.goal_kinds.proofs.WithinLevels.{within-level}
+use Rattle.goal_lists.proofs.AnswerLaws.{answer-within}
+use Rattle.goal_lists.proofs.WithinHeaders.{within-fits, within-clashes}
+use Rattle.goal_lists.proofs.WithinLevels.{within-level}
 use Rattle.goal_kinds.proofs.laws.more_height_keeps_all.Goals as goal
 
 pub returns-clause-answers : goal.returns-clause-answers

@@ -1,4 +1,4 @@
-use Rattle.goal_kinds.proofs.AnswerLaws.{answers-agree, classes-agree, terms-agree, substitutions-agree, headers-agree}
+use Rattle.goal_lists.proofs.AnswerLaws.{answers-agree, classes-agree, terms-agree, substitutions-agree, headers-agree}
 use Rattle.goal_kinds.proofs.laws.no_two_proofs_disagree.Goals as goal
 
 pub returns-clause-answers : goal.returns-clause-answers

@@ -1,6 +1,6 @@
-use Rattle.goal_kinds.proofs.AlikeSettings.{alike-reordered}
-use Rattle.goal_kinds.proofs.AnswerLaws.{answer-same, impls-not_doubled}
-use Rattle.goal_kinds.proofs.WithinLevels.{within-alike_level, within-alike_level_back}
+use Rattle.goal_lists.proofs.AlikeSettings.{alike-reordered}
+use Rattle.goal_lists.proofs.AnswerLaws.{answer-same, impls-not_doubled}
+use Rattle.goal_lists.proofs.WithinLevels.{within-alike_level, within-alike_level_back}
 use Rattle.goal_kinds.proofs.laws.order_of_impls_says_nothing.Goals as goal
 
 pub returns : goal.returns

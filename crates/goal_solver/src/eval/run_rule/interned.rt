@@ -6,12 +6,13 @@ ghost use Rattle.goal_terms.specs.TableMeaning.{Keeps};
 ghost use Rattle.goal_terms.specs.Tree.{Tree};
 ghost use Rattle.goal_terms.specs.TreeOf.{trees_of, tree_of_term};
 ghost use Rattle.goal_tables.specs.Rows.{impl_of};
-ghost use Rattle.goal_kinds.specs.Answers.{erased_predicate};
-ghost use Rattle.goal_kinds.specs.Interned.{PredicateIn, predicate_at};
-ghost use Rattle.goal_kinds.specs.Entries.{chosen_by, equal_terms, row_clauses, row_conditions};
-ghost use Rattle.goal_kinds.specs.InternedEntries.{ArgumentsIn, TermIn, EntryIn, arguments_at, term_at, entry_at, header_trees, value_tree};
-ghost use Rattle.goal_kinds.specs.RuleLists.{header_arguments, other_arguments, arguments_of, expected_of, entry_of, names_arguments};
-ghost use Rattle.goal_kinds.specs.Rules.{clauses_in, conditions_in, value_in, value_term};
+ghost use Rattle.goal_lists.specs.Answers.{erased_predicate};
+ghost use Rattle.goal_lists.specs.Interned.{PredicateIn, predicate_at};
+ghost use Rattle.goal_lists.specs.Entries.{chosen_by, equal_terms, row_clauses, row_conditions};
+ghost use Rattle.goal_lists.specs.InternedEntries.{ArgumentsIn, TermIn, EntryIn, arguments_at, term_at, entry_at, header_trees, value_tree};
+ghost use Rattle.goal_kinds.specs.RuleLists.{arguments_of, expected_of, entry_of, names_arguments};
+ghost use Rattle.goal_lists.specs.RowWords.{header_arguments, other_arguments};
+ghost use Rattle.goal_lists.specs.RowWords.{clauses_in, conditions_in, value_in, value_term};
 ghost use Rattle.goal_eval.specs.Lists.{AtEachLevel, RunIn};
 ghost use Rattle.goal_eval.specs.Outcomes.{header_terms};
 ghost use Rattle.goal_solver.specs.RunRules.{RuleRunsOn, header_at, chosen_term};
@@ -23,12 +24,12 @@ use goal_eval::eval::interning::{intern_args, intern_equation};
 use goal_eval::eval::lists::entries::run_entry;
 use goal_eval::eval::lists::progress::{ListRun, Reached};
 use goal_eval::eval::outcomes::{Setting, Stop};
-use goal_kinds::candidates::interned::{InternedPredicate, InternedTrait};
-use goal_kinds::lists::{
+use goal_kinds::rules::{RowClauses, RowValue, RuleArguments, RuleEntry, RuleHeader, RuleTerm};
+use goal_lists::candidates::interned::{InternedPredicate, InternedTrait};
+use goal_lists::lists::{
     HeaderTerms, InternedArguments, InternedEntry, InternedTerm, RowHeader, RowValueTerm,
 };
-use goal_kinds::outcomes::Outcome;
-use goal_kinds::rules::{RowClauses, RowValue, RuleArguments, RuleEntry, RuleHeader, RuleTerm};
+use goal_lists::outcomes::Outcome;
 use goal_tables::lookup::IndexedTables;
 use goal_tables::rows::{DefValue, ImplRow};
 use goal_terms::answers::DelayedFault;

@@ -2,7 +2,7 @@
 ghost use Rattle.std.specs.Prelude.{◌≡◌, ◌∷◌, [], Some, IfOk, IfErr, OnOk, IsOkUnless, slice_get};
 ghost use Rattle.std.specs.Option.{option_copied};
 ghost use Rattle.goal_terms.specs.TreeOf.{trees_of, tree_of_ty};
-ghost use Rattle.goal_kinds.specs.declared.rules.RuleHeader.TheVariants as of_header;
+ghost use Rattle.goal_lists.specs.declared.lists.RuleHeader.TheVariants as of_header;
 ghost use Rattle.goal_solver.specs.Accesses.{RecordsCausedFaults};
 ghost use Rattle.goal_solver.specs.GoingBack.{GoesBack};
 ghost use Rattle.goal_solver.specs.OpenRuns.{open_progress, impl_header, open_start, after_entry, after_naming, named_trees, open_header, Equates, Matches, Follows, NamesOpen, NamesIf, given_header, Names, header_with};

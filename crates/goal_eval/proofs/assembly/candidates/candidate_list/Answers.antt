@@ -1,7 +1,7 @@
 use Rattle.std.proofs.Common.{ap}
-use Rattle.goal_kinds.specs.Interned.{candidate_at, erased_all}
-use Rattle.goal_kinds.specs.InternedEntries.{setting_at}
-use Rattle.goal_kinds.proofs.CauseLemmas.{trait_list-caused, effect_list-caused}
+use Rattle.goal_lists.specs.Interned.{candidate_at, erased_all}
+use Rattle.goal_lists.specs.InternedEntries.{setting_at}
+use Rattle.goal_lists.proofs.CauseLemmas.{trait_list-caused, effect_list-caused}
 use Rattle.goal_eval.proofs.EffectLemmas.{listed-caused}
 use Rattle.goal_eval.proofs.AskedTraitLemmas.{made-plain, made-const}
 use Rattle.goal_eval.proofs.assembly.candidates.candidate_list.Goals as goal

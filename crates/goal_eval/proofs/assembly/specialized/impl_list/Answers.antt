@@ -1,8 +1,8 @@
 use Rattle.std.proofs.Common.{ap}
-use Rattle.goal_kinds.specs.Candidates.{by_impl}
-use Rattle.goal_kinds.specs.Interned.{erased_all}
-use Rattle.goal_kinds.specs.InternedEntries.{setting_at}
-use Rattle.goal_kinds.proofs.CauseLemmas.{trait_list-caused}
+use Rattle.goal_lists.specs.Candidates.{by_impl}
+use Rattle.goal_lists.specs.Interned.{erased_all}
+use Rattle.goal_lists.specs.InternedEntries.{setting_at}
+use Rattle.goal_lists.proofs.CauseLemmas.{trait_list-caused}
 use Rattle.goal_eval.proofs.EffectLemmas.{listed-caused}
 use Rattle.goal_eval.proofs.AskedTraitLemmas.{made-impl}
 use Rattle.goal_eval.proofs.assembly.specialized.impl_list.Goals as goal

@@ -3,8 +3,8 @@ use Rattle.std.proofs.lemmas.List.{length-map}
 use Rattle.goal_terms.specs.TableMeaning.{tree_at}
 use Rattle.goal_terms.specs.Tree.{node, forest}
 use Rattle.goal_terms.specs.declared.heads.Head.TheVariants as head
-use Rattle.goal_kinds.specs.Interned.{erased_at, erased_all}
-use Rattle.goal_eval.proofs.MergingLemmas.{ok-map}
+use Rattle.goal_lists.specs.Interned.{erased_at, erased_all}
+use Rattle.goal_lists.proofs.ResultLemmas.{ok-map}
 use Rattle.goal_eval.proofs.ProjectionArgLemmas.{args_fit, clause-erased}
 use Rattle.goal_eval.proofs.eval.interning.intern_trait_ref.Goals as goal
 

@@ -1,15 +1,15 @@
 use Rattle.std.proofs.Common.{◌≡◌, Some, ap, ap₂, sym, ◌∙◌}
 use Rattle.goal_terms.specs.Tree.{alias, forest}
-use Rattle.goal_kinds.specs.AliasLists.{alias_list}
-use Rattle.goal_kinds.specs.Interned.{erased_all}
-use Rattle.goal_kinds.specs.InternedEntries.{entries_at, setting_at}
-use Rattle.goal_kinds.proofs.CauseLemmas.{alias_list-caused}
-use Rattle.goal_kinds.proofs.InternedLemmas.{all_same-grown}
+use Rattle.goal_lists.specs.AliasLists.{alias_list}
+use Rattle.goal_lists.specs.Interned.{erased_all}
+use Rattle.goal_lists.specs.InternedEntries.{entries_at, setting_at}
+use Rattle.goal_lists.proofs.CauseLemmas.{alias_list-caused}
+use Rattle.goal_lists.proofs.InternedLemmas.{all_same-grown}
 use Rattle.goal_eval.specs.Lists.{IsListFor}
 use Rattle.goal_eval.specs.Outcomes.{setting_in}
 use Rattle.goal_eval.proofs.EffectLemmas.{entries-caused}
 use Rattle.goal_eval.proofs.ListedTermLemmas.{made-for, alias-for}
-use Rattle.goal_eval.proofs.MergingLemmas.{ok-map}
+use Rattle.goal_lists.proofs.ResultLemmas.{ok-map}
 use Rattle.goal_eval.proofs.normalizes_to.alias_terms.list_of_alias.Goals as goal
 
 pub returns-clause-list : goal.returns-clause-list

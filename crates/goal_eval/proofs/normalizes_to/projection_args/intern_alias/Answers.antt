@@ -1,8 +1,8 @@
 use Rattle.goal_terms.specs.TableMeaning.{tree_at}
 use Rattle.goal_terms.specs.Tree.{alias, forest}
 use Rattle.std.proofs.Common.{◌≡◌, map}
-use Rattle.goal_kinds.specs.Interned.{erased_at, erased_all}
-use Rattle.goal_eval.proofs.MergingLemmas.{ok-map}
+use Rattle.goal_lists.specs.Interned.{erased_at, erased_all}
+use Rattle.goal_lists.proofs.ResultLemmas.{ok-map}
 use Rattle.goal_eval.proofs.ProjectionArgLemmas.{args_fit, alias-erased}
 use Rattle.goal_eval.proofs.normalizes_to.projection_args.intern_alias.Goals as goal
 

@@ -1,13 +1,13 @@
 use Rattle.std.proofs.Common.{◌≡◌, ap, ◌∙◌}
-use Rattle.goal_kinds.specs.Interned.{erased_at, candidate_at}
-use Rattle.goal_kinds.specs.InternedEntries.{list_at, setting_at}
-use Rattle.goal_kinds.specs.ProjectionLists.{projection_list}
-use Rattle.goal_kinds.proofs.CauseLemmas.{projection_list-caused}
+use Rattle.goal_lists.specs.Interned.{erased_at, candidate_at}
+use Rattle.goal_lists.specs.InternedEntries.{list_at, setting_at}
+use Rattle.goal_lists.specs.ProjectionLists.{projection_list}
+use Rattle.goal_lists.proofs.CauseLemmas.{projection_list-caused}
 use Rattle.goal_eval.specs.Lists.{IsListFor}
 use Rattle.goal_eval.specs.Outcomes.{setting_in, projection_at}
 use Rattle.goal_eval.proofs.EffectLemmas.{listed-caused}
 use Rattle.goal_eval.proofs.ListedTermLemmas.{made-for, candidate-for}
-use Rattle.goal_eval.proofs.MergingLemmas.{ok-map}
+use Rattle.goal_lists.proofs.ResultLemmas.{ok-map}
 use Rattle.goal_eval.proofs.normalizes_to.projection_candidates.candidate_list.Goals as goal
 
 pub returns-clause-list : goal.returns-clause-list

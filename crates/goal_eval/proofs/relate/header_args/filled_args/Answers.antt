@@ -1,8 +1,8 @@
 use Rattle.std.proofs.Common.{[], sym, subst, arith}
 use Rattle.std.proofs.lemmas.List.Elements.{All-push, All-nil, All-same}
 use Rattle.goal_terms.proofs.InternLemmas.{keeps-chain, keeps-refl}
-use Rattle.goal_kinds.specs.Interned.{IsIn, AreIn}
-use Rattle.goal_kinds.proofs.InternedLemmas.{are_in-grown}
+use Rattle.goal_lists.specs.Interned.{IsIn, AreIn}
+use Rattle.goal_lists.proofs.InternedLemmas.{are_in-grown}
 use Rattle.goal_eval.specs.HeaderWords.{AreFilled}
 use Rattle.goal_eval.proofs.CacheLemmas.{aside-chain, aside-refl}
 use Rattle.goal_eval.proofs.HeaderArgLemmas.{filled-more}

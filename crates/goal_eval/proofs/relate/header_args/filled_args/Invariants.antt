@@ -1,6 +1,6 @@
 use Rattle.std.proofs.Common.{take}
 use Rattle.goal_terms.specs.TableMeaning.{Keeps}
-use Rattle.goal_kinds.specs.Interned.{AreIn}
+use Rattle.goal_lists.specs.Interned.{AreIn}
 use Rattle.goal_eval.specs.Effects.{KeepsButRegions}
 use Rattle.goal_eval.specs.HeaderWords.{AreFilled}
 use Rattle.goal_eval.proofs.relate.header_args.filled_args.Given as goal

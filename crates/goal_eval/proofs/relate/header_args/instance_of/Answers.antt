@@ -1,5 +1,5 @@
 use Rattle.goal_terms.specs.View.{tree_of_ref}
-use Rattle.goal_kinds.proofs.UnderLemmas.{are_in-arguments}
+use Rattle.goal_lists.proofs.UnderLemmas.{are_in-arguments}
 use Rattle.goal_eval.proofs.HeaderArgLemmas.{ok-with, instance-tree, instance-in}
 use Rattle.goal_eval.proofs.relate.header_args.instance_of.Goals as goal
 

@@ -4,9 +4,9 @@ use Rattle.goal_terms.specs.Erased.{erased}
 use Rattle.goal_terms.specs.View.{tree_of_ref}
 use Rattle.goal_terms.proofs.InternLemmas.{keeps-chain}
 use Rattle.goal_terms.proofs.SortLemmas.{arg_sort}
-use Rattle.goal_kinds.specs.Headers.{under}
-use Rattle.goal_kinds.specs.Interned.{IsIn, AreIn, erased_all}
-use Rattle.goal_kinds.proofs.InternedLemmas.{are_in-grown, all_same-grown}
+use Rattle.goal_lists.specs.Headers.{under}
+use Rattle.goal_lists.specs.Interned.{IsIn, AreIn, erased_all}
+use Rattle.goal_lists.proofs.InternedLemmas.{are_in-grown, all_same-grown}
 use Rattle.goal_eval.proofs.HeaderArgLemmas.{instances-more}
 use Rattle.goal_eval.proofs.relate.header_args.instances.Goals as goal
 

@@ -1,7 +1,7 @@
 use Rattle.std.proofs.Common.{◌≡◌, map, take}
 use Rattle.goal_terms.specs.TableMeaning.{Keeps}
-use Rattle.goal_kinds.specs.Headers.{under}
-use Rattle.goal_kinds.specs.Interned.{AreIn, erased_all}
+use Rattle.goal_lists.specs.Headers.{under}
+use Rattle.goal_lists.specs.Interned.{AreIn, erased_all}
 use Rattle.goal_eval.specs.Outcomes.{header_terms}
 use Rattle.goal_eval.proofs.relate.header_args.instances.Given as goal
 

@@ -4,7 +4,7 @@ use Rattle.goal_terms.specs.View.{tree_of_ref, trees_seen}
 use Rattle.goal_terms.specs.declared.node_tests.Within.TheVariants.{OutsideAliases}
 use Rattle.goal_terms.proofs.NodeTestLemmas.{some_from, some_from-more, some_from-found, some_from-end}
 use Rattle.goal_terms.proofs.WalkLemmas.{tree_size-part}
-use Rattle.goal_kinds.specs.Headers.{is_number, is_parameter, has_place}
+use Rattle.goal_lists.specs.Headers.{is_number, is_parameter, has_place}
 use Rattle.goal_eval.proofs.HeaderPlaceLemmas.{place-alias, place-here, place-parts}
 use Rattle.goal_eval.proofs.relate.header_places.+has_place.Goals as goal
 

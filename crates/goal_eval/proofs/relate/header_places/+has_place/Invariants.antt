@@ -3,7 +3,7 @@ use Rattle.goal_terms.specs.Tree.{tree_size}
 use Rattle.goal_terms.specs.View.{tree_of_ref, trees_seen}
 use Rattle.goal_terms.specs.declared.node_tests.Within.TheVariants.{OutsideAliases}
 use Rattle.goal_terms.proofs.NodeTestLemmas.{some_from}
-use Rattle.goal_kinds.specs.Headers.{is_parameter}
+use Rattle.goal_lists.specs.Headers.{is_parameter}
 use Rattle.goal_eval.proofs.relate.header_places.+has_place.Given as goal
 
 abbrev pub decreases-has_place : goal.decreases-has_place

@@ -5,9 +5,9 @@ use Rattle.goal_terms.specs.TableMeaning.{tree_at}
 use Rattle.goal_terms.specs.Tree.{Tree, tree_size}
 use Rattle.goal_terms.specs.View.{tree_of_ref, trees_seen}
 use Rattle.goal_terms.proofs.SizeLemmas.{sizes}
-use Rattle.goal_kinds.specs.Headers.{PartAmong}
-use Rattle.goal_kinds.specs.Levels.{level}
-use Rattle.goal_kinds.specs.Settings.{Setting}
+use Rattle.goal_lists.specs.Headers.{PartAmong}
+use Rattle.goal_lists.specs.Levels.{level}
+use Rattle.goal_lists.specs.Settings.{Setting}
 use Rattle.goal_eval.proofs.HeaderPlaceLemmas.{AmongFrom}
 use Rattle.goal_eval.proofs.relate.header_places.+places.Given as goal
 

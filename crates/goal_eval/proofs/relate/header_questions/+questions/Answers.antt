@@ -6,10 +6,10 @@ use Rattle.goal_terms.specs.TableMeaning.{tree_at}
 use Rattle.goal_terms.specs.Tree.{tree_size}
 use Rattle.goal_terms.specs.View.{tree_of_ref, trees_seen}
 use Rattle.goal_terms.proofs.SizeLemmas.{sizes, tree_size-parts}
-use Rattle.goal_kinds.specs.Interned.{erased_at}
-use Rattle.goal_kinds.specs.Levels.{level}
-use Rattle.goal_kinds.specs.Words.{Exists, SomePair}
-use Rattle.goal_kinds.proofs.AgreeLemmas.{size-among}
+use Rattle.goal_lists.specs.Interned.{erased_at}
+use Rattle.goal_lists.specs.Levels.{level}
+use Rattle.goal_lists.specs.Words.{Exists, SomePair}
+use Rattle.goal_lists.proofs.AgreeLemmas.{size-among}
 use Rattle.goal_eval.specs.HeaderWords.{IsKnown, ClashAt, erased_ref}
 use Rattle.goal_eval.specs.declared.relate.header_questions.Question.TheVariants as question
 use Rattle.goal_eval.proofs.HeaderPlaceLemmas.{stand-at, given-at, both_ways}

@@ -5,9 +5,9 @@ use Rattle.goal_terms.specs.TableMeaning.{tree_at}
 use Rattle.goal_terms.specs.Tree.{Tree, tree_size}
 use Rattle.goal_terms.specs.View.{tree_of_ref, trees_seen}
 use Rattle.goal_terms.proofs.SizeLemmas.{sizes}
-use Rattle.goal_kinds.specs.Levels.{level}
-use Rattle.goal_kinds.specs.Settings.{Setting}
-use Rattle.goal_kinds.specs.Words.{Exists}
+use Rattle.goal_lists.specs.Levels.{level}
+use Rattle.goal_lists.specs.Settings.{Setting}
+use Rattle.goal_lists.specs.Words.{Exists}
 use Rattle.goal_eval.specs.HeaderWords.{IsKnown, ClashAt, QuestionIn}
 use Rattle.goal_eval.proofs.HeaderClashLemmas.{StillClash}
 use Rattle.goal_eval.proofs.relate.header_questions.+questions.Given as goal

@@ -3,7 +3,7 @@ use Rattle.goal_terms.specs.TableMeaning.{tree_at}
 use Rattle.goal_terms.specs.View.{tree_of_ref}
 use Rattle.goal_terms.proofs.FitLemmas.{ref_fit}
 use Rattle.goal_terms.proofs.UnderLemmas.{node-fits}
-use Rattle.goal_kinds.specs.Levels.{level}
+use Rattle.goal_lists.specs.Levels.{level}
 use Rattle.goal_eval.specs.HeaderWords.{is_whole, IsKnown}
 use Rattle.goal_eval.proofs.HeaderPlaceLemmas.{below, level-above, heads-same, heads-other, parts-stand, neither, fits-at}
 use Rattle.goal_eval.proofs.HeaderClashLemmas.{whole-head, clash-loose, clash-variable, clash-apart, clash-alike}

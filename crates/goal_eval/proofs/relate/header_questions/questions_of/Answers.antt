@@ -1,4 +1,4 @@
-use Rattle.goal_kinds.specs.Levels.{level}
+use Rattle.goal_lists.specs.Levels.{level}
 use Rattle.goal_eval.specs.HeaderWords.{ClashAt}
 use Rattle.goal_eval.proofs.HeaderOutcomeLemmas.{nothing-asked}
 use Rattle.goal_eval.proofs.relate.header_questions.questions_of.Goals as goal

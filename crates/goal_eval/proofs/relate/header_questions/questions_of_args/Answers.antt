@@ -1,8 +1,8 @@
 use Rattle.std.proofs.Common.{map}
 use Rattle.goal_terms.specs.TableMeaning.{tree_at}
 use Rattle.goal_terms.specs.TreeOf.{trees_of}
-use Rattle.goal_kinds.specs.Levels.{level}
-use Rattle.goal_kinds.proofs.UnderLemmas.{are_in-arguments}
+use Rattle.goal_lists.specs.Levels.{level}
+use Rattle.goal_lists.proofs.UnderLemmas.{are_in-arguments}
 use Rattle.goal_eval.specs.HeaderWords.{ClashAt}
 use Rattle.goal_eval.proofs.HeaderPlaceLemmas.{stand-arguments}
 use Rattle.goal_eval.proofs.HeaderPartLemmas.{erased_all-map}

@@ -1,4 +1,4 @@
-use Rattle.goal_kinds.specs.Answers.{setting_of}
+use Rattle.goal_lists.specs.Answers.{setting_of}
 use Rattle.goal_kinds.proofs.RuleListLemmas.{gives-behind, refuted_as-behind}
 use Rattle.goal_kinds.proofs.ExpectedLemmas.{requirements-for}
 use Rattle.goal_kinds.proofs.goal_kind.GoalKind.probe_and_consider_implied_clause.Goals as goal

@@ -1,9 +1,9 @@
 use Rattle.std.proofs.Common.{refl, sym, ◌∙◌}
 use Rattle.std.proofs.lemmas.Bool.{false≢true}
 use Rattle.goal_terms.specs.TreeOf.{trees_of}
-use Rattle.goal_kinds.specs.declared.fast_reject.Parameters.TheVariants.{Rigid, Inferred}
-use Rattle.goal_kinds.proofs.AcceptedLemmas.{accepted-heads, rejected-clashes}
-use Rattle.goal_kinds.proofs.OtherHeadLemmas.{any_two}
+use Rattle.goal_lists.specs.declared.fast_reject.Parameters.TheVariants.{Rigid, Inferred}
+use Rattle.goal_lists.proofs.AcceptedLemmas.{accepted-heads, rejected-clashes}
+use Rattle.goal_lists.proofs.OtherHeadLemmas.{any_two}
 use Rattle.goal_kinds.proofs.RejectionLemmas.{IsAny, allows-any, lists-equal, lists-equal_arguments}
 use Rattle.goal_kinds.proofs.laws.fast_reject.accepted_arguments_differ_in_heads.Goals as goal
 

@@ -1,10 +1,10 @@
 use Rattle.std.proofs.Common.{refl, sym, ◌∙◌, map}
 use Rattle.std.proofs.lemmas.Bool.{false≢true}
 use Rattle.goal_terms.specs.Erased.{erased}
-use Rattle.goal_kinds.specs.Headers.{Known, Clashes}
-use Rattle.goal_kinds.specs.Level.{nothing}
-use Rattle.goal_kinds.specs.Levels.{level}
-use Rattle.goal_kinds.proofs.OtherHeadLemmas.{any_two, lists_unequal, lists_clash}
+use Rattle.goal_lists.specs.Headers.{Known, Clashes}
+use Rattle.goal_lists.specs.Level.{nothing}
+use Rattle.goal_lists.specs.Levels.{level}
+use Rattle.goal_lists.proofs.OtherHeadLemmas.{any_two, lists_unequal, lists_clash}
 use Rattle.goal_kinds.proofs.RejectionLemmas.{IsAny, allows-any, lists-equal, lists-equal_arguments}
 use Rattle.goal_kinds.proofs.laws.fast_reject.other_heads_are_final.Goals as goal
 

@@ -1,9 +1,9 @@
 use Rattle.std.proofs.Common.{sym, ◌∙◌}
 use Rattle.std.proofs.lemmas.Bool.{false≢true}
-use Rattle.goal_kinds.specs.FastReject.{have_same_kind}
-use Rattle.goal_kinds.specs.Level.{nothing}
-use Rattle.goal_kinds.specs.Levels.{level}
-use Rattle.goal_kinds.specs.declared.fast_reject.Parameters.TheVariants.{Rigid, Inferred}
+use Rattle.goal_lists.specs.FastReject.{have_same_kind}
+use Rattle.goal_lists.specs.Level.{nothing}
+use Rattle.goal_lists.specs.Levels.{level}
+use Rattle.goal_lists.specs.declared.fast_reject.Parameters.TheVariants.{Rigid, Inferred}
 use Rattle.goal_kinds.proofs.RejectionLemmas.{IsOfKind, allows-kinds, tops_pass-kinds, gives_own_kinds-nothing, lists-equal, lists-equal_arguments}
 use Rattle.goal_kinds.proofs.laws.fast_reject.rejection_is_final.Goals as goal
 

@@ -1,4 +1,4 @@
-use Rattle.goal_kinds.proofs.FittingLemmas.{candidate_refuted, const_candidate_refuted, term_refuted}
+use Rattle.goal_lists.proofs.FittingLemmas.{candidate_refuted, const_candidate_refuted, term_refuted}
 use Rattle.goal_kinds.proofs.laws.fast_reject.what_may_not_fit_is_refuted.Goals as goal
 
 pub returns-clause-traits : goal.returns-clause-traits

@@ -1,8 +1,8 @@
-use Rattle.goal_kinds.specs.AliasLists.{alias_list}
-use Rattle.goal_kinds.specs.EffectLists.{effect_list}
-use Rattle.goal_kinds.specs.ProjectionLists.{projection_list}
-use Rattle.goal_kinds.specs.TraitLists.{trait_list}
-use Rattle.goal_kinds.proofs.CauseLemmas.{accesses-caused, list_accesses-caused, trait_list-caused, effect_list-caused, projection_list-caused, alias_list-caused}
+use Rattle.goal_lists.specs.AliasLists.{alias_list}
+use Rattle.goal_lists.specs.EffectLists.{effect_list}
+use Rattle.goal_lists.specs.ProjectionLists.{projection_list}
+use Rattle.goal_lists.specs.TraitLists.{trait_list}
+use Rattle.goal_lists.proofs.CauseLemmas.{accesses-caused, list_accesses-caused, trait_list-caused, effect_list-caused, projection_list-caused, alias_list-caused}
 use Rattle.goal_kinds.proofs.laws.lists.accesses_have_causes.Goals as goal
 
 pub returns-clause-traits : goal.returns-clause-traits

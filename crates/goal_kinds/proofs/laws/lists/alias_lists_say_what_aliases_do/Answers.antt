@@ -1,5 +1,5 @@
-use Rattle.goal_kinds.specs.Levels.{level}
-use Rattle.goal_kinds.proofs.AliasLists.{alias_list-gives, alias_list-refuted}
+use Rattle.goal_lists.specs.Levels.{level}
+use Rattle.goal_lists.proofs.AliasLists.{alias_list-gives, alias_list-refuted}
 use Rattle.goal_kinds.proofs.laws.lists.alias_lists_say_what_aliases_do.Goals as goal
 
 pub returns-clause-gives : goal.returns-clause-gives

@@ -1,5 +1,5 @@
-use Rattle.goal_kinds.specs.Levels.{level}
-use Rattle.goal_kinds.proofs.EffectLists.{effect_list-holds, effect_list-refuted}
+use Rattle.goal_lists.specs.Levels.{level}
+use Rattle.goal_lists.proofs.EffectLists.{effect_list-holds, effect_list-refuted}
 use Rattle.goal_kinds.proofs.laws.lists.effect_lists_say_what_candidates_do.Goals as goal
 
 pub returns-clause-holds : goal.returns-clause-holds

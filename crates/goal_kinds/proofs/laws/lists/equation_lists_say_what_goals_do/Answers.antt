@@ -1,4 +1,4 @@
-use Rattle.goal_kinds.proofs.ProjectionLists.{equation_list-holds, equation_list-refuted}
+use Rattle.goal_lists.proofs.ProjectionLists.{equation_list-holds, equation_list-refuted}
 use Rattle.goal_kinds.proofs.laws.lists.equation_lists_say_what_goals_do.Goals as goal
 
 pub returns-clause-holds : goal.returns-clause-holds

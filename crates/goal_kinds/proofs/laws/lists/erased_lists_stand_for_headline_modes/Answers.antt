@@ -1,5 +1,5 @@
-use Rattle.goal_kinds.proofs.ListStandIns.{projection_list-stands_in, alias_list-stands_in}
-use Rattle.goal_kinds.proofs.ListModes.{trait_list-stands, effect_list-stands, projection_list-stands, alias_list-stands}
+use Rattle.goal_lists.proofs.ListStandIns.{projection_list-stands_in, alias_list-stands_in}
+use Rattle.goal_lists.proofs.ListModes.{trait_list-stands, effect_list-stands, projection_list-stands, alias_list-stands}
 use Rattle.goal_kinds.proofs.laws.lists.erased_lists_stand_for_headline_modes.Goals as goal
 
 pub returns-clause-traits : goal.returns-clause-traits

@@ -1,4 +1,4 @@
-use Rattle.goal_kinds.proofs.ListTerms.{trait_list-asks_none, effect_list-asks_none}
+use Rattle.goal_lists.proofs.ListTerms.{trait_list-asks_none, effect_list-asks_none}
 use Rattle.goal_kinds.proofs.laws.lists.lists_of_traits_ask_for_no_term.Goals as goal
 
 pub returns-clause-traits : goal.returns-clause-traits

@@ -1,4 +1,4 @@
-use Rattle.goal_kinds.proofs.ListHeights.{list_holds-higher, list_gives-higher, list_refuted-higher}
+use Rattle.goal_lists.proofs.ListHeights.{list_holds-higher, list_gives-higher, list_refuted-higher}
 use Rattle.goal_kinds.proofs.laws.lists.more_height_keeps_lists.Goals as goal
 
 pub returns-clause-holds : goal.returns-clause-holds

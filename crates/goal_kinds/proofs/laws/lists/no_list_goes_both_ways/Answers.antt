@@ -1,4 +1,4 @@
-use Rattle.goal_kinds.proofs.ListHeights.{list_holds-not_refuted, list_gives-not_refuted, one_list_given}
+use Rattle.goal_lists.proofs.ListHeights.{list_holds-not_refuted, list_gives-not_refuted, one_list_given}
 use Rattle.goal_kinds.proofs.laws.lists.no_list_goes_both_ways.Goals as goal
 
 pub returns-clause-holds : goal.returns-clause-holds

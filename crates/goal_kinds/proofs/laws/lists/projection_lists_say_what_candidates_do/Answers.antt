@@ -1,5 +1,5 @@
-use Rattle.goal_kinds.specs.Levels.{level}
-use Rattle.goal_kinds.proofs.ProjectionLists.{projection_list-gives, projection_list-refuted}
+use Rattle.goal_lists.specs.Levels.{level}
+use Rattle.goal_lists.proofs.ProjectionLists.{projection_list-gives, projection_list-refuted}
 use Rattle.goal_kinds.proofs.laws.lists.projection_lists_say_what_candidates_do.Goals as goal
 
 pub returns-clause-gives : goal.returns-clause-gives

@@ -1,5 +1,5 @@
-use Rattle.goal_kinds.specs.Levels.{level}
-use Rattle.goal_kinds.proofs.TraitLists.{trait_list-holds, trait_list-refuted}
+use Rattle.goal_lists.specs.Levels.{level}
+use Rattle.goal_lists.proofs.TraitLists.{trait_list-holds, trait_list-refuted}
 use Rattle.goal_kinds.proofs.laws.lists.trait_lists_say_what_candidates_do.Goals as goal
 
 pub returns-clause-holds : goal.returns-clause-holds

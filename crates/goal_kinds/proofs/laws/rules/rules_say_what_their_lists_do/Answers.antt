@@ -1,4 +1,4 @@
-use Rattle.goal_kinds.specs.Levels.{level}
+use Rattle.goal_lists.specs.Levels.{level}
 use Rattle.goal_kinds.proofs.RulesAsLists.{rule_list-holds, rule_list-gives, rule_list-refuted}
 use Rattle.goal_kinds.proofs.laws.rules.rules_say_what_their_lists_do.Goals as goal
 

@@ -1,11 +1,11 @@
 use Rattle.std.proofs.Common.{[], sym, subst}
 use Rattle.std.proofs.lemmas.Result.{IfOk-weaker}
-use Rattle.goal_kinds.specs.Levels.{level}
-use Rattle.goal_kinds.specs.NamedRows.{IsSorted}
-use Rattle.goal_kinds.specs.Rules.{given}
-use Rattle.goal_kinds.specs.Words.{Each}
+use Rattle.goal_lists.specs.Levels.{level}
+use Rattle.goal_lists.specs.NamedRows.{IsSorted}
+use Rattle.goal_lists.specs.RowWords.{given}
+use Rattle.goal_lists.specs.Words.{Each}
 use Rattle.goal_kinds.proofs.AliasFaceLemmas.{alias_rule-listed, alias_rule-kind, alias_rule-records, alias_rule-means, alias_rule-coherent, alias_rule-defines, same-use}
-use Rattle.goal_kinds.proofs.GrowingLists.{if_ok-both}
+use Rattle.goal_lists.proofs.GrowingLists.{if_ok-both}
 use Rattle.goal_kinds.proofs.SortedProjections.{alias_list-sorted}
 use Rattle.goal_kinds.proofs.rules.aliases.alias_rule.Goals as goal
 

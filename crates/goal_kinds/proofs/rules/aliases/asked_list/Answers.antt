@@ -2,9 +2,9 @@ use Rattle.std.proofs.Common.{map, sym, ap, ◌∙◌}
 use Rattle.std.proofs.lemmas.Result.{IfOk-weaker}
 use Rattle.goal_terms.specs.TableMeaning.{tree_at}
 use Rattle.goal_terms.specs.Tree.{alias, forest}
-use Rattle.goal_kinds.specs.AliasLists.{alias_list}
-use Rattle.goal_kinds.specs.Interned.{erased_all}
-use Rattle.goal_kinds.specs.InternedEntries.{setting_at}
+use Rattle.goal_lists.specs.AliasLists.{alias_list}
+use Rattle.goal_lists.specs.Interned.{erased_all}
+use Rattle.goal_lists.specs.InternedEntries.{setting_at}
 use Rattle.goal_kinds.proofs.rules.aliases.asked_list.Goals as goal
 
 pub returns-clause-entries : goal.returns-clause-entries

@@ -3,11 +3,11 @@ use Rattle.std.specs.Prelude.{IfOk, IfErr}
 use Rattle.goal_terms.specs.Erased.{erased}
 use Rattle.goal_terms.specs.TreeOf.{trees_of}
 use Rattle.goal_kinds.specs.CandidateRules.{IsRefusal}
-use Rattle.goal_kinds.specs.EffectLists.{effect_list}
-use Rattle.goal_kinds.specs.Interned.{AreIn, erased_all}
-use Rattle.goal_kinds.specs.InternedEntries.{setting_at}
+use Rattle.goal_lists.specs.EffectLists.{effect_list}
+use Rattle.goal_lists.specs.Interned.{AreIn, erased_all}
+use Rattle.goal_lists.specs.InternedEntries.{setting_at}
 use Rattle.goal_kinds.specs.RuleLists.{IsListed, list_then}
-use Rattle.goal_kinds.proofs.InternedLemmas.{candidate_in-grown}
+use Rattle.goal_lists.proofs.InternedLemmas.{candidate_in-grown}
 use Rattle.goal_kinds.proofs.FaceLemmas.{list-made}
 use Rattle.goal_kinds.proofs.EffectFaceLemmas.{effect_made-sorted, effect_made-asks}
 use Rattle.goal_kinds.proofs.rules.effects.candidate_rule.Goals as goal

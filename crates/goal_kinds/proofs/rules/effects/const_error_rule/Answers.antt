@@ -1,6 +1,6 @@
-use Rattle.goal_kinds.specs.Candidates.{error}
+use Rattle.goal_lists.specs.Candidates.{error}
 use Rattle.goal_kinds.specs.EffectKind.{asked_effect_list}
-use Rattle.goal_kinds.specs.InternedEntries.{setting_at}
+use Rattle.goal_lists.specs.InternedEntries.{setting_at}
 use Rattle.goal_kinds.proofs.FaceLemmas.{listed-yes}
 use Rattle.goal_kinds.proofs.rules.effects.const_error_rule.Goals as goal
 

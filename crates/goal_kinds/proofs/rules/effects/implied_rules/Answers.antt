@@ -4,13 +4,13 @@ use Rattle.goal_terms.specs.Erased.{erased}
 use Rattle.goal_terms.specs.Sorts.{IsArgument}
 use Rattle.goal_terms.specs.TableMeaning.{tree_at}
 use Rattle.goal_terms.proofs.InternLemmas.{keeps-refl, keeps-chain}
-use Rattle.goal_kinds.specs.Candidates.{bounds_of}
+use Rattle.goal_lists.specs.Candidates.{bounds_of}
 use Rattle.goal_kinds.specs.EffectKind.{AreImplied}
-use Rattle.goal_kinds.specs.Interned.{candidate_at}
-use Rattle.goal_kinds.specs.InternedEntries.{setting_at}
+use Rattle.goal_lists.specs.Interned.{candidate_at}
+use Rattle.goal_lists.specs.InternedEntries.{setting_at}
 use Rattle.goal_kinds.proofs.EffectFaceLemmas.{one-in_table}
-use Rattle.goal_kinds.proofs.InternedLemmas.{candidate_in-grown, candidate_same-grown}
-use Rattle.goal_kinds.proofs.PremiseTerms.{alias-argument}
+use Rattle.goal_lists.proofs.InternedLemmas.{candidate_in-grown, candidate_same-grown}
+use Rattle.goal_lists.proofs.PremiseTerms.{alias-argument}
 use Rattle.goal_kinds.proofs.rules.effects.implied_rules.Goals as goal
 
 pub push_alias_bounds-requires-clause-known : goal.push_alias_bounds-requires-clause-known

@@ -2,8 +2,8 @@ use Rattle.std.proofs.Common.{List, map, take}
 use Rattle.goal_terms.specs.TableMeaning.{Keeps}
 use Rattle.goal_terms.specs.declared.predicates.Clause.{Clause}
 use Rattle.goal_kinds.specs.EffectKind.{AreImplied}
-use Rattle.goal_kinds.specs.Interned.{candidate_at}
-use Rattle.goal_kinds.specs.InternedEntries.{setting_at}
+use Rattle.goal_lists.specs.Interned.{candidate_at}
+use Rattle.goal_lists.specs.InternedEntries.{setting_at}
 use Rattle.goal_kinds.proofs.rules.effects.implied_rules.Given as goal
 
 abbrev pub invariant-loop-i : goal.invariant-loop-i

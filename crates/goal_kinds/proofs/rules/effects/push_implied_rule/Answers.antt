@@ -1,8 +1,8 @@
 use Rattle.std.proofs.Common.{[], ◌≡◌, sym, ◌∙◌, subst}
 use Rattle.std.specs.Prelude.{IfOk, IfErr}
 use Rattle.goal_kinds.specs.EffectKind.{asked_effect_list}
-use Rattle.goal_kinds.specs.Interned.{candidate_at}
-use Rattle.goal_kinds.specs.InternedEntries.{setting_at}
+use Rattle.goal_lists.specs.Interned.{candidate_at}
+use Rattle.goal_lists.specs.InternedEntries.{setting_at}
 use Rattle.goal_kinds.specs.RuleLists.{IsListed, list_then}
 use Rattle.goal_kinds.specs.declared.faults.Fault.TheVariants as fault
 use Rattle.goal_terms.specs.declared.answers.Certainty.TheVariants as certainty

@@ -1,9 +1,9 @@
 use Rattle.std.proofs.Common.{ap, ◌∙◌}
 use Rattle.std.proofs.lemmas.Result.{IfOk-weaker}
-use Rattle.goal_kinds.specs.Interned.{candidate_at, erased_all}
-use Rattle.goal_kinds.specs.InternedEntries.{setting_at}
-use Rattle.goal_kinds.proofs.InternedLemmas.{candidate_same-grown}
-use Rattle.goal_kinds.proofs.NamedRowLemmas.{found-again}
+use Rattle.goal_lists.specs.Interned.{candidate_at, erased_all}
+use Rattle.goal_lists.specs.InternedEntries.{setting_at}
+use Rattle.goal_lists.proofs.InternedLemmas.{candidate_same-grown}
+use Rattle.goal_lists.proofs.NamedRowLemmas.{found-again}
 use Rattle.goal_kinds.proofs.ProjectionFaceLemmas.{asked-made, same-asked}
 use Rattle.goal_kinds.proofs.rules.projections.asked_list.Goals as goal
 

@@ -1,5 +1,5 @@
-use Rattle.goal_kinds.specs.Candidates.{built_in}
-use Rattle.goal_kinds.specs.InternedEntries.{setting_at}
+use Rattle.goal_lists.specs.Candidates.{built_in}
+use Rattle.goal_lists.specs.InternedEntries.{setting_at}
 use Rattle.goal_kinds.specs.ProjectionKind.{asked_projection_list}
 use Rattle.goal_kinds.proofs.FaceLemmas.{listed-yes}
 use Rattle.goal_kinds.proofs.rules.projections.built_in_term_rule.Goals as goal

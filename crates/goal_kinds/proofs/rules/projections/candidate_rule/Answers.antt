@@ -1,9 +1,9 @@
 use Rattle.std.proofs.Common.{[], ◌≡◌, sym, subst, None}
 use Rattle.std.specs.Prelude.{IfOk, IfErr}
 use Rattle.goal_kinds.specs.CandidateRules.{IsRefusal}
-use Rattle.goal_kinds.specs.Interned.{candidate_at}
-use Rattle.goal_kinds.specs.InternedEntries.{setting_at}
-use Rattle.goal_kinds.specs.NamedRows.{ListIsSorted}
+use Rattle.goal_lists.specs.Interned.{candidate_at}
+use Rattle.goal_lists.specs.InternedEntries.{setting_at}
+use Rattle.goal_lists.specs.NamedRows.{ListIsSorted}
 use Rattle.goal_kinds.specs.RuleLists.{IsListed, list_then}
 use Rattle.goal_kinds.proofs.SortedProjections.{asked_projection-sorted}
 use Rattle.goal_kinds.proofs.rules.projections.candidate_rule.Goals as goal

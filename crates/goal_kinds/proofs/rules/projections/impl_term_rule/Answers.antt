@@ -1,7 +1,7 @@
 use Rattle.std.proofs.Common.{[], refl, sym, subst}
 use Rattle.std.specs.Prelude.{IfOk}
-use Rattle.goal_kinds.specs.Candidates.{by_impl}
-use Rattle.goal_kinds.specs.InternedEntries.{setting_at}
+use Rattle.goal_lists.specs.Candidates.{by_impl}
+use Rattle.goal_lists.specs.InternedEntries.{setting_at}
 use Rattle.goal_kinds.specs.ProjectionKind.{asked_projection_list}
 use Rattle.goal_kinds.specs.RuleLists.{IsListed, list_then}
 use Rattle.goal_kinds.proofs.ProjectionFaceLemmas.{term_impl-accepted}

@@ -1,9 +1,9 @@
 use Rattle.std.proofs.Common.{[], ◌≡◌, ap, sym, subst, None}
 use Rattle.std.specs.Prelude.{IfOk, IfErr}
 use Rattle.goal_kinds.specs.CandidateRules.{IsRefusal}
-use Rattle.goal_kinds.specs.Candidates.{assumption}
-use Rattle.goal_kinds.specs.InternedEntries.{setting_at}
-use Rattle.goal_kinds.specs.NamedRows.{CandidateIsSorted}
+use Rattle.goal_lists.specs.Candidates.{assumption}
+use Rattle.goal_lists.specs.InternedEntries.{setting_at}
+use Rattle.goal_lists.specs.NamedRows.{CandidateIsSorted}
 use Rattle.goal_kinds.specs.ProjectionKind.{asked_projection_list}
 use Rattle.goal_kinds.specs.RuleLists.{IsListed, list_then}
 use Rattle.goal_kinds.proofs.ProjectionFaceLemmas.{projection_said-given, projection_said-accepted}

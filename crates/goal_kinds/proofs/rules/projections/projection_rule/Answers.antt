@@ -4,8 +4,8 @@ use Rattle.goal_terms.specs.Erased.{erased}
 use Rattle.goal_terms.specs.Sorts.{IsArgument}
 use Rattle.goal_terms.specs.TreeOf.{tree_of_alias, tree_of_term}
 use Rattle.goal_kinds.proofs.ImplTermKindLemmas.{alias-erased}
-use Rattle.goal_kinds.proofs.InternedLemmas.{in-grown, same-grown}
-use Rattle.goal_kinds.proofs.PremiseTerms.{term-argument}
+use Rattle.goal_lists.proofs.InternedLemmas.{in-grown, same-grown}
+use Rattle.goal_lists.proofs.PremiseTerms.{term-argument}
 use Rattle.goal_kinds.proofs.ProjectionFaceLemmas.{equation_rule-listed, equation_rule-sorted, equation_rule-holds, equation_rule-refuted}
 use Rattle.goal_kinds.proofs.rules.projections.projection_rule.Goals as goal
 

@@ -1,5 +1,5 @@
 use Rattle.goal_terms.specs.TableMeaning.{tree_at}
-use Rattle.goal_kinds.proofs.ClauseListLemmas.{alias-args_in}
+use Rattle.goal_lists.proofs.ClauseListLemmas.{alias-args_in}
 use Rattle.goal_kinds.proofs.RebuiltLemmas.{no_other-of_erased, alias-made}
 use Rattle.goal_kinds.proofs.rules.rebuilt.rebuilt_alias.Goals as goal
 

@@ -1,9 +1,10 @@
 use Rattle.std.proofs.Common.{◌∙◌, [], ap, arith, map, Some, sym, subst}
 use Rattle.std.specs.List.{AllZip}
 use Rattle.std.specs.Prelude.{option_copied}
-use Rattle.goal_kinds.specs.Entries.{ExpectsNone}
-use Rattle.goal_kinds.specs.InternedEntries.{entry_at}
-use Rattle.goal_kinds.specs.NamedRows.{IsExpected, IsSorted, KeepsKey, NamesItsRows}
+use Rattle.goal_lists.specs.Entries.{ExpectsNone}
+use Rattle.goal_lists.specs.InternedEntries.{entry_at}
+use Rattle.goal_lists.specs.NamedRows.{IsExpected, IsSorted, NamesItsRows}
+use Rattle.goal_kinds.specs.RebuiltKeys.{KeepsKey}
 use Rattle.goal_kinds.specs.RuleLists.{entry_of}
 use Rattle.goal_kinds.specs.RuleWords.{TermsAreFor}
 use Rattle.goal_kinds.proofs.RebuiltLemmas.{sorted-at, asks-at, entries-more, entries-all, for-more, keys-more, keys-all}

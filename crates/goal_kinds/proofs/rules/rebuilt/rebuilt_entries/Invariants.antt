@@ -2,8 +2,9 @@ use Rattle.std.proofs.Common.{◌≡◌, map, take, Some}
 use Rattle.std.specs.Prelude.{option_copied}
 use Rattle.std.specs.List.{All, AllZip}
 use Rattle.goal_tables.specs.declared.rows.Tables.{Tables}
-use Rattle.goal_kinds.specs.InternedEntries.{entries_at}
-use Rattle.goal_kinds.specs.NamedRows.{NamesItsRows, IsExpected, KeepsKey}
+use Rattle.goal_lists.specs.InternedEntries.{entries_at}
+use Rattle.goal_lists.specs.NamedRows.{NamesItsRows, IsExpected}
+use Rattle.goal_kinds.specs.RebuiltKeys.{KeepsKey}
 use Rattle.goal_kinds.specs.RuleLists.{entry_of}
 use Rattle.goal_kinds.specs.RuleWords.{TermsAreFor}
 use Rattle.goal_kinds.proofs.rules.rebuilt.rebuilt_entries.Given as goal

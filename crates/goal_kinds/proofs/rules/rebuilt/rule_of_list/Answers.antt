@@ -1,8 +1,8 @@
 use Rattle.std.proofs.Common.{◌∙◌, ap, map, Some, sym, subst}
 use Rattle.std.specs.Prelude.{option_copied}
 use Rattle.std.specs.List.{All}
-use Rattle.goal_kinds.specs.InternedEntries.{entries_at, list_at}
-use Rattle.goal_kinds.specs.NamedRows.{IsExpected, NamesItsRows, ListNamesItsRows}
+use Rattle.goal_lists.specs.InternedEntries.{entries_at, list_at}
+use Rattle.goal_lists.specs.NamedRows.{IsExpected, NamesItsRows, ListNamesItsRows}
 use Rattle.goal_kinds.specs.RuleLists.{IsListed, list_then}
 use Rattle.goal_kinds.proofs.ExpectedLemmas.{after-for}
 use Rattle.goal_kinds.proofs.ListedRules.{listed-then}

@@ -1,7 +1,7 @@
-use Rattle.goal_kinds.specs.Candidates.{built_in}
-use Rattle.goal_kinds.specs.InternedEntries.{setting_at}
-use Rattle.goal_kinds.specs.Rules.{given}
-use Rattle.goal_kinds.specs.TraitLists.{trait_list}
+use Rattle.goal_lists.specs.Candidates.{built_in}
+use Rattle.goal_lists.specs.InternedEntries.{setting_at}
+use Rattle.goal_lists.specs.RowWords.{given}
+use Rattle.goal_lists.specs.TraitLists.{trait_list}
 use Rattle.goal_kinds.proofs.FaceLemmas.{listed-yes}
 use Rattle.goal_kinds.proofs.rules.traits.built_in_rule.Goals as goal
 

@@ -3,11 +3,11 @@ use Rattle.std.specs.Prelude.{IfOk, IfErr}
 use Rattle.goal_terms.specs.Erased.{erased}
 use Rattle.goal_terms.specs.TreeOf.{trees_of}
 use Rattle.goal_kinds.specs.CandidateRules.{IsRefusal}
-use Rattle.goal_kinds.specs.Interned.{AreIn, erased_all}
-use Rattle.goal_kinds.specs.InternedEntries.{setting_at}
+use Rattle.goal_lists.specs.Interned.{AreIn, erased_all}
+use Rattle.goal_lists.specs.InternedEntries.{setting_at}
 use Rattle.goal_kinds.specs.RuleLists.{IsListed, list_then}
-use Rattle.goal_kinds.specs.TraitLists.{trait_list}
-use Rattle.goal_kinds.proofs.InternedLemmas.{candidate_in-grown}
+use Rattle.goal_lists.specs.TraitLists.{trait_list}
+use Rattle.goal_lists.proofs.InternedLemmas.{candidate_in-grown}
 use Rattle.goal_kinds.proofs.FaceLemmas.{list-made}
 use Rattle.goal_kinds.proofs.TraitFaceLemmas.{list-made_sorted, list-made_asks}
 use Rattle.goal_kinds.proofs.rules.traits.candidate_rule.Goals as goal

@@ -1,10 +1,10 @@
 use Rattle.std.proofs.Common.{[], refl, sym, subst}
 use Rattle.std.specs.Prelude.{IfOk}
-use Rattle.goal_kinds.specs.Candidates.{by_impl}
-use Rattle.goal_kinds.specs.InternedEntries.{setting_at}
+use Rattle.goal_lists.specs.Candidates.{by_impl}
+use Rattle.goal_lists.specs.InternedEntries.{setting_at}
 use Rattle.goal_kinds.specs.RuleLists.{IsListed, list_then}
-use Rattle.goal_kinds.specs.Rules.{given}
-use Rattle.goal_kinds.specs.TraitLists.{trait_list}
+use Rattle.goal_lists.specs.RowWords.{given}
+use Rattle.goal_lists.specs.TraitLists.{trait_list}
 use Rattle.goal_kinds.proofs.TraitFaceLemmas.{seen_row, impl-by_id, impl-accepted}
 use Rattle.goal_kinds.proofs.rules.traits.impl_rule.Goals as goal
 

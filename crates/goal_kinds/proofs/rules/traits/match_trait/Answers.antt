@@ -1,11 +1,11 @@
 use Rattle.std.proofs.Common.{[], ◌≡◌, ◌∙◌, ap, subst, None, eq-eqb}
 use Rattle.std.specs.Prelude.{IfOk, IfErr}
 use Rattle.goal_kinds.specs.CandidateRules.{IsRefusal, is_of_trait}
-use Rattle.goal_kinds.specs.Candidates.{assumption}
-use Rattle.goal_kinds.specs.InternedEntries.{setting_at}
+use Rattle.goal_lists.specs.Candidates.{assumption}
+use Rattle.goal_lists.specs.InternedEntries.{setting_at}
 use Rattle.goal_kinds.specs.RuleLists.{IsListed, list_then}
-use Rattle.goal_kinds.specs.Rules.{given}
-use Rattle.goal_kinds.specs.TraitLists.{trait_list}
+use Rattle.goal_lists.specs.RowWords.{given}
+use Rattle.goal_lists.specs.TraitLists.{trait_list}
 use Rattle.goal_kinds.proofs.TraitFaceLemmas.{said-given, said-accepted}
 use Rattle.goal_kinds.proofs.rules.traits.match_trait.Goals as goal
 

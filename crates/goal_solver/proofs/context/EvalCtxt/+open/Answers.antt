@@ -1,4 +1,5 @@
-use Rattle.goal_solver.proofs.AnswerLemmas.{owed-before, goes_back-grown, open-ground}
+use Rattle.goal_solver.proofs.AnswerLemmas.{owed-before, open-ground}
+use Rattle.goal_solver.proofs.GoingBackLemmas.{goes_back-grown, goes_back-same, goes_back-through, begins-through, goes_back-restored, goes_back-tried, valid-begun}
 use Rattle.goal_solver.proofs.BindingLemmas.{on_ok-map}
 use Rattle.goal_solver.proofs.OpenStepLemmas.{evaluation-step, term-step}
 use Rattle.std.proofs.Common.{◌≡◌, ◌++◌, ◌+◌, ℕ, List, Vec, Global, Result, length, get_or, drop, take, refl, sym, ◌∙◌, subst, subst₂, arith, [], ap, inl, Some, None, Ok, Err, ◌∷◌, Option, inr}
@@ -10,7 +11,6 @@ use Rattle.goal_solver.specs.AddedGoals.{AllTakeAt, AreSplit, LeavesUndecided, I
 use Rattle.goal_solver.specs.GoingBack.{BeginsWith, GoesBack, restored, begun}
 use Rattle.goal_solver.specs.Relating.{IsFaultFor, SaysYes, ChangesRecords}
 use Rattle.goal_solver.proofs.AddedGoalLemmas.{round-begins, records-through, fault-before, refused-fault, restored-owed, restored-alone, restored-fault, restored-itself, answer-before, fault-later}
-use Rattle.goal_solver.proofs.GoingBackLemmas.{goes_back-same, goes_back-through, begins-through, goes_back-restored, goes_back-tried, valid-begun}
 use Rattle.goal_solver.proofs.RoundLemmas.{next-answerable, next-listed, next-within, next-fault, next-says, next-split, next-takes, next-waiting, next-begins, ends-says, ends-split, ends-taking, ends-waiting, takes-none, takes-over, gone-over, over-done, over-fault, over-last, over-open, handed-on, left-none, left-some, same-lengths}
 use Rattle.goal_solver.proofs.RefusalLemmas.{refused-on, refuses-later, refuses-among, aside-refused, restored-refused, memory-only, pending-refused, stops-at, refused-map, stops-last, open-refused, open-goal-refused, evaluation-refused, term-refused}
 use Rattle.std.proofs.lemmas.Bool.{false≢true}
@@ -29,7 +29,7 @@ use Rattle.goal_solver.specs.OpenAnswers.{answers_term, AnswersTrait, InTrial, M
 use Rattle.goal_solver.proofs.ChosenLemmas.{asked-alone, chooses-held, chooses-refuted, chosen-given, chosen-refused}
 use Rattle.goal_solver.specs.OpenRuns.{AnswersAlone, WhenAsked, Evaluates, GivesTerm, named_trees, open_progress, open_start, RunsThrough, RunsOpen}
 use Rattle.goal_solver.proofs.ClosingLemmas.{evaluates-grown, closing-answers, closing-recorded}
-use Rattle.goal_eval.proofs.MergingLemmas.{ok-map}
+use Rattle.goal_lists.proofs.ResultLemmas.{ok-map}
 use Rattle.goal_solver.proofs.SinceMarkLemmas.{lists-kept}
 use Rattle.std.proofs.lemmas.List.Elements.{All-nil}
 use Rattle.goal_solver.specs.RunRules.{IsRecorded, IsRecordedAnswer}
@@ -41,15 +41,15 @@ use Rattle.goal_solver.proofs.ListedLemmas.{listed-applies}
 use Rattle.goal_solver.proofs.LaterLemmas.{merged-later}
 use Rattle.goal_solver.proofs.MergedLemmas.{runs-none, merged-next}
 use Rattle.std.specs.Option.{option_map}
-use Rattle.goal_kinds.specs.declared.outcomes.Outcome.TheVariants as outcome
+use Rattle.goal_lists.specs.declared.outcomes.Outcome.TheVariants as outcome
 use Rattle.goal_solver.specs.MoreSpecial.{RunsAlone, IsTraitRule, AsksEach, AsksMoreSpecial, match_seen}
 use Rattle.goal_solver.proofs.MoreSpecialLemmas.{asks-none, asked-next, asked-all, runs-refused, runs-beside, beside-applies}
 use Rattle.goal_solver.proofs.BelowLemmas.{applies-below, merges-below, projects-below}
 use Rattle.goal_terms.specs.declared.answers.Response.{Response}
 use Rattle.goal_eval.specs.ErasedArgs.{erased_args}
-use Rattle.goal_solver.specs.Answers.{IsQuiet, level_over}
-use Rattle.goal_solver.specs.Collecting.{trait_kind}
-use Rattle.goal_solver.specs.OpenGoals.{AsksOpenSelf, WhenTried, ConsidersRules, AreOfClass, rules_of_class, trait_classes, WhenAnswered, ByClasses, ByFormedClasses}
+use Rattle.goal_solver.specs.Answers.{IsOpen, IsQuiet, level_over}
+use Rattle.goal_kinds.specs.Collecting.{trait_kind, rules_of_class}
+use Rattle.goal_solver.specs.OpenGoals.{AsksOpenSelf, WhenTried, ConsidersRules, AreOfClass, trait_classes, WhenAnswered, ByClasses, ByFormedClasses}
 use Rattle.goal_solver.proofs.ApplicableLemmas.{nothing-applies-after, nothing-applies}
 use Rattle.goal_solver.proofs.OpenClassLemmas.{answered-in, by-classes, class-answers, first-answers, next-answers, none-answers, none-left}
 use Rattle.goal_solver.proofs.OpenTraitLemmas.{grown-records, some-unless, restored-records, let-go, let-go-back, let-go-caused, let-go-fault}
@@ -57,14 +57,15 @@ use Rattle.goal_solver.specs.OpenHostGoals.{host_kind, rules_of_groups, AnswersP
 use Rattle.goal_solver.proofs.OpenHostLemmas.{const-at_once, const-below, const-grouped, const-refused, const-through, const-unproven, group-answered, group-first, group-later, group-none, group-refuted, group-split}
 use Rattle.goal_solver.specs.OpenProjections.{ConsidersGroups, IsAliasRule, IsRigid, WithForms, alias_kind, own_args, ByFormedGroups, ByGroups}
 use Rattle.goal_solver.proofs.OpenProjectionLemmas.{alias-none, alias-run, asks-its-trait, no-trait, projects-alias, projects-refused, projects-unproven, projects-through, rules-merged, environment-answers, environment-splits, later-answers, bounds-answer, bounds-split, bounds-rigid, rest-answers, rest-splits, rest-refuses, through-groups, not-maybe}
-use Rattle.goal_kinds.specs.Answers.{setting_of}
+use Rattle.goal_lists.specs.Answers.{setting_of}
+use Rattle.goal_lists.specs.Levels.{level}
 use Rattle.goal_solver.proofs.PromiseLemmas.{leaves-undecided}
 use Rattle.goal_solver.proofs.AccessLemmas.{none-recorded}
 use Rattle.goal_terms.specs.declared.predicates.Clause.{Clause}
 use Rattle.goal_terms.specs.Erased.{erased}
 use Rattle.goal_terms.specs.TreeOf.{tree_of_alias, tree_of_term}
 use Rattle.goal_terms.specs.declared.terms.Term.{Term}
-use Rattle.goal_kinds.specs.Interned.{erased_at}
+use Rattle.goal_lists.specs.Interned.{erased_at}
 use Rattle.goal_solver.specs.OpenForms.{OpensFrom}
 use Rattle.goal_solver.proofs.OpenFormLemmas.{answers-err, answers-ok, asks-term, grown-left, known, made-records, opens-answered, opens-let_go, opens-refused, opens-undone, refuses-term, same-records, undone-fault, with-fresh, restored-grown, restored-twice}
 use Rattle.goal_terms.specs.declared.terms.AliasTerm.{AliasTerm}
@@ -1278,7 +1279,11 @@ pub trait_goal_response-returns-then-remaining_depth-eq0-clause-caused : goal.tr
 trait_goal_response-returns-then-remaining_depth-eq0-clause-caused t c = λ closed. none-recorded c.args.self.now _ refl
 
 pub trait_goal_response-returns-clause-decided : goal.trait_goal_response-returns-clause-decided
-trait_goal_response-returns-clause-decided t c = λ m owed closed undecided. c.answer_trait.ensures.decided m owed undecided
+trait_goal_response-returns-clause-decided t c = λ m owed closed undecided.
+    subst (λ clauses. IsOpen (level (setting_of c.args.self.now.tables m clauses) c.args.self.now.remaining_depth) c.args.goal.now.predicate.trait_ref.def_id (erased_args c.args.goal.now.predicate.trait_ref.args.items)) c.deref-2.ensures.value
+    (subst (λ args. IsOpen (level (setting_of c.args.self.now.tables m c.deref-2.result.now) c.args.self.now.remaining_depth) c.args.goal.now.predicate.trait_ref.def_id (erased_args args)) c.deref.ensures.value
+    (subst (λ (s : State). IsOpen (level (setting_of c.args.self.now.tables m c.deref-2.result.now) s.remaining_depth) c.args.goal.now.predicate.trait_ref.def_id (erased_args c.deref.result.now)) c.self.view_is
+    (c.answer_trait.ensures.decided m owed undecided)))
 
 pub trait_goal_response-returns-clause-caused : goal.trait_goal_response-returns-clause-caused
 trait_goal_response-returns-clause-caused t c = λ closed. c.answer_trait.ensures.caused

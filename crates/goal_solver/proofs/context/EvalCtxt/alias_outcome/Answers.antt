@@ -4,7 +4,7 @@ use Rattle.goal_terms.proofs.InternLemmas.{keeps-chain}
 use Rattle.goal_solver.proofs.AccessLemmas.{none-recorded}
 use Rattle.goal_solver.specs.State.{State}
 use Rattle.std.proofs.Common.{ap, ◌∙◌}
-use Rattle.goal_kinds.specs.Interned.{erased_all}
+use Rattle.goal_lists.specs.Interned.{erased_all}
 use Rattle.goal_eval.specs.ErasedArgs.{erased_args}
 use Rattle.goal_solver.proofs.context.EvalCtxt.alias_outcome.Goals as goal
 

@@ -4,7 +4,7 @@ use Rattle.goal_terms.specs.TreeOf.{tree_of_alias}
 use Rattle.goal_terms.specs.declared.answers.Response.{Response}
 use Rattle.goal_terms.specs.declared.predicates.Clause.{Clause}
 use Rattle.goal_kinds.specs.declared.faults.Fault.{Fault}
-use Rattle.goal_solver.specs.Collecting.{kind_of}
+use Rattle.goal_kinds.specs.Collecting.{kind_of}
 use Rattle.goal_solver.specs.OpenAnswers.{answers_term, InTrial}
 use Rattle.goal_solver.specs.OpenForms.{OpensFrom}
 use Rattle.goal_solver.specs.OpenGoals.{AreOfClass, ByClasses, ByFormedClasses, WhenTried, trait_classes}

@@ -1,11 +1,10 @@
-use Rattle.std.proofs.Common.{arith}
+use Rattle.std.proofs.Common.{arith, refl}
 use Rattle.goal_solver.specs.Evaluations.{predicate_seen}
-use Rattle.goal_kinds.specs.Answers.{setting_of}
+use Rattle.goal_lists.specs.Answers.{setting_of}
 use Rattle.goal_solver.proofs.AnswerLemmas.{undecided-ground, predicate-sound, predicate-decided}
 use Rattle.goal_solver.proofs.GoingBackLemmas.{goes_back-same}
 use Rattle.goal_solver.proofs.ApplicableLemmas.{nothing-applies, unvalued-applies-later}
 use Rattle.goal_solver.proofs.PromiseLemmas.{leaves-undecided}
-use Rattle.std.proofs.Common.{refl}
 use Rattle.goal_solver.proofs.AccessLemmas.{none-recorded, recorded-concluded}
 use Rattle.goal_solver.proofs.context.EvalCtxt.answer_predicate.Goals as goal
 

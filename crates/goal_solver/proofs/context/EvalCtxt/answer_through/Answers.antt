@@ -1,9 +1,9 @@
 use Rattle.std.proofs.Common.{refl, sym, ◌∙◌, ap, subst, suc}
 use Rattle.goal_terms.specs.NodeTests.{general_variable_at}
 use Rattle.goal_terms.specs.Tree.{node_of}
-use Rattle.goal_kinds.specs.Answers.{setting_of}
-use Rattle.goal_kinds.specs.Interned.{erased_at}
-use Rattle.goal_kinds.proofs.ConsistentLemmas.{each_level_is_consistent}
+use Rattle.goal_lists.specs.Answers.{setting_of}
+use Rattle.goal_lists.specs.Interned.{erased_at}
+use Rattle.goal_lists.proofs.ConsistentLemmas.{each_level_is_consistent}
 use Rattle.std.specs.Prelude.{Ok, length}
 use Rattle.goal_eval.specs.ErasedArgs.{erased_args}
 use Rattle.goal_solver.specs.Answers.{AnswersAside, level_over}

@@ -1,6 +1,6 @@
 use Rattle.std.proofs.Common.{refl, subst}
-use Rattle.goal_kinds.specs.Answers.{setting_of}
-use Rattle.goal_kinds.specs.Levels.{level}
+use Rattle.goal_lists.specs.Answers.{setting_of}
+use Rattle.goal_lists.specs.Levels.{level}
 use Rattle.goal_eval.specs.ErasedArgs.{erased_args}
 use Rattle.goal_eval.specs.Outcomes.{SaysThrough}
 use Rattle.goal_solver.proofs.AnswerLemmas.{trait-unsure}

@@ -1,7 +1,7 @@
 use Rattle.goal_terms.specs.TreeOf.{trees_of}
 use Rattle.goal_eval.specs.ErasedArgs.{erased_args}
 use Rattle.goal_solver.specs.TranslatedArgs.{certainty_in}
-use Rattle.goal_solver.proofs.AnswerLemmas.{goes_back-grown}
+use Rattle.goal_solver.proofs.GoingBackLemmas.{goes_back-grown}
 use Rattle.goal_solver.proofs.TranslatedAnswers.{made_equal-grown, never-grown}
 use Rattle.std.proofs.Common.{[]}
 use Rattle.goal_solver.proofs.context.EvalCtxt.args_for.Goals as goal

@@ -4,7 +4,7 @@ use Rattle.goal_terms.specs.Folding.{instance}
 use Rattle.goal_terms.specs.TreeOf.{trees_of}
 use Rattle.goal_tables.specs.Rows.{impl_of}
 use Rattle.goal_tables.specs.declared.rows.Tables.{Tables}
-use Rattle.goal_kinds.specs.declared.rules.RuleHeader.TheVariants as header
+use Rattle.goal_lists.specs.declared.lists.RuleHeader.TheVariants as header
 use Rattle.goal_solver.specs.OpenRuns.{named_trees, open_header, other_header, MatchesIf}
 use Rattle.goal_solver.proofs.GoingBackLemmas.{goes_back-same}
 use Rattle.goal_solver.proofs.OpenStepLemmas.{match-ungiven, number-named, number-unnamed, other-given, other-unnamed}

@@ -3,7 +3,7 @@ use Rattle.std.specs.Prelude.{slice_get}
 use Rattle.goal_terms.specs.TreeOf.{trees_of}
 use Rattle.goal_terms.specs.declared.answers.GoalSource.{GoalSource}
 use Rattle.goal_tables.specs.declared.rows.Tables.{Tables}
-use Rattle.goal_kinds.specs.Rules.{clauses_in}
+use Rattle.goal_lists.specs.RowWords.{clauses_in}
 use Rattle.goal_solver.specs.OpenRuns.{named_trees, clauses_with, source_of, AddsGoals}
 use Rattle.goal_solver.proofs.GoingBackLemmas.{goes_back-same}
 use Rattle.goal_solver.proofs.OpenStepLemmas.{number-named, number-unnamed, row-unnamed, row-added}

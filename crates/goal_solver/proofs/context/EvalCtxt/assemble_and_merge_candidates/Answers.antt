@@ -1,7 +1,7 @@
 use Rattle.std.proofs.Common.{◌≡◌, None, Some, sym, ◌∙◌, subst}
 use Rattle.std.specs.Prelude.{Ok}
 use Rattle.goal_kinds.specs.declared.goal_kind.MergeRule.{MergeRule}
-use Rattle.goal_solver.specs.Collecting.{kind_of}
+use Rattle.goal_kinds.specs.Collecting.{kind_of}
 use Rattle.goal_solver.specs.OpenGoals.{WhenAnswered}
 use Rattle.goal_solver.specs.OpenHostGoals.{MergesConst}
 use Rattle.goal_solver.specs.Promises.{AnswersGiven, AppliesGiven, asked_through}

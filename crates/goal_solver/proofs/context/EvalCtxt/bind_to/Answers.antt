@@ -1,6 +1,7 @@
 use Rattle.std.proofs.Common.{refl}
 use Rattle.goal_infer.proofs.SolvedLemmas.{solved-kept}
-use Rattle.goal_solver.proofs.BindingLemmas.{free-interned, binds-interned, goes_back-interned}
+use Rattle.goal_solver.proofs.BindingLemmas.{free-interned, binds-interned}
+use Rattle.goal_solver.proofs.GoingBackLemmas.{goes_back-interned}
 use Rattle.goal_solver.proofs.context.EvalCtxt.bind_to.Goals as goal
 
 pub invariant_of-self : goal.invariant_of-self

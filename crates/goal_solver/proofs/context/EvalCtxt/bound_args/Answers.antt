@@ -2,7 +2,7 @@ use Rattle.std.proofs.Common.{◌≡◌, map, ap, subst, ◌∙◌}
 use Rattle.goal_infer.specs.Following.{sort_at}
 use Rattle.goal_infer.specs.Resolution.{resolved}
 use Rattle.goal_infer.proofs.SolvedLemmas.{solved-kept}
-use Rattle.goal_kinds.specs.Interned.{erased_all}
+use Rattle.goal_lists.specs.Interned.{erased_all}
 use Rattle.goal_eval.specs.ErasedArgs.{erased_args}
 use Rattle.goal_solver.specs.Relating.{all_bound}
 use Rattle.goal_solver.specs.State.{State}

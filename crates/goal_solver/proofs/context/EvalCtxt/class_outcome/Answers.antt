@@ -1,8 +1,8 @@
 use Rattle.goal_solver.specs.ThroughClasses.{SaysTermThrough}
 use Rattle.goal_solver.proofs.OpenClassLemmas.{none-left}
 use Rattle.goal_solver.proofs.RerunLemmas.{rerun-says}
-use Rattle.goal_kinds.specs.Answers.{setting_of}
-use Rattle.goal_kinds.specs.Levels.{level}
+use Rattle.goal_lists.specs.Answers.{setting_of}
+use Rattle.goal_lists.specs.Levels.{level}
 use Rattle.goal_solver.proofs.context.EvalCtxt.class_outcome.Goals as goal
 
 pub returns-clause-says : goal.returns-clause-says

@@ -1,6 +1,6 @@
 use Rattle.std.proofs.Common.{refl, ap, ◌∙◌, subst, sym}
 use Rattle.std.specs.Prelude.{IfOk}
-use Rattle.goal_kinds.specs.Levels.{level}
+use Rattle.goal_lists.specs.Levels.{level}
 use Rattle.goal_eval.specs.ErasedArgs.{erased_args}
 use Rattle.goal_solver.specs.Assembled.{level_through}
 use Rattle.goal_eval.specs.Outcomes.{SaysWhich}

@@ -2,10 +2,10 @@ use Rattle.std.proofs.Common.{length, map, ap, ◌∙◌, subst}
 use Rattle.std.proofs.lemmas.List.{length-map}
 use Rattle.goal_terms.specs.TableMeaning.{tree_at}
 use Rattle.goal_terms.specs.declared.answers.Certainty.TheVariants as certainty
-use Rattle.goal_kinds.specs.Answers.{setting_of}
-use Rattle.goal_kinds.specs.Interned.{erased_all}
-use Rattle.goal_kinds.specs.TraitGoals.{header_of}
-use Rattle.goal_kinds.proofs.ConsistentLemmas.{each_level_is_consistent}
+use Rattle.goal_lists.specs.Answers.{setting_of}
+use Rattle.goal_lists.specs.Interned.{erased_all}
+use Rattle.goal_lists.specs.TraitGoals.{header_of}
+use Rattle.goal_lists.proofs.ConsistentLemmas.{each_level_is_consistent}
 use Rattle.goal_solver.specs.Answers.{level_over}
 use Rattle.goal_eval.specs.Outcomes.{SaysMatch}
 use Rattle.goal_solver.specs.TranslatedArgs.{MatchCounts}

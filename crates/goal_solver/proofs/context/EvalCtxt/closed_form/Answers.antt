@@ -1,6 +1,6 @@
 use Rattle.std.proofs.Common.{subst}
-use Rattle.goal_kinds.specs.Answers.{setting_of}
-use Rattle.goal_kinds.proofs.ConsistentLemmas.{each_level_is_consistent}
+use Rattle.goal_lists.specs.Answers.{setting_of}
+use Rattle.goal_lists.proofs.ConsistentLemmas.{each_level_is_consistent}
 use Rattle.goal_solver.specs.Answers.{level_over}
 use Rattle.goal_solver.specs.HeadForms.{bound_term, IsFormFound}
 use Rattle.goal_eval.specs.Outcomes.{FoundIn}

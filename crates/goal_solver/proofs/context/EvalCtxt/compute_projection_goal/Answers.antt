@@ -1,6 +1,6 @@
 use Rattle.std.proofs.Common.{List, subst}
 use Rattle.goal_terms.specs.declared.predicates.Clause.{Clause}
-use Rattle.goal_kinds.specs.Answers.{whether}
+use Rattle.goal_lists.specs.Answers.{whether}
 use Rattle.goal_solver.specs.Answers.{level_over, IsPredicateAnswer, IsUndecided}
 use Rattle.goal_solver.specs.Promises.{equation_asked}
 use Rattle.goal_solver.proofs.PromiseLemmas.{answers-projection, no-two-disagree}

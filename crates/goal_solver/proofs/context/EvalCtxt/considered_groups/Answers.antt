@@ -1,4 +1,4 @@
-use Rattle.goal_solver.specs.Collecting.{kind_of}
+use Rattle.goal_kinds.specs.Collecting.{kind_of}
 use Rattle.goal_solver.proofs.OpenClassLemmas.{considered-accepted}
 use Rattle.goal_solver.proofs.OpenProjectionLemmas.{collects-groups}
 use Rattle.goal_solver.proofs.context.EvalCtxt.considered_groups.Goals as goal

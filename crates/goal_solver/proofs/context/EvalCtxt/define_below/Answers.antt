@@ -1,5 +1,5 @@
 use Rattle.std.proofs.Common.{◌≡◌, Some, sym, subst}
-use Rattle.goal_kinds.specs.RuleModes.{first_use_of}
+use Rattle.goal_lists.specs.OpaqueUses.{first_use_of}
 use Rattle.goal_solver.specs.State.{State}
 use Rattle.goal_solver.proofs.BelowLemmas.{applies-below}
 use Rattle.goal_solver.proofs.DefinedGoalLemmas.{defined-goal}

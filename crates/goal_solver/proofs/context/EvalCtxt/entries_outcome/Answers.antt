@@ -7,8 +7,8 @@ use Rattle.goal_solver.proofs.RecordedLemmas.{listed-kept, listed-through}
 use Rattle.std.specs.Prelude.{IfOk}
 use Rattle.goal_solver.proofs.OpenClassLemmas.{none-left}
 use Rattle.goal_solver.proofs.RerunLemmas.{rerun-says}
-use Rattle.goal_kinds.specs.Answers.{setting_of}
-use Rattle.goal_kinds.specs.Levels.{level}
+use Rattle.goal_lists.specs.Answers.{setting_of}
+use Rattle.goal_lists.specs.Levels.{level}
 use Rattle.goal_solver.proofs.context.EvalCtxt.entries_outcome.Goals as goal
 
 pub returns-in_err-found-clause-listed : goal.returns-in_err-found-clause-listed

@@ -3,9 +3,8 @@ use Rattle.goal_terms.specs.TableMeaning.{tree_at}
 use Rattle.goal_terms.specs.Tree.{Tree}
 use Rattle.goal_terms.specs.TreeOf.{tree_of_term}
 use Rattle.goal_solver.specs.Equating.{IsEquated}
-use Rattle.goal_solver.proofs.BindingLemmas.{goes_back-interned}
+use Rattle.goal_solver.proofs.GoingBackLemmas.{goes_back-interned, solved-grown}
 use Rattle.goal_solver.proofs.EquatedLemmas.{agreed-interned, equated-unanswered, equated-interned, alone-interned, unchanged-interned, back-interned, fault-interned, faults-interned}
-use Rattle.goal_solver.proofs.GoingBackLemmas.{solved-grown}
 use Rattle.goal_solver.proofs.context.EvalCtxt.eq.Goals as goal
 
 pub invariant_of-self : goal.invariant_of-self

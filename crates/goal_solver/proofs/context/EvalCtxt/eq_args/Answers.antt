@@ -2,11 +2,10 @@ use Rattle.std.proofs.Common.{◌≡◌, map, refl, ap, ◌∙◌}
 use Rattle.goal_terms.specs.TableMeaning.{tree_at, Keeps}
 use Rattle.goal_terms.specs.TreeOf.{trees_of}
 use Rattle.goal_terms.proofs.InternLemmas.{keeps-chain}
-use Rattle.goal_kinds.proofs.UnderLemmas.{are_in-below}
+use Rattle.goal_lists.proofs.UnderLemmas.{are_in-below}
 use Rattle.goal_solver.specs.Equating.{IsEquated}
-use Rattle.goal_solver.proofs.BindingLemmas.{goes_back-interned}
+use Rattle.goal_solver.proofs.GoingBackLemmas.{goes_back-interned, solved-grown, solved-grown_twice}
 use Rattle.goal_solver.proofs.EquatedLemmas.{trees-kept, agreed-interned, equated-unanswered, equated-interned, alone-interned, unchanged-interned, back-interned, fault-interned, faults-interned}
-use Rattle.goal_solver.proofs.GoingBackLemmas.{solved-grown, solved-grown_twice}
 use Rattle.goal_solver.proofs.context.EvalCtxt.eq_args.Goals as goal
 
 pub invariant_of-self : goal.invariant_of-self

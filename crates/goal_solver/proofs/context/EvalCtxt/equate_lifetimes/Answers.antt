@@ -4,7 +4,7 @@ use Rattle.goal_terms.specs.declared.term_nodes.TermId.{TermId}
 use Rattle.goal_terms.proofs.InternLemmas.{keeps-chain}
 use Rattle.goal_infer.proofs.RegionStateLemmas.{adds-same, adds-through, adds-go_back}
 use Rattle.goal_solver.proofs.LifetimeLemmas.{lifetimes-more, lifetimes-done, past-shorter, changes-through}
-use Rattle.goal_solver.proofs.RelatedLemmas.{goes_back-inferred}
+use Rattle.goal_solver.proofs.GoingBackLemmas.{goes_back-inferred}
 use Rattle.goal_solver.proofs.context.EvalCtxt.equate_lifetimes.Goals as goal
 
 pub loop-i-init : goal.loop-i-init

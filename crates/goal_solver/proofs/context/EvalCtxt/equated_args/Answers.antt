@@ -9,8 +9,8 @@ use Rattle.goal_terms.specs.declared.answers.ParamKind.{ParamKind}
 use Rattle.goal_terms.specs.declared.heads.Variable.{Variable}
 use Rattle.goal_terms.specs.declared.terms.GenericArg.{GenericArg}
 use Rattle.goal_infer.specs.Replacement.{OfKinds}
-use Rattle.goal_kinds.specs.Headers.{under}
-use Rattle.goal_kinds.specs.TraitGoals.{header_of}
+use Rattle.goal_lists.specs.Headers.{under}
+use Rattle.goal_lists.specs.TraitGoals.{header_of}
 use Rattle.goal_kinds.specs.declared.faults.Fault.{Fault}
 use Rattle.goal_eval.specs.ErasedArgs.{erased_args}
 use Rattle.goal_solver.specs.Relating.{AgreesWith, Identifies, Refuses}

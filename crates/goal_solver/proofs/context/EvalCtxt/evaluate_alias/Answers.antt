@@ -1,14 +1,14 @@
 use Rattle.goal_solver.proofs.AccessLemmas.{recorded-concluded, recorded-rerun}
 use Rattle.std.proofs.Common.{ap, ◌∙◌, subst}
 use Rattle.goal_solver.specs.Evaluations.{SaysTermAt}
-use Rattle.goal_kinds.specs.Interned.{erased_all}
-use Rattle.goal_kinds.proofs.InternedLemmas.{all_same-grown}
+use Rattle.goal_lists.specs.Interned.{erased_all}
+use Rattle.goal_lists.proofs.InternedLemmas.{all_same-grown}
 use Rattle.goal_solver.specs.State.{State}
 use Rattle.goal_solver.specs.Answers.{level_over}
 use Rattle.goal_solver.proofs.OpenClassLemmas.{none-left}
 use Rattle.goal_solver.proofs.RerunLemmas.{rerun-says}
-use Rattle.goal_kinds.specs.Answers.{setting_of}
-use Rattle.goal_kinds.specs.Levels.{level}
+use Rattle.goal_lists.specs.Answers.{setting_of}
+use Rattle.goal_lists.specs.Levels.{level}
 use Rattle.goal_solver.proofs.context.EvalCtxt.evaluate_alias.Goals as goal
 
 pub returns-in_err-found-clause-caused : goal.returns-in_err-found-clause-caused

@@ -1,5 +1,5 @@
 use Rattle.std.proofs.Common.{sym, ap, subst}
-use Rattle.goal_kinds.specs.Interned.{IsIn}
+use Rattle.goal_lists.specs.Interned.{IsIn}
 use Rattle.goal_solver.specs.State.{State}
 use Rattle.goal_solver.proofs.GoalOutcomeLemmas.{followed-in}
 use Rattle.goal_solver.proofs.GoingBackLemmas.{solved-grown}

@@ -1,9 +1,9 @@
 use Rattle.std.proofs.Common.{sym, ◌∙◌}
 use Rattle.goal_solver.specs.Answers.{level_over}
 use Rattle.goal_solver.specs.HeadForms.{bound_term}
-use Rattle.goal_solver.proofs.AnswerLemmas.{goes_back-grown}
+use Rattle.goal_solver.proofs.GoingBackLemmas.{goes_back-grown}
 use Rattle.goal_solver.proofs.FormAnswerLemmas.{found-itself, open-unfound}
-use Rattle.goal_kinds.specs.Interned.{erased_at}
+use Rattle.goal_lists.specs.Interned.{erased_at}
 use Rattle.goal_solver.proofs.OpenFormLemmas.{closed-not_open, other-not_open}
 use Rattle.goal_solver.proofs.context.EvalCtxt.form_outcome.Goals as goal
 

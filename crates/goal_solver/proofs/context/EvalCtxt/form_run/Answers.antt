@@ -1,17 +1,16 @@
 use Rattle.std.proofs.Common.{refl, ap, ◌∙◌, sym, subst, ◌≡◌, Result, Ok, Err}
 use Rattle.std.specs.Prelude.{IfOk, IfErr, IsErrAnd}
-use Rattle.goal_kinds.specs.Interned.{erased_at}
-use Rattle.goal_kinds.specs.Level.{HasHeadForm, HeadFormRefuted}
-use Rattle.goal_kinds.specs.Levels.{level}
+use Rattle.goal_lists.specs.Interned.{erased_at}
+use Rattle.goal_lists.specs.Level.{HasHeadForm, HeadFormRefuted}
+use Rattle.goal_lists.specs.Levels.{level}
 use Rattle.goal_eval.specs.Outcomes.{SaysWhich, FoundIn}
 use Rattle.goal_tables.specs.Faults.{IsChecked}
 use Rattle.goal_solver.specs.State.{State}
 use Rattle.goal_solver.proofs.EvaluationLemmas.{run-says, memory-ends}
 use Rattle.goal_solver.proofs.FaultLemmas.{run-faults}
-use Rattle.goal_solver.proofs.GoingBackLemmas.{solved-grown, goes_back-through}
+use Rattle.goal_solver.proofs.GoingBackLemmas.{solved-grown, goes_back-through, goes_back-interned}
 use Rattle.goal_eval.proofs.CacheLemmas.{sound-new, sound-parts}
 use Rattle.goal_solver.proofs.AccessLemmas.{ends-here}
-use Rattle.goal_solver.proofs.BindingLemmas.{goes_back-interned}
 use Rattle.goal_eval.specs.declared.eval.outcomes.Stop.{Stop}
 use Rattle.goal_eval.specs.declared.eval.outcomes.Stop.TheVariants as stop
 use Rattle.goal_solver.proofs.context.EvalCtxt.form_run.Goals as goal

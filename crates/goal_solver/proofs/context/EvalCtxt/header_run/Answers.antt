@@ -1,13 +1,12 @@
 use Rattle.std.proofs.Common.{rules, refl, ap, ◌∙◌, subst, ◌≡◌, Result, Ok, Err, sym}
-use Rattle.goal_kinds.specs.Interned.{erased_all}
-use Rattle.goal_kinds.specs.Levels.{level}
-use Rattle.goal_kinds.specs.TraitGoals.{header_of}
+use Rattle.goal_lists.specs.Interned.{erased_all}
+use Rattle.goal_lists.specs.Levels.{level}
+use Rattle.goal_lists.specs.TraitGoals.{header_of}
 use Rattle.goal_solver.specs.Answers.{level_over}
 use Rattle.goal_eval.specs.Outcomes.{MatchIn, SaysMatch, header_terms}
 use Rattle.goal_tables.specs.Faults.{IsChecked}
 use Rattle.goal_solver.specs.State.{State}
-use Rattle.goal_solver.proofs.BindingLemmas.{goes_back-interned}
-use Rattle.goal_solver.proofs.GoingBackLemmas.{goes_back-through, solved-grown}
+use Rattle.goal_solver.proofs.GoingBackLemmas.{goes_back-interned, goes_back-through, solved-grown}
 use Rattle.goal_eval.proofs.CacheLemmas.{sound-new}
 use Rattle.goal_solver.proofs.EvaluationLemmas.{run-says, memory-ends}
 use Rattle.goal_solver.proofs.TranslatedLemmas.{counted-says}

@@ -3,8 +3,8 @@ use Rattle.std.specs.Prelude.{IfOk}
 use Rattle.goal_solver.specs.HostGoals.{HoldsThroughClass, SaysHostAt, through_at}
 use Rattle.goal_solver.proofs.OpenClassLemmas.{none-left}
 use Rattle.goal_solver.proofs.RerunLemmas.{rerun-says}
-use Rattle.goal_kinds.specs.Answers.{setting_of}
-use Rattle.goal_kinds.specs.Levels.{level}
+use Rattle.goal_lists.specs.Answers.{setting_of}
+use Rattle.goal_lists.specs.Levels.{level}
 use Rattle.goal_solver.proofs.context.EvalCtxt.host_effect_outcome_through.Goals as goal
 
 pub returns-clause-says : goal.returns-clause-says

@@ -1,6 +1,6 @@
 use Rattle.std.proofs.Common.{suc, refl, ap, ◌∙◌, subst, sym}
 use Rattle.std.specs.Prelude.{IfOk}
-use Rattle.goal_kinds.specs.Levels.{level}
+use Rattle.goal_lists.specs.Levels.{level}
 use Rattle.goal_solver.specs.HostGoals.{HoldsThroughClass, SaysHostAt, through_at}
 use Rattle.goal_tables.specs.Faults.{IsChecked}
 use Rattle.goal_solver.specs.State.{State}

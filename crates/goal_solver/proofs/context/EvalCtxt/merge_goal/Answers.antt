@@ -1,5 +1,5 @@
 use Rattle.std.proofs.Common.{subst}
-use Rattle.goal_solver.specs.Collecting.{kind_of}
+use Rattle.goal_kinds.specs.Collecting.{kind_of}
 use Rattle.goal_solver.specs.OpenGoals.{ConsidersRules}
 use Rattle.goal_solver.proofs.OpenedSelfLemmas.{left-or_opened}
 use Rattle.goal_solver.proofs.OpenClassLemmas.{by-classes}

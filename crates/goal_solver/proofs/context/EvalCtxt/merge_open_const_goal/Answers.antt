@@ -1,14 +1,13 @@
 use Rattle.std.proofs.Common.{◌∙◌, ap, subst, length, Option, Ok}
 use Rattle.goal_terms.specs.declared.terms.AliasTerm.{AliasTerm}
 use Rattle.goal_solver.specs.Answers.{IsQuiet}
-use Rattle.goal_solver.specs.Collecting.{kind_of}
+use Rattle.goal_kinds.specs.Collecting.{kind_of}
 use Rattle.goal_solver.specs.OpenGoals.{AsksOpenSelf}
 use Rattle.goal_solver.specs.OpenHostGoals.{ByFormedRuleGroups}
 use Rattle.goal_solver.specs.State.{State, kinds_of}
 use Rattle.goal_solver.proofs.AddedGoalLemmas.{fault-later}
-use Rattle.goal_solver.proofs.AnswerLemmas.{goes_back-grown}
+use Rattle.goal_solver.proofs.GoingBackLemmas.{goes_back-grown, goes_back-through}
 use Rattle.goal_solver.proofs.ApplicableLemmas.{nothing-applies-after}
-use Rattle.goal_solver.proofs.GoingBackLemmas.{goes_back-through}
 use Rattle.goal_solver.proofs.OpenFormLemmas.{known, restored-grown, restored-twice}
 use Rattle.goal_solver.proofs.OpenedSelfLemmas.{opened-unsaid}
 use Rattle.goal_solver.proofs.context.EvalCtxt.merge_open_const_goal.Goals as goal

@@ -1,5 +1,5 @@
 use Rattle.std.proofs.Common.{◌≡◌, ◌∙◌, ap, sym, subst}
-use Rattle.goal_solver.specs.Collecting.{kind_of}
+use Rattle.goal_kinds.specs.Collecting.{kind_of}
 use Rattle.goal_solver.specs.GoingBack.{GoesBack, begun, restored}
 use Rattle.goal_solver.specs.OpenProjections.{ByFormedGroups}
 use Rattle.goal_solver.specs.State.{State}

@@ -1,7 +1,7 @@
 use Rattle.std.proofs.Common.{◌≡◌, ◌⊎◌, true, Some, None, sym, ap, ◌∙◌, subst}
 use Rattle.std.specs.Prelude.{Ok, option_copied}
 use Rattle.goal_solver.specs.Answers.{is_closed_alias, expected_variable}
-use Rattle.goal_solver.specs.Collecting.{kind_of}
+use Rattle.goal_kinds.specs.Collecting.{kind_of}
 use Rattle.goal_solver.specs.Promises.{AnswersGiven, AppliesGiven, given_through}
 use Rattle.goal_solver.proofs.AssembledAnswers.{answered-given, applied-given, merged-given_closed, missing-merges_given, opened-applies_given, opened-given, opened-merges_given}
 use Rattle.goal_solver.proofs.GoingBackLemmas.{goes_back-same}

@@ -1,5 +1,5 @@
 use Rattle.std.proofs.Common.{subst}
-use Rattle.goal_solver.specs.Collecting.{kind_of}
+use Rattle.goal_kinds.specs.Collecting.{kind_of}
 use Rattle.goal_solver.specs.OpenProjections.{ConsidersGroups}
 use Rattle.goal_solver.proofs.OpenedSelfLemmas.{left-or_opened-through}
 use Rattle.goal_solver.proofs.OpenProjectionLemmas.{through-groups}

@@ -1,22 +1,18 @@
-use Rattle.std.proofs.Common.{arith, sym, ◌∙◌, ap, subst, true≢false}
+use Rattle.std.proofs.Common.{arith, sym, ◌∙◌, ap, subst, true≢false, inl, refl}
 use Rattle.goal_terms.specs.NodeTests.{general_variable_at}
 use Rattle.goal_terms.specs.Tree.{node_of}
-use Rattle.goal_kinds.specs.Answers.{setting_of}
+use Rattle.goal_lists.specs.Answers.{setting_of, IsAnswer, maybe}
 use Rattle.goal_eval.specs.Outcomes.{FoundIn, SaysWhich}
 use Rattle.goal_eval.specs.ErasedArgs.{erased_args}
-use Rattle.goal_solver.specs.Answers.{level_over}
+use Rattle.goal_solver.specs.Answers.{level_over, AnswersAside, is_closed_alias, expected_variable}
 use Rattle.goal_solver.proofs.RerunLemmas.{ambiguous-answer, ambiguous-open}
 use Rattle.goal_solver.proofs.AnswerLemmas.{alias-unsure, alias_open-ground}
 use Rattle.goal_solver.proofs.FoundAnswers.{found-sound, found-open}
-use Rattle.goal_kinds.proofs.ConsistentLemmas.{each_level_is_consistent}
+use Rattle.goal_lists.proofs.ConsistentLemmas.{each_level_is_consistent}
 use Rattle.goal_solver.proofs.GoingBackLemmas.{goes_back-same}
 use Rattle.std.specs.Prelude.{Ok, length}
-use Rattle.std.proofs.Common.{inl, refl}
-use Rattle.goal_kinds.specs.Answers.{IsAnswer, maybe}
-use Rattle.goal_solver.specs.Answers.{AnswersAside, is_closed_alias}
 use Rattle.goal_solver.specs.State.{State, kinds_of}
 use Rattle.goal_solver.proofs.ApplicableLemmas.{nothing-applies, nothing-applies-later, nothing-listed, accepted-open, fitting-applies, given-fits}
-use Rattle.goal_solver.specs.Answers.{expected_variable}
 use Rattle.goal_solver.proofs.PromiseLemmas.{found-lists, unsure-lists, maybe-lists, leaves-undecided, not-at_once, nothing-named, empty-maybe}
 use Rattle.goal_solver.proofs.AmbiguousLemmas.{merged-never}
 use Rattle.goal_solver.proofs.AccessLemmas.{none-recorded, recorded-stopped}

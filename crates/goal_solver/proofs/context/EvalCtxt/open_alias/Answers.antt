@@ -1,6 +1,6 @@
 use Rattle.std.proofs.Common.{◌∙◌, true, false, ap}
 use Rattle.goal_terms.specs.TableMeaning.{tree_at}
-use Rattle.goal_kinds.specs.Interned.{erased_at}
+use Rattle.goal_lists.specs.Interned.{erased_at}
 use Rattle.goal_solver.specs.HeadForms.{bound_term}
 use Rattle.goal_solver.specs.State.{State}
 use Rattle.goal_solver.proofs.OpenFormLemmas.{alias-told, open-alias_term, open-told}

@@ -8,9 +8,8 @@ use Rattle.goal_solver.proofs.RoundLemmas.{handed-on}
 use Rattle.goal_terms.specs.TreeOf.{tree_of_alias}
 use Rattle.goal_solver.specs.HeadForms.{bound_term}
 use Rattle.goal_solver.proofs.AddedGoalLemmas.{fault-later, records-through}
-use Rattle.goal_solver.proofs.AnswerLemmas.{goes_back-grown}
+use Rattle.goal_solver.proofs.GoingBackLemmas.{goes_back-grown, goes_back-through}
 use Rattle.goal_solver.proofs.FaultLemmas.{grown-faults}
-use Rattle.goal_solver.proofs.GoingBackLemmas.{goes_back-through}
 use Rattle.goal_solver.proofs.OpenFormLemmas.{known, left-opens, opens-form, restored-grown, restored-twice}
 use Rattle.goal_solver.proofs.OpenTraitLemmas.{grown-records}
 use Rattle.goal_solver.proofs.context.EvalCtxt.open_form.Goals as goal

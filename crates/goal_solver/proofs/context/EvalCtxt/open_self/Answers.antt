@@ -1,7 +1,7 @@
 use Rattle.std.proofs.Common.{◌∙◌}
 use Rattle.goal_terms.specs.declared.terms.Term.TheVariants as term
 use Rattle.goal_terms.proofs.TreeLemmas.{tree_of_term-Ty}
-use Rattle.goal_solver.proofs.AnswerLemmas.{goes_back-grown}
+use Rattle.goal_solver.proofs.GoingBackLemmas.{goes_back-grown}
 use Rattle.goal_solver.proofs.OpenFormLemmas.{restored-grown}
 use Rattle.goal_solver.proofs.OpenedSelfLemmas.{asks-alias, asks-by, asks-not}
 use Rattle.goal_solver.proofs.context.EvalCtxt.open_self.Goals as goal

@@ -1,13 +1,12 @@
 use Rattle.goal_solver.proofs.FaultLemmas.{run-faults}
 use Rattle.std.proofs.Common.{refl, ap, ◌∙◌, subst, sym}
-use Rattle.goal_solver.proofs.BindingLemmas.{goes_back-interned}
-use Rattle.goal_solver.proofs.GoingBackLemmas.{goes_back-through, solved-grown}
+use Rattle.goal_solver.proofs.GoingBackLemmas.{goes_back-interned, goes_back-through, solved-grown}
 use Rattle.goal_eval.proofs.CacheLemmas.{sound-new, sound-parts}
 use Rattle.goal_tables.specs.Faults.{IsChecked}
 use Rattle.goal_solver.specs.State.{State}
 use Rattle.goal_solver.proofs.AccessLemmas.{run-recorded, ends-here}
-use Rattle.goal_kinds.specs.Interned.{predicate_at}
-use Rattle.goal_kinds.specs.Levels.{level}
+use Rattle.goal_lists.specs.Interned.{predicate_at}
+use Rattle.goal_lists.specs.Levels.{level}
 use Rattle.goal_solver.specs.Evaluations.{SaysAt}
 use Rattle.goal_solver.proofs.EvaluationLemmas.{run-says, memory-ends}
 use Rattle.goal_solver.proofs.context.EvalCtxt.predicate_run.Goals as goal

@@ -5,13 +5,12 @@ use Rattle.goal_eval.specs.Lists.{RunIn}
 use Rattle.goal_solver.specs.State.{State}
 use Rattle.goal_eval.proofs.CacheLemmas.{sound-new, sound-parts}
 use Rattle.goal_solver.proofs.FaultLemmas.{run-faults}
-use Rattle.goal_solver.proofs.GoingBackLemmas.{solved-grown, goes_back-through}
-use Rattle.goal_solver.proofs.BindingLemmas.{goes_back-interned}
+use Rattle.goal_solver.proofs.GoingBackLemmas.{solved-grown, goes_back-through, goes_back-interned}
 use Rattle.goal_solver.proofs.EvaluationLemmas.{memory-ends, run-says}
 use Rattle.goal_solver.proofs.AccessLemmas.{ends-here}
 use Rattle.goal_solver.specs.RunRules.{RuleRunsOn}
-use Rattle.goal_kinds.specs.Levels.{level}
-use Rattle.goal_kinds.specs.Settings.{Setting}
+use Rattle.goal_lists.specs.Levels.{level}
+use Rattle.goal_lists.specs.Settings.{Setting}
 use Rattle.goal_solver.proofs.context.EvalCtxt.reach.Goals as goal
 
 pub invariant_of-self : goal.invariant_of-self

@@ -1,6 +1,6 @@
 use Rattle.std.proofs.Common.{◌⊎◌, sym, ap, ◌∙◌, subst}
 use Rattle.std.specs.List.{All, Contains}
-use Rattle.goal_kinds.specs.Causes.{IsFaultCaused}
+use Rattle.goal_lists.specs.Causes.{IsFaultCaused}
 use Rattle.goal_solver.proofs.FaultLemmas.{accesses-faults}
 use Rattle.goal_solver.specs.State.{State}
 use Rattle.goal_solver.proofs.context.EvalCtxt.record_effects.Goals as goal

@@ -1,6 +1,6 @@
 use Rattle.std.proofs.Common.{◌≡◌, take}
 use Rattle.std.specs.List.{All, Contains}
-use Rattle.goal_kinds.specs.Causes.{IsFaultCaused}
+use Rattle.goal_lists.specs.Causes.{IsFaultCaused}
 use Rattle.goal_solver.specs.Accesses.{RecordsCausedFaults}
 use Rattle.goal_solver.specs.GoingBack.{GoesBack}
 use Rattle.goal_solver.proofs.context.EvalCtxt.record_faults.Given as goal

@@ -6,17 +6,17 @@ use Rattle.goal_terms.specs.declared.modes.TypingMode.{TypingMode}
 use Rattle.goal_terms.specs.declared.predicates.Clause.{Clause}
 use Rattle.goal_terms.specs.declared.term_nodes.TermId.{TermId}
 use Rattle.goal_infer.specs.Resolution.{IsSolved, resolution}
-use Rattle.goal_kinds.specs.Answers.{setting_of}
-use Rattle.goal_kinds.specs.Interned.{AreIn, erased_all}
-use Rattle.goal_kinds.specs.Levels.{level}
-use Rattle.goal_kinds.specs.Words.{Pairs}
-use Rattle.goal_kinds.proofs.InternedLemmas.{all_same-grown}
+use Rattle.goal_lists.specs.Answers.{setting_of}
+use Rattle.goal_lists.specs.Interned.{AreIn, erased_all}
+use Rattle.goal_lists.specs.Levels.{level}
+use Rattle.goal_lists.specs.Words.{Pairs}
+use Rattle.goal_lists.proofs.InternedLemmas.{all_same-grown}
 use Rattle.goal_solver.specs.Answers.{IsOwed}
 use Rattle.goal_solver.specs.GoingBack.{restored}
 use Rattle.goal_solver.specs.Relating.{SaysEqual, all_bound, all_replaced}
 use Rattle.goal_solver.specs.Settled.{AreSettledIn}
 use Rattle.goal_solver.specs.State.{State}
-use Rattle.goal_kinds.specs.declared.outcomes.Outcome.{Outcome}
+use Rattle.goal_lists.specs.declared.outcomes.Outcome.{Outcome}
 use Rattle.goal_eval.specs.declared.eval.outcomes.Stop.{Stop}
 use Rattle.goal_solver.proofs.AnswerLemmas.{owed-before}
 use Rattle.goal_solver.proofs.SinceMarkLemmas.{resolution-kept}

@@ -2,9 +2,9 @@ use Rattle.std.proofs.Common.{◌≡◌, sym, ap, ◌∙◌, subst, refl}
 use Rattle.std.specs.Prelude.{not}
 use Rattle.goal_terms.proofs.InternLemmas.{keeps-chain}
 use Rattle.goal_infer.proofs.SolvedLemmas.{solved-kept}
-use Rattle.goal_kinds.specs.Interned.{AreIn, erased_all}
-use Rattle.goal_kinds.proofs.InternedLemmas.{are_in-grown}
-use Rattle.goal_kinds.proofs.UnderLemmas.{are_in-below}
+use Rattle.goal_lists.specs.Interned.{AreIn, erased_all}
+use Rattle.goal_lists.proofs.InternedLemmas.{are_in-grown}
+use Rattle.goal_lists.proofs.UnderLemmas.{are_in-below}
 use Rattle.goal_eval.specs.Pending.{AreListsOfOneKind}
 use Rattle.goal_solver.specs.Relating.{all_bound}
 use Rattle.goal_solver.specs.State.{State}
@@ -12,10 +12,9 @@ use Rattle.goal_solver.proofs.AccessLemmas.{ends-here}
 use Rattle.goal_solver.proofs.EvaluationLemmas.{memory-ends}
 use Rattle.goal_tables.specs.Faults.{IsChecked}
 use Rattle.goal_solver.proofs.RelatedLemmas.{followed-alike, followed-lefts, followed-rights, settled-in}
-use Rattle.goal_solver.proofs.BindingLemmas.{goes_back-interned}
+use Rattle.goal_solver.proofs.GoingBackLemmas.{goes_back-interned, goes_back-through}
 use Rattle.goal_eval.proofs.CacheLemmas.{sound-new, sound-parts}
 use Rattle.goal_solver.proofs.FaultLemmas.{run-faults}
-use Rattle.goal_solver.proofs.GoingBackLemmas.{goes_back-through}
 use Rattle.goal_solver.specs.GoingBack.{GoesBack}
 use Rattle.goal_solver.proofs.SettledLemmas.{memory-on, memory-kept}
 use Rattle.goal_solver.proofs.context.EvalCtxt.relate_run.Goals as goal

@@ -1,4 +1,4 @@
-use Rattle.goal_solver.proofs.AnswerLemmas.{goes_back-grown}
+use Rattle.goal_solver.proofs.GoingBackLemmas.{goes_back-grown}
 use Rattle.goal_solver.proofs.context.EvalCtxt.response_since_mark.Goals as goal
 
 pub returns-in-Ok-clause-goes_back : goal.returns-in-Ok-clause-goes_back

@@ -3,8 +3,8 @@ use Rattle.goal_solver.specs.Evaluations.{SaysTraitAt}
 use Rattle.goal_eval.specs.ErasedArgs.{erased_args}
 use Rattle.goal_solver.proofs.OpenClassLemmas.{none-left}
 use Rattle.goal_solver.proofs.RerunLemmas.{rerun-says}
-use Rattle.goal_kinds.specs.Answers.{setting_of}
-use Rattle.goal_kinds.specs.Levels.{level}
+use Rattle.goal_lists.specs.Answers.{setting_of}
+use Rattle.goal_lists.specs.Levels.{level}
 use Rattle.goal_solver.proofs.context.EvalCtxt.trait_outcome_at.Goals as goal
 
 pub returns-in_err-outcome-clause-caused : goal.returns-in_err-outcome-clause-caused

@@ -1,14 +1,13 @@
 use Rattle.goal_solver.specs.Accesses.{uncaused, EndsFor}
 use Rattle.goal_solver.proofs.FaultLemmas.{run-faults}
 use Rattle.std.proofs.Common.{refl, ◌≡◌, Result, Ok, Err, sym, subst, ◌∙◌, ap}
-use Rattle.goal_solver.proofs.BindingLemmas.{goes_back-interned}
-use Rattle.goal_solver.proofs.GoingBackLemmas.{goes_back-through, solved-grown, solved-grown_twice}
+use Rattle.goal_solver.proofs.GoingBackLemmas.{goes_back-interned, goes_back-through, solved-grown, solved-grown_twice}
 use Rattle.goal_eval.proofs.CacheLemmas.{sound-new, sound-parts}
 use Rattle.std.specs.Prelude.{IfOk, IfErr, IsErrAnd}
 use Rattle.goal_terms.proofs.InternLemmas.{keeps-chain}
-use Rattle.goal_kinds.specs.Answers.{setting_of}
-use Rattle.goal_kinds.specs.Interned.{erased_all}
-use Rattle.goal_kinds.specs.Levels.{level}
+use Rattle.goal_lists.specs.Answers.{setting_of}
+use Rattle.goal_lists.specs.Interned.{erased_all}
+use Rattle.goal_lists.specs.Levels.{level}
 use Rattle.goal_eval.specs.Outcomes.{SaysThrough}
 use Rattle.goal_solver.proofs.EvaluationLemmas.{memory-ends, run-says}
 use Rattle.goal_tables.specs.Faults.{IsChecked}

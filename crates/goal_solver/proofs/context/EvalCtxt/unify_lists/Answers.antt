@@ -1,6 +1,6 @@
 use Rattle.std.proofs.Common.{sym, ◌∙◌, subst}
-use Rattle.goal_kinds.specs.Interned.{AreIn}
-use Rattle.goal_kinds.proofs.UnderLemmas.{are_in-below}
+use Rattle.goal_lists.specs.Interned.{AreIn}
+use Rattle.goal_lists.proofs.UnderLemmas.{are_in-below}
 use Rattle.goal_solver.specs.State.{State}
 use Rattle.goal_solver.proofs.context.EvalCtxt.unify_lists.Goals as goal
 

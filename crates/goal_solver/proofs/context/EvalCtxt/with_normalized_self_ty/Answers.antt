@@ -1,12 +1,11 @@
-use Rattle.std.proofs.Common.{◌≡◌, inr, ap, ◌∙◌, true, false, Result, Option}
+use Rattle.std.proofs.Common.{◌≡◌, inr, ap, ◌∙◌, true, false, Result, Option, Err}
 use Rattle.goal_terms.specs.TreeOf.{tree_of_ty}
 use Rattle.goal_terms.specs.declared.terms.Term.TheVariants as term
 use Rattle.goal_terms.proofs.TreeLemmas.{tree_of_term-Ty}
 use Rattle.goal_kinds.specs.declared.faults.Fault.{Fault}
-use Rattle.goal_solver.specs.OpenGoals.{has_kind_fault}
+use Rattle.goal_kinds.specs.Collecting.{has_kind_fault}
 use Rattle.goal_solver.proofs.GoingBackLemmas.{goes_back-same}
 use Rattle.goal_solver.proofs.OpenClassLemmas.{asks-form, formless, no-form, considers, faulty-in}
-use Rattle.std.proofs.Common.{Err}
 use Rattle.std.specs.Prelude.{IfErr}
 use Rattle.goal_terms.specs.declared.predicates.Goal.{Goal}
 use Rattle.goal_kinds.specs.declared.faults.Fault.TheVariants as fault

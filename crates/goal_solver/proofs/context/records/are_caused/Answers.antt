@@ -2,7 +2,7 @@ use Rattle.std.proofs.Common.{arith, subst}
 use Rattle.std.specs.List.{All}
 use Rattle.std.proofs.lemmas.List.{take_all}
 use Rattle.std.proofs.lemmas.List.Elements.{All-more}
-use Rattle.goal_kinds.specs.Causes.{IsFaultCaused}
+use Rattle.goal_lists.specs.Causes.{IsFaultCaused}
 use Rattle.goal_solver.proofs.context.records.are_caused.Goals as goal
 
 pub loop-fault-preserved : goal.loop-fault-preserved

@@ -1,7 +1,7 @@
 use Rattle.std.proofs.Common.{◌≡◌, map}
 use Rattle.std.specs.List.{AllZip}
 use Rattle.goal_terms.specs.TreeOf.{tree_of_arg}
-use Rattle.goal_eval.proofs.MergingLemmas.{ok-map}
+use Rattle.goal_lists.proofs.ResultLemmas.{ok-map}
 use Rattle.goal_solver.proofs.SinceMarkLemmas.{args-cloned}
 use Rattle.goal_solver.proofs.context.respond.copied_args.Goals as goal
 

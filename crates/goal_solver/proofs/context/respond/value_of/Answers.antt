@@ -4,7 +4,7 @@ use Rattle.goal_terms.specs.Erased.{erased}
 use Rattle.goal_terms.specs.TableMeaning.{tree_at}
 use Rattle.goal_terms.specs.TreeOf.{tree_of_term}
 use Rattle.goal_infer.specs.Resolution.{resolution}
-use Rattle.goal_eval.proofs.MergingLemmas.{ok-map}
+use Rattle.goal_lists.proofs.ResultLemmas.{ok-map}
 use Rattle.goal_solver.proofs.SinceMarkLemmas.{value-here}
 use Rattle.goal_solver.proofs.context.respond.value_of.Goals as goal
 

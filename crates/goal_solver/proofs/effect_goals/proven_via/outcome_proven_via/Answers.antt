@@ -1,13 +1,13 @@
 use Rattle.std.proofs.Common.{◌≡◌, ◌∷◌, suc, ◌∙◌, sym, ap, subst}
 use Rattle.std.specs.Prelude.{IfOk}
-use Rattle.goal_kinds.specs.Interned.{IsIn, AreIn, erased_all}
+use Rattle.goal_lists.specs.Interned.{IsIn, AreIn, erased_all}
 use Rattle.goal_eval.specs.ErasedArgs.{erased_args}
 use Rattle.goal_eval.specs.Outcomes.{FoundIn, setting_in, level_in}
 use Rattle.goal_eval.proofs.TraitOutcomeLemmas.{replaced-in}
 use Rattle.goal_eval.proofs.CacheLemmas.{sound-grown}
 use Rattle.goal_eval.proofs.ConstOutcomeLemmas.{const-no_self}
 use Rattle.goal_eval.proofs.HostEffectLemmas.{SaysHost, through-unformed, through-formed}
-use Rattle.goal_kinds.specs.declared.outcomes.Outcome.TheVariants as outcome
+use Rattle.goal_lists.specs.declared.outcomes.Outcome.TheVariants as outcome
 use Rattle.goal_solver.proofs.effect_goals.proven_via.outcome_proven_via.Goals as goal
 
 pub returns-in_err-ids-clause-effects : goal.returns-in_err-ids-clause-effects

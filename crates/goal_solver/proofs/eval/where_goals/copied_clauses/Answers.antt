@@ -1,7 +1,7 @@
 use Rattle.std.specs.List.{AllZip}
 use Rattle.goal_terms.specs.contracts.predicates.ClauseClone.TheImpl.{is_clone-value}
 use Rattle.goal_solver.specs.TranslatedArgs.{IsSameEnvironment}
-use Rattle.goal_eval.proofs.MergingLemmas.{ok-map}
+use Rattle.goal_lists.proofs.ResultLemmas.{ok-map}
 use Rattle.goal_solver.proofs.WhereGoalLemmas.{clauses-cloned}
 use Rattle.goal_solver.proofs.eval.where_goals.copied_clauses.Goals as goal
 

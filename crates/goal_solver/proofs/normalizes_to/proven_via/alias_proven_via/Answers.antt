@@ -1,5 +1,5 @@
 use Rattle.std.proofs.Common.{◌∙◌, ap}
-use Rattle.goal_kinds.specs.Interned.{erased_all}
+use Rattle.goal_lists.specs.Interned.{erased_all}
 use Rattle.goal_eval.specs.ErasedArgs.{erased_args}
 use Rattle.goal_eval.specs.Outcomes.{setting_in, level_in}
 use Rattle.goal_solver.proofs.AssembledLemmas.{item-missing, item-rowless, item-traitless, nothing-said, class-says}

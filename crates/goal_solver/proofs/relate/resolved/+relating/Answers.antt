@@ -4,7 +4,7 @@ use Rattle.goal_terms.proofs.InternLemmas.{keeps-chain}
 use Rattle.goal_terms.specs.TableMeaning.{tree_at, AreBelow}
 use Rattle.goal_terms.specs.declared.modes.TypingMode.TheVariants as mode
 use Rattle.goal_eval.specs.Outcomes.{setting_in}
-use Rattle.goal_kinds.specs.Interned.{erased_at, erased_all}
+use Rattle.goal_lists.specs.Interned.{erased_at, erased_all}
 use Rattle.goal_eval.specs.Pending.{IsOfKind}
 use Rattle.goal_solver.specs.Settled.{AreSettled}
 use Rattle.goal_eval.proofs.PartKinds.{lists-of_one_kind}

@@ -1,9 +1,9 @@
 use Rattle.std.proofs.Common.{◌≡◌, ◌+◌, ◌*◌, take}
 use Rattle.goal_terms.specs.TableMeaning.{Keeps}
-use Rattle.goal_kinds.specs.Interned.{erased_all}
+use Rattle.goal_lists.specs.Interned.{erased_all}
 use Rattle.goal_eval.specs.Effects.{AreSound}
 use Rattle.goal_solver.specs.Settled.{AreSettled}
-use Rattle.goal_kinds.specs.declared.outcomes.Outcome.TheVariants as outcome
+use Rattle.goal_lists.specs.declared.outcomes.Outcome.TheVariants as outcome
 use Rattle.goal_eval.proofs.PendingLemmas.{ceiling}
 use Rattle.goal_solver.proofs.relate.resolved.+relating.Given as goal
 

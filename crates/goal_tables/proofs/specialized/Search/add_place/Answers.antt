@@ -1,6 +1,6 @@
 use Rattle.std.proofs.Common.{◌∙◌, refl, sym, arith}
 use Rattle.std.proofs.lemmas.List.{get_or_default}
-use Rattle.goal_tables.proofs.SpecialLemmas.{finds-again, finds-new}
+use Rattle.goal_tables.proofs.SpecialLemmas.{finds-new}
 use Rattle.goal_tables.proofs.specialized.Search.add_place.Goals as goal
 
 pub returns : goal.returns

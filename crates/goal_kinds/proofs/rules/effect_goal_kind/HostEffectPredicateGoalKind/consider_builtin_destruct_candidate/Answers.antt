@@ -1,7 +1,7 @@
 use Rattle.std.proofs.Common.{◌∙◌, ap}
-use Rattle.goal_kinds.specs.Builtins.{lang_of_trait}
+use Rattle.goal_lists.specs.Builtins.{lang_of_trait}
 use Rattle.goal_kinds.specs.CandidateRules.{is_rule_of, destruct}
-use Rattle.goal_kinds.specs.Candidates.{built_in}
+use Rattle.goal_lists.specs.Candidates.{built_in}
 use Rattle.goal_kinds.specs.EffectKind.{is_effect_rule_for}
 use Rattle.goal_kinds.proofs.EffectFaceLemmas.{effect-answer, sure_effect-told}
 use Rattle.goal_kinds.proofs.rules.effect_goal_kind.HostEffectPredicateGoalKind.consider_builtin_destruct_candidate.Goals as goal

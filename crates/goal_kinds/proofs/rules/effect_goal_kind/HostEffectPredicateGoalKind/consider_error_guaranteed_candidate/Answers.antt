@@ -1,4 +1,4 @@
-use Rattle.goal_kinds.specs.Candidates.{error}
+use Rattle.goal_lists.specs.Candidates.{error}
 use Rattle.goal_kinds.proofs.EffectFaceLemmas.{sure_effect-gives, sure_effect-refuted, sure_effect-told, effect-refusal}
 use Rattle.goal_kinds.proofs.rules.effect_goal_kind.HostEffectPredicateGoalKind.consider_error_guaranteed_candidate.Goals as goal
 

@@ -1,8 +1,8 @@
 use Rattle.std.proofs.Common.{◌∙◌, ap, ap₂, sym}
 use Rattle.goal_tables.specs.Rows.{impl_of}
-use Rattle.goal_kinds.specs.Answers.{setting_of}
-use Rattle.goal_kinds.specs.Candidates.{by_impl}
-use Rattle.goal_kinds.specs.ConstGoals.{ConstCandidateRefuted, ConstImplRefuted}
+use Rattle.goal_lists.specs.Answers.{setting_of}
+use Rattle.goal_lists.specs.Candidates.{by_impl}
+use Rattle.goal_lists.specs.ConstGoals.{ConstCandidateRefuted, ConstImplRefuted}
 use Rattle.goal_kinds.specs.EffectKind.{refuses_effect_impl}
 use Rattle.goal_kinds.proofs.EffectKindLaws.{refused-const_impl}
 use Rattle.goal_kinds.proofs.EffectFaceLemmas.{effect-gives, effect-refuted, effect-told}

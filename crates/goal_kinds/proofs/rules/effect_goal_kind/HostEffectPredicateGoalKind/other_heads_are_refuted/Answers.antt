@@ -1,9 +1,9 @@
 use Rattle.std.proofs.Common.{◌≡◌, ◌∙◌, sym, subst}
-use Rattle.goal_kinds.specs.Candidates.{by_impl}
-use Rattle.goal_kinds.specs.ConstGoals.{ConstCandidateRefuted}
-use Rattle.goal_kinds.specs.Levels.{level}
-use Rattle.goal_kinds.specs.Rules.{given}
-use Rattle.goal_kinds.proofs.FittingLemmas.{const_candidate_refuted}
+use Rattle.goal_lists.specs.Candidates.{by_impl}
+use Rattle.goal_lists.specs.ConstGoals.{ConstCandidateRefuted}
+use Rattle.goal_lists.specs.Levels.{level}
+use Rattle.goal_lists.specs.RowWords.{given}
+use Rattle.goal_lists.proofs.FittingLemmas.{const_candidate_refuted}
 use Rattle.goal_kinds.proofs.rules.effect_goal_kind.HostEffectPredicateGoalKind.other_heads_are_refuted.Goals as goal
 
 pub returns : goal.returns

@@ -1,5 +1,5 @@
 use Rattle.goal_kinds.specs.CandidateRules.{field}
-use Rattle.goal_kinds.specs.Candidates.{built_in}
+use Rattle.goal_lists.specs.Candidates.{built_in}
 use Rattle.goal_kinds.specs.ProjectionKind.{is_for_alias, lang_of_alias}
 use Rattle.goal_kinds.proofs.ProjectionFaceLemmas.{projection-answer, sure_projection-told}
 use Rattle.goal_kinds.proofs.rules.projection_goal_kind.NormalizesToGoalKind.consider_builtin_field_candidate.Goals as goal

@@ -1,4 +1,4 @@
-use Rattle.goal_kinds.specs.Projections.{TermRefuted}
+use Rattle.goal_lists.specs.Projections.{TermRefuted}
 use Rattle.goal_kinds.specs.RuleWords.{projection_in}
 use Rattle.goal_kinds.proofs.ProjectionKindLaws.{if_some-found}
 use Rattle.goal_kinds.proofs.rules.projection_goal_kind.NormalizesToGoalKind.consider_error_guaranteed_candidate.Goals as goal

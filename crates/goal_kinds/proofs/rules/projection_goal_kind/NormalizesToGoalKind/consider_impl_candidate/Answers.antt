@@ -1,8 +1,8 @@
 use Rattle.std.proofs.Common.{◌∙◌, ap, sym}
 use Rattle.goal_tables.specs.Rows.{impl_of}
 use Rattle.goal_tables.specs.declared.rows.Tables.{Tables}
-use Rattle.goal_kinds.specs.Answers.{setting_of}
-use Rattle.goal_kinds.specs.Candidates.{by_impl}
+use Rattle.goal_lists.specs.Answers.{setting_of}
+use Rattle.goal_lists.specs.Candidates.{by_impl}
 use Rattle.goal_kinds.specs.ProjectionKind.{ProjectionCandidateRefuted, refuses_term}
 use Rattle.goal_kinds.specs.RuleWords.{projection_in}
 use Rattle.goal_kinds.proofs.ImplTermKindLemmas.{refused-term}

@@ -1,7 +1,7 @@
 use Rattle.std.proofs.Common.{◌∙◌, ap}
-use Rattle.goal_kinds.specs.Builtins.{lang_of_trait}
+use Rattle.goal_lists.specs.Builtins.{lang_of_trait}
 use Rattle.goal_kinds.specs.CandidateRules.{is_rule_of, is_rule_for, fn_ptr_trait}
-use Rattle.goal_kinds.specs.Candidates.{built_in}
+use Rattle.goal_lists.specs.Candidates.{built_in}
 use Rattle.goal_kinds.proofs.TraitFaceLemmas.{trait-answer, sure-told}
 use Rattle.goal_kinds.proofs.rules.trait_goal_kind.TraitPredicateGoalKind.consider_builtin_fn_ptr_trait_candidate.Goals as goal
 

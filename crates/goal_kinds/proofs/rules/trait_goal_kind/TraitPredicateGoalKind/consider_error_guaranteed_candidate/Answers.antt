@@ -1,4 +1,4 @@
-use Rattle.goal_kinds.specs.Candidates.{error}
+use Rattle.goal_lists.specs.Candidates.{error}
 use Rattle.goal_kinds.proofs.TraitFaceLemmas.{sure-gives, sure-refuted, sure-told, trait-refusal}
 use Rattle.goal_kinds.proofs.rules.trait_goal_kind.TraitPredicateGoalKind.consider_error_guaranteed_candidate.Goals as goal
 

@@ -1,9 +1,9 @@
 use Rattle.std.proofs.Common.{◌∙◌, ap, ap₂, sym}
 use Rattle.goal_tables.specs.Rows.{impl_of}
-use Rattle.goal_kinds.specs.Answers.{setting_of}
+use Rattle.goal_lists.specs.Answers.{setting_of}
 use Rattle.goal_kinds.specs.CandidateRules.{refuses_impl}
-use Rattle.goal_kinds.specs.Candidates.{by_impl}
-use Rattle.goal_kinds.specs.TraitGoals.{CandidateRefuted, ImplRefuted}
+use Rattle.goal_lists.specs.Candidates.{by_impl}
+use Rattle.goal_lists.specs.TraitGoals.{CandidateRefuted, ImplRefuted}
 use Rattle.goal_kinds.proofs.TraitCandidateLaws.{refused-impl}
 use Rattle.goal_kinds.proofs.TraitFaceLemmas.{trait-gives, trait-refuted, trait-told}
 use Rattle.goal_kinds.proofs.TraitKindLemmas.{refusal-of}

@@ -1,7 +1,7 @@
 use Rattle.std.proofs.Common.{◌∙◌, ap}
 use Rattle.goal_tables.specs.Rows.{trait_of}
 use Rattle.goal_kinds.specs.CandidateRules.{is_alias_row, is_rule_for, trait_alias}
-use Rattle.goal_kinds.specs.Candidates.{built_in}
+use Rattle.goal_lists.specs.Candidates.{built_in}
 use Rattle.goal_kinds.proofs.TraitFaceLemmas.{trait-answer, sure-told}
 use Rattle.goal_kinds.proofs.rules.trait_goal_kind.TraitPredicateGoalKind.consider_trait_alias_candidate.Goals as goal
 

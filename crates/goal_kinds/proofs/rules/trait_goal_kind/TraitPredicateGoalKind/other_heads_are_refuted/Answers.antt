@@ -1,9 +1,9 @@
 use Rattle.std.proofs.Common.{◌≡◌, ◌∙◌, sym, subst}
-use Rattle.goal_kinds.specs.Candidates.{by_impl}
-use Rattle.goal_kinds.specs.Levels.{level}
-use Rattle.goal_kinds.specs.Rules.{given}
-use Rattle.goal_kinds.specs.TraitGoals.{CandidateRefuted}
-use Rattle.goal_kinds.proofs.FittingLemmas.{candidate_refuted}
+use Rattle.goal_lists.specs.Candidates.{by_impl}
+use Rattle.goal_lists.specs.Levels.{level}
+use Rattle.goal_lists.specs.RowWords.{given}
+use Rattle.goal_lists.specs.TraitGoals.{CandidateRefuted}
+use Rattle.goal_lists.proofs.FittingLemmas.{candidate_refuted}
 use Rattle.goal_kinds.proofs.rules.trait_goal_kind.TraitPredicateGoalKind.other_heads_are_refuted.Goals as goal
 
 pub returns : goal.returns

@@ -3,10 +3,10 @@ use Rattle.goal_terms.specs.Erased.{erased}
 use Rattle.goal_terms.specs.PredicateTrees.{tree_of_kind}
 use Rattle.goal_terms.specs.Sorts.{IsArgument}
 use Rattle.goal_terms.proofs.InternLemmas.{keeps-chain}
-use Rattle.goal_kinds.specs.Answers.{erased_predicate}
-use Rattle.goal_kinds.specs.Entries.{chosen_by}
-use Rattle.goal_kinds.specs.Interned.{erased_at}
-use Rattle.goal_kinds.proofs.InternedLemmas.{in-grown, same-grown, predicate_in-grown, predicate_same-grown}
+use Rattle.goal_lists.specs.Answers.{erased_predicate}
+use Rattle.goal_lists.specs.Entries.{chosen_by}
+use Rattle.goal_lists.specs.Interned.{erased_at}
+use Rattle.goal_lists.proofs.InternedLemmas.{in-grown, same-grown, predicate_in-grown, predicate_same-grown}
 use Rattle.goal_eval.proofs.RowTermLemmas.{term-argument}
 use Rattle.goal_solver.proofs.eval.run_rule.interned.chosen_by.Goals as goal
 

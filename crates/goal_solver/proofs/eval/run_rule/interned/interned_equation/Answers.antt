@@ -1,7 +1,7 @@
 use Rattle.std.proofs.Common.{ap, ◌∙◌}
-use Rattle.goal_kinds.specs.Entries.{equal_terms}
-use Rattle.goal_kinds.specs.Interned.{erased_all}
-use Rattle.goal_kinds.proofs.InternedLemmas.{all_same-grown}
+use Rattle.goal_lists.specs.Entries.{equal_terms}
+use Rattle.goal_lists.specs.Interned.{erased_all}
+use Rattle.goal_lists.proofs.InternedLemmas.{all_same-grown}
 use Rattle.goal_eval.specs.Outcomes.{header_terms}
 use Rattle.goal_solver.proofs.eval.run_rule.interned.interned_equation.Goals as goal
 

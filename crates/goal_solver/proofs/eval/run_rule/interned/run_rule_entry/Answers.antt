@@ -1,7 +1,7 @@
 use Rattle.std.proofs.Common.{ap, sym, ◌∙◌}
 use Rattle.std.specs.Option.{option_map}
 use Rattle.goal_terms.proofs.InternLemmas.{keeps-refl}
-use Rattle.goal_kinds.specs.InternedEntries.{entry_at}
+use Rattle.goal_lists.specs.InternedEntries.{entry_at}
 use Rattle.goal_eval.specs.Outcomes.{level_in}
 use Rattle.goal_solver.proofs.RuleEntryLemmas.{found-runs, missing-names, missing-asks, recording-runs, run-caused}
 use Rattle.goal_solver.proofs.eval.run_rule.interned.run_rule_entry.Goals as goal

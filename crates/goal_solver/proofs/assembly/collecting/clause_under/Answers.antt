@@ -1,6 +1,0 @@
-use Rattle.goal_terms.specs.TreeOf.{trees_of}
-use Rattle.goal_solver.proofs.CollectedTermLemmas.{said-under}
-use Rattle.goal_solver.proofs.assembly.collecting.clause_under.Goals as goal
-
-pub returns : goal.returns
-returns c = said-under (trees_of c.args.args.now) c.args.clause.now c.in_ok-instantiate.field-0 c.in_ok-instantiate.ensures

@@ -1,5 +1,0 @@
-use Rattle.std.proofs.Common.{◌≡◌, ◌++◌}
-use Rattle.goal_solver.proofs.assembly.collecting.push_rules.Given as goal
-
-abbrev pub invariant-loop-rule : goal.invariant-loop-rule
-invariant-loop-rule l = l.found.items ++ l.rule-iterator.rest.items ≡ l.initial.found.items ++ l.fn.rules.items
