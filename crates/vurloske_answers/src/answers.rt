@@ -5,9 +5,9 @@ ghost use Rattle.vurloske_answers.specs.Answers.{IsListed, IsTermFor, Says};
 use goal_solver::eval::goals::GoalFault;
 use goal_solver::faults::{DepthTooLarge, Fault};
 use goal_terms::answers::{Certainty, Response};
-use goal_text::names::TermNames;
 use goal_terms::term_nodes::OutOfMemory;
 use goal_terms::terms::Term;
+use goal_text::names::TermNames;
 use goal_text::text::Shown;
 use std::fmt;
 
