@@ -58,6 +58,7 @@ pub mod ComparisonLemmas
 pub mod HostGoalLemmas
 pub mod OpenFormLemmas
 pub mod OpenedSelfLemmas
+pub mod AskedGoalLemmas
 pub mod HiddenTypeLemmas
 pub mod DefinedGoalLemmas
 mod AmbiguousLemmas

@@ -24,14 +24,12 @@ use Rattle.goal_solver.specs.GoingBack.{GoesBack, begun, restored}
 use Rattle.goal_solver.specs.HeadForms.{bound_term as form_bound, is_open_form}
 use Rattle.goal_solver.specs.OpenAnswers.{answers_at, answers_term, InTrial, MergesGoal, MergesOpened, MergesThrough}
 use Rattle.goal_solver.specs.OpenForms.{OpensFrom}
-use Rattle.goal_solver.specs.OpenGoals.{MergesOpenedWith, AsksOpenSelf, IsSelfAlias, IsLeft, WhenAnswered, WhenTried, PassesSelf, ClassesForSelf, ClassesForForm, IsAfterTrial, IsListedIn, IsBeside, ByFormedClasses, FormedBy}
+use Rattle.goal_solver.specs.OpenGoals.{MergesOpenedWith, AsksOpenSelf, IsSelfAlias, IsLeft, WhenAnswered, WhenTried, IsAfterTrial, IsListedIn, IsBeside, ByFormedClasses, FormedBy}
 use Rattle.goal_solver.specs.OpenHostGoals.{ByFormedRuleGroups, MergesConst}
-use Rattle.goal_solver.specs.OpenProjections.{ByFormedGroups, GroupsForForm, GroupsForSelf}
+use Rattle.goal_solver.specs.OpenProjections.{ByFormedGroups}
 use Rattle.goal_solver.specs.Relating.{ChangesRecords, IsFaultFor}
 use Rattle.goal_solver.specs.State.{State, kinds_of}
 use Rattle.goal_solver.specs.Stored.{HasOneTypeAKey}
-use Rattle.goal_kinds.specs.declared.assembly.class_rules.ClassRules.{ClassRules}
-use Rattle.goal_kinds.specs.declared.assembly.group_rules.GroupRules.{GroupRules}
 use Rattle.goal_solver.proofs.ApplicableLemmas.{nothing-applies-after}
 use Rattle.goal_kinds.proofs.CollectedTermLemmas.{some-same}
 use Rattle.goal_solver.proofs.ListedLemmas.{listed-applies}
@@ -115,12 +113,12 @@ left-or_opened-const K c g s z u r left back undone undecided opened =
     left-opened K.words.self_type (ByFormedRuleGroups K c g) g s z u r (MergesConst K c g s r u) back undecided opened (λ n m. inl (z, left, n, undone, m)) (λ y e m. inr (inr (inr (y, e, m))))
 
 -- nothing is claimed of it where memory is wanted
-pub opened-unsaid : {P : Type 0} (self_of : P → Option Ty) (By : FormedBy) (g : Goal P) (s z : State) (r : Result Response Fault) (f : Fault) → z ≡ record s { terms = z.terms } →
-    IsErrAnd r (λ e. e ≡ f) → f ≡ fault.OutOfMemory → (y : State) × (y ≡ restored s y) × WhenAnswered r (MergesOpened self_of By g y r z)
-opened-unsaid self_of By g s z r f grown is memory = (
+pub opened-unsaid : (M : State → Result Response Fault → State → Type 0) (s z : State) (r : Result Response Fault) (f : Fault) → z ≡ record s { terms = z.terms } →
+    IsErrAnd r (λ e. e ≡ f) → f ≡ fault.OutOfMemory → (y : State) × (y ≡ restored s y) × WhenAnswered r (M y r z)
+opened-unsaid M s z r f grown is memory = (
   z,
   restored-grown s z grown,
-  handed-on r f (λ x. WhenAnswered x (MergesOpened self_of By g z x z)) is (memory-unsaid (MergesOpened self_of By g z (Err f) z) f memory),
+  handed-on r f (λ x. WhenAnswered x (M z x z)) is (memory-unsaid (M z (Err f) z) f memory),
 )
 
 -- an alias's head form, by what is answered with the depth that is left
@@ -199,28 +197,6 @@ after-fault s u (Err fault.NoSolution) r h after = subst (IsFaultFor s u) (sym a
 after-fault s u (Err fault.RerunNonErased) r h after = subst (IsFaultFor s u) (sym after) h
 after-fault s u (Err fault.OutOfMemory) r h after = subst (IsFaultFor s u) (sym after) tt
 after-fault s u (Err fault.NotForThisKind) r h after = absurd h
-
--- the rules that are made for a head form, by what a context shows
-pub classes-shown : {P : Type 0} (K : Kind P) (x z : State) (g : Goal P) (a : Option Term) (o : Option ClassRules) (w : ClassRules) → x ≡ z → o ≡ Some w →
-    ClassesForForm K x.tables x.typing_mode g a o → ClassesForSelf K z.tables z.typing_mode g a w
-classes-shown K x z g a o w e is h =
-    subst (λ (s : State). ClassesForSelf K s.tables s.typing_mode g a w) e (subst (λ p. ClassesForForm K x.tables x.typing_mode g a p) is h)
-
-pub groups-shown : {P : Type 0} (K : Kind P) (x z : State) (c : TraitGoalProvenVia) (g : Goal P) (a : Option Term) (o : Option GroupRules) (w : GroupRules) → x ≡ z → o ≡ Some w →
-    GroupsForForm K x.tables x.typing_mode c g a o → GroupsForSelf K z.tables z.typing_mode c g a w
-groups-shown K x z c g a o w e is h =
-    subst (λ (s : State). GroupsForSelf K s.tables s.typing_mode c g a w) e (subst (λ p. GroupsForForm K x.tables x.typing_mode c g a p) is h)
-
--- or there are none
-pub classes-passed : {P : Type 0} (K : Kind P) (x z : State) (g : Goal P) (a : Option Term) (o : Option ClassRules) → x ≡ z → o ≡ None →
-    ClassesForForm K x.tables x.typing_mode g a o → PassesSelf K.words.is_with_self (has_kind_fault K.has_fault z.tables) g a
-classes-passed K x z g a o e is h =
-    subst (λ (s : State). PassesSelf K.words.is_with_self (has_kind_fault K.has_fault s.tables) g a) e (subst (λ p. ClassesForForm K x.tables x.typing_mode g a p) is h)
-
-pub groups-passed : {P : Type 0} (K : Kind P) (x z : State) (c : TraitGoalProvenVia) (g : Goal P) (a : Option Term) (o : Option GroupRules) → x ≡ z → o ≡ None →
-    GroupsForForm K x.tables x.typing_mode c g a o → PassesSelf K.words.is_with_self (has_kind_fault K.has_fault z.tables) g a
-groups-passed K x z c g a o e is h =
-    subst (λ (s : State). PassesSelf K.words.is_with_self (has_kind_fault K.has_fault s.tables) g a) e (subst (λ p. GroupsForForm K x.tables x.typing_mode c g a p) is h)
 
 -- nothing is claimed of want of memory
 pub trial-unsaid : (A : Type 0) (f : Fault) → f ≡ fault.OutOfMemory → WhenTried (Err f) A

@@ -1,23 +1,19 @@
 -- What equating terms says.
-use Rattle.std.proofs.Common.{◌≡◌, ◌≢◌, ◌↔◌, inl, inr, ℕ, zero, suc, ◌<◌, Bool, true, false, ◌||◌, ◌&&◌, List, [], ◌∷◌, length, map, take, drop, Option, Some, None, Result, Ok, Err, refl, sym, ap, ◌∙◌, subst, arith}
-use Rattle.std.specs.Prelude.{if◌then◌else◌, slice_get, not, unwrap_or, IfOk}
-use Rattle.std.specs.List.{All, list_any}
-use Rattle.std.proofs.lemmas.List.Elements.{All-nil, All-cons, All-head, All-tail, All-weaker}
-use Rattle.goal_terms.specs.Erased.{erased}
+use Rattle.std.proofs.Common.{◌≡◌, ◌≢◌, ◌↔◌, inl, inr, ℕ, zero, suc, Bool, true, false, ◌||◌, ◌&&◌, List, [], ◌∷◌, length, map, take, drop, Option, Some, None, Result, Ok, Err, refl, sym, ap, ◌∙◌, subst}
+use Rattle.std.specs.Prelude.{if◌then◌else◌, slice_get, not, unwrap_or, IfOk, IfErr}
+use Rattle.std.specs.List.{list_any}
 use Rattle.goal_terms.specs.NodeTests.{some_node, some_in_row, is_any_infer, same_var_kind}
 use Rattle.std.proofs.lemmas.Bool.{false≢true}
 use Rattle.goal_terms.specs.SameTree.{same_node, same_tree}
 use Rattle.goal_terms.specs.declared.heads.Node.TheVariants as nodes
-use Rattle.goal_terms.specs.Sorts.{sort_of, is_argument_sort}
-use Rattle.goal_terms.specs.TableMeaning.{AreBelow, Keeps}
-use Rattle.goal_terms.specs.Tree.{Tree, Trees, node, alias, variable, none, more, node_of}
+use Rattle.goal_terms.specs.TableMeaning.{Keeps}
+use Rattle.goal_terms.specs.Tree.{Tree, Trees, node, alias, variable, none, more}
 use Rattle.goal_terms.specs.declared.heads.Variable.{Variable}
 use Rattle.goal_terms.specs.declared.modes.TypingMode.{TypingMode}
 use Rattle.goal_terms.specs.declared.modes.TypingMode.TheVariants as mode
 use Rattle.goal_terms.specs.declared.predicates.Clause.{Clause}
 use Rattle.goal_terms.specs.declared.term_nodes.TermId.{TermId}
 use Rattle.goal_tables.specs.Predicates.{some_in_env}
-use Rattle.goal_infer.specs.Following.{sort_at}
 use Rattle.goal_infer.specs.Inference as inference
 use Rattle.goal_infer.specs.Inference.{Inference}
 use Rattle.goal_infer.specs.ListUnification.{MakesAllSame, AllClosed, ListsClash, AreDecidedWherePlain, AreIdentified, AreClashing, AreUntouched, lists_are_plain}
@@ -30,26 +26,22 @@ use Rattle.goal_infer.proofs.ReplacementLemmas.{replaced-twice, replaced-pointwi
 use Rattle.goal_infer.specs.declared.undo.InferVariable.{InferVariable}
 use Rattle.goal_infer.specs.declared.unify.Unified.{Unified}
 use Rattle.goal_infer.specs.declared.unify.Unified.TheVariants as unified
-use Rattle.goal_infer.proofs.SolvedLemmas.{agrees-kept, resolved-kept}
-use Rattle.goal_lists.proofs.InternedLemmas.{are_in-grown}
-use Rattle.goal_lists.proofs.UnderLemmas.{are_in-below}
-use Rattle.goal_tables.specs.Faults.{IsChecked}
+use Rattle.goal_infer.proofs.SolvedLemmas.{agrees-kept}
 use Rattle.goal_lists.specs.Answers.{setting_of}
 use Rattle.goal_lists.specs.Equality.{Unequal, RowUnequal}
-use Rattle.goal_lists.specs.Interned.{IsIn, AreIn, erased_at, erased_all}
+use Rattle.goal_lists.specs.Interned.{erased_at, erased_all}
 use Rattle.goal_lists.specs.Level.{Level, nothing}
 use Rattle.goal_lists.specs.Levels.{level}
 use Rattle.goal_lists.specs.Settings.{Setting, is_coherence}
 use Rattle.goal_lists.specs.Words.{Pairs, SomePair}
 use Rattle.goal_solver.specs.Answers.{IsOwed, IsFinalIn}
 use Rattle.goal_solver.specs.GoingBack.{GoesBack, restored}
-use Rattle.goal_eval.specs.Outcomes.{RunsAs, RunsFor}
-use Rattle.goal_eval.specs.Pending.{IsOfKind, AreListsOfOneKind}
+use Rattle.goal_eval.specs.Outcomes.{RunsFor, setting_in}
 use Rattle.goal_solver.specs.Relating.{IsRelated, ChangesRecords, AgreesWith, Identifies, all_replaced, all_bound, SaysEqual}
-use Rattle.goal_solver.specs.Settled.{AreSettled, AreSettledIn, outcome_in, IsPlainOrSame}
+use Rattle.goal_solver.specs.Settled.{AreSettled, AreSettledAt, AreSettledIn, HoldsWithMemory, SaysSettled, outcome_in, IsPlainOrSame}
 use Rattle.goal_solver.specs.State.{State, IsValid, kinds_of}
-use Rattle.goal_eval.specs.declared.eval.outcomes.OnAccess.{OnAccess}
 use Rattle.goal_eval.specs.declared.eval.outcomes.Setting as over
+use Rattle.goal_eval.specs.declared.eval.outcomes.Stop.TheVariants as stop
 use Rattle.goal_lists.specs.declared.outcomes.Outcome.{Outcome}
 use Rattle.goal_lists.specs.declared.outcomes.Outcome.TheVariants as outcome
 use Rattle.goal_eval.specs.declared.eval.outcomes.Stop.{Stop}
@@ -109,20 +101,6 @@ agreed-weaker a b back ρ h v id e = h v id (binding-stays a.inference b.inferen
 pub agreed-back : (a b : State) → IsValid a → GoesBack a b → (ρ : Variable → Tree) → AgreesWith b ρ → AgreesWith a ρ
 agreed-back a b valid back ρ h = (agrees-kept a.terms b.terms a.inference back.terms valid.solved ρ).0 (agreed-weaker a b back ρ h)
 
--- followed terms are of the kind of arguments
-pub followed-kinds : (T U : List Tree) (ids rs : List TermId) → AreIn T ids → AreBelow (length U) rs → map (sort_at U) rs ≡ map (sort_at T) ids → All (IsOfKind U true) rs
-followed-kinds T U ids [] h b e = All-nil (IsOfKind U true)
-followed-kinds T U [] (r ∷ rs) h b e = absurd (cc)
-followed-kinds T U (id ∷ ids) (r ∷ rs) h b e =
-    let first : sort_at U r ≡ sort_at T id = cc in
-    let rest : map (sort_at U) rs ≡ map (sort_at T) ids = cc in
-    All-cons (IsOfKind U true) r rs (All-head (λ x. x.0 < length U) r rs b, ap is_argument_sort first ∙ (All-head (IsIn T) id ids h).1)
-    (followed-kinds T U ids rs (All-tail (IsIn T) id ids h) (All-tail (λ x. x.0 < length U) r rs b) rest)
-
-pub kinds-grown : (U V : List Tree) → Keeps U V → (rs : List TermId) → All (IsOfKind U true) rs → All (IsOfKind V true) rs
-kinds-grown U V k rs h =
-    All-weaker (IsOfKind U true) (IsOfKind V true) (λ r x. (omega (arith, x.0, k.longer), ap (λ t. is_argument_sort (sort_of (node_of t))) (k.same r x.0) ∙ x.1)) rs h
-
 -- terms with bindings followed
 pub bound-resolved : (s : State) (ids : List TermId) → map (resolved s.terms s.inference) ids ≡ all_bound s (erased_all s.terms ids)
 unfolding resolved term_at
@@ -134,42 +112,36 @@ unfolding term_at
 erased-terms T [] = refl
 erased-terms T (id ∷ ids) = ap (λ ts. erased_at T id ∷ ts) (erased-terms T ids)
 
-erased-grown : (U V : List Tree) → Keeps U V → (ids : List TermId) → AreBelow (length U) ids → erased_all V ids ≡ erased_all U ids
-erased-grown U V k [] b = refl
-erased-grown U V k (id ∷ ids) b =
-    ap (λ t. erased t ∷ erased_all V ids) (k.same id (All-head (λ x. x.0 < length U) id ids b))
-    ∙ ap (λ ts. erased_at U id ∷ ts) (erased-grown U V k ids (All-tail (λ x. x.0 < length U) id ids b))
+pub followed-bound : (s : State) (U : List Tree) (ids rs : List TermId) → map (term_at U) rs ≡ map (resolved s.terms s.inference) ids → erased_all U rs ≡ all_bound s (erased_all s.terms ids)
+followed-bound s U ids rs e = sym (erased-terms U rs) ∙ e ∙ bound-resolved s ids
 
-resolved-grown : (T U : List Tree) (s : Inference) → Keeps T U → IsSolved T s → (ids : List TermId) → AreBelow (length T) ids → map (resolved U s) ids ≡ map (resolved T s) ids
-resolved-grown T U s k solved [] b = refl
-resolved-grown T U s k solved (id ∷ ids) b =
-    ap (λ t. t ∷ map (resolved U s) ids) (resolved-kept T U s k solved id (All-head (λ x. x.0 < length T) id ids b))
-    ∙ ap (λ ts. resolved T s id ∷ ts) (resolved-grown T U s k solved ids (All-tail (λ x. x.0 < length T) id ids b))
+-- what is settled over a setting, in each mode for which a run stands
+pub settled-at : (c : over.Setting) (b : Bool) (n : ℕ) (ts us : List Tree) (r : Result Outcome Stop) (m : TypingMode) → RunsFor c m → (ts ≡ us → HoldsWithMemory r) → IfOk r (AreSettled c b n ts us) → IfOk r (SaysSettled (setting_in c m) b n ts us)
+settled-at c b n ts us (Ok o) m runs same h = (same, record { holds = λ held ρ. h.holds held m runs ρ; refuted = h.refuted; closed = λ opens left right. h.closed opens left right m runs })
+settled-at c b n ts us (Err x) m runs same h = tt
 
-pub followed-first : (s : State) (U V : List Tree) (ids rs : List TermId) → Keeps U V → AreBelow (length U) rs → map (term_at U) rs ≡ map (resolved s.terms s.inference) ids →
-    erased_all V rs ≡ all_bound s (erased_all s.terms ids)
-followed-first s U V ids rs k b e = erased-grown U V k rs b ∙ sym (erased-terms U rs) ∙ e ∙ bound-resolved s ids
+-- identical lists end for want of memory alone, and hold else
+pub memory-alone : (H : Type 0) (r : Result Outcome Stop) → (H → HoldsWithMemory r) → H → IfErr r (λ s. s ≡ stop.OutOfMemory)
+memory-alone H (Ok o) f h = tt
+memory-alone H (Err s) f h = f h
 
-pub followed-second : (s : State) (U V : List Tree) (ids rs : List TermId) → Keeps s.terms U → IsSolved s.terms s.inference → AreBelow (length s.terms) ids →
-    map (term_at V) rs ≡ map (resolved U s.inference) ids → erased_all V rs ≡ all_bound s (erased_all s.terms ids)
-followed-second s U V ids rs k solved b e = sym (erased-terms V rs) ∙ e ∙ resolved-grown s.terms U s.inference k solved ids b ∙ bound-resolved s ids
+pub same-holds : (S : Setting) (b : Bool) (n : ℕ) (ts us : List Tree) (r : Result Outcome Stop) → IfOk r (SaysSettled S b n ts us) → (ts ≡ us → IfErr r (λ s. s ≡ stop.OutOfMemory)) → ts ≡ us → HoldsWithMemory r
+same-holds S b n ts us (Ok o) says ends e = says.0 e
+same-holds S b n ts us (Err s) says ends e = ends e
 
--- what is settled over a context
-pub settled-in : (c : over.Setting) (s : State) (env : List Clause) (on : OnAccess) (b : Bool) (n : ℕ) (ts us xs ys : List Tree) (o : Result Outcome Stop) → IsChecked c.rows.now → IfOk o (AreSettled c b n xs ys) →
-    c.rows.now ≡ s.tables → c.typing_mode.now ≡ s.typing_mode → c.on_access ≡ on → c.environment.now ≡ env → b ≡ not (some_in_env is_any_infer env) → xs ≡ ts → ys ≡ us →
-    IfOk o (AreSettledIn s (RunsAs on s.typing_mode) env n ts us)
-settled-in c s env on b n ts us xs ys (Err x) checked a e f w g h p q = tt
-settled-in c s env on b n ts us xs ys (Ok o) checked a e f w g h p q =
-    let alike : (m : TypingMode) → setting_of c.rows.now m c.environment.now ≡ setting_of s.tables m env =
-    λ m. ap (λ t. setting_of t m c.environment.now) e ∙ ap (setting_of s.tables m) g in
-    let stands : (m : TypingMode) → RunsAs on s.typing_mode m → RunsFor c m = λ m st.
-    let run : RunsAs c.on_access c.typing_mode.now m = subst (λ k. RunsAs k c.typing_mode.now m) (sym w) (subst (λ r. RunsAs on r m) (sym f) st) in
-    (run, checked) in
-    let z : AreSettled c b n ts us o = subst (λ z. AreSettled c b n z us o) p (subst (λ z. AreSettled c b n xs z o) q a) in
+-- so it is over a context, in each mode that is owed an answer
+pub settled-owed : (a b z : State) (env : List Clause) (opens : Bool) (n : ℕ) (xs ys ts us : List Tree) (r : Result Outcome Stop) → b.tables ≡ a.tables → xs ≡ ts → ys ≡ us → opens ≡ not (some_in_env is_any_infer env) →
+    ((m : TypingMode) → IsOwed z m → IfOk r (SaysSettled (setting_of b.tables m env) opens n xs ys)) → IfOk r (AreSettledIn a (IsOwed z) env n ts us)
+settled-owed a b z env opens n xs ys ts us (Err x) e p q f h = tt
+settled-owed a b z env opens n xs ys ts us (Ok o) e p q f h =
+    let at : (m : TypingMode) → IsOwed z m → AreSettledAt (setting_of a.tables m env) opens n ts us o = λ m owed.
+    subst (λ t. AreSettledAt (setting_of t m env) opens n ts us o) e
+    (subst (λ v. AreSettledAt (setting_of b.tables m env) opens n ts v o) q
+    (subst (λ u. AreSettledAt (setting_of b.tables m env) opens n u ys o) p (h m owed).1)) in
     record {
-      holds = λ held m st ρ. subst (λ S. Pairs (level S n).equal (all_replaced ρ ts) (all_replaced ρ us)) (alike m) (z.holds held m (stands m st) ρ);
-      refuted = z.refuted;
-      closed = λ sides m st. subst (λ S. SaysEqual (level S n) ts us o) (alike m) (z.closed (h ∙ ap not sides.0) sides.1 sides.2 m (stands m st));
+      holds = λ held m owed ρ. (at m owed).holds held ρ;
+      refuted = λ never ρ. (at z.typing_mode (inl refl)).refuted never ρ;
+      closed = λ sides m owed. (at m owed).closed (f ∙ ap not sides.0) sides.1 sides.2;
     }
 
 -- terms without variables stay as they are when bindings are followed
@@ -469,30 +441,3 @@ pub changes-grown : (a b z : State) → b ≡ record a { inference = b.inference
 changes-grown a b z e f =
     f ∙ ap (λ (s : State). restored s z) e
     ∙ ap (λ i. record a { terms = z.terms; inference = i; accesses = z.accesses; delayed_faults = z.delayed_faults }) (sym (ap (λ (s : State). s.inference) f))
-
--- two lists of a context, the second followed after the first
-pub record Followed (o : State) (U V : List Tree) (ls rs fs gs : List TermId) : Type 0 where
-  pub solved : IsSolved o.terms o.inference
-  pub kept : Keeps o.terms U
-  pub kept_on : Keeps U V
-  pub below : AreBelow (length U) fs
-  pub under : AreBelow (length V) gs
-  pub first : map (term_at U) fs ≡ map (resolved o.terms o.inference) ls
-  pub second : map (term_at V) gs ≡ map (resolved U o.inference) rs
-  pub first_sorts : map (sort_at U) fs ≡ map (sort_at o.terms) ls
-  pub second_sorts : map (sort_at V) gs ≡ map (sort_at U) rs
-
-module _ (o s : State) (is : o ≡ s) (U V : List Tree) (ls rs fs gs : List TermId) (h : Followed o U V ls rs fs gs) where
-  pub followed-alike : AreIn s.terms ls → AreIn s.terms rs → AreListsOfOneKind V fs gs
-  followed-alike left right =
-      let lefts : AreIn o.terms ls = subst (λ (a : State). AreIn a.terms ls) (sym is) left in
-      let rights : AreIn U rs = are_in-grown o.terms U h.kept rs (subst (λ (a : State). AreIn a.terms rs) (sym is) right) in
-      (true, kinds-grown U V h.kept_on fs (followed-kinds o.terms U ls fs lefts h.below h.first_sorts), followed-kinds U V rs gs rights h.under h.second_sorts)
-
-  pub followed-lefts : erased_all V fs ≡ all_bound s (erased_all s.terms ls)
-  followed-lefts = subst (λ (a : State). erased_all V fs ≡ all_bound a (erased_all a.terms ls)) is (followed-first o U V ls fs h.kept_on h.below h.first)
-
-  pub followed-rights : AreIn s.terms rs → erased_all V gs ≡ all_bound s (erased_all s.terms rs)
-  followed-rights right =
-      subst (λ (a : State). erased_all V gs ≡ all_bound a (erased_all a.terms rs)) is
-      (followed-second o U V rs gs h.kept h.solved (are_in-below o.terms rs (subst (λ (a : State). AreIn a.terms rs) (sym is) right)) h.second)

@@ -36,12 +36,9 @@ predicate_seen (view.Projection p) = equation_asked p.now
 abbrev pub SaysAt : Level → PredicateTree → Result Outcome Stop → Type 0
 SaysAt L p r = IfOk r (Says (ClauseHolds L p) (ClauseRefuted L p))
 
--- so in each mode that is owed an answer, and in each one that a run stands for
+-- so in each mode that is owed an answer
 abbrev pub SaysOf : State → State → List Clause → PredicateTree → Result Outcome Stop → Type 0
 SaysOf old new env p r = (m : TypingMode) → IsOwed new m → SaysAt (level_over old m env) p r
-
-abbrev pub RunSays : OnAccess → State → List Clause → PredicateTree → Result Outcome Stop → Type 0
-RunSays on old env p r = (m : TypingMode) → RunsAs on old.typing_mode m → SaysAt (level_over old m env) p r
 
 -- which term an alias has, at a level
 abbrev pub SaysTermAt : Level → AliasTermKind → List Tree → List Tree → Result Found Stop → Type 0

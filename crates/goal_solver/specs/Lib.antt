@@ -31,8 +31,10 @@ pub mod OpenAnswers
 pub mod OpenHostGoals
 pub mod Recording
 pub mod Promises
+pub mod Questions
 pub mod Evaluations
 pub mod Comparisons
 pub mod HostGoals
 pub mod Assembling
 pub mod ThroughClasses
+pub mod AskedGoals

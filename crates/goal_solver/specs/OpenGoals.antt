@@ -174,11 +174,6 @@ pub record ClassesForSelf {P : Type 0} (K : Kind P) (t : Tables) (m : TypingMode
   pub environment : w.param_env.items ≡ considered.param_env.items
   pub collected : (c : TraitGoalProvenVia) → CollectsFor K t considered m c (rules_of_class w c)
 
--- there are none where no goal is considered
-abbrev pub ClassesForForm : {P : Type 0} → Kind P → Tables → TypingMode → Goal P → Option Term → Option ClassRules → Type 0
-ClassesForForm K t m g a None = PassesSelf K.words.is_with_self (has_kind_fault K.has_fault t) g a
-ClassesForForm K t m g a (Some w) = ClassesForSelf K t m g a w
-
 -- beside what came before it in a trial a response is applied, and all that came is listed
 pub record IsBeside (s : State) (q r : Response) (u : State) : Type 0 where
   pub applied : State

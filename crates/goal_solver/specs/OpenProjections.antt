@@ -199,10 +199,6 @@ pub record GroupsForSelf {P : Type 0} (K : Kind P) (t : Tables) (m : TypingMode)
   pub first : CollectsAll (CollectsFor K t considered m) (class.ParamEnv ∷ []) w.environment.items
   pub later : CollectsAll (CollectsFor K t considered m) (classes_behind c) w.later.items
 
-abbrev pub GroupsForForm : {P : Type 0} → Kind P → Tables → TypingMode → TraitGoalProvenVia → Goal P → Option Term → Option GroupRules → Type 0
-GroupsForForm K t m c g a None = PassesSelf K.words.is_with_self (has_kind_fault K.has_fault t) g a
-GroupsForForm K t m c g a (Some w) = GroupsForSelf K t m c g a w
-
 -- by its groups, for what is answered for the head form of its self type; a refused form refuses, and without candidates there is no answer
 abbrev pub ByFormedGroups : {P : Type 0} → Kind P → NormalizesTo → TraitGoalProvenVia → Goal P → Result (Option Term) Fault → State → Result (Option Response) Fault → State → Type 0
 ByFormedGroups K p c g (Err f) z r u = (r ≡ Err f) × (u ≡ z)

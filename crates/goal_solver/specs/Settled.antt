@@ -10,6 +10,7 @@ use Rattle.goal_infer.specs.Replacement.{replaced}
 use Rattle.goal_infer.specs.Unification.{IsClosed}
 use Rattle.goal_lists.specs.Answers.{setting_of}
 use Rattle.goal_lists.specs.Levels.{level}
+use Rattle.goal_lists.specs.Settings.{Setting}
 use Rattle.goal_lists.specs.Words.{Pairs}
 use Rattle.goal_eval.specs.Outcomes.{RunsFor, Says, level_in}
 use Rattle.goal_solver.specs.Relating.{Identifies, all_replaced, all_bound, AreClosedSides, SaysEqual}
@@ -32,10 +33,20 @@ pub record AreSettled (c : over.Setting) (opens : Bool) (n : ℕ) (ts us : List 
   pub refuted : o ≡ outcome.Refuted → (ρ : Variable → Tree) → Identifies ρ ts us → ⊥
   pub closed : opens ≡ true → AllClosed ts → AllClosed us → (m : TypingMode) → RunsFor c m → SaysEqual (level_in c m n) ts us o
 
+-- so are they over one setting
+pub record AreSettledAt (S : Setting) (opens : Bool) (n : ℕ) (ts us : List Tree) (o : Outcome) : Type 0 where
+  pub holds : o ≡ outcome.Holds → (ρ : Variable → Tree) → Pairs (level S n).equal (all_replaced ρ ts) (all_replaced ρ us)
+  pub refuted : o ≡ outcome.Refuted → (ρ : Variable → Tree) → Identifies ρ ts us → ⊥
+  pub closed : opens ≡ true → AllClosed ts → AllClosed us → SaysEqual (level S n) ts us o
+
 -- a question holds, unless memory runs out
 abbrev pub HoldsWithMemory : Result Outcome Stop → Type 0
 HoldsWithMemory (Ok o) = o ≡ outcome.Holds
 HoldsWithMemory (Err s) = s ≡ stop.OutOfMemory
+
+-- what is said of two lists over a setting; identical ones are equal
+abbrev pub SaysSettled : Setting → Bool → ℕ → List Tree → List Tree → Outcome → Type 0
+SaysSettled S opens n ts us o = (ts ≡ us → o ≡ outcome.Holds) × AreSettledAt S opens n ts us o
 
 -- what two lists come to over a context: as above, for the modes that are owed it; closed ones below an environment without variables are compared
 pub record AreSettledIn (s : State) (Owed : TypingMode → Type 0) (env : List Clause) (n : ℕ) (ts us : List Tree) (o : Outcome) : Type 0 where

@@ -22,9 +22,12 @@ use Rattle.goal_solver.specs.Goals.{IsAcceptedNormalization}
 use Rattle.goal_solver.specs.State.{State}
 
 -- which term it has, one above a level
+abbrev pub SaysFoundThrough : Setting → Level → TraitGoalProvenVia → AliasTerm → List Tree → Found → Type 0
+SaysFoundThrough S L c a T o =
+    SaysWhich ((level_through S L c).gives a.kind (erased_args a.args.items)) ((level_through S L c).gives_refuted a.kind (erased_args a.args.items)) T o
+
 abbrev pub SaysTermThrough : Setting → Level → TraitGoalProvenVia → AliasTerm → List Tree → Result Found Stop → Type 0
-SaysTermThrough S L c a T r =
-    IfOk r (SaysWhich ((level_through S L c).gives a.kind (erased_args a.args.items)) ((level_through S L c).gives_refuted a.kind (erased_args a.args.items)) T)
+SaysTermThrough S L c a T r = IfOk r (SaysFoundThrough S L c a T)
 
 -- in a context, one above the remaining depth
 abbrev pub SaysClassTerm : State → State → TypingMode → List Clause → TraitGoalProvenVia → AliasTerm → Result Found Stop → Type 0

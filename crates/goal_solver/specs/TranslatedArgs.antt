@@ -248,6 +248,10 @@ AddsItsGoals old new o r = IfOk r (λ x. IsAdded old new o.row o.environment o.o
 abbrev pub SaysHeader : Level → ImplRow → List Tree → List Tree → Result HeaderMatch Stop → Type 0
 SaysHeader L q gs T r = IfOk r (SaysMatch L q.params.items (header_of q) gs T)
 
+-- and that a match has a term for each parameter
+abbrev pub SaysCounted : Level → ImplRow → List Tree → List Tree → HeaderMatch → Type 0
+SaysCounted L q gs T o = MatchCounts (length q.params.items) o × SaysMatch L q.params.items (header_of q) gs T o
+
 -- then the arguments are read off where the header's parameters stand, and no variable is bound
 pub record ReadsOff (old new : State) (o : OtherAsked) (r : Result (Vec GenericArg Global × Certainty) Fault) : Type 0 where
   pub sound : (m : TypingMode) → IsOwedBeyond new m → IsTranslation (level_over old m o.environment) o.row (bound_ref old o.trait_ref) (map erased o.own) r

@@ -13,9 +13,11 @@ ghost use Rattle.goal_solver.specs.OpenHostGoals.{MergesConst};
 ghost use Rattle.goal_solver.specs.Promises.{AnswersGiven, AnswersTraitAbove, AppliesGiven, IsClosedGoal, IsUndecidedResponse, asked_through, given_through};
 ghost use Rattle.goal_solver.specs.State.{kinds_of};
 
+pub(crate) mod asked_goals;
 pub(crate) mod formed_rules;
 pub(crate) mod merged_rules;
 pub(crate) mod more_special;
+pub(crate) mod opened_self;
 
 use crate::context::EvalCtxt;
 use crate::effect_goals::proven_via::HostEffectThrough;

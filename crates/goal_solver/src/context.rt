@@ -257,12 +257,16 @@ impl<'t> EvalCtxt<'t> {
         self.mark = mark;
     }
 
-    /// The effects of an evaluation that has none yet, and lists region variables behind those of the context. It takes
-    /// no memory.
-    pub(crate) fn listing_effects(&self) -> Effects
+    /// The effects of an evaluation that has none yet. If it lists what holds of lifetimes, its region variables come
+    /// behind those of the context. It takes no memory.
+    pub(crate) fn no_effects(&self, lists_regions: bool) -> Effects
         ensures { AreNone result }
     {
-        Effects::listing(self.allocator(), self.kinds.len() as u32)
+        if lists_regions {
+            Effects::listing(self.allocator(), self.kinds.len() as u32)
+        } else {
+            Effects::new(self.allocator())
+        }
     }
 
     /// A `Yes` that makes region variables and equates lifetimes, and changes nothing else. It takes no memory.

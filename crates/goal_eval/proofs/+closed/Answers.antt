@@ -23,7 +23,7 @@ use Rattle.goal_eval.proofs.AliasTermLemmas.{depth-zero, projection-above}
 use Rattle.goal_lists.specs.Premises.{clauses_under, conditions_as}
 use Rattle.goal_lists.specs.Headers.{under}
 use Rattle.std.proofs.lemmas.List.{map-append, take_all, length_push}
-use Rattle.goal_eval.specs.HeaderWords.{AreFilled, KnownIn, OptionIn, known_trees, IsKnown, erased_ref, ClashAt, Fills}
+use Rattle.goal_eval.specs.HeaderWords.{KnownIn, OptionIn, known_trees, IsKnown, erased_ref, ClashAt}
 use Rattle.goal_eval.proofs.HeaderPlaceLemmas.{heads-same, heads-other, stand-arguments}
 use Rattle.goal_eval.proofs.HeaderPartLemmas.{behind-zero, behind-refuted, behind-undecided, behind-other, behind-form, found-is, found-refuted, found-undecided, among-known, known-start, known-more, known-all, known-same_given}
 use Rattle.goal_lists.proofs.UnderLemmas.{are_in-below, are_in-arguments}
@@ -162,41 +162,41 @@ eval::head_forms::head_form-returns-clause-says t c = λ m s.
 
 pub relate::header_parts::part_behind-returns-then-depth-eq0-clause-says : goal.relate::header_parts::part_behind-returns-then-depth-eq0-clause-says
 relate::header_parts::part_behind-returns-then-depth-eq0-clause-says t c =
-    behind-zero c.args.setting.now c.args.terms.now c.args.terms.now c.args.number c.args.depth c.args.header c.args.given c.requires.within c.if-depth-eq0.true
+    behind-zero c.args.setting.now c.args.terms.now c.args.terms.now c.args.number c.args.depth c.args.against.header c.args.against.given c.requires.within c.if-depth-eq0.true
 
 pub relate::header_parts::part_behind-returns-then-not-is_same-clause-says : goal.relate::header_parts::part_behind-returns-then-not-is_same-clause-says
 relate::header_parts::part_behind-returns-then-not-is_same-clause-says t c =
-    behind-other c.args.setting.now c.args.terms.now c.head_form.new.terms c.head_form.new.terms c.args.number c.args.depth (c.args.depth - 1) c.args.header c.args.given c.in-Is.form c.requires.within (omega arith)
-    (found-is c.args.setting.now (c.args.depth - 1) c.args.terms.now c.head_form.new.terms c.args.given c.in-Is.form c.in_ok-head_form.field-0 c.in_ok-head_form.ensures.says c.in-Is.is)
-    (heads-other (tree_of_ref c.args.header) (tree_at c.head_form.new.terms c.in-Is.form) c.node.result c.node-in-Is.result c.is_same.result c.node.ensures c.node-in-Is.ensures.top c.is_same.ensures c.if-not-is_same.true)
+    behind-other c.args.setting.now c.args.terms.now c.head_form.new.terms c.head_form.new.terms c.args.number c.args.depth (c.args.depth - 1) c.args.against.header c.args.against.given c.in-Is.form c.requires.within (omega arith)
+    (found-is c.args.setting.now (c.args.depth - 1) c.args.terms.now c.head_form.new.terms c.args.against.given c.in-Is.form c.in_ok-head_form.field-0 c.in_ok-head_form.ensures.says c.in-Is.is)
+    (heads-other (tree_of_ref c.args.against.header) (tree_at c.head_form.new.terms c.in-Is.form) c.node.result c.node-in-Is.result c.is_same.result c.node.ensures c.node-in-Is.ensures.top c.is_same.ensures c.if-not-is_same.true)
 
 pub relate::header_parts::part_behind-returns-in-Refuted-clause-says : goal.relate::header_parts::part_behind-returns-in-Refuted-clause-says
 relate::header_parts::part_behind-returns-in-Refuted-clause-says t c =
-    behind-refuted c.args.setting.now c.args.terms.now c.head_form.new.terms c.args.number c.args.depth (c.args.depth - 1) c.args.header c.args.given c.requires.within (omega arith)
-    (found-refuted c.args.setting.now (c.args.depth - 1) c.args.terms.now c.head_form.new.terms c.args.given c.in_ok-head_form.field-0 c.in_ok-head_form.ensures.says c.in-Refuted.is)
+    behind-refuted c.args.setting.now c.args.terms.now c.head_form.new.terms c.args.number c.args.depth (c.args.depth - 1) c.args.against.header c.args.against.given c.requires.within (omega arith)
+    (found-refuted c.args.setting.now (c.args.depth - 1) c.args.terms.now c.head_form.new.terms c.args.against.given c.in_ok-head_form.field-0 c.in_ok-head_form.ensures.says c.in-Refuted.is)
 
 pub relate::header_parts::part_behind-returns-in-Undecided-clause-says : goal.relate::header_parts::part_behind-returns-in-Undecided-clause-says
 relate::header_parts::part_behind-returns-in-Undecided-clause-says t c =
-    behind-undecided c.args.setting.now c.args.terms.now c.head_form.new.terms c.args.number c.args.depth (c.args.depth - 1) c.args.header c.args.given c.requires.within (omega arith)
-    (found-undecided c.args.setting.now (c.args.depth - 1) c.args.terms.now c.head_form.new.terms c.args.given c.in_ok-head_form.field-0 c.in_ok-head_form.ensures.says c.in-Undecided.is)
+    behind-undecided c.args.setting.now c.args.terms.now c.head_form.new.terms c.args.number c.args.depth (c.args.depth - 1) c.args.against.header c.args.against.given c.requires.within (omega arith)
+    (found-undecided c.args.setting.now (c.args.depth - 1) c.args.terms.now c.head_form.new.terms c.args.against.given c.in_ok-head_form.field-0 c.in_ok-head_form.ensures.says c.in-Undecided.is)
 
 pub relate::header_parts::part_behind-returns-else-not-is_same-clause-says : goal.relate::header_parts::part_behind-returns-else-not-is_same-clause-says
 relate::header_parts::part_behind-returns-else-not-is_same-clause-says t c =
-    behind-form c.args.setting.now c.args.terms.now c.head_form.new.terms c.part_at.new.terms c.args.number c.args.depth (c.args.depth - 1) c.args.header c.args.given c.in-Is.form
+    behind-form c.args.setting.now c.args.terms.now c.head_form.new.terms c.part_at.new.terms c.args.number c.args.depth (c.args.depth - 1) c.args.against.header c.args.against.given c.in-Is.form
     c.find_place-place.result c.part_at.result c.requires.within (omega arith)
-    (found-is c.args.setting.now (c.args.depth - 1) c.args.terms.now c.head_form.new.terms c.args.given c.in-Is.form c.in_ok-head_form.field-0 c.in_ok-head_form.ensures.says c.in-Is.is)
-    (heads-same (tree_of_ref c.args.header) (tree_at c.head_form.new.terms c.in-Is.form) c.node.result c.node-in-Is.result c.is_same.result c.node.ensures c.node-in-Is.ensures.top c.is_same.ensures c.if-not-is_same.false)
+    (found-is c.args.setting.now (c.args.depth - 1) c.args.terms.now c.head_form.new.terms c.args.against.given c.in-Is.form c.in_ok-head_form.field-0 c.in_ok-head_form.ensures.says c.in-Is.is)
+    (heads-same (tree_of_ref c.args.against.header) (tree_at c.head_form.new.terms c.in-Is.form) c.node.result c.node-in-Is.result c.is_same.result c.node.ensures c.node-in-Is.ensures.top c.is_same.ensures c.if-not-is_same.false)
     c.find_place-place.ensures.says c.part_at.ensures.says
 
 pub relate::header_parts::known_part-find_among-place-requires : goal.relate::header_parts::known_part-find_among-place-requires
 relate::header_parts::known_part-find_among-place-requires t c = record {
-  within = are_in-below c.args.terms.now c.args.given.now c.requires.given;
-  stand = stand-arguments (trees_of c.args.header.now) (map (tree_at c.args.terms.now) c.args.given.now) (are_in-arguments c.args.terms.now c.args.given.now c.requires.given);
+  within = are_in-below c.args.terms.now c.args.asked.now.given.now c.requires.given;
+  stand = stand-arguments (trees_of c.args.asked.now.header.now) (map (tree_at c.args.terms.now) c.args.asked.now.given.now) (are_in-arguments c.args.terms.now c.args.asked.now.given.now c.requires.given);
 }
 
 pub relate::header_parts::known_part-returns-clause-says : goal.relate::header_parts::known_part-returns-clause-says
 relate::header_parts::known_part-returns-clause-says t c =
-    among-known c.args.setting.now c.args.terms.now c.part_at.new.terms c.args.number c.args.depth c.args.header.now c.args.given.now c.find_among-place.result c.part_at.result
+    among-known c.args.setting.now c.args.terms.now c.part_at.new.terms c.args.number c.args.depth c.args.asked.now.header.now c.args.asked.now.given.now c.find_among-place.result c.part_at.result
     c.find_among-place.ensures.says c.part_at.ensures.says
 
 pub relate::header_parts::known_args-loop-i-init : goal.relate::header_parts::known_args-loop-i-init
@@ -205,7 +205,7 @@ relate::header_parts::known_args-loop-i-init t c = record {
   effects = search (rules, caching);
   within = subst (KnownIn c.args.terms.now) (sym c.new-known.ensures.items) (All-nil (OptionIn c.args.terms.now));
   count = ap length c.new-known.ensures.items;
-  says = known-start c.args.setting.now c.args.depth (header_terms c.args.header.now) (erased_all c.args.terms.now c.args.given.now) c.args.terms.now c.new-known.result.items c.new-known.ensures.items;
+  says = known-start c.args.setting.now c.args.depth (header_terms c.args.asked.now.header.now) (erased_all c.args.terms.now c.args.asked.now.given.now) c.args.terms.now c.new-known.result.items c.new-known.ensures.items;
 }
 
 pub relate::header_parts::known_args-loop-i-preserved : goal.relate::header_parts::known_args-loop-i-preserved
@@ -218,28 +218,28 @@ relate::header_parts::known_args-loop-i-preserved t c = record {
       (known_in-grown c.loop-i.terms c.known_arg.new.terms c.in_ok-next.ensures.kept c.loop-i.known.items c.loop-i.invariant.within) c.in_ok-next.ensures.within);
   count = ap length c.in_ok-add_known.ensures ∙ length_push c.loop-i.known.items c.in_ok-next.next ∙ omega (arith, c.loop-i.invariant.count);
   says =
-      known-more c.args.setting.now c.args.depth (header_terms c.args.header.now) (erased_all c.args.terms.now c.args.given.now) c.loop-i.terms c.known_arg.new.terms c.args.params.now
+      known-more c.args.setting.now c.args.depth (header_terms c.args.asked.now.header.now) (erased_all c.args.terms.now c.args.asked.now.given.now) c.loop-i.terms c.known_arg.new.terms c.args.asked.now.params.now
       c.loop-i.known.items c.add_known.new.known.items c.in_ok-next.next c.loop-i.i _ (omega arith) c.in_ok-next.ensures.kept c.loop-i.invariant.within c.in_ok-add_known.ensures
       c.loop-i.invariant.says
-      (known-same_given c.args.setting.now c.args.depth (header_terms c.args.header.now) _ _ _ c.loop-i.i _
-      (all_same-grown c.args.terms.now c.loop-i.terms c.loop-i.invariant.kept c.args.given.now c.requires.given) c.in_ok-next.ensures.says);
+      (known-same_given c.args.setting.now c.args.depth (header_terms c.args.asked.now.header.now) _ _ _ c.loop-i.i _
+      (all_same-grown c.args.terms.now c.loop-i.terms c.loop-i.invariant.kept c.args.asked.now.given.now c.requires.given) c.in_ok-next.ensures.says);
 }
 
 pub relate::header_parts::known_args-returns-clause-says : goal.relate::header_parts::known_args-returns-clause-says
 relate::header_parts::known_args-returns-clause-says t c =
-    known-all c.args.setting.now c.args.depth (header_terms c.args.header.now) (erased_all c.args.terms.now c.args.given.now) c.args.params.now _ c.loop-i.i
-    (take_all c.loop-i.i c.args.params.now (omega arith)) c.loop-i.invariant.says
+    known-all c.args.setting.now c.args.depth (header_terms c.args.asked.now.header.now) (erased_all c.args.terms.now c.args.asked.now.given.now) c.args.asked.now.params.now _ c.loop-i.i
+    (take_all c.loop-i.i c.args.asked.now.params.now (omega arith)) c.loop-i.invariant.says
 
 pub relate::header_clashes::any_clash-loop-i-init : goal.relate::header_clashes::any_clash-loop-i-init
 relate::header_clashes::any_clash-loop-i-init t c = record {
   kept = keeps-refl c.args.terms.now;
   effects = search (rules, caching);
-  none = λ m s x. any-none (ClashAt (level_in c.args.setting.now m c.args.depth) (known_trees c.args.terms.now c.args.known.now) c.args.terms.now) x;
+  none = λ m s x. any-none (ClashAt (level_in c.args.setting.now m c.args.depth) (known_trees c.args.terms.now c.args.filled.now.known.now) c.args.terms.now) x;
 }
 
 pub relate::header_clashes::any_clash-returns-then-branch-clause-says : goal.relate::header_clashes::any_clash-returns-then-branch-clause-says
 relate::header_clashes::any_clash-returns-then-branch-clause-says t c =
-    any-found c.args.setting.now c.args.depth c.args.terms.now c.loop-i.terms c.args.known.now c.args.questions.now c.loop-i.i c.index-questions-i.result c.in_ok-question_clashes.field-0
+    any-found c.args.setting.now c.args.depth c.args.terms.now c.loop-i.terms c.args.filled.now.known.now c.args.questions.now c.loop-i.i c.index-questions-i.result c.in_ok-question_clashes.field-0
     (omega arith) c.index-questions-i.is c.loop-i.invariant.kept c.requires.known c.requires.within
     c.in_ok-question_clashes.ensures.says c.if-branch.true
 
@@ -248,147 +248,147 @@ relate::header_clashes::any_clash-loop-i-preserved t c = record {
   kept = keeps-chain _ _ _ c.loop-i.invariant.kept c.in_ok-question_clashes.ensures.kept;
   effects = search (rules, caching);
   none =
-      any-more c.args.setting.now c.args.depth c.args.terms.now c.loop-i.terms c.args.known.now c.args.questions.now c.loop-i.i c.index-questions-i.result c.in_ok-question_clashes.field-0
+      any-more c.args.setting.now c.args.depth c.args.terms.now c.loop-i.terms c.args.filled.now.known.now c.args.questions.now c.loop-i.i c.index-questions-i.result c.in_ok-question_clashes.field-0
       (omega arith) c.index-questions-i.is c.loop-i.invariant.kept c.requires.known c.requires.within
       c.in_ok-question_clashes.ensures.says c.if-branch.false c.loop-i.invariant.none;
 }
 
 pub relate::header_clashes::behind_clashes-returns-then-depth-eq0-clause-says : goal.relate::header_clashes::behind_clashes-returns-then-depth-eq0-clause-says
 relate::header_clashes::behind_clashes-returns-then-depth-eq0-clause-says t c =
-    behind_clash-zero c.args.setting.now c.args.depth c.args.terms.now (known_trees c.args.terms.now c.args.known.now) c.args.header c.args.given c.requires.within c.if-depth-eq0.true
+    behind_clash-zero c.args.setting.now c.args.depth c.args.terms.now (known_trees c.args.terms.now c.args.filled.now.known.now) c.args.against.header c.args.against.given c.requires.within c.if-depth-eq0.true
 
 pub relate::header_clashes::behind_clashes-returns-then-not-is_same-clause-says : goal.relate::header_clashes::behind_clashes-returns-then-not-is_same-clause-says
 relate::header_clashes::behind_clashes-returns-then-not-is_same-clause-says t c =
-    behind_clash-other c.args.setting.now c.args.depth (c.args.depth - 1) c.args.terms.now c.head_form.new.terms (known_trees c.args.terms.now c.args.known.now) c.args.header c.args.given c.in-Is.form
+    behind_clash-other c.args.setting.now c.args.depth (c.args.depth - 1) c.args.terms.now c.head_form.new.terms (known_trees c.args.terms.now c.args.filled.now.known.now) c.args.against.header c.args.against.given c.in-Is.form
     c.requires.within (omega arith)
-    (found-is c.args.setting.now (c.args.depth - 1) c.args.terms.now c.head_form.new.terms c.args.given c.in-Is.form c.in_ok-head_form.field-0 c.in_ok-head_form.ensures.says c.in-Is.is)
-    (heads-other (tree_of_ref c.args.header) (tree_at c.head_form.new.terms c.in-Is.form) c.node.result c.node-in-Is.result c.is_same.result c.node.ensures c.node-in-Is.ensures.top c.is_same.ensures c.if-not-is_same.true)
+    (found-is c.args.setting.now (c.args.depth - 1) c.args.terms.now c.head_form.new.terms c.args.against.given c.in-Is.form c.in_ok-head_form.field-0 c.in_ok-head_form.ensures.says c.in-Is.is)
+    (heads-other (tree_of_ref c.args.against.header) (tree_at c.head_form.new.terms c.in-Is.form) c.node.result c.node-in-Is.result c.is_same.result c.node.ensures c.node-in-Is.ensures.top c.is_same.ensures c.if-not-is_same.true)
 
 pub relate::header_clashes::behind_clashes-returns-in-Refuted-clause-says : goal.relate::header_clashes::behind_clashes-returns-in-Refuted-clause-says
 relate::header_clashes::behind_clashes-returns-in-Refuted-clause-says t c =
-    behind_clash-refuted c.args.setting.now c.args.depth (c.args.depth - 1) c.args.terms.now (known_trees c.args.terms.now c.args.known.now) c.args.header c.args.given c.requires.within (omega arith)
-    (found-refuted c.args.setting.now (c.args.depth - 1) c.args.terms.now c.head_form.new.terms c.args.given c.in_ok-head_form.field-0 c.in_ok-head_form.ensures.says c.in-Refuted.is)
+    behind_clash-refuted c.args.setting.now c.args.depth (c.args.depth - 1) c.args.terms.now (known_trees c.args.terms.now c.args.filled.now.known.now) c.args.against.header c.args.against.given c.requires.within (omega arith)
+    (found-refuted c.args.setting.now (c.args.depth - 1) c.args.terms.now c.head_form.new.terms c.args.against.given c.in_ok-head_form.field-0 c.in_ok-head_form.ensures.says c.in-Refuted.is)
 
 pub relate::header_clashes::behind_clashes-returns-in-Undecided-clause-says : goal.relate::header_clashes::behind_clashes-returns-in-Undecided-clause-says
 relate::header_clashes::behind_clashes-returns-in-Undecided-clause-says t c =
-    behind_clash-undecided c.args.setting.now c.args.depth (c.args.depth - 1) c.args.terms.now (known_trees c.args.terms.now c.args.known.now) c.args.header c.args.given c.requires.within (omega arith)
-    (found-undecided c.args.setting.now (c.args.depth - 1) c.args.terms.now c.head_form.new.terms c.args.given c.in_ok-head_form.field-0 c.in_ok-head_form.ensures.says c.in-Undecided.is)
+    behind_clash-undecided c.args.setting.now c.args.depth (c.args.depth - 1) c.args.terms.now (known_trees c.args.terms.now c.args.filled.now.known.now) c.args.against.header c.args.against.given c.requires.within (omega arith)
+    (found-undecided c.args.setting.now (c.args.depth - 1) c.args.terms.now c.head_form.new.terms c.args.against.given c.in_ok-head_form.field-0 c.in_ok-head_form.ensures.says c.in-Undecided.is)
 
 pub relate::header_clashes::behind_clashes-returns-else-not-is_same-clause-says : goal.relate::header_clashes::behind_clashes-returns-else-not-is_same-clause-says
 relate::header_clashes::behind_clashes-returns-else-not-is_same-clause-says t c =
-    behind_clash-form c.args.setting.now c.args.depth (c.args.depth - 1) c.args.terms.now c.head_form.new.terms c.args.known.now c.args.header c.args.given c.in-Is.form c.form_clashes.result
+    behind_clash-form c.args.setting.now c.args.depth (c.args.depth - 1) c.args.terms.now c.head_form.new.terms c.args.filled.now.known.now c.args.against.header c.args.against.given c.in-Is.form c.form_clashes.result
     c.requires.within (omega arith) c.in_ok-head_form.ensures.kept c.requires.known
-    (found-is c.args.setting.now (c.args.depth - 1) c.args.terms.now c.head_form.new.terms c.args.given c.in-Is.form c.in_ok-head_form.field-0 c.in_ok-head_form.ensures.says c.in-Is.is)
-    (heads-same (tree_of_ref c.args.header) (tree_at c.head_form.new.terms c.in-Is.form) c.node.result c.node-in-Is.result c.is_same.result c.node.ensures c.node-in-Is.ensures.top c.is_same.ensures c.if-not-is_same.false)
+    (found-is c.args.setting.now (c.args.depth - 1) c.args.terms.now c.head_form.new.terms c.args.against.given c.in-Is.form c.in_ok-head_form.field-0 c.in_ok-head_form.ensures.says c.in-Is.is)
+    (heads-same (tree_of_ref c.args.against.header) (tree_at c.head_form.new.terms c.in-Is.form) c.node.result c.node-in-Is.result c.is_same.result c.node.ensures c.node-in-Is.ensures.top c.is_same.ensures c.if-not-is_same.false)
     c.form_clashes.ensures.says
 
 pub relate::header_clashes::form_clashes-returns-clause-says : goal.relate::header_clashes::form_clashes-returns-clause-says
 relate::header_clashes::form_clashes-returns-clause-says t c =
-    asked-of c.args.setting.now c.args.depth c.args.terms.now (known_trees c.args.terms.now c.args.known.now) c.deref.result.now c.in_ok-questions.questions.items
-    (λ L. L.clash (IsKnown (known_trees c.args.terms.now c.args.known.now)) (erased_ref c.args.header) (erased_at c.args.terms.now c.args.given))
-    c.any_clash.result c.deref.ensures.value (λ m. c.in_ok-questions.ensures.says (setting_in c.args.setting.now m) c.args.depth (known_trees c.args.terms.now c.args.known.now)) c.any_clash.ensures.says
+    asked-of c.args.setting.now c.args.depth c.args.terms.now (known_trees c.args.terms.now c.args.filled.now.known.now) c.deref.result.now c.in_ok-questions.questions.items
+    (λ L. L.clash (IsKnown (known_trees c.args.terms.now c.args.filled.now.known.now)) (erased_ref c.args.against.header) (erased_at c.args.terms.now c.args.against.given))
+    c.any_clash.result c.deref.ensures.value (λ m. c.in_ok-questions.ensures.says (setting_in c.args.setting.now m) c.args.depth (known_trees c.args.terms.now c.args.filled.now.known.now)) c.any_clash.ensures.says
 
 pub relate::header_clashes::any_clash-returns-clause-says : goal.relate::header_clashes::any_clash-returns-clause-says
 relate::header_clashes::any_clash-returns-clause-says t c =
-    any-end c.args.setting.now c.args.depth c.args.terms.now (known_trees c.args.terms.now c.args.known.now) c.args.questions.now c.loop-i.i
+    any-end c.args.setting.now c.args.depth c.args.terms.now (known_trees c.args.terms.now c.args.filled.now.known.now) c.args.questions.now c.loop-i.i
     (take_all c.loop-i.i c.args.questions.now (omega arith)) c.loop-i.invariant.none
 
 pub relate::header_clashes::instance_clashes-returns-then-mentions_unknown-clause-says : goal.relate::header_clashes::instance_clashes-returns-then-mentions_unknown-clause-says
 relate::header_clashes::instance_clashes-returns-then-mentions_unknown-clause-says t c =
-    instance-unknown c.args.setting.now c.args.depth c.args.terms.now c.args.known.now c.args.header c.args.given c.mentions_unknown.result c.requires.within.1
+    instance-unknown c.args.setting.now c.args.depth c.args.terms.now c.args.filled.now.known.now c.args.against.header c.args.against.given c.mentions_unknown.result c.requires.within.1
     c.mentions_unknown.ensures c.if-mentions_unknown.true
 
 pub relate::header_clashes::instance_clashes-returns-in-Refuted-clause-says : goal.relate::header_clashes::instance_clashes-returns-in-Refuted-clause-says
 relate::header_clashes::instance_clashes-returns-in-Refuted-clause-says t c =
-    instance-says c.args.setting.now c.args.depth c.args.terms.now c.instance_of.new.terms c.args.known.now c.args.args.now c.args.header c.args.given c.in_ok-instance.instance
-    c.mentions_unknown.result c.in_ok-compare_terms.field-0 outcome.Refuted c.requires.within.1 c.requires.fills c.mentions_unknown.ensures c.if-mentions_unknown.false c.in_ok-instance.ensures.tree
-    (same-grown c.args.terms.now c.instance_of.new.terms c.in_ok-instance.ensures.kept c.args.given c.requires.within.0) c.in_ok-compare_terms.ensures.says c.in-Refuted.is
+    instance-says c.args.setting.now c.args.depth c.args.terms.now c.instance_of.new.terms c.args.filled.now.known.now c.args.filled.now.args.items c.args.against.header c.args.against.given c.in_ok-instance.instance
+    c.mentions_unknown.result c.in_ok-compare_terms.field-0 outcome.Refuted c.requires.within.1 c.requires.fills c.mentions_unknown.ensures c.if-mentions_unknown.false (c.in_ok-instance.ensures.tree ∙ ap (λ xs. under (erased_all c.args.terms.now xs) (erased_ref c.args.against.header)) c.deref.ensures.value)
+    (same-grown c.args.terms.now c.instance_of.new.terms c.in_ok-instance.ensures.kept c.args.against.given c.requires.within.0) c.in_ok-compare_terms.ensures.says c.in-Refuted.is
 
 pub relate::header_clashes::instance_clashes-returns-in-Holds-clause-says : goal.relate::header_clashes::instance_clashes-returns-in-Holds-clause-says
 relate::header_clashes::instance_clashes-returns-in-Holds-clause-says t c =
-    instance-says c.args.setting.now c.args.depth c.args.terms.now c.instance_of.new.terms c.args.known.now c.args.args.now c.args.header c.args.given c.in_ok-instance.instance
-    c.mentions_unknown.result c.in_ok-compare_terms.field-0 outcome.Holds c.requires.within.1 c.requires.fills c.mentions_unknown.ensures c.if-mentions_unknown.false c.in_ok-instance.ensures.tree
-    (same-grown c.args.terms.now c.instance_of.new.terms c.in_ok-instance.ensures.kept c.args.given c.requires.within.0) c.in_ok-compare_terms.ensures.says c.in-Holds.is
+    instance-says c.args.setting.now c.args.depth c.args.terms.now c.instance_of.new.terms c.args.filled.now.known.now c.args.filled.now.args.items c.args.against.header c.args.against.given c.in_ok-instance.instance
+    c.mentions_unknown.result c.in_ok-compare_terms.field-0 outcome.Holds c.requires.within.1 c.requires.fills c.mentions_unknown.ensures c.if-mentions_unknown.false (c.in_ok-instance.ensures.tree ∙ ap (λ xs. under (erased_all c.args.terms.now xs) (erased_ref c.args.against.header)) c.deref.ensures.value)
+    (same-grown c.args.terms.now c.instance_of.new.terms c.in_ok-instance.ensures.kept c.args.against.given c.requires.within.0) c.in_ok-compare_terms.ensures.says c.in-Holds.is
 
 pub relate::header_clashes::instance_clashes-returns-in-Undecided-clause-says : goal.relate::header_clashes::instance_clashes-returns-in-Undecided-clause-says
 relate::header_clashes::instance_clashes-returns-in-Undecided-clause-says t c =
-    instance-says c.args.setting.now c.args.depth c.args.terms.now c.instance_of.new.terms c.args.known.now c.args.args.now c.args.header c.args.given c.in_ok-instance.instance
-    c.mentions_unknown.result c.in_ok-compare_terms.field-0 outcome.Undecided c.requires.within.1 c.requires.fills c.mentions_unknown.ensures c.if-mentions_unknown.false c.in_ok-instance.ensures.tree
-    (same-grown c.args.terms.now c.instance_of.new.terms c.in_ok-instance.ensures.kept c.args.given c.requires.within.0) c.in_ok-compare_terms.ensures.says c.in-Undecided.is
+    instance-says c.args.setting.now c.args.depth c.args.terms.now c.instance_of.new.terms c.args.filled.now.known.now c.args.filled.now.args.items c.args.against.header c.args.against.given c.in_ok-instance.instance
+    c.mentions_unknown.result c.in_ok-compare_terms.field-0 outcome.Undecided c.requires.within.1 c.requires.fills c.mentions_unknown.ensures c.if-mentions_unknown.false (c.in_ok-instance.ensures.tree ∙ ap (λ xs. under (erased_all c.args.terms.now xs) (erased_ref c.args.against.header)) c.deref.ensures.value)
+    (same-grown c.args.terms.now c.instance_of.new.terms c.in_ok-instance.ensures.kept c.args.against.given c.requires.within.0) c.in_ok-compare_terms.ensures.says c.in-Undecided.is
 
 pub relate::header_clashes::header_clashes-returns-clause-says : goal.relate::header_clashes::header_clashes-returns-clause-says
 relate::header_clashes::header_clashes-returns-clause-says t c =
-    asked-of c.args.setting.now c.args.depth c.args.terms.now (known_trees c.args.terms.now c.args.known.now) c.deref.result.now c.in_ok-questions.questions.items
-    (λ L. SomePair (L.clash (IsKnown (known_trees c.args.terms.now c.args.known.now))) (header_terms c.args.header.now) (erased_all c.args.terms.now c.args.given.now))
-    c.any_clash.result c.deref.ensures.value (λ m. c.in_ok-questions.ensures.says (setting_in c.args.setting.now m) c.args.depth (known_trees c.args.terms.now c.args.known.now)) c.any_clash.ensures.says
+    asked-of c.args.setting.now c.args.depth c.args.terms.now (known_trees c.args.terms.now c.args.filled.now.known.now) c.deref.result.now c.in_ok-questions.questions.items
+    (λ L. SomePair (L.clash (IsKnown (known_trees c.args.terms.now c.args.filled.now.known.now))) (header_terms c.args.asked.now.header.now) (erased_all c.args.terms.now c.args.asked.now.given.now))
+    c.any_clash.result c.deref.ensures.value (λ m. c.in_ok-questions.ensures.says (setting_in c.args.setting.now m) c.args.depth (known_trees c.args.terms.now c.args.filled.now.known.now)) c.any_clash.ensures.says
 
 pub relate::headers::instances_fit-returns-in-Holds-clause-says : goal.relate::headers::instances_fit-returns-in-Holds-clause-says
 relate::headers::instances_fit-returns-in-Holds-clause-says t c =
-    fit-says c.args.setting.now c.args.depth c.args.terms.now c.instances.new.terms c.in_ok-ids.ids.items c.args.given.now
-    (map (under (erased_all c.args.terms.now c.args.args.now)) (header_terms c.args.header.now)) c.deref.result.now c.in_ok-compare_lists.field-0 outcome.Holds
-    c.deref.ensures.value c.in_ok-ids.ensures.trees (all_same-grown c.args.terms.now c.instances.new.terms c.in_ok-ids.ensures.kept c.args.given.now c.requires.given)
+    fit-says c.args.setting.now c.args.depth c.args.terms.now c.instances.new.terms c.in_ok-ids.ids.items c.args.asked.now.given.now
+    (map (under (erased_all c.args.terms.now c.args.args.now)) (header_terms c.args.asked.now.header.now)) c.deref.result.now c.in_ok-compare_lists.field-0 outcome.Holds
+    c.deref.ensures.value c.in_ok-ids.ensures.trees (all_same-grown c.args.terms.now c.instances.new.terms c.in_ok-ids.ensures.kept c.args.asked.now.given.now c.requires.given)
     c.in_ok-compare_lists.ensures.says c.in-Holds.is
 
 pub relate::headers::instances_fit-returns-in-Refuted-clause-says : goal.relate::headers::instances_fit-returns-in-Refuted-clause-says
 relate::headers::instances_fit-returns-in-Refuted-clause-says t c =
-    fit-says c.args.setting.now c.args.depth c.args.terms.now c.instances.new.terms c.in_ok-ids.ids.items c.args.given.now
-    (map (under (erased_all c.args.terms.now c.args.args.now)) (header_terms c.args.header.now)) c.deref.result.now c.in_ok-compare_lists.field-0 outcome.Refuted
-    c.deref.ensures.value c.in_ok-ids.ensures.trees (all_same-grown c.args.terms.now c.instances.new.terms c.in_ok-ids.ensures.kept c.args.given.now c.requires.given)
+    fit-says c.args.setting.now c.args.depth c.args.terms.now c.instances.new.terms c.in_ok-ids.ids.items c.args.asked.now.given.now
+    (map (under (erased_all c.args.terms.now c.args.args.now)) (header_terms c.args.asked.now.header.now)) c.deref.result.now c.in_ok-compare_lists.field-0 outcome.Refuted
+    c.deref.ensures.value c.in_ok-ids.ensures.trees (all_same-grown c.args.terms.now c.instances.new.terms c.in_ok-ids.ensures.kept c.args.asked.now.given.now c.requires.given)
     c.in_ok-compare_lists.ensures.says c.in-Refuted.is
 
 pub relate::headers::instances_fit-returns-clause-says : goal.relate::headers::instances_fit-returns-clause-says
 relate::headers::instances_fit-returns-clause-says t c =
-    fit-says c.args.setting.now c.args.depth c.args.terms.now c.instances.new.terms c.in_ok-ids.ids.items c.args.given.now
-    (map (under (erased_all c.args.terms.now c.args.args.now)) (header_terms c.args.header.now)) c.deref.result.now c.in_ok-compare_lists.field-0 outcome.Undecided
-    c.deref.ensures.value c.in_ok-ids.ensures.trees (all_same-grown c.args.terms.now c.instances.new.terms c.in_ok-ids.ensures.kept c.args.given.now c.requires.given)
+    fit-says c.args.setting.now c.args.depth c.args.terms.now c.instances.new.terms c.in_ok-ids.ids.items c.args.asked.now.given.now
+    (map (under (erased_all c.args.terms.now c.args.args.now)) (header_terms c.args.asked.now.header.now)) c.deref.result.now c.in_ok-compare_lists.field-0 outcome.Undecided
+    c.deref.ensures.value c.in_ok-ids.ensures.trees (all_same-grown c.args.terms.now c.instances.new.terms c.in_ok-ids.ensures.kept c.args.asked.now.given.now c.requires.given)
     c.in_ok-compare_lists.ensures.says c.in-Undecided.is
 
 pub relate::headers::match_complete-returns-then-branch-clause-says : goal.relate::headers::match_complete-returns-then-branch-clause-says
 relate::headers::match_complete-returns-then-branch-clause-says t c =
-    match-fits c.args.setting.now c.args.depth c.args.terms.now c.instances_fit.new.terms c.args.params.now (header_terms c.args.header.now) (erased_all c.args.terms.now c.args.given.now)
-    c.args.known.now c.args.args c.deref.result.now c.in_ok-instances_fit.field-0 c.in_ok-instances_fit.ensures.kept c.requires.args c.requires.filled c.requires.complete c.requires.says
+    match-fits c.args.setting.now c.args.depth c.args.terms.now c.instances_fit.new.terms c.args.asked.now.params.now (header_terms c.args.asked.now.header.now) (erased_all c.args.terms.now c.args.asked.now.given.now)
+    c.args.filled.known.now c.args.filled.args c.deref.result.now c.in_ok-instances_fit.field-0 c.in_ok-instances_fit.ensures.kept c.requires.args c.requires.filled c.requires.complete c.requires.says
     c.deref.ensures.value c.in_ok-instances_fit.ensures.says c.if-branch.true
 
 pub relate::headers::match_complete-returns-then-branch-2-clause-says : goal.relate::headers::match_complete-returns-then-branch-2-clause-says
 relate::headers::match_complete-returns-then-branch-2-clause-says t c =
-    match-clashes c.args.setting.now c.args.depth c.args.terms.now c.instances_fit.new.terms c.header_clashes.new.terms c.args.params.now (header_terms c.args.header.now) c.args.given.now
-    c.args.known.now c.in_ok-header_clashes.field-0 c.in_ok-instances_fit.ensures.kept c.requires.given c.requires.known c.requires.says c.in_ok-header_clashes.ensures.says c.if-branch-2.true
+    match-clashes c.args.setting.now c.args.depth c.args.terms.now c.instances_fit.new.terms c.header_clashes.new.terms c.args.asked.now.params.now (header_terms c.args.asked.now.header.now) c.args.asked.now.given.now
+    c.args.filled.known.now c.in_ok-header_clashes.field-0 c.in_ok-instances_fit.ensures.kept c.requires.given c.requires.known c.requires.says c.in_ok-header_clashes.ensures.says c.if-branch-2.true
 
 pub relate::headers::match_complete-returns-clause-says : goal.relate::headers::match_complete-returns-clause-says
 relate::headers::match_complete-returns-clause-says t c =
-    match-known c.args.setting.now c.args.depth c.args.terms.now c.instances_fit.new.terms c.header_clashes.new.terms c.args.params.now (header_terms c.args.header.now) c.args.given.now
-    c.args.known.now c.args.args c.deref.result.now c.in_ok-instances_fit.field-0 c.in_ok-header_clashes.field-0 c.in_ok-instances_fit.ensures.kept
+    match-known c.args.setting.now c.args.depth c.args.terms.now c.instances_fit.new.terms c.header_clashes.new.terms c.args.asked.now.params.now (header_terms c.args.asked.now.header.now) c.args.asked.now.given.now
+    c.args.filled.known.now c.args.filled.args c.deref.result.now c.in_ok-instances_fit.field-0 c.in_ok-header_clashes.field-0 c.in_ok-instances_fit.ensures.kept
     (keeps-chain _ _ _ c.in_ok-instances_fit.ensures.kept c.in_ok-header_clashes.ensures.kept) c.requires.given c.requires.known c.requires.args c.requires.filled c.requires.complete c.requires.says
     c.deref.ensures.value c.in_ok-instances_fit.ensures.says c.if-branch.false c.in_ok-header_clashes.ensures.says c.if-branch-2.false
 
 pub relate::headers::match_incomplete-returns-then-branch-clause-says : goal.relate::headers::match_incomplete-returns-then-branch-clause-says
 relate::headers::match_incomplete-returns-then-branch-clause-says t c =
-    match-clashes c.args.setting.now c.args.depth c.args.terms.now c.args.terms.now c.header_clashes.new.terms c.args.params.now (header_terms c.args.header.now) c.args.given.now
-    c.args.known.now c.in_ok-header_clashes.field-0 (keeps-refl c.args.terms.now) c.requires.given c.requires.known c.requires.says c.in_ok-header_clashes.ensures.says c.if-branch.true
+    match-clashes c.args.setting.now c.args.depth c.args.terms.now c.args.terms.now c.header_clashes.new.terms c.args.asked.now.params.now (header_terms c.args.asked.now.header.now) c.args.asked.now.given.now
+    c.args.filled.now.known.now c.in_ok-header_clashes.field-0 (keeps-refl c.args.terms.now) c.requires.given c.requires.known c.requires.says c.in_ok-header_clashes.ensures.says c.if-branch.true
 
 pub relate::headers::match_incomplete-returns-else-branch-clause-says : goal.relate::headers::match_incomplete-returns-else-branch-clause-says
 relate::headers::match_incomplete-returns-else-branch-clause-says t c =
-    match-unknown c.args.setting.now c.args.depth c.args.terms.now c.header_clashes.new.terms c.args.params.now (header_terms c.args.header.now) c.args.given.now
-    c.args.known.now c.in_ok-header_clashes.field-0 (keeps-refl c.args.terms.now) c.requires.given c.requires.known c.requires.complete c.requires.says c.in_ok-header_clashes.ensures.says c.if-branch.false
+    match-unknown c.args.setting.now c.args.depth c.args.terms.now c.header_clashes.new.terms c.args.asked.now.params.now (header_terms c.args.asked.now.header.now) c.args.asked.now.given.now
+    c.args.filled.now.known.now c.in_ok-header_clashes.field-0 (keeps-refl c.args.terms.now) c.requires.given c.requires.known c.requires.complete c.requires.says c.in_ok-header_clashes.ensures.says c.if-branch.false
 
 pub relate::headers::match_known-returns-then-is_complete-clause-says : goal.relate::headers::match_known-returns-then-is_complete-clause-says
 relate::headers::match_known-returns-then-is_complete-clause-says t c =
-    match-given c.args.setting.now c.args.depth c.args.params.now (header_terms c.args.header.now) (erased_all c.args.terms.now c.args.given.now) (erased_all c.filled_args.new.terms c.args.given.now)
+    match-given c.args.setting.now c.args.depth c.args.asked.now.params.now (header_terms c.args.asked.now.header.now) (erased_all c.args.terms.now c.args.asked.now.given.now) (erased_all c.filled_args.new.terms c.args.asked.now.given.now)
     c.match_complete.new.terms c.match_complete.result
-    (all_same-grown c.args.terms.now c.filled_args.new.terms c.in_ok-args.ensures.kept c.args.given.now c.requires.given) c.match_complete.ensures.says
+    (all_same-grown c.args.terms.now c.filled_args.new.terms c.in_ok-args.ensures.kept c.args.asked.now.given.now c.requires.given) c.match_complete.ensures.says
 
 pub relate::headers::match_known-returns-else-is_complete-clause-says : goal.relate::headers::match_known-returns-else-is_complete-clause-says
 relate::headers::match_known-returns-else-is_complete-clause-says t c =
-    match-given c.args.setting.now c.args.depth c.args.params.now (header_terms c.args.header.now) (erased_all c.args.terms.now c.args.given.now) (erased_all c.filled_args.new.terms c.args.given.now)
+    match-given c.args.setting.now c.args.depth c.args.asked.now.params.now (header_terms c.args.asked.now.header.now) (erased_all c.args.terms.now c.args.asked.now.given.now) (erased_all c.filled_args.new.terms c.args.asked.now.given.now)
     c.match_incomplete.new.terms c.match_incomplete.result
-    (all_same-grown c.args.terms.now c.filled_args.new.terms c.in_ok-args.ensures.kept c.args.given.now c.requires.given) c.match_incomplete.ensures.says
+    (all_same-grown c.args.terms.now c.filled_args.new.terms c.in_ok-args.ensures.kept c.args.asked.now.given.now c.requires.given) c.match_incomplete.ensures.says
 
 pub relate::headers::match_header-returns-clause-says : goal.relate::headers::match_header-returns-clause-says
 relate::headers::match_header-returns-clause-says t c =
-    match-says c.args.setting.now c.args.depth c.args.params.now (header_terms c.args.header.now) (erased_all c.args.terms.now c.args.given.now) c.match_known.new.terms c.match_known.result
-    (match-given c.args.setting.now c.args.depth c.args.params.now (header_terms c.args.header.now) (erased_all c.args.terms.now c.args.given.now) (erased_all c.known_args.new.terms c.args.given.now)
+    match-says c.args.setting.now c.args.depth c.args.asked.now.params.now (header_terms c.args.asked.now.header.now) (erased_all c.args.terms.now c.args.asked.now.given.now) c.match_known.new.terms c.match_known.result
+    (match-given c.args.setting.now c.args.depth c.args.asked.now.params.now (header_terms c.args.asked.now.header.now) (erased_all c.args.terms.now c.args.asked.now.given.now) (erased_all c.known_args.new.terms c.args.asked.now.given.now)
     c.match_known.new.terms c.match_known.result
-    (all_same-grown c.args.terms.now c.known_args.new.terms c.in_ok-known.ensures.kept c.args.given.now c.requires.given) c.match_known.ensures.says)
+    (all_same-grown c.args.terms.now c.known_args.new.terms c.in_ok-known.ensures.kept c.args.asked.now.given.now c.requires.given) c.match_known.ensures.says)
 
 pub relate::headers::match_complete-header_clashes-requires : goal.relate::headers::match_complete-header_clashes-requires
 relate::headers::match_complete-header_clashes-requires t c = (
@@ -396,13 +396,12 @@ relate::headers::match_complete-header_clashes-requires t c = (
   (
     search (rules, caching),
     (
-      are_in-grown c.args.terms.now c.instances_fit.new.terms c.in_ok-instances_fit.ensures.kept c.args.given.now c.requires.given,
+      are_in-grown c.args.terms.now c.instances_fit.new.terms c.in_ok-instances_fit.ensures.kept c.args.asked.now.given.now c.requires.given,
       (
-        known_in-grown c.args.terms.now c.instances_fit.new.terms c.in_ok-instances_fit.ensures.kept c.args.known.now c.requires.known,
+        known_in-grown c.args.terms.now c.instances_fit.new.terms c.in_ok-instances_fit.ensures.kept c.args.filled.known.now c.requires.known,
         (
-          subst (AreIn c.instances_fit.new.terms) (sym c.deref-2.ensures.value)
-              (are_in-grown c.args.terms.now c.instances_fit.new.terms c.in_ok-instances_fit.ensures.kept c.args.args.items c.requires.args),
-          subst (Fills c.args.known.now) (sym c.deref-2.ensures.value) (filled-fills c.args.terms.now c.args.known.now c.args.args.items c.requires.filled),
+          are_in-grown c.args.terms.now c.instances_fit.new.terms c.in_ok-instances_fit.ensures.kept c.args.filled.args.items c.requires.args,
+          filled-fills c.args.terms.now c.args.filled.known.now c.args.filled.args.items c.requires.filled,
         ),
       ),
     ),
@@ -412,7 +411,7 @@ relate::headers::match_complete-header_clashes-requires t c = (
 pub relate::headers::match_incomplete-header_clashes-requires : goal.relate::headers::match_incomplete-header_clashes-requires
 relate::headers::match_incomplete-header_clashes-requires t c = (
   omega (arith, c.decreases),
-  (search (rules, caching), (c.requires.given, (c.requires.known, (c.requires.args, filled-fills c.args.terms.now c.args.known.now c.args.args.now c.requires.filled)))),
+  (search (rules, caching), (c.requires.given, (c.requires.known, (c.requires.args, filled-fills c.args.terms.now c.args.filled.now.known.now c.args.filled.now.args.items c.requires.filled)))),
 )
 
 pub relate::headers::match_known-match_complete-requires : goal.relate::headers::match_known-match_complete-requires
@@ -421,7 +420,7 @@ relate::headers::match_known-match_complete-requires t c = (
   (
     search (rules, caching),
     (
-      are_in-grown c.args.terms.now c.filled_args.new.terms c.in_ok-args.ensures.kept c.args.given.now c.requires.given,
+      are_in-grown c.args.terms.now c.filled_args.new.terms c.in_ok-args.ensures.kept c.args.asked.now.given.now c.requires.given,
       (
         known_in-grown c.args.terms.now c.filled_args.new.terms c.in_ok-args.ensures.kept c.args.known.now c.requires.known,
         (
@@ -430,7 +429,7 @@ relate::headers::match_known-match_complete-requires t c = (
             c.in_ok-args.ensures.filled,
             (
               sym c.is_complete.ensures ∙ c.if-is_complete.true,
-              known-outcome-grown c.args.setting.now c.args.depth c.args.terms.now c.filled_args.new.terms (header_terms c.args.header.now) c.args.params.now c.args.given.now c.args.known.now
+              known-outcome-grown c.args.setting.now c.args.depth c.args.terms.now c.filled_args.new.terms (header_terms c.args.asked.now.header.now) c.args.asked.now.params.now c.args.asked.now.given.now c.args.known.now
                   c.in_ok-args.ensures.kept c.requires.given c.requires.known c.requires.says,
             ),
           ),
@@ -446,16 +445,16 @@ relate::headers::match_known-match_incomplete-requires t c = (
   (
     search (rules, caching),
     (
-      are_in-grown c.args.terms.now c.filled_args.new.terms c.in_ok-args.ensures.kept c.args.given.now c.requires.given,
+      are_in-grown c.args.terms.now c.filled_args.new.terms c.in_ok-args.ensures.kept c.args.asked.now.given.now c.requires.given,
       (
         known_in-grown c.args.terms.now c.filled_args.new.terms c.in_ok-args.ensures.kept c.args.known.now c.requires.known,
         (
-          subst (AreIn c.filled_args.new.terms) (sym c.deref.ensures.value) c.in_ok-args.ensures.within,
+          c.in_ok-args.ensures.within,
           (
-            subst (AreFilled c.filled_args.new.terms c.args.known.now) (sym c.deref.ensures.value) c.in_ok-args.ensures.filled,
+            c.in_ok-args.ensures.filled,
             (
               sym c.is_complete.ensures ∙ c.if-is_complete.false,
-              known-outcome-grown c.args.setting.now c.args.depth c.args.terms.now c.filled_args.new.terms (header_terms c.args.header.now) c.args.params.now c.args.given.now c.args.known.now
+              known-outcome-grown c.args.setting.now c.args.depth c.args.terms.now c.filled_args.new.terms (header_terms c.args.asked.now.header.now) c.args.asked.now.params.now c.args.asked.now.given.now c.args.known.now
                   c.in_ok-args.ensures.kept c.requires.given c.requires.known c.requires.says,
             ),
           ),
@@ -471,14 +470,14 @@ relate::headers::match_header-match_known-requires t c = (
   (
     search (rules, caching),
     (
-      are_in-grown c.args.terms.now c.known_args.new.terms c.in_ok-known.ensures.kept c.args.given.now c.requires.given,
+      are_in-grown c.args.terms.now c.known_args.new.terms c.in_ok-known.ensures.kept c.args.asked.now.given.now c.requires.given,
       (
         subst (KnownIn c.known_args.new.terms) (sym c.deref.ensures.value) c.in_ok-known.ensures.within,
         (
           sym c.in_ok-known.ensures.count ∙ ap length (sym c.deref.ensures.value),
-          known-outcome-given c.args.setting.now c.args.depth (header_terms c.args.header.now) (erased_all c.args.terms.now c.args.given.now) (erased_all c.known_args.new.terms c.args.given.now) c.args.params.now
+          known-outcome-given c.args.setting.now c.args.depth (header_terms c.args.asked.now.header.now) (erased_all c.args.terms.now c.args.asked.now.given.now) (erased_all c.known_args.new.terms c.args.asked.now.given.now) c.args.asked.now.params.now
               (known_trees c.known_args.new.terms c.in_ok-known.known.items) (known_trees c.known_args.new.terms c.deref.result.now)
-              (sym (all_same-grown c.args.terms.now c.known_args.new.terms c.in_ok-known.ensures.kept c.args.given.now c.requires.given)) (ap (known_trees c.known_args.new.terms) (sym c.deref.ensures.value))
+              (sym (all_same-grown c.args.terms.now c.known_args.new.terms c.in_ok-known.ensures.kept c.args.asked.now.given.now c.requires.given)) (ap (known_trees c.known_args.new.terms) (sym c.deref.ensures.value))
               c.in_ok-known.ensures.says,
         ),
       ),
@@ -597,24 +596,24 @@ normalizes_to::projections::group_term-returns-clause-says t c = λ m s.
 pub normalizes_to::projections::groups_term-returns-in-Undecided-clause-says :
     goal.normalizes_to::projections::groups_term-returns-in-Undecided-clause-says
 normalizes_to::projections::groups_term-returns-in-Undecided-clause-says t c = λ m s.
-    groups-undecided (setting_in c.args.setting.now m) (level_in c.args.setting.now m c.args.depth) c.args.class (projection_at c.args.terms.now c.args.projection.now)
-    (erased_at c.args.terms.now c.args.projection.now.rigid_alias) (erased_at c.args.terms.now c.args.given)
-    (second_group (setting_in c.args.setting.now m) c.args.projection.now.item.now.trait_id (erased_at c.args.terms.now c.args.self_ty) c.args.class)
+    groups-undecided (setting_in c.args.setting.now m) (level_in c.args.setting.now m c.args.depth) c.args.proven.now.class (projection_at c.args.terms.now c.args.proven.now.projection)
+    (erased_at c.args.terms.now c.args.proven.now.projection.rigid_alias) (erased_at c.args.terms.now c.args.proven.now.given)
+    (second_group (setting_in c.args.setting.now m) c.args.proven.now.projection.item.now.trait_id (erased_at c.args.terms.now c.args.proven.now.self_ty) c.args.proven.now.class)
     (rw c.in-Undecided.is at (c.in_ok-environment_term.ensures.says m s))
 
 pub normalizes_to::projections::groups_term-returns-in-Is-clause-says :
     goal.normalizes_to::projections::groups_term-returns-in-Is-clause-says
 normalizes_to::projections::groups_term-returns-in-Is-clause-says t c = λ m s.
-    groups-by_environment (setting_in c.args.setting.now m) (level_in c.args.setting.now m c.args.depth) (consistent c.args.setting.now m c.args.depth) c.args.class
-    c.args.terms.now c.environment_term.new.terms c.own_args_normalized.new.terms c.in_ok-environment_term.ensures.kept c.args.projection.now c.requires.projection (erased_at c.args.terms.now c.args.given)
-    (second_group (setting_in c.args.setting.now m) c.args.projection.now.item.now.trait_id (erased_at c.args.terms.now c.args.self_ty) c.args.class) (erased_at c.environment_term.new.terms c.in-Is.term)
+    groups-by_environment (setting_in c.args.setting.now m) (level_in c.args.setting.now m c.args.depth) (consistent c.args.setting.now m c.args.depth) c.args.proven.now.class
+    c.args.terms.now c.environment_term.new.terms c.own_args_normalized.new.terms c.in_ok-environment_term.ensures.kept c.args.proven.now.projection c.requires.projection (erased_at c.args.terms.now c.args.proven.now.given)
+    (second_group (setting_in c.args.setting.now m) c.args.proven.now.projection.item.now.trait_id (erased_at c.args.terms.now c.args.proven.now.self_ty) c.args.proven.now.class) (erased_at c.environment_term.new.terms c.in-Is.term)
     (rw c.in-Is.is at (c.in_ok-environment_term.ensures.says m s)) c.own_args_normalized.result (c.own_args_normalized.ensures.says m s)
 
 pub normalizes_to::projections::groups_term-returns-in-Refuted-clause-says :
     goal.normalizes_to::projections::groups_term-returns-in-Refuted-clause-says
 normalizes_to::projections::groups_term-returns-in-Refuted-clause-says t c = λ m s.
-    groups-by_later (setting_in c.args.setting.now m) (level_in c.args.setting.now m c.args.depth) (consistent c.args.setting.now m c.args.depth) c.args.class c.args.projection.now.item.now.trait_id
-    c.args.terms.now c.environment_term.new.terms c.later_term.new.terms c.in_ok-environment_term.ensures.kept c.args.projection.now c.requires.projection c.args.given c.args.self_ty
+    groups-by_later (setting_in c.args.setting.now m) (level_in c.args.setting.now m c.args.depth) (consistent c.args.setting.now m c.args.depth) c.args.proven.now.class c.args.proven.now.projection.item.now.trait_id
+    c.args.terms.now c.environment_term.new.terms c.later_term.new.terms c.in_ok-environment_term.ensures.kept c.args.proven.now.projection c.requires.projection c.args.proven.now.given c.args.proven.now.self_ty
     c.requires.given c.requires.self_ty (rw c.in-Refuted.is at (c.in_ok-environment_term.ensures.says m s)) c.later_term.result (c.later_term.ensures.says m s)
 
 pub normalizes_to::projections::head_forms_outcome-returns-in-Refuted-clause-says :
@@ -656,54 +655,54 @@ normalizes_to::projections::head_forms_outcome-returns-clause-says t c = λ m s.
 pub normalizes_to::projections::item_term-returns-then-is_empty-clause-says :
     goal.normalizes_to::projections::item_term-returns-then-is_empty-clause-says
 normalizes_to::projections::item_term-returns-then-is_empty-clause-says t c = λ m s.
-    item-none (setting_in c.args.setting.now m) (level_in c.args.setting.now m c.args.depth) c.args.kind c.args.item.now c.args.trait_row.now c.args.terms.now c.args.args.now
-    (no_args c.args.args.now c.is_empty.result c.is_empty.ensures c.if-is_empty.true)
+    item-none (setting_in c.args.setting.now m) (level_in c.args.setting.now m c.args.depth) c.args.alias.now.kind c.args.rows.now.item.now c.args.rows.now.trait_row.now c.args.terms.now c.args.alias.now.args.now
+    (no_args c.args.alias.now.args.now c.is_empty.result c.is_empty.ensures c.if-is_empty.true)
 
 pub normalizes_to::projections::item_term-returns-in-Undecided-clause-says :
     goal.normalizes_to::projections::item_term-returns-in-Undecided-clause-says
 normalizes_to::projections::item_term-returns-in-Undecided-clause-says t c = λ m s.
-    item-undecided (setting_in c.args.setting.now m) (level_in c.args.setting.now m c.args.depth) c.args.kind c.args.item.now c.args.trait_row.now c.args.terms.now c.args.args.now
-    c.first_of-trait_args.result.now c.len-trait_params.result (c.len-trait_params.ensures ∙ c.args.trait_row.now.params.ok.0) c.first_of-trait_args.ensures
+    item-undecided (setting_in c.args.setting.now m) (level_in c.args.setting.now m c.args.depth) c.args.alias.now.kind c.args.rows.now.item.now c.args.rows.now.trait_row.now c.args.terms.now c.args.alias.now.args.now
+    c.first_of-trait_args.result.now c.len-trait_params.result (c.len-trait_params.ensures ∙ c.args.rows.now.trait_row.now.params.ok.0) c.first_of-trait_args.ensures
     (rw c.in-Undecided.is at (c.in_ok-plain.ensures.says m s))
 
 pub normalizes_to::projections::item_term-returns-in-Refuted-clause-says :
     goal.normalizes_to::projections::item_term-returns-in-Refuted-clause-says
 normalizes_to::projections::item_term-returns-in-Refuted-clause-says t c = λ m s.
-    item-refuted (setting_in c.args.setting.now m) (level_in c.args.setting.now m c.args.depth) c.args.kind c.args.item.now c.args.trait_row.now c.args.terms.now c.args.args.now
-    c.first_of-trait_args.result.now (some_args c.args.args.now c.is_empty.result c.is_empty.ensures c.if-is_empty.false) c.len-trait_params.result
-    (c.len-trait_params.ensures ∙ c.args.trait_row.now.params.ok.0) c.first_of-trait_args.ensures (rw c.in-Refuted.is at (c.in_ok-plain.ensures.says m s))
+    item-refuted (setting_in c.args.setting.now m) (level_in c.args.setting.now m c.args.depth) c.args.alias.now.kind c.args.rows.now.item.now c.args.rows.now.trait_row.now c.args.terms.now c.args.alias.now.args.now
+    c.first_of-trait_args.result.now (some_args c.args.alias.now.args.now c.is_empty.result c.is_empty.ensures c.if-is_empty.false) c.len-trait_params.result
+    (c.len-trait_params.ensures ∙ c.args.rows.now.trait_row.now.params.ok.0) c.first_of-trait_args.ensures (rw c.in-Refuted.is at (c.in_ok-plain.ensures.says m s))
 
 pub normalizes_to::projections::item_term-returns-in-Holds-clause-says :
     goal.normalizes_to::projections::item_term-returns-in-Holds-clause-says
 normalizes_to::projections::item_term-returns-in-Holds-clause-says t c = λ m s.
-    item-says (setting_in c.args.setting.now m) (level_in c.args.setting.now m c.args.depth) (consistent c.args.setting.now m c.args.depth) c.args.kind c.args.item.now c.args.trait_row.now c.in-Holds.class
-    c.args.terms.now c.evaluate_trait_goal.new.terms c.term_proven_via.new.terms c.in_ok-plain.ensures.kept c.args.args.now c.first_of-trait_args.result.now c.requires.args
-    c.len-trait_params.result (c.len-trait_params.ensures ∙ c.args.trait_row.now.params.ok.0) c.first_of-trait_args.ensures
+    item-says (setting_in c.args.setting.now m) (level_in c.args.setting.now m c.args.depth) (consistent c.args.setting.now m c.args.depth) c.args.alias.now.kind c.args.rows.now.item.now c.args.rows.now.trait_row.now c.in-Holds.class
+    c.args.terms.now c.evaluate_trait_goal.new.terms c.term_proven_via.new.terms c.in_ok-plain.ensures.kept c.args.alias.now.args.now c.first_of-trait_args.result.now c.requires.args
+    c.len-trait_params.result (c.len-trait_params.ensures ∙ c.args.rows.now.trait_row.now.params.ok.0) c.first_of-trait_args.ensures
     (rw c.in-Holds.is at (c.in_ok-plain.ensures.says m s)) c.term_proven_via.result (c.term_proven_via.ensures.says m s)
 
 pub normalizes_to::projections::later_term-returns-in_default-class-clause-says :
     goal.normalizes_to::projections::later_term-returns-in_default-class-clause-says
 normalizes_to::projections::later_term-returns-in_default-class-clause-says t c = λ m s.
-    later-by_second (setting_in c.args.setting.now m) (level_in c.args.setting.now m c.args.depth) (consistent c.args.setting.now m c.args.depth) c.args.class
-    c.args.terms.now c.second_term.new.terms c.own_args_normalized.new.terms c.in_ok-second_term.ensures.kept c.args.projection.now c.requires.projection (erased_at c.args.terms.now c.args.given)
-    (second_group (setting_in c.args.setting.now m) c.args.projection.now.item.now.trait_id (erased_at c.args.terms.now c.args.self_ty) c.args.class) (erased_at c.second_term.new.terms c.in-Is.term)
+    later-by_second (setting_in c.args.setting.now m) (level_in c.args.setting.now m c.args.depth) (consistent c.args.setting.now m c.args.depth) c.args.proven.now.class
+    c.args.terms.now c.second_term.new.terms c.own_args_normalized.new.terms c.in_ok-second_term.ensures.kept c.args.proven.now.projection c.requires.projection (erased_at c.args.terms.now c.args.proven.now.given)
+    (second_group (setting_in c.args.setting.now m) c.args.proven.now.projection.item.now.trait_id (erased_at c.args.terms.now c.args.proven.now.self_ty) c.args.proven.now.class) (erased_at c.second_term.new.terms c.in-Is.term)
     c.in_default-class.not-Misc (rw c.in-Is.is at (c.in_ok-second_term.ensures.says m s)) c.own_args_normalized.result (c.own_args_normalized.ensures.says m s)
 
 pub normalizes_to::projections::projection_term-returns-in_default-clause-says :
     goal.normalizes_to::projections::projection_term-returns-in_default-clause-says
 normalizes_to::projections::projection_term-returns-in_default-clause-says t c = λ m s.
-    projection-without_item (setting_in c.args.setting.now m) (level_in c.args.setting.now m c.args.depth) c.args.kind c.args.item (erased_all c.args.terms.now c.args.args.now) c.in_default.ensures
+    projection-without_item (setting_in c.args.setting.now m) (level_in c.args.setting.now m c.args.depth) c.args.alias.now.kind c.args.item (erased_all c.args.terms.now c.args.alias.now.args.now) c.in_default.ensures
 
 pub normalizes_to::projections::projection_term-returns-in_default-trait_row-clause-says :
     goal.normalizes_to::projections::projection_term-returns-in_default-trait_row-clause-says
 normalizes_to::projections::projection_term-returns-in_default-trait_row-clause-says t c = λ m s.
-    projection-without_trait (setting_in c.args.setting.now m) (level_in c.args.setting.now m c.args.depth) c.args.kind c.args.item (erased_all c.args.terms.now c.args.args.now) c.in-Some.row.now
+    projection-without_trait (setting_in c.args.setting.now m) (level_in c.args.setting.now m c.args.depth) c.args.alias.now.kind c.args.item (erased_all c.args.terms.now c.args.alias.now.args.now) c.in-Some.row.now
     c.in-Some.ensures c.in_default-trait_row.ensures
 
 pub normalizes_to::projections::projection_term-returns-clause-says :
     goal.normalizes_to::projections::projection_term-returns-clause-says
 normalizes_to::projections::projection_term-returns-clause-says t c = λ m s.
-    projection-says (setting_in c.args.setting.now m) (level_in c.args.setting.now m c.args.depth) c.args.kind c.args.item (erased_all c.args.terms.now c.args.args.now) c.item_term.new.terms
+    projection-says (setting_in c.args.setting.now m) (level_in c.args.setting.now m c.args.depth) c.args.alias.now.kind c.args.item (erased_all c.args.terms.now c.args.alias.now.args.now) c.item_term.new.terms
     c.in-Some.row.now c.in-Some-trait_row.trait_row.now c.in-Some.ensures c.in-Some-trait_row.ensures c.item_term.result (c.item_term.ensures.says m s)
 
 pub normalizes_to::projections::replaced_term-intern_alias-requires-2 :
@@ -745,8 +744,8 @@ pub normalizes_to::projections::second_term-returns-clause-says :
     goal.normalizes_to::projections::second_term-returns-clause-says
 normalizes_to::projections::second_term-returns-clause-says t c = λ m s.
     group-fitting (setting_in c.args.setting.now m) c.args.depth c.args.terms.now c.second_group.new.terms c.group_term.new.terms c.in_ok-candidates.ensures.kept
-    c.args.projection.now c.requires.projection c.first_of.result.now c.first_of.ensures (map (candidate_at c.second_group.new.terms) c.as_slice.result.now)
-    (second_group (setting_in c.args.setting.now m) c.args.projection.now.item.now.trait_id (erased_at c.args.terms.now c.args.self_ty) c.args.class)
+    c.args.proven.now.projection c.requires.projection c.first_of.result.now c.first_of.ensures (map (candidate_at c.second_group.new.terms) c.as_slice.result.now)
+    (second_group (setting_in c.args.setting.now m) c.args.proven.now.projection.item.now.trait_id (erased_at c.args.terms.now c.args.proven.now.self_ty) c.args.proven.now.class)
     (ap (map (candidate_at c.second_group.new.terms)) c.as_slice.ensures.value ∙ c.in_ok-candidates.ensures.candidates m c.args.setting.now.environment.now)
     c.group_term.result (c.group_term.ensures.says m s)
 
@@ -757,13 +756,13 @@ normalizes_to::projections::second_term-group_term-requires t c = (
     search (rules, caching),
     (
       (
-        are_in-grown c.args.terms.now c.second_group.new.terms c.in_ok-candidates.ensures.kept c.args.projection.now.args.now c.requires.projection.0,
-        in-grown c.args.terms.now c.second_group.new.terms c.in_ok-candidates.ensures.kept c.args.projection.now.rigid_alias c.requires.projection.1,
+        are_in-grown c.args.terms.now c.second_group.new.terms c.in_ok-candidates.ensures.kept c.args.proven.now.projection.args.now c.requires.projection.0,
+        in-grown c.args.terms.now c.second_group.new.terms c.in_ok-candidates.ensures.kept c.args.proven.now.projection.rigid_alias c.requires.projection.1,
       ),
       (
         subst (All (CandidateIn c.second_group.new.terms)) (sym c.as_slice.ensures.value) c.in_ok-candidates.ensures.within,
         second-rows (setting_of c.args.setting.now.rows.now mode.ErasedNotCoherence c.args.setting.now.environment.now) c.second_group.new.terms
-            (trees_at c.args.terms.now c.first_of.result.now) c.args.projection.now.item.now.trait_id (erased_at c.args.terms.now c.args.self_ty) c.args.class c.as_slice.result.now
+            (trees_at c.args.terms.now c.first_of.result.now) c.args.proven.now.projection.item.now.trait_id (erased_at c.args.terms.now c.args.proven.now.self_ty) c.args.proven.now.class c.as_slice.result.now
             (ap (map (candidate_at c.second_group.new.terms)) c.as_slice.ensures.value
             ∙ c.in_ok-candidates.ensures.candidates mode.ErasedNotCoherence c.args.setting.now.environment.now),
       ),
@@ -774,7 +773,7 @@ normalizes_to::projections::second_term-group_term-requires t c = (
 pub normalizes_to::projections::second_term-second_group-requires : goal.normalizes_to::projections::second_term-second_group-requires
 normalizes_to::projections::second_term-second_group-requires t c = record {
   self_ty = c.requires.self_ty;
-  args = subst (AreIn c.args.terms.now) (sym c.first_of.ensures) (All-take (IsIn c.args.terms.now) c.args.projection.now.trait_params c.args.projection.now.args.now c.requires.projection.0);
+  args = subst (AreIn c.args.terms.now) (sym c.first_of.ensures) (All-take (IsIn c.args.terms.now) c.args.proven.now.projection.trait_params c.args.proven.now.projection.args.now c.requires.projection.0);
 }
 
 pub normalizes_to::projections::term_proven_via-returns-in-Refuted-clause-says :
@@ -1393,22 +1392,22 @@ trait_goals::evaluation::decide_trait-returns-in-None-clause-says t c m s =
 
 pub effect_goals::evaluation::evaluate_host_effect_goal-returns-then-depth-eq0-clause-says : goal.effect_goals::evaluation::evaluate_host_effect_goal-returns-then-depth-eq0-clause-says
 effect_goals::evaluation::evaluate_host_effect_goal-returns-then-depth-eq0-clause-says t c m s =
-    const-ground (setting_in c.args.setting.now m) c.args.depth c.args.constness c.args.trait_id (erased_all c.args.terms.now c.args.args.now) c.if-depth-eq0.true
+    const-ground (setting_in c.args.setting.now m) c.args.depth c.args.const_goal.now.constness c.args.const_goal.now.trait_id (erased_all c.args.terms.now c.args.const_goal.now.args.now) c.if-depth-eq0.true
 
 pub effect_goals::evaluation::fresh_host_effect_outcome-returns-in_default-clause-says : goal.effect_goals::evaluation::fresh_host_effect_outcome-returns-in_default-clause-says
 effect_goals::evaluation::fresh_host_effect_outcome-returns-in_default-clause-says t c m s =
-    const-no_self (setting_in c.args.setting.now m) c.args.depth c.args.constness c.args.trait_id c.args.terms.now c.args.args.now c.in_default.ensures
+    const-no_self (setting_in c.args.setting.now m) c.args.depth c.args.const_goal.now.constness c.args.const_goal.now.trait_id c.args.terms.now c.args.const_goal.now.args.now c.in_default.ensures
 
 pub effect_goals::evaluation::fresh_host_effect_outcome-returns-in_default-plain-clause-says : goal.effect_goals::evaluation::fresh_host_effect_outcome-returns-in_default-plain-clause-says
 effect_goals::evaluation::fresh_host_effect_outcome-returns-in_default-plain-clause-says t c m s =
-    subst (SaysHost (setting_in c.args.setting.now m) c.args.depth c.args.constness c.args.trait_id (erased_all c.args.terms.now c.args.args.now)) (sym c.held.ensures)
-    (plain-decides (setting_in c.args.setting.now m) c.args.depth c.args.constness c.args.trait_id c.args.terms.now c.in-Some.first c.in-Some.rest.now c.args.args.now c.in_ok-plain.plain
+    subst (SaysHost (setting_in c.args.setting.now m) c.args.depth c.args.const_goal.now.constness c.args.const_goal.now.trait_id (erased_all c.args.terms.now c.args.const_goal.now.args.now)) (sym c.held.ensures)
+    (plain-decides (setting_in c.args.setting.now m) c.args.depth c.args.const_goal.now.constness c.args.const_goal.now.trait_id c.args.terms.now c.in-Some.first c.in-Some.rest.now c.args.const_goal.now.args.now c.in_ok-plain.plain
     c.requires.above c.in-Some.ensures c.in_default-plain.not-Holds (c.in_ok-plain.ensures.says m s))
 
 pub effect_goals::evaluation::fresh_host_effect_outcome-returns-in_default-found-clause-says : goal.effect_goals::evaluation::fresh_host_effect_outcome-returns-in_default-found-clause-says
 effect_goals::evaluation::fresh_host_effect_outcome-returns-in_default-found-clause-says t c m s =
-    host-unformed (setting_in c.args.setting.now m) c.args.depth c.args.constness c.args.trait_id c.in-Holds.class c.args.terms.now c.evaluate_trait_goal.new.terms c.in-Some.first
-    c.in-Some.rest.now c.args.args.now c.in_ok-plain.plain c.in_ok-plain.ensures.kept c.requires.args c.requires.above c.in-Some.ensures c.in-Holds.is (c.in_ok-plain.ensures.says m s)
+    host-unformed (setting_in c.args.setting.now m) c.args.depth c.args.const_goal.now.constness c.args.const_goal.now.trait_id c.in-Holds.class c.args.terms.now c.evaluate_trait_goal.new.terms c.in-Some.first
+    c.in-Some.rest.now c.args.const_goal.now.args.now c.in_ok-plain.plain c.in_ok-plain.ensures.kept c.requires.args c.requires.above c.in-Some.ensures c.in-Holds.is (c.in_ok-plain.ensures.says m s)
     c.head_form.new.terms c.in_ok-found.found c.in_default-found.not-Is (c.in_ok-found.ensures.says m s)
 
 pub effect_goals::evaluation::fresh_host_effect_outcome-groups_outcome-requires : goal.effect_goals::evaluation::fresh_host_effect_outcome-groups_outcome-requires
@@ -1428,8 +1427,8 @@ effect_goals::evaluation::fresh_host_effect_outcome-groups_outcome-requires t c 
 
 pub effect_goals::evaluation::fresh_host_effect_outcome-returns-clause-says : goal.effect_goals::evaluation::fresh_host_effect_outcome-returns-clause-says
 effect_goals::evaluation::fresh_host_effect_outcome-returns-clause-says t c m s =
-    host-formed (setting_in c.args.setting.now m) c.args.depth c.args.constness c.args.trait_id c.in-Holds.class c.args.terms.now c.evaluate_trait_goal.new.terms c.in-Some.first
-    c.in-Some.rest.now c.args.args.now c.in_ok-plain.plain c.in_ok-plain.ensures.kept c.requires.args c.requires.above c.in-Some.ensures c.in-Holds.is (c.in_ok-plain.ensures.says m s)
+    host-formed (setting_in c.args.setting.now m) c.args.depth c.args.const_goal.now.constness c.args.const_goal.now.trait_id c.in-Holds.class c.args.terms.now c.evaluate_trait_goal.new.terms c.in-Some.first
+    c.in-Some.rest.now c.args.const_goal.now.args.now c.in_ok-plain.plain c.in_ok-plain.ensures.kept c.requires.args c.requires.above c.in-Some.ensures c.in-Holds.is (c.in_ok-plain.ensures.says m s)
     c.head_form.new.terms c.in-Is.self_ty c.as_slice.result c.in_ok-found.found c.groups_outcome.result c.in_ok-found.ensures.kept c.in-Is.is
     (c.as_slice.ensures.value ∙ c.in_ok-replaced.ensures) (c.in_ok-found.ensures.says m s) (c.groups_outcome.ensures.says m s)
 
@@ -1586,7 +1585,7 @@ trait_goals::evaluation::evaluate_trait_goal-returns-clause-says t c m s =
 
 pub effect_goals::evaluation::evaluate_host_effect_goal-returns-in-Some-clause-says : goal.effect_goals::evaluation::evaluate_host_effect_goal-returns-in-Some-clause-says
 effect_goals::evaluation::evaluate_host_effect_goal-returns-in-Some-clause-says t c m s =
-    known-const c.args.setting.now c.intern_trait_ref.new.terms c.args.effects.now.cache c.in_ok-goal.goal c.args.constness c.args.trait_id (length c.args.args.now) (erased_all c.args.terms.now c.args.args.now) c.args.depth c.in-Some.known
+    known-const c.args.setting.now c.intern_trait_ref.new.terms c.args.effects.now.cache c.in_ok-goal.goal c.args.const_goal.now.constness c.args.const_goal.now.trait_id (length c.args.const_goal.now.args.now) (erased_all c.args.terms.now c.args.const_goal.now.args.now) c.args.depth c.in-Some.known
     (cache-grown c.args.setting.now c.args.terms.now c.intern_trait_ref.new.terms c.args.effects.now.cache c.intern_trait_ref.ensures.kept (sound-parts _ _ _ c.requires.effects).answers) c.in_ok-goal.ensures.tree
     (rw c.in-Some.is at c.in_ok-known.ensures.known) m s
 
@@ -1594,13 +1593,13 @@ pub effect_goals::evaluation::evaluate_host_effect_goal-returns-clause-effects :
 effect_goals::evaluation::evaluate_host_effect_goal-returns-clause-effects t c =
     let T = c.intern_trait_ref.new.terms in
     let U = c.fresh_host_effect_outcome.new.terms in
-    let xs = erased_all c.args.terms.now c.args.args.now in
+    let xs = erased_all c.args.terms.now c.args.const_goal.now.args.now in
     let keeps : Keeps T U = c.fresh_host_effect_outcome.ensures.kept in sound-of _ _ _ (record {
       answers =
-          keep-const c.args.setting.now U c.end_goal.new.self.cache c.keep_const.new.self c.in_ok-goal.goal c.args.constness c.args.trait_id (length c.args.args.now) xs c.args.depth c.in_ok-outcome.outcome
+          keep-const c.args.setting.now U c.end_goal.new.self.cache c.keep_const.new.self c.in_ok-goal.goal c.args.const_goal.now.constness c.args.const_goal.now.trait_id (length c.args.const_goal.now.args.now) xs c.args.depth c.in_ok-outcome.outcome
           (sound-parts _ _ _ (sound-aside _ _ _ _ c.end_goal.ensures.aside c.fresh_host_effect_outcome.ensures.effects)).answers (ap erased (keeps.same c.in_ok-goal.goal c.in_ok-goal.ensures.within) ∙ c.in_ok-goal.ensures.tree) (omega (arith, keeps.longer, c.in_ok-goal.ensures.within))
-          (λ m s. subst (λ ys. Says ((level_in c.args.setting.now m c.args.depth).const_holds c.args.constness c.args.trait_id ys) ((level_in c.args.setting.now m c.args.depth).const_refuted c.args.constness c.args.trait_id ys) c.in_ok-outcome.outcome)
-          (all_same-grown c.args.terms.now T c.intern_trait_ref.ensures.kept c.args.args.now c.requires.args) (c.in_ok-outcome.ensures.says m s))
+          (λ m s. subst (λ ys. Says ((level_in c.args.setting.now m c.args.depth).const_holds c.args.const_goal.now.constness c.args.const_goal.now.trait_id ys) ((level_in c.args.setting.now m c.args.depth).const_refuted c.args.const_goal.now.constness c.args.const_goal.now.trait_id ys) c.in_ok-outcome.outcome)
+          (all_same-grown c.args.terms.now T c.intern_trait_ref.ensures.kept c.args.const_goal.now.args.now c.requires.args) (c.in_ok-outcome.ensures.says m s))
           c.keep_const.ensures.entered c.keep_const.ensures.unchanged;
       causes = (sound-parts _ _ _ (sound-aside _ _ _ _ c.end_goal.ensures.aside c.fresh_host_effect_outcome.ensures.effects)).causes;
       faults = (sound-parts _ _ _ (sound-aside _ _ _ _ c.end_goal.ensures.aside c.fresh_host_effect_outcome.ensures.effects)).faults;
@@ -1608,8 +1607,8 @@ effect_goals::evaluation::evaluate_host_effect_goal-returns-clause-effects t c =
 
 pub effect_goals::evaluation::evaluate_host_effect_goal-returns-clause-says : goal.effect_goals::evaluation::evaluate_host_effect_goal-returns-clause-says
 effect_goals::evaluation::evaluate_host_effect_goal-returns-clause-says t c m s =
-    subst (λ ys. Says ((level_in c.args.setting.now m c.args.depth).const_holds c.args.constness c.args.trait_id ys) ((level_in c.args.setting.now m c.args.depth).const_refuted c.args.constness c.args.trait_id ys) c.in_ok-outcome.outcome)
-    (all_same-grown c.args.terms.now c.intern_trait_ref.new.terms c.intern_trait_ref.ensures.kept c.args.args.now c.requires.args) (c.in_ok-outcome.ensures.says m s)
+    subst (λ ys. Says ((level_in c.args.setting.now m c.args.depth).const_holds c.args.const_goal.now.constness c.args.const_goal.now.trait_id ys) ((level_in c.args.setting.now m c.args.depth).const_refuted c.args.const_goal.now.constness c.args.const_goal.now.trait_id ys) c.in_ok-outcome.outcome)
+    (all_same-grown c.args.terms.now c.intern_trait_ref.new.terms c.intern_trait_ref.ensures.kept c.args.const_goal.now.args.now c.requires.args) (c.in_ok-outcome.ensures.says m s)
 
 pub normalizes_to::alias_terms::alias_term-returns-in-Some-clause-within : goal.normalizes_to::alias_terms::alias_term-returns-in-Some-clause-within
 normalizes_to::alias_terms::alias_term-returns-in-Some-clause-within t c =
@@ -1648,6 +1647,6 @@ normalizes_to::projections::item_term-evaluate_trait_goal-requires t c = (
   omega (arith, c.decreases),
   (
     sound-aside _ _ _ _ c.leave_out_regions-lists.ensures.aside c.requires.effects,
-    subst (AreIn c.args.terms.now) (sym c.first_of-trait_args.ensures) (All-take (IsIn c.args.terms.now) c.len-trait_params.result c.args.args.now c.requires.args),
+    subst (AreIn c.args.terms.now) (sym c.first_of-trait_args.ensures) (All-take (IsIn c.args.terms.now) c.len-trait_params.result c.args.alias.now.args.now c.requires.args),
   ),
 )

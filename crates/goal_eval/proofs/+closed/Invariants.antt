@@ -151,7 +151,7 @@ invariant-relate::header_parts::known_args-loop-i l = record {
   effects : AreSound l.setting l.terms l.effects;
   within : KnownIn l.terms l.known.items;
   count : length l.known.items ≡ l.i;
-  says : KnownOutcome l.setting l.depth (header_terms l.header) (erased_all l.initial.terms l.given) (take l.i l.params) (known_trees l.terms l.known.items);
+  says : KnownOutcome l.setting l.depth (header_terms l.asked.header.now) (erased_all l.initial.terms l.asked.given.now) (take l.i l.asked.params.now) (known_trees l.terms l.known.items);
 }
 
 abbrev pub invariant-relate::header_clashes::any_clash-loop-i : goal.invariant-relate::header_clashes::any_clash-loop-i
@@ -159,7 +159,7 @@ invariant-relate::header_clashes::any_clash-loop-i l = record {
   kept : Keeps l.initial.terms l.terms;
   effects : AreSound l.setting l.terms l.effects;
   none : (m : TypingMode) → RunsFor l.setting m →
-      Exists (ClashAt (level_in l.setting m l.depth) (known_trees l.initial.terms l.known) l.initial.terms) (take l.i l.questions) → ⊥;
+      Exists (ClashAt (level_in l.setting m l.depth) (known_trees l.initial.terms l.filled.known.now) l.initial.terms) (take l.i l.questions) → ⊥;
 }
 
 abbrev pub invariant-normalizes_to::projections::group_term-loop-candidate :

@@ -22,6 +22,14 @@ use goal_terms::predicates::BoundConstness;
 use goal_terms::term_nodes::TermId;
 use goal_terms::term_table::TermTable;
 
+/// A trait with its arguments, which is asked as a const trait of a constness.
+#[derive(Clone, Copy)]
+pub struct ConstGoal<'a> {
+    pub constness: BoundConstness,
+    pub trait_id: TraitId,
+    pub args: &'a [TermId],
+}
+
 /// Whether a trait holds at a depth as a const trait of a constness. What an evaluation knows isn't evaluated
 /// again.
 #[tactic(auto, using(crate::proofs::CacheLemmas::caching))]
@@ -30,29 +38,30 @@ pub(crate) fn evaluate_host_effect_goal(
     setting: &Setting<'_>,
     terms: &mut TermTable,
     effects: &mut Effects,
-    constness: BoundConstness,
-    trait_id: TraitId,
-    args: &[TermId],
+    const_goal: &ConstGoal<'_>,
     depth: u32,
 ) -> Result<Outcome, Stop>
     requires effects { AreSound setting.now terms.old effects.old }
-    requires args { AreIn terms.old args.now }
+    requires args { AreIn terms.old const_goal.now.args.now }
     ensures effects { AreSound setting.now terms.new effects.new }
     ensures kept { Keeps terms.old terms.new }
     ensures stops { IfErr result (IsStop setting.now) }
-    ensures says { ForEachMode setting.now depth (λ _ L. IfOk result (SaysConst L constness trait_id (erased_all terms.old args.now))) }
+    ensures says { ForEachMode setting.now depth (λ _ L. IfOk result (SaysConst L const_goal.now.constness const_goal.now.trait_id (erased_all terms.old const_goal.now.args.now))) }
 {
     if depth == 0 {
         return Ok(Outcome::Undecided);
     }
+    let ConstGoal {
+        constness,
+        trait_id,
+        args,
+    } = *const_goal;
     let goal = intern_trait_ref(setting.allocator(), terms, trait_id, args)?;
     if let Some(known) = effects.known_const(constness, goal, depth)? {
         return Ok(known);
     }
     let before = effects.begin_goal();
-    let outcome = fresh_host_effect_outcome(
-        setting, terms, effects, constness, trait_id, args, depth,
-    )?;
+    let outcome = fresh_host_effect_outcome(setting, terms, effects, const_goal, depth)?;
     effects.end_goal(KeptGoal::Const(constness, goal), before, outcome)?;
     effects.cache.keep_const(constness, goal, depth, outcome);
     Ok(outcome)
@@ -66,19 +75,22 @@ fn fresh_host_effect_outcome(
     setting: &Setting<'_>,
     terms: &mut TermTable,
     effects: &mut Effects,
-    constness: BoundConstness,
-    trait_id: TraitId,
-    args: &[TermId],
+    const_goal: &ConstGoal<'_>,
     depth: u32,
 ) -> Result<Outcome, Stop>
     requires effects { AreSound setting.now terms.old effects.old }
-    requires args { AreIn terms.old args.now }
+    requires args { AreIn terms.old const_goal.now.args.now }
     requires above { depth ≢ 0 }
     ensures effects { AreSound setting.now terms.new effects.new }
     ensures kept { Keeps terms.old terms.new }
     ensures stops { IfErr result (IsStop setting.now) }
-    ensures says { ForEachMode setting.now depth (λ _ L. IfOk result (SaysConst L constness trait_id (erased_all terms.old args.now))) }
+    ensures says { ForEachMode setting.now depth (λ _ L. IfOk result (SaysConst L const_goal.now.constness const_goal.now.trait_id (erased_all terms.old const_goal.now.args.now))) }
 {
+    let ConstGoal {
+        constness,
+        trait_id,
+        args,
+    } = *const_goal;
     let Some((first, rest)) = split_self_type(args) else {
         return Ok(Outcome::Undecided);
     };

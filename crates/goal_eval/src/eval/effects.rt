@@ -14,12 +14,22 @@ use std::alloc::Global;
 
 /// The opaque accesses and the delayed faults that an evaluation met, each once, in the order of first entry;
 /// what it lists of lifetimes; and the answers that it keeps while it lasts.
-#[derive(Drop)]
 pub struct Effects {
     pub accesses: Vec<OpaqueAccess>,
     pub delayed_faults: Vec<DelayedFault>,
     pub cache: EvaluationCache,
     pub regions: ListedRegions,
+}
+
+impl Drop for Effects {
+    fn drop(self) {
+        let Effects {
+            accesses: _,
+            delayed_faults: _,
+            cache: _,
+            regions: _,
+        } = self;
+    }
 }
 
 impl Effects {

@@ -105,12 +105,22 @@ impl<A: Copy> Answered<A> {
 
 /// What an evaluation keeps: of trait goals, of const trait goals by their constness, and of aliases. It is for
 /// one setting and one table of terms.
-#[derive(Drop)]
 pub struct EvaluationCache {
     pub traits: Answered<TraitOutcome>,
     pub consts: Answered<Outcome>,
     pub maybe_consts: Answered<Outcome>,
     pub aliases: Answered<Found>,
+}
+
+impl Drop for EvaluationCache {
+    fn drop(self) {
+        let EvaluationCache {
+            traits: _,
+            consts: _,
+            maybe_consts: _,
+            aliases: _,
+        } = self;
+    }
 }
 
 impl EvaluationCache {

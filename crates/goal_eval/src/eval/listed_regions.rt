@@ -32,7 +32,6 @@ pub struct RegionMark {
 
 /// The equations of lifetimes that an evaluation lists, and the region variables that it makes for them. What a
 /// kept answer lists stands once, and is named wherever the answer is used.
-#[derive(Drop)]
 pub struct ListedRegions {
     /// Whether equations are listed, and the lifetimes of impls are variables.
     lists: bool,
@@ -44,6 +43,20 @@ pub struct ListedRegions {
     answers: Vec<Vec<Listed>>,
     /// Which answer lists what belongs to a goal; none where that was left out.
     goals: IndexMap<KeptGoal, Option<usize>>,
+}
+
+impl Drop for ListedRegions {
+    fn drop(self) {
+        let ListedRegions {
+            lists: _,
+            left_out: _,
+            base: _,
+            next: _,
+            listed: _,
+            answers: _,
+            goals: _,
+        } = self;
+    }
 }
 
 impl ListedRegions {

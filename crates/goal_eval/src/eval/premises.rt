@@ -7,7 +7,7 @@ ghost use Rattle.goal_lists.specs.Premises.{clauses_under, conditions_as};
 ghost use Rattle.goal_eval.specs.Outcomes.{ForEachMode, SaysHolds, SaysEquation, SaysPremise, SaysPremises};
 ghost use Rattle.goal_eval.specs.Effects.{AreSound, IsStop};
 
-use crate::effect_goals::evaluation::evaluate_host_effect_goal;
+use crate::effect_goals::evaluation::{ConstGoal, evaluate_host_effect_goal};
 use crate::eval::effects::Effects;
 use crate::eval::outcomes::{Setting, Stop};
 use crate::relate::equality::compare_terms;
@@ -77,15 +77,12 @@ pub fn predicate_outcome(
             equation_outcome(setting, terms, effects, *alias, *term, depth)
         }
         InternedPredicate::HostEffect(constness, held) => {
-            evaluate_host_effect_goal(
-                setting,
-                terms,
-                effects,
-                *constness,
-                held.def_id,
-                &held.args,
-                depth,
-            )
+            let const_goal = ConstGoal {
+                constness: *constness,
+                trait_id: held.def_id,
+                args: &held.args,
+            };
+            evaluate_host_effect_goal(setting, terms, effects, &const_goal, depth)
         }
     }
 }
@@ -182,15 +179,12 @@ pub(crate) fn conditions_outcome(
 {
     let mut found = Outcome::Holds;
     for condition in conditions {
-        let next = evaluate_host_effect_goal(
-            setting,
-            terms,
-            effects,
+        let const_goal = ConstGoal {
             constness,
-            condition.def_id,
-            &condition.args,
-            depth,
-        )?;
+            trait_id: condition.def_id,
+            args: &condition.args,
+        };
+        let next = evaluate_host_effect_goal(setting, terms, effects, &const_goal, depth)?;
         found = found.and(next);
         if let Outcome::Refuted = found {
             return Ok(Outcome::Refuted);

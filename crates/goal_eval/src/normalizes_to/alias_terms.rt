@@ -15,7 +15,7 @@ use crate::eval::listed_regions::KeptGoal;
 use crate::eval::lists::run_list;
 use crate::eval::outcomes::{Found, Setting, Stop};
 use crate::normalizes_to::projection_args::intern_alias;
-use crate::normalizes_to::projections::projection_term;
+use crate::normalizes_to::projections::{AliasWithArgs, projection_term};
 use goal_lists::lists::InternedEntry;
 use goal_lists::lists::aliases::alias_list;
 use goal_terms::modes::TypingMode;
@@ -79,7 +79,8 @@ fn fresh_alias_term(
 {
     match kind {
         AliasTermKind::ProjectionTy(item) | AliasTermKind::ProjectionConst(item) => {
-            projection_term(setting, terms, effects, kind, item, args, depth - 1)
+            let alias = AliasWithArgs { kind, args };
+            projection_term(setting, terms, effects, &alias, item, depth - 1)
         }
         _ => {
             let list = list_of_alias(setting, terms, kind, args)?;

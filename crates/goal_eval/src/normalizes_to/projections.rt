@@ -39,24 +39,47 @@ pub struct Given<'e> {
     pub args: &'e [TermId],
 }
 
+/// An alias with its arguments.
+#[derive(Clone, Copy)]
+pub struct AliasWithArgs<'e> {
+    pub kind: AliasTermKind,
+    pub args: &'e [TermId],
+}
+
+/// The rows of an item and of its trait.
+#[derive(Clone, Copy)]
+pub struct ItemRows<'e> {
+    pub item: &'e ItemRow,
+    pub trait_row: &'e TraitRow,
+}
+
+/// A projection whose trait goal holds through a class: the head form of its self type, the projection with
+/// this, and the alias as it was given.
+#[derive(Clone, Copy)]
+pub struct ProvenProjection<'e> {
+    pub projection: Projection<'e>,
+    pub self_ty: TermId,
+    pub given: TermId,
+    pub class: TraitGoalProvenVia,
+}
+
 /// The term that a projection of an item has, one above a depth.
 #[cycle(closed)]
 pub(crate) fn projection_term(
     setting: &Setting<'_>,
     terms: &mut TermTable,
     effects: &mut Effects,
-    kind: AliasTermKind,
+    alias: &AliasWithArgs<'_>,
     item: ItemId,
-    args: &[TermId],
     depth: u32,
 ) -> Result<Found, Stop>
     requires effects { AreSound setting.now terms.old effects.old }
-    requires args { AreIn terms.old args.now }
+    requires args { AreIn terms.old alias.now.args.now }
     ensures effects { AreSound setting.now terms.new effects.new }
     ensures kept { Keeps terms.old terms.new }
     ensures within { IfOk result (FoundIn terms.new) }
     ensures stops { IfErr result (IsStop setting.now) }
-    ensures says { ForEachMode setting.now depth (λ S L. IfOk result (SaysProjection S L kind item (erased_all terms.old args.now) terms.new)) }
+    ensures says { ForEachMode setting.now depth (λ S L. IfOk result (SaysProjection S L alias.now.kind item (erased_all terms.old alias.now.args.now) terms.new)) }
 {
     let Some(row) = setting.rows.item_row(item) else {
         return Ok(Found::Undecided);
@@ -64,7 +87,11 @@ pub(crate) fn projection_term(
     let Some(trait_row) = setting.rows.trait_row(row.trait_id) else {
         return Ok(Found::Undecided);
     };
-    item_term(setting, terms, effects, kind, row, trait_row, args, depth)
+    let rows = ItemRows {
+        item: row,
+        trait_row,
+    };
+    item_term(setting, terms, effects, alias, &rows, depth)
 }
 
 /// The term that a projection has by its item's row and its trait's.
@@ -74,24 +101,24 @@ fn item_term(
     setting: &Setting<'_>,
     terms: &mut TermTable,
     effects: &mut Effects,
-    kind: AliasTermKind,
-    item: &ItemRow,
-    trait_row: &TraitRow,
-    args: &[TermId],
+    alias: &AliasWithArgs<'_>,
+    rows: &ItemRows<'_>,
     depth: u32,
 ) -> Result<Found, Stop>
     requires effects { AreSound setting.now terms.old effects.old }
-    requires args { AreIn terms.old args.now }
+    requires args { AreIn terms.old alias.now.args.now }
     ensures effects { AreSound setting.now terms.new effects.new }
     ensures kept { Keeps terms.old terms.new }
     ensures within { IfOk result (FoundIn terms.new) }
     ensures stops { IfErr result (IsStop setting.now) }
-    ensures says { ForEachMode setting.now depth (λ S L. IfOk result (SaysItem S L kind (erased_all terms.old args.now) item.now trait_row.now terms.new)) }
+    ensures says { ForEachMode setting.now depth (λ S L. IfOk result (SaysItem S L alias.now.kind (erased_all terms.old alias.now.args.now) rows.now.item.now rows.now.trait_row.now terms.new)) }
 {
+    let AliasWithArgs { kind, args } = *alias;
     if args.is_empty() {
         return Ok(Found::Undecided);
     }
-    let trait_params = trait_row.params.len();
+    let item = rows.item;
+    let trait_params = rows.trait_row.params.len();
     let trait_args = first_of(args, trait_params);
     let lists = effects.leave_out_regions();
     let plain = evaluate_trait_goal(setting, terms, effects, item.trait_id, trait_args, depth)?;
@@ -169,16 +196,13 @@ fn replaced_term(
         args: args.as_slice(),
         rigid_alias,
     };
-    groups_term(
-        setting,
-        terms,
-        effects,
-        &projection,
+    let proven = ProvenProjection {
+        projection,
         self_ty,
-        alias,
-        given.class,
-        depth,
-    )
+        given: alias,
+        class: given.class,
+    };
+    groups_term(setting, terms, effects, &proven, depth)
 }
 
 /// The term of a projection by the groups of candidates.
@@ -187,28 +211,24 @@ fn groups_term(
     setting: &Setting<'_>,
     terms: &mut TermTable,
     effects: &mut Effects,
-    projection: &Projection<'_>,
-    self_ty: TermId,
-    given: TermId,
-    class: TraitGoalProvenVia,
+    proven: &ProvenProjection<'_>,
     depth: u32,
 ) -> Result<Found, Stop>
     requires effects { AreSound setting.now terms.old effects.old }
-    requires projection { ProjectionIn terms.old projection.now }
-    requires self_ty { IsIn terms.old self_ty }
-    requires given { IsIn terms.old given }
+    requires projection { ProjectionIn terms.old proven.now.projection }
+    requires self_ty { IsIn terms.old proven.now.self_ty }
+    requires given { IsIn terms.old proven.now.given }
     ensures effects { AreSound setting.now terms.new effects.new }
     ensures kept { Keeps terms.old terms.new }
     ensures within { IfOk result (FoundIn terms.new) }
     ensures stops { IfErr result (IsStop setting.now) }
-    ensures says { ForEachMode setting.now depth (λ S L. IfOk result (SaysBothGroups S L terms.old projection.now self_ty given class terms.new)) }
+    ensures says { ForEachMode setting.now depth (λ S L. IfOk result (SaysBothGroups S L terms.old proven.now.projection proven.now.self_ty proven.now.given proven.now.class terms.new)) }
 {
-    match environment_term(setting, terms, effects, projection, self_ty, depth)? {
+    let projection = &proven.projection;
+    match environment_term(setting, terms, effects, projection, proven.self_ty, depth)? {
         Found::Undecided => Ok(Found::Undecided),
         Found::Is(term) => own_args_normalized(setting, terms, effects, projection, term, depth),
-        Found::Refuted => later_term(
-            setting, terms, effects, projection, self_ty, given, class, depth,
-        ),
+        Found::Refuted => later_term(setting, terms, effects, proven, depth),
     }
 }
 
@@ -218,31 +238,29 @@ fn later_term(
     setting: &Setting<'_>,
     terms: &mut TermTable,
     effects: &mut Effects,
-    projection: &Projection<'_>,
-    self_ty: TermId,
-    given: TermId,
-    class: TraitGoalProvenVia,
+    proven: &ProvenProjection<'_>,
     depth: u32,
 ) -> Result<Found, Stop>
     requires effects { AreSound setting.now terms.old effects.old }
-    requires projection { ProjectionIn terms.old projection.now }
-    requires self_ty { IsIn terms.old self_ty }
-    requires given { IsIn terms.old given }
+    requires projection { ProjectionIn terms.old proven.now.projection }
+    requires self_ty { IsIn terms.old proven.now.self_ty }
+    requires given { IsIn terms.old proven.now.given }
     ensures effects { AreSound setting.now terms.new effects.new }
     ensures kept { Keeps terms.old terms.new }
     ensures within { IfOk result (FoundIn terms.new) }
     ensures stops { IfErr result (IsStop setting.now) }
-    ensures says { ForEachMode setting.now depth (λ S L. IfOk result (SaysLaterGroup S L terms.old projection.now self_ty given class terms.new)) }
+    ensures says { ForEachMode setting.now depth (λ S L. IfOk result (SaysLaterGroup S L terms.old proven.now.projection proven.now.self_ty proven.now.given proven.now.class terms.new)) }
 {
-    match second_term(setting, terms, effects, projection, self_ty, class, depth)? {
+    let class = proven.class;
+    match second_term(setting, terms, effects, proven, depth)? {
         Found::Undecided => Ok(Found::Undecided),
         Found::Refuted => match class {
             TraitGoalProvenVia::Misc => Ok(Found::Refuted),
-            _ => Ok(Found::Is(given)),
+            _ => Ok(Found::Is(proven.given)),
         },
         Found::Is(term) => match class {
             TraitGoalProvenVia::Misc => Ok(Found::Is(term)),
-            _ => own_args_normalized(setting, terms, effects, projection, term, depth),
+            _ => own_args_normalized(setting, terms, effects, &proven.projection, term, depth),
         },
     }
 }
@@ -292,26 +310,25 @@ fn second_term(
     setting: &Setting<'_>,
     terms: &mut TermTable,
     effects: &mut Effects,
-    projection: &Projection<'_>,
-    self_ty: TermId,
-    class: TraitGoalProvenVia,
+    proven: &ProvenProjection<'_>,
     depth: u32,
 ) -> Result<Found, Stop>
     requires effects { AreSound setting.now terms.old effects.old }
-    requires projection { ProjectionIn terms.old projection.now }
-    requires self_ty { IsIn terms.old self_ty }
+    requires projection { ProjectionIn terms.old proven.now.projection }
+    requires self_ty { IsIn terms.old proven.now.self_ty }
     ensures effects { AreSound setting.now terms.new effects.new }
     ensures kept { Keeps terms.old terms.new }
     ensures within { IfOk result (FoundIn terms.new) }
     ensures stops { IfErr result (IsStop setting.now) }
-    ensures says { ForEachMode setting.now depth (λ S L. IfOk result (SaysGroup S L terms.old projection.now (second_at S terms.old projection.now self_ty class) terms.new)) }
+    ensures says { ForEachMode setting.now depth (λ S L. IfOk result (SaysGroup S L terms.old proven.now.projection (second_at S terms.old proven.now.projection proven.now.self_ty proven.now.class) terms.new)) }
 {
+    let projection = &proven.projection;
     let sought = Sought {
         trait_id: projection.item.trait_id,
-        self_ty,
+        self_ty: proven.self_ty,
         args: first_of(projection.args, projection.trait_params),
     };
-    let candidates = second_group(setting.rows, terms, &sought, class)?;
+    let candidates = second_group(setting.rows, terms, &sought, proven.class)?;
     group_term(
         setting,
         terms,

@@ -20,6 +20,14 @@ use goal_terms::terms::GenericArg;
 use goal_terms::view::TermRef;
 use std::alloc::Global;
 
+/// What is known of each parameter of a header, and the arguments for them: the known terms, and for the
+/// others lifetimes of their own.
+#[derive(Drop)]
+pub struct FilledArgs<'e> {
+    pub known: &'e [Option<TermId>],
+    pub args: Vec<TermId>,
+}
+
 /// Whether the parameter of a number, if there is one, isn't known.
 fn is_missing(known: &[Option<TermId>], number: Option<u32>) -> bool
     ensures { result ≡ is_missing known.now number }

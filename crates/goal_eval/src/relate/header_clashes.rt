@@ -12,14 +12,13 @@ use crate::eval::effects::Effects;
 use crate::eval::head_forms::head_form;
 use crate::eval::outcomes::{Found, Setting, Stop};
 use crate::relate::equality::compare_terms;
-use crate::relate::header_args::{instance_of, mentions_unknown};
+use crate::relate::header_args::{FilledArgs, instance_of, mentions_unknown};
+use crate::relate::header_places::Against;
 use crate::relate::header_questions::{Question, questions_of, questions_of_args};
+use crate::relate::headers::AskedHeader;
 use goal_lists::outcomes::Outcome;
 use goal_terms::compare::Regions;
-use goal_terms::term_nodes::TermId;
 use goal_terms::term_table::TermTable;
-use goal_terms::terms::GenericArg;
-use goal_terms::view::TermRef;
 
 /// Whether the instance of a header's parameter or alias, whose parameters are known, is unequal to a
 /// given term.
@@ -29,27 +28,25 @@ fn instance_clashes(
     setting: &Setting<'_>,
     terms: &mut TermTable,
     effects: &mut Effects,
-    known: &[Option<TermId>],
-    args: &[TermId],
-    header: TermRef<'_>,
-    given: TermId,
+    filled: &FilledArgs<'_>,
+    against: Against<'_>,
     depth: u32,
 ) -> Result<bool, Stop>
     requires effects { AreSound setting.now terms.old effects.old }
-    requires known { KnownIn terms.old known.now }
-    requires args { AreIn terms.old args.now }
-    requires fills { Fills known.now args.now }
-    requires within { QuestionIn terms.old (Question.Instance header given) }
+    requires known { KnownIn terms.old filled.now.known.now }
+    requires args { AreIn terms.old filled.now.args.items }
+    requires fills { Fills filled.now.known.now filled.now.args.items }
+    requires within { QuestionIn terms.old (Question.Instance against.header against.given) }
     ensures effects { AreSound setting.now terms.new effects.new }
     ensures kept { Keeps terms.old terms.new }
     ensures stops { IfErr result (IsStop setting.now) }
-    ensures says { IfOk result (TestOutcome setting.now depth (λ L. L.clash (IsKnown (known_trees terms.old known.now)) (erased_ref header.entry) (erased_at terms.old given))) }
+    ensures says { IfOk result (TestOutcome setting.now depth (λ L. L.clash (IsKnown (known_trees terms.old filled.now.known.now)) (erased_ref against.entry.header) (erased_at terms.old against.entry.given))) }
 {
-    if mentions_unknown(known, header) {
+    if mentions_unknown(filled.known, against.header) {
         return Ok(false);
     }
-    let instance = instance_of(terms, header, args)?;
-    match compare_terms(setting, terms, effects, instance, given, depth)? {
+    let instance = instance_of(terms, against.header, &filled.args)?;
+    match compare_terms(setting, terms, effects, instance, against.given, depth)? {
         Outcome::Refuted => Ok(true),
         Outcome::Holds => Ok(false),
         Outcome::Undecided => Ok(false),
@@ -62,28 +59,29 @@ fn question_clashes(
     setting: &Setting<'_>,
     terms: &mut TermTable,
     effects: &mut Effects,
-    known: &[Option<TermId>],
-    args: &[TermId],
+    filled: &FilledArgs<'_>,
     question: Question<'_>,
     depth: u32,
 ) -> Result<bool, Stop>
     requires effects { AreSound setting.now terms.old effects.old }
-    requires known { KnownIn terms.old known.now }
-    requires args { AreIn terms.old args.now }
-    requires fills { Fills known.now args.now }
+    requires known { KnownIn terms.old filled.now.known.now }
+    requires args { AreIn terms.old filled.now.args.items }
+    requires fills { Fills filled.now.known.now filled.now.args.items }
     requires within { QuestionIn terms.old question }
     ensures effects { AreSound setting.now terms.new effects.new }
     ensures kept { Keeps terms.old terms.new }
     ensures stops { IfErr result (IsStop setting.now) }
-    ensures says { IfOk result (TestOutcome setting.now depth (λ L. ClashAt L (known_trees terms.old known.now) terms.old question.entry)) }
+    ensures says { IfOk result (TestOutcome setting.now depth (λ L. ClashAt L (known_trees terms.old filled.now.known.now) terms.old question.entry)) }
 {
     match question {
         Question::Differs => Ok(true),
         Question::Instance(header, given) => {
-            instance_clashes(setting, terms, effects, known, args, header, given, depth)
+            let against = Against { header, given };
+            instance_clashes(setting, terms, effects, filled, against, depth)
         }
         Question::Behind(header, given) => {
-            behind_clashes(setting, terms, effects, known, args, header, given, depth)
+            let against = Against { header, given };
+            behind_clashes(setting, terms, effects, filled, against, depth)
         }
     }
 }
@@ -94,42 +92,36 @@ fn behind_clashes(
     setting: &Setting<'_>,
     terms: &mut TermTable,
     effects: &mut Effects,
-    known: &[Option<TermId>],
-    args: &[TermId],
-    header: TermRef<'_>,
-    given: TermId,
+    filled: &FilledArgs<'_>,
+    against: Against<'_>,
     depth: u32,
 ) -> Result<bool, Stop>
     requires effects { AreSound setting.now terms.old effects.old }
-    requires known { KnownIn terms.old known.now }
-    requires args { AreIn terms.old args.now }
-    requires fills { Fills known.now args.now }
-    requires within { IsBehind terms.old is_any header given }
+    requires known { KnownIn terms.old filled.now.known.now }
+    requires args { AreIn terms.old filled.now.args.items }
+    requires fills { Fills filled.now.known.now filled.now.args.items }
+    requires within { IsBehind terms.old is_any against.header against.given }
     ensures effects { AreSound setting.now terms.new effects.new }
     ensures kept { Keeps terms.old terms.new }
     ensures stops { IfErr result (IsStop setting.now) }
-    ensures says { IfOk result (TestOutcome setting.now depth (λ L. L.clash (IsKnown (known_trees terms.old known.now)) (erased_ref header.entry) (erased_at terms.old given))) }
+    ensures says { IfOk result (TestOutcome setting.now depth (λ L. L.clash (IsKnown (known_trees terms.old filled.now.known.now)) (erased_ref against.entry.header) (erased_at terms.old against.entry.given))) }
 {
     if depth == 0 {
         return Ok(false);
     }
-    match head_form(setting, terms, effects, given, depth - 1)? {
+    let header = against.header;
+    match head_form(setting, terms, effects, against.given, depth - 1)? {
         Found::Refuted => Ok(true),
         Found::Undecided => Ok(false),
         Found::Is(form) => {
             if !header.node().is_same(terms.node(form), Regions::Forgotten) {
                 return Ok(true);
             }
-            form_clashes(
-                setting,
-                terms,
-                effects,
-                known,
-                args,
+            let formed = Against {
                 header,
-                form,
-                depth - 1,
-            )
+                given: form,
+            };
+            form_clashes(setting, terms, effects, filled, formed, depth - 1)
         }
     }
 }
@@ -140,24 +132,22 @@ fn form_clashes(
     setting: &Setting<'_>,
     terms: &mut TermTable,
     effects: &mut Effects,
-    known: &[Option<TermId>],
-    args: &[TermId],
-    header: TermRef<'_>,
-    given: TermId,
+    filled: &FilledArgs<'_>,
+    against: Against<'_>,
     depth: u32,
 ) -> Result<bool, Stop>
     requires effects { AreSound setting.now terms.old effects.old }
-    requires known { KnownIn terms.old known.now }
-    requires args { AreIn terms.old args.now }
-    requires fills { Fills known.now args.now }
-    requires within { IsIn terms.old given }
+    requires known { KnownIn terms.old filled.now.known.now }
+    requires args { AreIn terms.old filled.now.args.items }
+    requires fills { Fills filled.now.known.now filled.now.args.items }
+    requires within { IsIn terms.old against.given }
     ensures effects { AreSound setting.now terms.new effects.new }
     ensures kept { Keeps terms.old terms.new }
     ensures stops { IfErr result (IsStop setting.now) }
-    ensures says { IfOk result (TestOutcome setting.now depth (λ L. L.clash (IsKnown (known_trees terms.old known.now)) (erased_ref header.entry) (erased_at terms.old given))) }
+    ensures says { IfOk result (TestOutcome setting.now depth (λ L. L.clash (IsKnown (known_trees terms.old filled.now.known.now)) (erased_ref against.entry.header) (erased_at terms.old against.entry.given))) }
 {
-    let questions = questions_of(setting.allocator(), terms, header, given)?;
-    any_clash(setting, terms, effects, known, args, &questions, depth)
+    let questions = questions_of(setting.allocator(), terms, against.header, against.given)?;
+    any_clash(setting, terms, effects, filled, &questions, depth)
 }
 
 /// Whether some question has the answer that header and given term clash.
@@ -166,23 +156,22 @@ fn any_clash(
     setting: &Setting<'_>,
     terms: &mut TermTable,
     effects: &mut Effects,
-    known: &[Option<TermId>],
-    args: &[TermId],
+    filled: &FilledArgs<'_>,
     questions: &[Question<'_>],
     depth: u32,
 ) -> Result<bool, Stop>
     requires effects { AreSound setting.now terms.old effects.old }
-    requires known { KnownIn terms.old known.now }
-    requires args { AreIn terms.old args.now }
-    requires fills { Fills known.now args.now }
+    requires known { KnownIn terms.old filled.now.known.now }
+    requires args { AreIn terms.old filled.now.args.items }
+    requires fills { Fills filled.now.known.now filled.now.args.items }
     requires within { All (QuestionIn terms.old) questions.now }
     ensures effects { AreSound setting.now terms.new effects.new }
     ensures kept { Keeps terms.old terms.new }
     ensures stops { IfErr result (IsStop setting.now) }
-    ensures says { IfOk result (TestOutcome setting.now depth (λ L. Exists (ClashAt L (known_trees terms.old known.now) terms.old) questions.now)) }
+    ensures says { IfOk result (TestOutcome setting.now depth (λ L. Exists (ClashAt L (known_trees terms.old filled.now.known.now) terms.old) questions.now)) }
 {
     for i in 0..questions.len() {
-        if question_clashes(setting, terms, effects, known, args, questions[i], depth)? {
+        if question_clashes(setting, terms, effects, filled, questions[i], depth)? {
             return Ok(true);
         }
     }
@@ -195,22 +184,20 @@ pub(crate) fn header_clashes(
     setting: &Setting<'_>,
     terms: &mut TermTable,
     effects: &mut Effects,
-    header: &[GenericArg],
-    given: &[TermId],
-    known: &[Option<TermId>],
-    args: &[TermId],
+    asked: &AskedHeader<'_>,
+    filled: &FilledArgs<'_>,
     depth: u32,
 ) -> Result<bool, Stop>
     requires effects { AreSound setting.now terms.old effects.old }
-    requires given { AreIn terms.old given.now }
-    requires known { KnownIn terms.old known.now }
-    requires args { AreIn terms.old args.now }
-    requires fills { Fills known.now args.now }
+    requires given { AreIn terms.old asked.now.given.now }
+    requires known { KnownIn terms.old filled.now.known.now }
+    requires args { AreIn terms.old filled.now.args.items }
+    requires fills { Fills filled.now.known.now filled.now.args.items }
     ensures effects { AreSound setting.now terms.new effects.new }
     ensures kept { Keeps terms.old terms.new }
     ensures stops { IfErr result (IsStop setting.now) }
-    ensures says { IfOk result (TestOutcome setting.now depth (λ L. SomeClash L (known_trees terms.old known.now) (header_terms header.now) (erased_all terms.old given.now))) }
+    ensures says { IfOk result (TestOutcome setting.now depth (λ L. SomeClash L (known_trees terms.old filled.now.known.now) (header_terms asked.now.header.now) (erased_all terms.old asked.now.given.now))) }
 {
-    let questions = questions_of_args(setting.allocator(), terms, header, given)?;
-    any_clash(setting, terms, effects, known, args, &questions, depth)
+    let questions = questions_of_args(setting.allocator(), terms, asked.header, asked.given)?;
+    any_clash(setting, terms, effects, filled, &questions, depth)
 }

@@ -11,13 +11,20 @@ use crate::eval::effects::Effects;
 use crate::eval::head_forms::head_form;
 use crate::eval::outcomes::{Found, Setting, Stop};
 use crate::relate::header_args::add_known;
-use crate::relate::header_places::{Place, find_among, find_place};
+use crate::relate::header_places::{Against, Place, find_among, find_place};
+use crate::relate::headers::AskedHeader;
 use goal_terms::answers::ParamKind;
 use goal_terms::compare::Regions;
 use goal_terms::term_nodes::TermId;
 use goal_terms::term_table::TermTable;
-use goal_terms::terms::GenericArg;
-use goal_terms::view::{Parts, TermRef};
+use goal_terms::view::Parts;
+
+/// A parameter of a header: its number, and its kind.
+#[derive(Clone, Copy)]
+pub struct NumberedParam {
+    pub number: usize,
+    pub kind: ParamKind,
+}
 
 /// The term of a parameter at a depth, from where its first place leads to.
 #[cycle(closed)]
@@ -40,9 +47,10 @@ fn part_at(
     match place {
         Place::Is(id) => Ok(Some(id)),
         Place::Missing => Ok(None),
-        Place::Behind(header, given) => part_behind(
-            setting, terms, effects, number, header, given, depth,
-        ),
+        Place::Behind(header, given) => {
+            let against = Against { header, given };
+            part_behind(setting, terms, effects, number, against, depth)
+        }
     }
 }
 
@@ -53,22 +61,22 @@ fn part_behind(
     terms: &mut TermTable,
     effects: &mut Effects,
     number: usize,
-    header: TermRef<'_>,
-    given: TermId,
+    against: Against<'_>,
     depth: u32,
 ) -> Result<Option<TermId>, Stop>
     requires effects { AreSound setting.now terms.old effects.old }
-    requires within { IsBehind terms.old (is_this number) header given }
+    requires within { IsBehind terms.old (is_this number) against.header against.given }
     ensures effects { AreSound setting.now terms.new effects.new }
     ensures kept { Keeps terms.old terms.new }
     ensures within { IfOk result (OptionIn terms.new) }
     ensures stops { IfErr result (IsStop setting.now) }
-    ensures says { IfOk result (PartOutcome setting.now depth (λ L. L.part number (erased_ref header.entry) (erased_at terms.old given)) terms.new) }
+    ensures says { IfOk result (PartOutcome setting.now depth (λ L. L.part number (erased_ref against.entry.header) (erased_at terms.old against.entry.given)) terms.new) }
 {
     if depth == 0 {
         return Ok(None);
     }
-    match head_form(setting, terms, effects, given, depth - 1)? {
+    let header = against.header;
+    match head_form(setting, terms, effects, against.given, depth - 1)? {
         Found::Refuted => Ok(None),
         Found::Undecided => Ok(None),
         Found::Is(form) => {
@@ -88,46 +96,43 @@ fn known_part(
     terms: &mut TermTable,
     effects: &mut Effects,
     number: usize,
-    header: &[GenericArg],
-    given: &[TermId],
+    asked: &AskedHeader<'_>,
     depth: u32,
 ) -> Result<Option<TermId>, Stop>
     requires effects { AreSound setting.now terms.old effects.old }
-    requires given { AreIn terms.old given.now }
+    requires given { AreIn terms.old asked.now.given.now }
     ensures effects { AreSound setting.now terms.new effects.new }
     ensures kept { Keeps terms.old terms.new }
     ensures within { IfOk result (OptionIn terms.new) }
     ensures stops { IfErr result (IsStop setting.now) }
-    ensures says { IfOk result (PartOutcome setting.now depth (λ L. PartAmong L number (header_terms header.now) (erased_all terms.old given.now)) terms.new) }
+    ensures says { IfOk result (PartOutcome setting.now depth (λ L. PartAmong L number (header_terms asked.now.header.now) (erased_all terms.old asked.now.given.now)) terms.new) }
 {
-    let place = find_among(terms, number, Parts::Args(header), given);
+    let place = find_among(terms, number, Parts::Args(asked.header), asked.given);
     part_at(setting, terms, effects, number, place, depth)
 }
 
-/// The term of a parameter of a kind among the arguments of a header, if it is known at a depth.
+/// The term of a parameter among the arguments of a header, if it is known at a depth.
 #[cycle(closed)]
 fn known_arg(
     setting: &Setting<'_>,
     terms: &mut TermTable,
     effects: &mut Effects,
-    number: usize,
-    kind: ParamKind,
-    header: &[GenericArg],
-    given: &[TermId],
+    param: NumberedParam,
+    asked: &AskedHeader<'_>,
     depth: u32,
 ) -> Result<Option<TermId>, Stop>
     requires effects { AreSound setting.now terms.old effects.old }
-    requires given { AreIn terms.old given.now }
+    requires given { AreIn terms.old asked.now.given.now }
     ensures effects { AreSound setting.now terms.new effects.new }
     ensures kept { Keeps terms.old terms.new }
     ensures within { IfOk result (OptionIn terms.new) }
     ensures stops { IfErr result (IsStop setting.now) }
-    ensures says { IfOk result (TermOutcome setting.now depth (λ L. SaysKnown L (header_terms header.now) (erased_all terms.old given.now) kind number) terms.new) }
+    ensures says { IfOk result (TermOutcome setting.now depth (λ L. SaysKnown L (header_terms asked.now.header.now) (erased_all terms.old asked.now.given.now) param.kind param.number) terms.new) }
 {
-    match kind {
+    match param.kind {
         ParamKind::Lifetime => Ok(None),
-        ParamKind::Ty => known_part(setting, terms, effects, number, header, given, depth),
-        ParamKind::Const => known_part(setting, terms, effects, number, header, given, depth),
+        ParamKind::Ty => known_part(setting, terms, effects, param.number, asked, depth),
+        ParamKind::Const => known_part(setting, terms, effects, param.number, asked, depth),
     }
 }
 
@@ -137,23 +142,25 @@ pub(crate) fn known_args(
     setting: &Setting<'_>,
     terms: &mut TermTable,
     effects: &mut Effects,
-    params: &[ParamKind],
-    header: &[GenericArg],
-    given: &[TermId],
+    asked: &AskedHeader<'_>,
     depth: u32,
 ) -> Result<Vec<Option<TermId>>, Stop>
     requires effects { AreSound setting.now terms.old effects.old }
-    requires given { AreIn terms.old given.now }
+    requires given { AreIn terms.old asked.now.given.now }
     ensures effects { AreSound setting.now terms.new effects.new }
     ensures kept { Keeps terms.old terms.new }
     ensures within { IfOk result (λ known. KnownIn terms.new known.items) }
-    ensures count { IfOk result (λ known. length known.items ≡ length params.now) }
+    ensures count { IfOk result (λ known. length known.items ≡ length asked.now.params.now) }
     ensures stops { IfErr result (IsStop setting.now) }
-    ensures says { IfOk result (λ known. KnownOutcome setting.now depth (header_terms header.now) (erased_all terms.old given.now) params.now (known_trees terms.new known.items)) }
+    ensures says { IfOk result (λ known. KnownOutcome setting.now depth (header_terms asked.now.header.now) (erased_all terms.old asked.now.given.now) asked.now.params.now (known_trees terms.new known.items)) }
 {
     let mut known = Vec::new(setting.allocator());
-    for i in 0..params.len() {
-        let next = known_arg(setting, terms, effects, i, params[i], header, given, depth)?;
+    for i in 0..asked.params.len() {
+        let param = NumberedParam {
+            number: i,
+            kind: asked.params[i],
+        };
+        let next = known_arg(setting, terms, effects, param, asked, depth)?;
         add_known(&mut known, next)?;
     }
     Ok(known)

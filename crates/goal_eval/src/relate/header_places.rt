@@ -21,6 +21,13 @@ pub enum Place<'a> {
     Behind(TermRef<'a>, TermId),
 }
 
+/// A part of a header, and the given term against which it stands.
+#[derive(Clone, Copy)]
+pub struct Against<'a> {
+    pub header: TermRef<'a>,
+    pub given: TermId,
+}
+
 /// The number of the type or const parameter that a node is.
 pub(crate) fn parameter_at(node: Node) -> Option<u32>
     ensures { result ≡ parameter_at node }

@@ -9,7 +9,7 @@ ghost use Rattle.goal_eval.specs.Effects.{AreSound, IsStop};
 use crate::eval::effects::Effects;
 use crate::eval::outcomes::{HeaderMatch, Setting, Stop};
 use crate::relate::equality::compare_lists;
-use crate::relate::header_args::{filled_args, instances, is_complete};
+use crate::relate::header_args::{FilledArgs, filled_args, instances, is_complete};
 use crate::relate::header_clashes::header_clashes;
 use crate::relate::header_parts::known_args;
 use goal_lists::outcomes::Outcome;
@@ -18,6 +18,14 @@ use goal_terms::term_nodes::TermId;
 use goal_terms::term_table::TermTable;
 use goal_terms::terms::GenericArg;
 
+/// A header under its parameters, and the arguments that it is matched with.
+#[derive(Clone, Copy)]
+pub struct AskedHeader<'e> {
+    pub params: &'e [ParamKind],
+    pub header: &'e [GenericArg],
+    pub given: &'e [TermId],
+}
+
 /// Whether the instances of a header's arguments are equal to given ones.
 #[tactic(auto, using(crate::proofs::CacheLemmas::caching))]
 #[cycle(closed)]
@@ -25,21 +33,20 @@ fn instances_fit(
     setting: &Setting<'_>,
     terms: &mut TermTable,
     effects: &mut Effects,
-    header: &[GenericArg],
-    given: &[TermId],
+    asked: &AskedHeader<'_>,
     args: &[TermId],
     depth: u32,
 ) -> Result<bool, Stop>
     requires effects { AreSound setting.now terms.old effects.old }
-    requires given { AreIn terms.old given.now }
+    requires given { AreIn terms.old asked.now.given.now }
     requires args { AreIn terms.old args.now }
     ensures effects { AreSound setting.now terms.new effects.new }
     ensures kept { Keeps terms.old terms.new }
     ensures stops { IfErr result (IsStop setting.now) }
-    ensures says { IfOk result (TestOutcome setting.now depth (λ L. EqualUnder L (erased_all terms.old args.now) (header_terms header.now) (erased_all terms.old given.now))) }
+    ensures says { IfOk result (TestOutcome setting.now depth (λ L. EqualUnder L (erased_all terms.old args.now) (header_terms asked.now.header.now) (erased_all terms.old asked.now.given.now))) }
 {
-    let ids = instances(setting.allocator(), terms, header, args)?;
-    match compare_lists(setting, terms, effects, &ids, given, depth)? {
+    let ids = instances(setting.allocator(), terms, asked.header, args)?;
+    match compare_lists(setting, terms, effects, &ids, asked.given, depth)? {
         Outcome::Holds => Ok(true),
         Outcome::Refuted => Ok(false),
         Outcome::Undecided => Ok(false),
@@ -52,33 +59,30 @@ fn match_complete(
     setting: &Setting<'_>,
     terms: &mut TermTable,
     effects: &mut Effects,
-    params: &[ParamKind],
-    header: &[GenericArg],
-    given: &[TermId],
-    known: &[Option<TermId>],
-    args: Vec<TermId>,
+    asked: &AskedHeader<'_>,
+    filled: FilledArgs<'_>,
     depth: u32,
 ) -> Result<HeaderMatch, Stop>
     requires effects { AreSound setting.now terms.old effects.old }
-    requires given { AreIn terms.old given.now }
-    requires known { KnownIn terms.old known.now }
-    requires args { AreIn terms.old args.items }
-    requires filled { AreFilled terms.old known.now args.items }
-    requires complete { is_complete params.now known.now ≡ true }
-    requires says { KnownOutcome setting.now depth (header_terms header.now) (erased_all terms.old given.now) params.now (known_trees terms.old known.now) }
+    requires given { AreIn terms.old asked.now.given.now }
+    requires known { KnownIn terms.old filled.known.now }
+    requires args { AreIn terms.old filled.args.items }
+    requires filled { AreFilled terms.old filled.known.now filled.args.items }
+    requires complete { is_complete asked.now.params.now filled.known.now ≡ true }
+    requires says { KnownOutcome setting.now depth (header_terms asked.now.header.now) (erased_all terms.old asked.now.given.now) asked.now.params.now (known_trees terms.old filled.known.now) }
     ensures effects { AreSound setting.now terms.new effects.new }
     ensures kept { Keeps terms.old terms.new }
     ensures within { IfOk result (MatchIn terms.new) }
     ensures stops { IfErr result (IsStop setting.now) }
-    ensures says { IfOk result (MatchOutcome setting.now depth params.now (header_terms header.now) (erased_all terms.old given.now) terms.new) }
+    ensures says { IfOk result (MatchOutcome setting.now depth asked.now.params.now (header_terms asked.now.header.now) (erased_all terms.old asked.now.given.now) terms.new) }
 {
-    if instances_fit(setting, terms, effects, header, given, &args, depth)? {
-        return Ok(HeaderMatch::Fits(args));
+    if instances_fit(setting, terms, effects, asked, &filled.args, depth)? {
+        return Ok(HeaderMatch::Fits(filled.args));
     }
-    if header_clashes(setting, terms, effects, header, given, known, &args, depth)? {
+    if header_clashes(setting, terms, effects, asked, &filled, depth)? {
         return Ok(HeaderMatch::Clashes);
     }
-    Ok(HeaderMatch::Known(args))
+    Ok(HeaderMatch::Known(filled.args))
 }
 
 /// What a header comes to of which a parameter isn't known.
@@ -87,27 +91,24 @@ fn match_incomplete(
     setting: &Setting<'_>,
     terms: &mut TermTable,
     effects: &mut Effects,
-    params: &[ParamKind],
-    header: &[GenericArg],
-    given: &[TermId],
-    known: &[Option<TermId>],
-    args: &[TermId],
+    asked: &AskedHeader<'_>,
+    filled: &FilledArgs<'_>,
     depth: u32,
 ) -> Result<HeaderMatch, Stop>
     requires effects { AreSound setting.now terms.old effects.old }
-    requires given { AreIn terms.old given.now }
-    requires known { KnownIn terms.old known.now }
-    requires args { AreIn terms.old args.now }
-    requires filled { AreFilled terms.old known.now args.now }
-    requires complete { is_complete params.now known.now ≡ false }
-    requires says { KnownOutcome setting.now depth (header_terms header.now) (erased_all terms.old given.now) params.now (known_trees terms.old known.now) }
+    requires given { AreIn terms.old asked.now.given.now }
+    requires known { KnownIn terms.old filled.now.known.now }
+    requires args { AreIn terms.old filled.now.args.items }
+    requires filled { AreFilled terms.old filled.now.known.now filled.now.args.items }
+    requires complete { is_complete asked.now.params.now filled.now.known.now ≡ false }
+    requires says { KnownOutcome setting.now depth (header_terms asked.now.header.now) (erased_all terms.old asked.now.given.now) asked.now.params.now (known_trees terms.old filled.now.known.now) }
     ensures effects { AreSound setting.now terms.new effects.new }
     ensures kept { Keeps terms.old terms.new }
     ensures within { IfOk result (MatchIn terms.new) }
     ensures stops { IfErr result (IsStop setting.now) }
-    ensures says { IfOk result (MatchOutcome setting.now depth params.now (header_terms header.now) (erased_all terms.old given.now) terms.new) }
+    ensures says { IfOk result (MatchOutcome setting.now depth asked.now.params.now (header_terms asked.now.header.now) (erased_all terms.old asked.now.given.now) terms.new) }
 {
-    if header_clashes(setting, terms, effects, header, given, known, args, depth)? {
+    if header_clashes(setting, terms, effects, asked, filled, depth)? {
         Ok(HeaderMatch::Clashes)
     } else {
         Ok(HeaderMatch::Unknown)
@@ -121,32 +122,27 @@ fn match_known(
     setting: &Setting<'_>,
     terms: &mut TermTable,
     effects: &mut Effects,
-    params: &[ParamKind],
-    header: &[GenericArg],
-    given: &[TermId],
+    asked: &AskedHeader<'_>,
     known: &[Option<TermId>],
     depth: u32,
 ) -> Result<HeaderMatch, Stop>
     requires effects { AreSound setting.now terms.old effects.old }
-    requires given { AreIn terms.old given.now }
+    requires given { AreIn terms.old asked.now.given.now }
     requires known { KnownIn terms.old known.now }
-    requires count { length params.now ≡ length known.now }
-    requires says { KnownOutcome setting.now depth (header_terms header.now) (erased_all terms.old given.now) params.now (known_trees terms.old known.now) }
+    requires count { length asked.now.params.now ≡ length known.now }
+    requires says { KnownOutcome setting.now depth (header_terms asked.now.header.now) (erased_all terms.old asked.now.given.now) asked.now.params.now (known_trees terms.old known.now) }
     ensures effects { AreSound setting.now terms.new effects.new }
     ensures kept { Keeps terms.old terms.new }
     ensures within { IfOk result (MatchIn terms.new) }
     ensures stops { IfErr result (IsStop setting.now) }
-    ensures says { IfOk result (MatchOutcome setting.now depth params.now (header_terms header.now) (erased_all terms.old given.now) terms.new) }
+    ensures says { IfOk result (MatchOutcome setting.now depth asked.now.params.now (header_terms asked.now.header.now) (erased_all terms.old asked.now.given.now) terms.new) }
 {
     let args = filled_args(setting, terms, effects, known)?;
-    if is_complete(params, known) {
-        match_complete(
-            setting, terms, effects, params, header, given, known, args, depth,
-        )
+    let filled = FilledArgs { known, args };
+    if is_complete(asked.params, known) {
+        match_complete(setting, terms, effects, asked, filled, depth)
     } else {
-        match_incomplete(
-            setting, terms, effects, params, header, given, known, &args, depth,
-        )
+        match_incomplete(setting, terms, effects, asked, &filled, depth)
     }
 }
 
@@ -158,21 +154,17 @@ pub fn match_header(
     setting: &Setting<'_>,
     terms: &mut TermTable,
     effects: &mut Effects,
-    params: &[ParamKind],
-    header: &[GenericArg],
-    given: &[TermId],
+    asked: &AskedHeader<'_>,
     depth: u32,
 ) -> Result<HeaderMatch, Stop>
     requires effects { AreSound setting.now terms.old effects.old }
-    requires given { AreIn terms.old given.now }
+    requires given { AreIn terms.old asked.now.given.now }
     ensures effects { AreSound setting.now terms.new effects.new }
     ensures kept { Keeps terms.old terms.new }
     ensures within { IfOk result (MatchIn terms.new) }
     ensures stops { IfErr result (IsStop setting.now) }
-    ensures says { ForEachMode setting.now depth (λ _ L. IfOk result (SaysMatch L params.now (header_terms header.now) (erased_all terms.old given.now) terms.new)) }
+    ensures says { ForEachMode setting.now depth (λ _ L. IfOk result (SaysMatch L asked.now.params.now (header_terms asked.now.header.now) (erased_all terms.old asked.now.given.now) terms.new)) }
 {
-    let known = known_args(setting, terms, effects, params, header, given, depth)?;
-    match_known(
-        setting, terms, effects, params, header, given, &known, depth,
-    )
+    let known = known_args(setting, terms, effects, asked, depth)?;
+    match_known(setting, terms, effects, asked, &known, depth)
 }

@@ -15,12 +15,22 @@ use goal_terms::predicates::{Clause, Goal};
 
 /// The rules of a goal's candidates: of the clauses of its environment, of the bounds of its self type, and of the
 /// rest. They are run under the environment.
-#[derive(Drop)]
 pub struct ClassRules {
     pub param_env: Vec<Clause>,
     pub environment: Vec<Rule>,
     pub bounds: Vec<Rule>,
     pub rest: Vec<Rule>,
+}
+
+impl Drop for ClassRules {
+    fn drop(self) {
+        let ClassRules {
+            param_env: _,
+            environment: _,
+            bounds: _,
+            rest: _,
+        } = self;
+    }
 }
 
 impl ClassRules {

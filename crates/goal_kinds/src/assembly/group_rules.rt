@@ -15,11 +15,20 @@ use goal_terms::predicates::{Clause, Goal};
 
 /// The rules of the groups of a goal's candidates: of the clauses of its environment, and of the candidates after them.
 /// They are run under the environment.
-#[derive(Drop)]
 pub struct GroupRules {
     pub param_env: Vec<Clause>,
     pub environment: Vec<Rule>,
     pub later: Vec<Rule>,
+}
+
+impl Drop for GroupRules {
+    fn drop(self) {
+        let GroupRules {
+            param_env: _,
+            environment: _,
+            later: _,
+        } = self;
+    }
 }
 
 /// The rules of the candidates of each group for a goal. Want of memory is the only refusal.

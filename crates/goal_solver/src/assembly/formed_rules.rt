@@ -1,13 +1,10 @@
 //! The rules of a goal's candidates, for what was found as the head form of its self type.
-ghost use Rattle.std.specs.Prelude.{◌≡◌, ◌<◌, false, is_some, Option, Result, None, Ok, Err, IfOk, IfSome, IsOkUnless};
+ghost use Rattle.std.specs.Prelude.{◌≡◌, false, None, Ok, IfOk, IfSome, IsOkUnless};
 ghost use Rattle.goal_terms.specs.TreeOf.{tree_of_ty};
-ghost use Rattle.goal_kinds.specs.Collecting.{kind_of};
-ghost use Rattle.goal_solver.specs.OpenGoals.{IsConsidered, ClassesForForm, TakesSelf, PassesSelf};
-ghost use Rattle.goal_kinds.specs.Collecting.{has_kind_fault};
+ghost use Rattle.goal_kinds.specs.Collecting.{has_kind_fault, kind_of};
+ghost use Rattle.goal_solver.specs.AskedGoals.{AreRulesFor, RulesForForm, merged_as};
+ghost use Rattle.goal_solver.specs.OpenGoals.{IsConsidered, TakesSelf, PassesSelf};
 ghost use Rattle.goal_solver.specs.TranslatedArgs.{IsSameEnvironment};
-ghost use Rattle.std.specs.Prelude.{◌≡◌, false, IfOk, IsOkUnless};
-ghost use Rattle.goal_kinds.specs.Collecting.{kind_of};
-ghost use Rattle.goal_solver.specs.OpenProjections.{GroupsForForm};
 
 use crate::eval::goals::lies_in_goal;
 use crate::eval::where_goals::copied_clauses;
@@ -20,23 +17,66 @@ use goal_tables::sites::TermFault;
 use goal_terms::answers::TraitGoalProvenVia;
 use goal_terms::modes::TypingMode;
 use goal_terms::node_tests::general_variable;
-use goal_terms::predicates::Goal;
+use goal_terms::predicates::{Goal, NormalizesTo};
 use goal_terms::terms::{Term, Ty};
 
-/// The rules of a goal's candidates, by their classes, for what was found as the head form of its self type, if
-/// candidates are considered for it. Only memory is refused.
-pub(crate) fn classes_for_form<G: GoalKind + Drop>(
+/// How the candidates of a goal are merged.
+#[derive(Clone, Copy)]
+pub(crate) enum Merging<'p> {
+    /// Class by class, as those of a trait goal.
+    Classes,
+    /// By the groups behind the class through which the plain goal holds, as those of a host effect goal.
+    Groups(TraitGoalProvenVia),
+    /// By the groups behind the class through which the trait goal holds, as those that give a projection its term.
+    Projection(TraitGoalProvenVia, &'p NormalizesTo),
+}
+
+/// The rules of a goal's candidates, as they are merged.
+#[derive(Drop)]
+pub(crate) enum FormedRules<'p> {
+    Classes(ClassRules),
+    Groups(GroupRules),
+    Projection(TraitGoalProvenVia, &'p NormalizesTo, GroupRules),
+}
+
+/// The rules of a goal's candidates, for what was found as the head form of its self type, if candidates are
+/// considered for it. Only memory is refused.
+pub(crate) fn rules_for_form<'p, G: GoalKind + Drop>(
     tables: &CheckedTables,
     mode: &TypingMode,
+    by: Merging<'p>,
     goal: &Goal<G>,
     found: Option<Term>,
-) -> Result<Option<ClassRules>, Fault>
-    ensures rules { IfOk result (λ o. ClassesForForm (kind_of G.words G.has_fault) tables.now mode.now goal.now found o) }
+) -> Result<Option<FormedRules<'p>>, Fault>
+    ensures rules { IfOk result (RulesForForm (kind_of G.words G.has_fault) tables.now mode.now (merged_as by.entry) goal.now found) }
     ensures only_memory { IsOkUnless result Fault.OutOfMemory }
 {
     match considered_for(tables, goal, found)? {
         None => Ok(None),
-        Some(considered) => Ok(Some(rules_by_class(tables, mode, considered)?)),
+        Some(considered) => Ok(Some(rules_by(tables, mode, by, considered)?)),
+    }
+}
+
+/// The rules of a goal's candidates. Only memory is refused.
+fn rules_by<'p, G: GoalKind + Drop>(
+    tables: &CheckedTables,
+    mode: &TypingMode,
+    by: Merging<'p>,
+    goal: Goal<G>,
+) -> Result<FormedRules<'p>, Fault>
+    requires accepted { has_kind_fault G.has_fault tables.now goal ≡ false }
+    ensures rules { IfOk result (AreRulesFor (kind_of G.words G.has_fault) tables.now mode.now (merged_as by.entry) goal) }
+    ensures only_memory { IsOkUnless result Fault.OutOfMemory }
+{
+    match by {
+        Merging::Classes => Ok(FormedRules::Classes(rules_by_class(tables, mode, goal)?)),
+        Merging::Groups(class) => {
+            Ok(FormedRules::Groups(rules_by_group(tables, mode, class, goal)?))
+        }
+        Merging::Projection(class, asked) => {
+            let rules = rules_by_group(tables, mode, class, goal)?;
+            Ok(FormedRules::Projection(class, asked, rules))
+        }
     }
 }
 
@@ -98,22 +138,4 @@ pub(crate) fn form_to_consider(found: Option<Term>) -> Option<Ty>
         return None;
     }
     Some(form)
-}
-
-/// The rules of a goal's candidates, by their groups, for what was found as the head form of its self type, if
-/// candidates are considered for it. Only memory is refused.
-pub(crate) fn groups_for_form<G: GoalKind + Drop>(
-    tables: &CheckedTables,
-    mode: &TypingMode,
-    class: TraitGoalProvenVia,
-    goal: &Goal<G>,
-    found: Option<Term>,
-) -> Result<Option<GroupRules>, Fault>
-    ensures rules { IfOk result (λ o. GroupsForForm (kind_of G.words G.has_fault) tables.now mode.now class goal.now found o) }
-    ensures only_memory { IsOkUnless result Fault.OutOfMemory }
-{
-    match considered_for(tables, goal, found)? {
-        None => Ok(None),
-        Some(considered) => Ok(Some(rules_by_group(tables, mode, class, considered)?)),
-    }
 }

@@ -1,17 +1,16 @@
 //! Goals with inference variables that a trait holds as a const trait.
 ghost use Rattle.std.specs.Prelude.{◌≡◌, ◌<◌, ℕ, suc, Option, Result, Err, IfOk, IfSome, IsOkUnless};
-ghost use Rattle.goal_solver.specs.Answers.{IsMaybe};
 ghost use Rattle.goal_solver.specs.Binding.{IsApplicable};
 ghost use Rattle.goal_kinds.specs.Collecting.{kind_of};
 ghost use Rattle.goal_solver.specs.GoingBack.{GoesBack, restored};
-ghost use Rattle.goal_solver.specs.OpenAnswers.{InTrial, MergesOpened, OpensIfAsked};
-ghost use Rattle.goal_solver.specs.OpenGoals.{AsksOpenSelf, IsListedIn, IsSelfAlias, WhenAnswered, WhenTried, at_depth};
-ghost use Rattle.goal_solver.specs.OpenHostGoals.{ByFormedRuleGroups, ByRuleGroups, GroupAnswers, host_kind, IsPlain, MergesConst, MergesHostEffect, rules_of_groups};
+ghost use Rattle.goal_solver.specs.OpenGoals.{WhenAnswered, at_depth};
+ghost use Rattle.goal_solver.specs.OpenHostGoals.{ByRuleGroups, GroupAnswers, host_kind, IsPlain, MergesConst, MergesHostEffect, rules_of_groups};
 ghost use Rattle.goal_solver.specs.Promises.{LeavesUndecided, MergesOpenHostEffect};
 ghost use Rattle.goal_solver.specs.Relating.{IsFaultFor};
 ghost use Rattle.goal_solver.specs.State.{State as state};
 
-use crate::assembly::formed_rules::groups_for_form;
+use crate::assembly::asked_goals::AskedGoal;
+use crate::assembly::formed_rules::Merging;
 use crate::assembly::merged_rules::Merged;
 use crate::context::EvalCtxt;
 use crate::context::respond::copied_args;
@@ -23,7 +22,6 @@ use goal_kinds::goal_kind::GoalKind;
 use goal_kinds::rules::Rule;
 use goal_terms::answers::{Certainty, Response, TraitGoalProvenVia};
 use goal_terms::predicates::{Clause, Goal, HostEffectPredicate, TraitPredicate, TraitRef};
-use goal_terms::terms::AliasTerm;
 
 impl EvalCtxt<'_> {
     /// What `compute_host_effect_goal` answers to a goal with inference variables. At depth 0 that is undecided.
@@ -104,80 +102,9 @@ impl EvalCtxt<'_> {
         ensures fault { IsFaultFor self.old self.new result }
     {
         match self.considered_groups(class, goal)? {
-            None => self.merge_open_const(class, goal),
+            None => self.merge_open(AskedGoal::HostEffect(class, goal)),
             Some(rules) => self.merge_const_groups(&rules),
         }
-    }
-
-    /// What the candidates of a host effect goal make of it where no candidates are considered, or where the self type is an alias with inference variables: it is
-    /// undecided, or answered in a trial.
-    #[cycle(open)]
-    fn merge_open_const(
-        &mut self,
-        class: TraitGoalProvenVia,
-        goal: &Goal<HostEffectPredicate>,
-    ) -> Result<Response, Fault>
-        ensures undecided { (AsksOpenSelf host_kind.words.self_type goal.now self.old → ⊥) → WhenAnswered result (IsMaybe result) }
-        ensures opened { OpensIfAsked host_kind.words.self_type (ByFormedRuleGroups host_kind class goal.now) goal.now self.old result self.new }
-        ensures applies { IfOk result (IsApplicable self.new) }
-        ensures unchanged { self.new ≡ restored self.old self.new }
-        ensures goes_back { GoesBack self.old self.new }
-        ensures fault { IsFaultFor self.old self.new result }
-    {
-        self.is_well_formed();
-        match self.open_self(goal)? {
-            None => Ok(self.respond(Certainty::Maybe, None)),
-            Some(alias) => self.merge_opened_const(class, goal, alias),
-        }
-    }
-
-    /// What the candidates of a host effect goal make of it in a trial, beside what the head form of the self type binds.
-    #[cycle(open)]
-    fn merge_opened_const(
-        &mut self,
-        class: TraitGoalProvenVia,
-        goal: &Goal<HostEffectPredicate>,
-        alias: AliasTerm,
-    ) -> Result<Response, Fault>
-        requires opens { IsSelfAlias host_kind.words.self_type goal.now self.old alias }
-        ensures merges { WhenAnswered result (MergesOpened host_kind.words.self_type (ByFormedRuleGroups host_kind class goal.now) goal.now self.old result self.new) }
-        ensures applies { IfOk result (IsApplicable self.new) }
-        ensures unchanged { self.new ≡ restored self.old self.new }
-        ensures goes_back { GoesBack self.old self.new }
-        ensures fault { IsFaultFor self.old self.new result }
-    {
-        self.holds_together();
-        self.is_well_formed();
-        let before = self.snapshot();
-        let around = self.begin();
-        let answer = self.answer_opened_const(class, goal, alias);
-        self.holds_together();
-        self.is_well_formed();
-        self.rollback(before);
-        self.end(around);
-        self.or_undecided(answer)
-    }
-
-    /// What the candidates of a host effect goal make of it for the head form of the self type. There is no answer where none are considered.
-    #[cycle(open)]
-    fn answer_opened_const(
-        &mut self,
-        class: TraitGoalProvenVia,
-        goal: &Goal<HostEffectPredicate>,
-        alias: AliasTerm,
-    ) -> Result<Option<Response>, Fault>
-        ensures by { WhenTried result (InTrial (ByFormedRuleGroups host_kind class goal.now) goal.now.param_env.items alias self.old result self.new) }
-        ensures lists { IfOk result (λ o. IfSome o (IsListedIn self.new)) }
-        ensures goes_back { GoesBack self.old self.new }
-        ensures fault { IsFaultFor self.old self.new result }
-    {
-        let found = self.form_of_open(&goal.param_env, alias)?;
-        let Some(rules) = groups_for_form(self.tables, &self.typing_mode, class, goal, found)?
-        else {
-            return Ok(None);
-        };
-        let answer = self.merge_const_groups(&rules)?;
-        self.beside(answer)
     }
 
     /// The same of a goal of a kind.
@@ -193,82 +120,14 @@ impl EvalCtxt<'_> {
         ensures fault { IsFaultFor self.old self.new result }
     {
         match self.considered_groups(class, goal)? {
-            None => self.merge_open_const_goal(class, goal),
+            None => self.merge_open_goal(Merging::Groups(class), goal),
             Some(rules) => self.merge_const_groups(&rules),
         }
     }
 
-    /// What the candidates of a goal of a kind make of it where no candidates are considered, or where the self type is an alias with inference variables: it is
-    /// undecided, or answered in a trial.
-    fn merge_open_const_goal<G: GoalKind + Drop>(
-        &mut self,
-        class: TraitGoalProvenVia,
-        goal: &Goal<G>,
-    ) -> Result<Response, Fault>
-        ensures undecided { (AsksOpenSelf G.words.self_type goal.now self.old → ⊥) → WhenAnswered result (IsMaybe result) }
-        ensures opened { OpensIfAsked G.words.self_type (ByFormedRuleGroups (kind_of G.words G.has_fault) class goal.now) goal.now self.old result self.new }
-        ensures applies { IfOk result (IsApplicable self.new) }
-        ensures unchanged { self.new ≡ restored self.old self.new }
-        ensures goes_back { GoesBack self.old self.new }
-        ensures fault { IsFaultFor self.old self.new result }
-    {
-        self.is_well_formed();
-        match self.open_self(goal)? {
-            None => Ok(self.respond(Certainty::Maybe, None)),
-            Some(alias) => self.merge_opened_const_goal(class, goal, alias),
-        }
-    }
-
-    /// What the candidates of a goal of a kind make of it in a trial, beside what the head form of the self type binds.
-    fn merge_opened_const_goal<G: GoalKind + Drop>(
-        &mut self,
-        class: TraitGoalProvenVia,
-        goal: &Goal<G>,
-        alias: AliasTerm,
-    ) -> Result<Response, Fault>
-        requires opens { IsSelfAlias G.words.self_type goal.now self.old alias }
-        ensures merges { WhenAnswered result (MergesOpened G.words.self_type (ByFormedRuleGroups (kind_of G.words G.has_fault) class goal.now) goal.now self.old result self.new) }
-        ensures applies { IfOk result (IsApplicable self.new) }
-        ensures unchanged { self.new ≡ restored self.old self.new }
-        ensures goes_back { GoesBack self.old self.new }
-        ensures fault { IsFaultFor self.old self.new result }
-    {
-        self.holds_together();
-        self.is_well_formed();
-        let before = self.snapshot();
-        let around = self.begin();
-        let answer = self.answer_opened_const_goal(class, goal, alias);
-        self.holds_together();
-        self.is_well_formed();
-        self.rollback(before);
-        self.end(around);
-        self.or_undecided(answer)
-    }
-
-    /// What the candidates of a goal of a kind make of it for the head form of the self type. There is no answer where none are considered.
-    fn answer_opened_const_goal<G: GoalKind + Drop>(
-        &mut self,
-        class: TraitGoalProvenVia,
-        goal: &Goal<G>,
-        alias: AliasTerm,
-    ) -> Result<Option<Response>, Fault>
-        ensures by { WhenTried result (InTrial (ByFormedRuleGroups (kind_of G.words G.has_fault) class goal.now) goal.now.param_env.items alias self.old result self.new) }
-        ensures lists { IfOk result (λ o. IfSome o (IsListedIn self.new)) }
-        ensures goes_back { GoesBack self.old self.new }
-        ensures fault { IsFaultFor self.old self.new result }
-    {
-        let found = self.form_of_open(&goal.param_env, alias)?;
-        let Some(rules) = groups_for_form(self.tables, &self.typing_mode, class, goal, found)?
-        else {
-            return Ok(None);
-        };
-        let answer = self.merge_const_groups(&rules)?;
-        self.beside(answer)
-    }
-
     /// What the groups of candidates make of a host effect goal: the first that isn't wholly refused decides.
     #[cycle(open)]
-    fn merge_const_groups(&mut self, rules: &GroupRules) -> Result<Response, Fault>
+    pub(crate) fn merge_const_groups(&mut self, rules: &GroupRules) -> Result<Response, Fault>
         ensures decides { WhenAnswered result (ByRuleGroups rules.now.param_env.items (rules_of_groups rules.now) self.old result self.new) }
         ensures applies { IfOk result (IsApplicable self.new) }
         ensures unchanged { self.new ≡ restored self.old self.new }

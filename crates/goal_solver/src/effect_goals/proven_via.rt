@@ -10,17 +10,18 @@ ghost use Rattle.goal_solver.specs.Binding.{IsApplicable};
 ghost use Rattle.goal_eval.specs.Effects.{AreSound, IsStop};
 ghost use Rattle.goal_solver.specs.GoingBack.{GoesBack, restored};
 ghost use Rattle.goal_solver.specs.HostGoals.{HoldsThroughClass, SaysHostAt, host_asked, through_at};
-ghost use Rattle.goal_eval.specs.Outcomes.{RunsAs, RunsFor, setting_in, level_in};
+ghost use Rattle.goal_eval.specs.Outcomes.{RunsFor, setting_in, level_in};
 ghost use Rattle.goal_solver.specs.State.{kinds_of};
 
 use crate::context::EvalCtxt;
+use crate::eval::questions::Question;
 use crate::faults::Fault;
 use goal_eval::assembly::candidates::AskedTrait;
 use goal_eval::effect_goals::evaluation::groups_outcome;
 use goal_eval::eval::effects::Effects;
 use goal_eval::eval::head_forms::head_form;
 use goal_eval::eval::interning::intern_args;
-use goal_eval::eval::outcomes::{Found, OnAccess, Setting, Stop};
+use goal_eval::eval::outcomes::{Found, Setting, Stop};
 use goal_eval::eval::region_constraints::RegionConstraints;
 use goal_eval::eval::self_types::{split_self_type, with_self_type};
 use goal_kinds::goal_kind::TraitView;
@@ -71,6 +72,41 @@ fn outcome_proven_via(
     groups_outcome(setting, terms, effects, &asked, goal.class, depth)
 }
 
+/// What such a goal comes to one above a depth.
+impl Question for HostEffectThrough<'_> {
+    ghost use Rattle.std.specs.Prelude.{suc};
+    ghost use Rattle.goal_lists.specs.Levels.{level};
+    ghost use Rattle.goal_solver.specs.HostGoals.{HoldsThroughClass, SaysHostAt, through_at};
+
+    type Answer = Outcome;
+
+    const LISTS_REGIONS: bool = true;
+
+    ghost can_ask = { λ T q. Unit {0} };
+
+    ghost within = { λ T o. Unit {0} };
+
+    ghost says = { λ S n T q U o. HoldsThroughClass (level S n) (through_at q) → SaysHostAt S (suc n) (through_at q) o };
+
+    ghost ends_for_memory = { λ T q. ⊥ };
+
+    fn ask(
+        &self,
+        setting: &Setting<'_>,
+        terms: &mut TermTable,
+        effects: &mut Effects,
+        depth: u32,
+    ) -> Result<Outcome, Stop> {
+        outcome_proven_via(setting, terms, effects, self, depth)
+    }
+
+    ghost asked_again = { λ T U q k h. tt };
+
+    ghost said_before = { λ S n T U V q o k h says. says };
+
+    ghost ends_so_again = { λ T U q k h never. never };
+}
+
 #[tactic(auto, using(crate::proofs::AnswerLemmas::answering))]
 impl EvalCtxt<'_> {
     /// What such a goal comes to by the candidates at the remaining depth. Nothing changes but that there may be
@@ -88,40 +124,8 @@ impl EvalCtxt<'_> {
             IfOk result (SaysHostAt (setting_of self.old.tables m environment.now) (suc self.old.remaining_depth) (through_at goal.now)) }
         ensures stops { is_headline self.old.typing_mode ≡ true → IfErr result (λ s. s ≡ Stop.OutOfMemory) }
     {
-        let on_access = self.first_access();
-        let first = self.host_effect_run_through(on_access, goal, environment, listed);
-        if let Some(outcome) = self.first_answer(first)? {
-            return Ok(outcome);
-        }
-        self.host_effect_run_through(OnAccess::Record, goal, environment, listed)
-    }
-
-    /// One run over the candidates.
-    fn host_effect_run_through(
-        &mut self,
-        on_access: OnAccess,
-        goal: &HostEffectThrough<'_>,
-        environment: &[Clause],
-        listed: &mut RegionConstraints,
-    ) -> Result<Outcome, Stop>
-        ensures kept { Keeps self.old.terms self.new.terms }
-        ensures unchanged { self.new ≡ restored self.old self.new }
-        ensures goes_back { GoesBack self.old self.new }
-        ensures says { (m : TypingMode) → RunsAs on_access self.old.typing_mode m → HoldsThroughClass (level_over self.old m environment.now) (through_at goal.now) →
-            IfOk result (SaysHostAt (setting_of self.old.tables m environment.now) (suc self.old.remaining_depth) (through_at goal.now)) }
-        ensures stops { is_headline self.old.typing_mode ≡ true → IfErr result (λ s. s ≡ Stop.OutOfMemory) }
-    {
-        let mut effects = self.listing_effects();
-        let setting = Setting {
-            rows: self.tables.rows(),
-            typing_mode: &self.typing_mode,
-            on_access,
-            environment,
-        };
-        let depth = self.remaining_depth;
-        let outcome = outcome_proven_via(&setting, &mut self.terms, &mut effects, goal, depth);
-        self.record_listed(&effects, listed)?;
-        outcome
+        let depth = self.remaining_depth();
+        self.evaluate(goal, environment, depth, listed)
     }
 
     /// What is answered to such a goal by the candidates at the remaining depth, where the plain goal does hold

@@ -20,6 +20,7 @@ use crate::eval::free_variables::general_variable;
 use crate::eval::open_terms::any_variable;
 use crate::eval::predicate_views::PredicateView;
 use crate::eval::where_goals::copied_clauses;
+use crate::eval::written_out::may_be_written_out;
 use crate::faults::Fault;
 use goal_eval::eval::outcomes::{Found, Stop};
 use goal_eval::eval::region_constraints::RegionConstraints;
@@ -36,7 +37,7 @@ use goal_terms::predicates::{
     Clause, Goal, HostEffectPredicate, NormalizesTo, Predicate, TraitPredicate, TraitRef,
 };
 use goal_terms::term_nodes::TermId;
-use goal_terms::terms::{AliasTerm, Term};
+use goal_terms::terms::{AliasTerm, GenericArg, Term};
 
 /// A goal with inference variables that its candidates are asked for.
 #[derive(Drop)]
@@ -74,75 +75,70 @@ impl EvalCtxt<'_> {
     }
 
     /// A goal with the bindings of its variables followed, if a variable is left in it or stands in its environment,
-    /// and its candidates are to be asked for it. Nothing changes but that there may be more terms. Only memory is
-    /// refused.
+    /// and its candidates are to be asked for it: a trait goal or a host effect goal that isn't too large to be written
+    /// out. Nothing changes but that there may be more terms. Only memory is refused.
     pub(crate) fn open_goal(&mut self, goal: &Goal<Predicate>) -> Result<Option<OpenGoal>, Fault>
         ensures closed { IsAnswerable self.old goal.now.predicate goal.now.param_env.items → IfOk result (λ o. o ≡ None) }
         ensures unchanged { self.new ≡ record self.old { terms = self.new.terms } }
         ensures kept { Keeps self.old.terms self.new.terms }
         ensures only_memory { IsOkUnless result Fault.OutOfMemory }
     {
-        match &goal.predicate {
-            Predicate::Trait(asked) => {
-                if !has_variable(goal) {
-                    return Ok(None);
-                }
-                let Ok(followed) = self.followed_trait_goal(asked, &goal.param_env) else {
-                    return Err(Fault::OutOfMemory);
-                };
-                Ok(if_open(OpenGoal::Trait(followed)))
-            }
-            Predicate::HostEffect(asked) => {
-                if !has_variable(goal) {
-                    return Ok(None);
-                }
-                let Ok(followed) = self.followed_const_goal(asked, &goal.param_env) else {
-                    return Err(Fault::OutOfMemory);
-                };
-                Ok(if_open(OpenGoal::HostEffect(followed)))
-            }
+        if !has_variable(goal) {
+            return Ok(None);
+        }
+        let found = match &goal.predicate {
+            Predicate::Trait(asked) => self.open_trait_goal(asked, &goal.param_env),
+            Predicate::HostEffect(asked) => self.open_const_goal(asked, &goal.param_env),
             _ => Ok(None),
+        };
+        match found {
+            Ok(open) => Ok(open),
+            Err(_) => Err(Fault::OutOfMemory),
         }
     }
 
-    /// A trait goal with the bindings of the variables in its arguments followed. Nothing changes but that there
-    /// may be more terms.
-    fn followed_trait_goal(
+    /// A trait goal with the bindings of the variables in its arguments followed, as `open_args` does it. Nothing
+    /// changes but that there may be more terms.
+    fn open_trait_goal(
         &mut self,
         asked: &TraitPredicate,
         environment: &[Clause],
-    ) -> Result<Goal<TraitPredicate>, Stop>
+    ) -> Result<Option<OpenGoal>, Stop>
         ensures kept { Keeps self.old.terms self.new.terms }
         ensures unchanged { self.new ≡ record self.old { terms = self.new.terms } }
-        ensures stops { IfErr result (λ s. s ≡ Stop.OutOfMemory) }
     {
-        let trait_ref = self.followed_trait_ref(&asked.trait_ref)?;
-        self.goal_under(environment, TraitPredicate { trait_ref })
+        let Some(args) = self.open_args(&asked.trait_ref.args, environment)? else {
+            return Ok(None);
+        };
+        let def_id = asked.trait_ref.def_id;
+        let trait_ref = TraitRef { def_id, args };
+        let goal = self.goal_under(environment, TraitPredicate { trait_ref })?;
+        Ok(Some(OpenGoal::Trait(goal)))
     }
 
     /// The same of a goal that a trait holds as a const trait.
-    fn followed_const_goal(
+    fn open_const_goal(
         &mut self,
         asked: &HostEffectPredicate,
         environment: &[Clause],
-    ) -> Result<Goal<HostEffectPredicate>, Stop>
+    ) -> Result<Option<OpenGoal>, Stop>
         ensures kept { Keeps self.old.terms self.new.terms }
         ensures unchanged { self.new ≡ record self.old { terms = self.new.terms } }
-        ensures stops { IfErr result (λ s. s ≡ Stop.OutOfMemory) }
     {
-        let trait_ref = self.followed_trait_ref(&asked.trait_ref)?;
-        let constness = asked.constness;
-        let predicate = HostEffectPredicate {
-            trait_ref,
-            constness,
+        let Some(args) = self.open_args(&asked.trait_ref.args, environment)? else {
+            return Ok(None);
         };
-        self.goal_under(environment, predicate)
+        let def_id = asked.trait_ref.def_id;
+        let predicate = HostEffectPredicate {
+            trait_ref: TraitRef { def_id, args },
+            constness: asked.constness,
+        };
+        let goal = self.goal_under(environment, predicate)?;
+        Ok(Some(OpenGoal::HostEffect(goal)))
     }
 
     /// A goal under a copy of an environment.
-    fn goal_under<P: Drop>(&self, environment: &[Clause], predicate: P) -> Result<Goal<P>, Stop>
-        ensures stops { IfErr result (λ s. s ≡ Stop.OutOfMemory) }
-    {
+    fn goal_under<P: Drop>(&self, environment: &[Clause], predicate: P) -> Result<Goal<P>, Stop> {
         match copied_clauses(self.allocator(), environment) {
             Ok(param_env) => Ok(Goal {
                 param_env,
@@ -152,22 +148,31 @@ impl EvalCtxt<'_> {
         }
     }
 
-    /// A trait with the bindings of the variables in its arguments followed. Nothing changes but that there may be
-    /// more terms.
-    fn followed_trait_ref(&mut self, asked: &TraitRef) -> Result<TraitRef, Stop>
+    /// The arguments of a goal with the bindings of their variables followed, if a variable is left in one of them or
+    /// stands in the environment, and they aren't too large to be written out. Nothing changes but that there may
+    /// be more terms.
+    fn open_args(
+        &mut self,
+        args: &[GenericArg],
+        environment: &[Clause],
+    ) -> Result<Option<Vec<GenericArg>>, Stop>
         ensures kept { Keeps self.old.terms self.new.terms }
         ensures unchanged { self.new ≡ record self.old { terms = self.new.terms } }
-        ensures stops { IfErr result (λ s. s ≡ Stop.OutOfMemory) }
     {
-        let ids = self.interned_args(asked.args.as_slice())?;
-        let ids = self.followed_args(ids.as_slice())?;
-        let args = rebuilt_args(&self.terms, ids.as_slice())?;
-        let def_id = asked.def_id;
-        Ok(TraitRef { def_id, args })
+        let ids = self.interned_args(args)?;
+        let ids = self.followed_args(&ids)?;
+        let is_open = any_variable(&self.terms, &ids)
+            || some_in_env(NodeTest::IsAnyInfer, environment);
+        if !is_open || !may_be_written_out(&self.terms, &ids) {
+            return Ok(None);
+        }
+        let followed = rebuilt_args(&self.terms, &ids)?;
+        Ok(Some(followed))
     }
 
     /// The alias whose term a goal asks for with the bindings of its variables followed, if a variable is left in it or
-    /// stands in the goal's environment. Nothing changes but that there may be more terms. Only memory is refused.
+    /// stands in the goal's environment, and it isn't too large to be written out. Nothing changes but that there may
+    /// be more terms. Only memory is refused.
     pub(crate) fn open_normalization(
         &mut self,
         goal: &Goal<Predicate>,
@@ -177,32 +182,20 @@ impl EvalCtxt<'_> {
         ensures kept { Keeps self.old.terms self.new.terms }
         ensures only_memory { IsOkUnless result Fault.OutOfMemory }
     {
-        match &goal.predicate {
-            Predicate::NormalizesTo(asked) => {
-                if is_closed_alias(&asked.alias, &goal.param_env) {
-                    return Ok(None);
-                }
-                let Ok(followed) = self.followed_alias(&asked.alias) else {
-                    return Err(Fault::OutOfMemory);
-                };
-                Ok(alias_if_open(followed, &goal.param_env))
-            }
-            _ => Ok(None),
+        let Predicate::NormalizesTo(asked) = &goal.predicate else {
+            return Ok(None);
+        };
+        if is_closed_alias(&asked.alias, &goal.param_env) {
+            return Ok(None);
         }
-    }
-
-    /// An alias with the bindings of the variables in its arguments followed. Nothing changes but that there may be
-    /// more terms.
-    fn followed_alias(&mut self, alias: &AliasTerm) -> Result<AliasTerm, Stop>
-        ensures kept { Keeps self.old.terms self.new.terms }
-        ensures unchanged { self.new ≡ record self.old { terms = self.new.terms } }
-        ensures stops { IfErr result (λ s. s ≡ Stop.OutOfMemory) }
-    {
-        let ids = self.interned_args(alias.args.as_slice())?;
-        let ids = self.followed_args(ids.as_slice())?;
-        let args = rebuilt_args(&self.terms, ids.as_slice())?;
-        let kind = alias.kind;
-        Ok(AliasTerm { kind, args })
+        match self.open_args(&asked.alias.args, &goal.param_env) {
+            Ok(Some(args)) => Ok(Some(AliasTerm {
+                kind: asked.alias.kind,
+                args,
+            })),
+            Ok(None) => Ok(None),
+            Err(_) => Err(Fault::OutOfMemory),
+        }
     }
 
     /// Whether a goal's predicate holds at the remaining depth.
@@ -508,23 +501,5 @@ impl EvalCtxt<'_> {
             Unified::Undecided => Ok(Outcome::Undecided),
             Unified::No => Ok(Outcome::Refuted),
         }
-    }
-}
-
-/// A goal, if an inference variable stands in it or in its environment.
-fn if_open(goal: OpenGoal) -> Option<OpenGoal> {
-    let is_open = match &goal {
-        OpenGoal::Trait(goal) => has_variable(goal),
-        OpenGoal::HostEffect(goal) => has_variable(goal),
-    };
-    if is_open { Some(goal) } else { None }
-}
-
-/// An alias, if an inference variable stands in it or in an environment.
-fn alias_if_open(alias: AliasTerm, environment: &[Clause]) -> Option<AliasTerm> {
-    if is_closed_alias(&alias, environment) {
-        None
-    } else {
-        Some(alias)
     }
 }

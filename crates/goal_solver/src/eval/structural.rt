@@ -17,20 +17,63 @@ ghost use Rattle.goal_solver.specs.OpenForms.{OpensTerm, gives_form};
 ghost use Rattle.goal_eval.specs.Outcomes.{FoundIn};
 ghost use Rattle.goal_solver.specs.Relating.{IsFaultFor};
 ghost use Rattle.goal_solver.specs.Promises.{WhereOwed};
-ghost use Rattle.goal_solver.specs.Evaluations.{WhereRun};
 
 use crate::context::EvalCtxt;
+use crate::eval::questions::Question;
 use crate::faults::Fault;
 use goal_eval::eval::effects::Effects;
 use goal_eval::eval::head_forms::head_form;
-use goal_eval::eval::outcomes::{Found, OnAccess, Setting, Stop};
+use goal_eval::eval::outcomes::{Found, Setting, Stop};
+use goal_eval::eval::region_constraints::RegionConstraints;
 use goal_infer::followed::follow;
 use goal_tables::predicate_terms::some_in_env;
 use goal_terms::heads::Node;
 use goal_terms::node_tests::NodeTest;
 use goal_terms::predicates::Clause;
 use goal_terms::term_nodes::TermId;
+use goal_terms::term_table::TermTable;
 use goal_terms::terms::Term;
+
+/// A term of which the head form is asked for.
+#[derive(Clone, Copy)]
+struct AskedForm(TermId);
+
+/// Which head form the term has.
+impl Question for AskedForm {
+    ghost use Rattle.goal_lists.specs.Interned.{IsIn, erased_at};
+    ghost use Rattle.goal_lists.specs.Levels.{level};
+    ghost use Rattle.goal_lists.proofs.InternedLemmas.{in-grown};
+    ghost use Rattle.goal_eval.specs.Outcomes.{FoundIn, SaysForm as SaysFormAt};
+    ghost use Rattle.goal_solver.specs.Questions.{before-at};
+
+    type Answer = Found;
+
+    const LISTS_REGIONS: bool = false;
+
+    ghost can_ask = { λ T q. IsIn T q.0 };
+
+    ghost within = { FoundIn };
+
+    ghost says = { λ S n T q U o. SaysFormAt (level S n) (erased_at T q.0) U o };
+
+    ghost ends_for_memory = { λ T q. ⊥ };
+
+    fn ask(
+        &self,
+        setting: &Setting<'_>,
+        terms: &mut TermTable,
+        effects: &mut Effects,
+        depth: u32,
+    ) -> Result<Found, Stop> {
+        head_form(setting, terms, effects, self.0, depth)
+    }
+
+    ghost asked_again = { λ T U q k h. in-grown T U k q.0 h };
+
+    ghost said_before = { λ S n T U V q o k h. before-at T U q.0 (λ t. SaysFormAt (level S n) t V o) k h };
+
+    ghost ends_so_again = { λ T U q k h never. never };
+}
 
 impl EvalCtxt<'_> {
     /// The head form of a term at the remaining depth, lifetimes aside: what an alias normalizes to, and each other
@@ -165,46 +208,9 @@ impl EvalCtxt<'_> {
         ensures says { WhereOwed self.old self.new environment.now (λ L. SaysForm L (erased_at self.old.terms id) self.new.terms result) }
         ensures stops { is_headline self.old.typing_mode ≡ true → IfErr result (λ s. s ≡ Stop.OutOfMemory) }
     {
-        let on_access = self.first_access();
-        let first = self.form_run(on_access, environment, id);
-        if let Some(found) = self.first_answer(first)? {
-            return Ok(found);
-        }
-        self.form_run(OnAccess::Record, environment, id)
-    }
-
-    /// One run of the head form of a term.
-    fn form_run(
-        &mut self,
-        on_access: OnAccess,
-        environment: &[Clause],
-        id: TermId,
-    ) -> Result<Found, Stop>
-        requires { IsIn self.old.terms id }
-        ensures kept { Keeps self.old.terms self.new.terms }
-        ensures unchanged { self.new ≡ restored self.old self.new }
-        ensures faults { RecordsCausedFaults self.old self.new }
-        ensures goes_back { GoesBack self.old self.new }
-        ensures within { IfOk result (FoundIn self.new.terms) }
-        ensures says { WhereRun on_access self.old environment.now (λ L. SaysForm L (erased_at self.old.terms id) self.new.terms result) }
-        ensures stops { is_headline self.old.typing_mode ≡ true → IfErr result (λ s. s ≡ Stop.OutOfMemory) }
-    {
-        let mut effects = Effects::new(self.allocator());
-        let setting = Setting {
-            rows: self.tables.rows(),
-            typing_mode: &self.typing_mode,
-            on_access,
-            environment,
-        };
-        let found = head_form(
-            &setting,
-            &mut self.terms,
-            &mut effects,
-            id,
-            self.remaining_depth,
-        );
-        self.record_effects(&effects)?;
-        found
+        let depth = self.remaining_depth();
+        let mut listed = RegionConstraints::new(self.allocator());
+        self.evaluate(&AskedForm(id), environment, depth, &mut listed)
     }
 
     /// The term of a number, if it is a type or a constant. Only memory is refused.

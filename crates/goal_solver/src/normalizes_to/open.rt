@@ -1,21 +1,22 @@
 //! Goals of the terms of projections with inference variables.
-ghost use Rattle.std.specs.Prelude.{◌≡◌, ◌<◌, ◌⊎◌, ℕ, suc, true, false, Option, Result, None, IfOk, IfErr, IfSome, IsOkUnless, MatchOption};
+ghost use Rattle.std.specs.Prelude.{◌≡◌, ◌<◌, ◌⊎◌, ℕ, suc, true, false, Option, Result, None, IfOk, IfErr, IsOkUnless, MatchOption};
 ghost use Rattle.std.specs.Option.{option_map};
 ghost use Rattle.goal_terms.specs.TreeOf.{tree_of_alias, tree_of_term};
 ghost use Rattle.goal_kinds.specs.ProjectionKind.{projected_trait};
-ghost use Rattle.goal_solver.specs.Answers.{is_closed_alias, expected_variable, IsMaybe};
+ghost use Rattle.goal_solver.specs.Answers.{is_closed_alias, expected_variable};
 ghost use Rattle.goal_solver.specs.Binding.{IsApplicable};
 ghost use Rattle.goal_kinds.specs.Collecting.{kind_of};
 ghost use Rattle.goal_solver.specs.GoingBack.{GoesBack, restored};
 ghost use Rattle.goal_solver.specs.HiddenTypes.{tree_in};
-ghost use Rattle.goal_solver.specs.OpenAnswers.{InTrial, MergesOpened, MergesProjection, MergesThrough, OpensIfAsked};
-ghost use Rattle.goal_solver.specs.OpenGoals.{AsksOpenSelf, IsSelfAlias, IsListedIn, WhenAnswered, WhenTried, IsFormless, at_depth};
-ghost use Rattle.goal_solver.specs.OpenProjections.{AsksItsTrait, proven_class, own_args, alias_kind, ByFormedGroups, ConsidersGroups, is_formed, Forms, FormsAll, RefusesForm, LacksForm, WithForms, IsRigidList, IsRigid, ByBounds, ByRest, RunsAlias, ByGroupsOf, ByLaterOf};
+ghost use Rattle.goal_solver.specs.OpenAnswers.{MergesProjection, MergesThrough};
+ghost use Rattle.goal_solver.specs.OpenGoals.{WhenAnswered, IsFormless, at_depth};
+ghost use Rattle.goal_solver.specs.OpenProjections.{AsksItsTrait, proven_class, own_args, alias_kind, ConsidersGroups, is_formed, Forms, FormsAll, RefusesForm, LacksForm, WithForms, IsRigidList, IsRigid, ByBounds, ByRest, RunsAlias, ByGroupsOf, ByLaterOf};
 ghost use Rattle.goal_solver.specs.Refusals.{WhenRefused};
 ghost use Rattle.goal_solver.specs.Relating.{IsFaultFor};
 ghost use Rattle.goal_solver.specs.State.{State as state};
 
-use crate::assembly::formed_rules::groups_for_form;
+use crate::assembly::asked_goals::AskedGoal;
+use crate::assembly::formed_rules::Merging;
 use crate::assembly::merged_rules::Merged;
 use crate::context::EvalCtxt;
 use crate::context::respond::copied_args;
@@ -108,80 +109,9 @@ impl EvalCtxt<'_> {
         ensures fault { IsFaultFor self.old self.new result }
     {
         match self.considered_groups(class, goal)? {
-            None => self.merge_open_alias(class, goal),
+            None => self.merge_open(AskedGoal::Projection(class, goal)),
             Some(rules) => self.merge_groups(class, &goal.predicate, &rules),
         }
-    }
-
-    /// What the candidates of a projection make of its goal where no candidates are considered, or where the self type is an alias with inference variables: it is
-    /// undecided, or answered in a trial.
-    #[cycle(open)]
-    fn merge_open_alias(
-        &mut self,
-        class: TraitGoalProvenVia,
-        goal: &Goal<NormalizesTo>,
-    ) -> Result<Response, Fault>
-        ensures undecided { (AsksOpenSelf alias_kind.words.self_type goal.now self.old → ⊥) → WhenAnswered result (IsMaybe result) }
-        ensures opened { OpensIfAsked alias_kind.words.self_type (ByFormedGroups alias_kind goal.now.predicate class goal.now) goal.now self.old result self.new }
-        ensures applies { IfOk result (IsApplicable self.new) }
-        ensures unchanged { self.new ≡ restored self.old self.new }
-        ensures goes_back { GoesBack self.old self.new }
-        ensures fault { IsFaultFor self.old self.new result }
-    {
-        self.is_well_formed();
-        match self.open_self(goal)? {
-            None => Ok(self.respond(Certainty::Maybe, None)),
-            Some(alias) => self.merge_opened_alias(class, goal, alias),
-        }
-    }
-
-    /// What the candidates of a projection make of its goal in a trial, beside what the head form of the self type binds.
-    #[cycle(open)]
-    fn merge_opened_alias(
-        &mut self,
-        class: TraitGoalProvenVia,
-        goal: &Goal<NormalizesTo>,
-        alias: AliasTerm,
-    ) -> Result<Response, Fault>
-        requires opens { IsSelfAlias alias_kind.words.self_type goal.now self.old alias }
-        ensures merges { WhenAnswered result (MergesOpened alias_kind.words.self_type (ByFormedGroups alias_kind goal.now.predicate class goal.now) goal.now self.old result self.new) }
-        ensures applies { IfOk result (IsApplicable self.new) }
-        ensures unchanged { self.new ≡ restored self.old self.new }
-        ensures goes_back { GoesBack self.old self.new }
-        ensures fault { IsFaultFor self.old self.new result }
-    {
-        self.holds_together();
-        self.is_well_formed();
-        let before = self.snapshot();
-        let around = self.begin();
-        let answer = self.answer_opened_alias(class, goal, alias);
-        self.holds_together();
-        self.is_well_formed();
-        self.rollback(before);
-        self.end(around);
-        self.or_undecided(answer)
-    }
-
-    /// What the candidates of a projection make of its goal for the head form of the self type. There is no answer where none are considered.
-    #[cycle(open)]
-    fn answer_opened_alias(
-        &mut self,
-        class: TraitGoalProvenVia,
-        goal: &Goal<NormalizesTo>,
-        alias: AliasTerm,
-    ) -> Result<Option<Response>, Fault>
-        ensures by { WhenTried result (InTrial (ByFormedGroups alias_kind goal.now.predicate class goal.now) goal.now.param_env.items alias self.old result self.new) }
-        ensures lists { IfOk result (λ o. IfSome o (IsListedIn self.new)) }
-        ensures goes_back { GoesBack self.old self.new }
-        ensures fault { IsFaultFor self.old self.new result }
-    {
-        let found = self.form_of_open(&goal.param_env, alias)?;
-        let Some(rules) = groups_for_form(self.tables, &self.typing_mode, class, goal, found)?
-        else {
-            return Ok(None);
-        };
-        let answer = self.merge_groups(class, &goal.predicate, &rules)?;
-        self.beside(answer)
     }
 
     /// What the candidates of a projection make of a goal of a kind at the remaining depth, if its trait goal holds
@@ -200,80 +130,9 @@ impl EvalCtxt<'_> {
         ensures fault { IsFaultFor self.old self.new result }
     {
         match self.considered_groups(class, goal)? {
-            None => self.merge_open_through(class, asked, goal),
+            None => self.merge_open_goal(Merging::Projection(class, asked), goal),
             Some(rules) => self.merge_groups(class, asked, &rules),
         }
-    }
-
-    /// What the candidates of a projection make of a goal of a kind where no candidates are considered, or where the self type is an alias with inference variables: it is
-    /// undecided, or answered in a trial.
-    fn merge_open_through<G: GoalKind + Drop>(
-        &mut self,
-        class: TraitGoalProvenVia,
-        asked: &NormalizesTo,
-        goal: &Goal<G>,
-    ) -> Result<Response, Fault>
-        ensures undecided { (AsksOpenSelf G.words.self_type goal.now self.old → ⊥) → WhenAnswered result (IsMaybe result) }
-        ensures opened { OpensIfAsked G.words.self_type (ByFormedGroups (kind_of G.words G.has_fault) asked.now class goal.now) goal.now self.old result self.new }
-        ensures applies { IfOk result (IsApplicable self.new) }
-        ensures unchanged { self.new ≡ restored self.old self.new }
-        ensures goes_back { GoesBack self.old self.new }
-        ensures fault { IsFaultFor self.old self.new result }
-    {
-        self.is_well_formed();
-        match self.open_self(goal)? {
-            None => Ok(self.respond(Certainty::Maybe, None)),
-            Some(alias) => self.merge_opened_through(class, asked, goal, alias),
-        }
-    }
-
-    /// What the candidates of a projection make of a goal of a kind in a trial, beside what the head form of the self type binds.
-    fn merge_opened_through<G: GoalKind + Drop>(
-        &mut self,
-        class: TraitGoalProvenVia,
-        asked: &NormalizesTo,
-        goal: &Goal<G>,
-        alias: AliasTerm,
-    ) -> Result<Response, Fault>
-        requires opens { IsSelfAlias G.words.self_type goal.now self.old alias }
-        ensures merges { WhenAnswered result (MergesOpened G.words.self_type (ByFormedGroups (kind_of G.words G.has_fault) asked.now class goal.now) goal.now self.old result self.new) }
-        ensures applies { IfOk result (IsApplicable self.new) }
-        ensures unchanged { self.new ≡ restored self.old self.new }
-        ensures goes_back { GoesBack self.old self.new }
-        ensures fault { IsFaultFor self.old self.new result }
-    {
-        self.holds_together();
-        self.is_well_formed();
-        let before = self.snapshot();
-        let around = self.begin();
-        let answer = self.answer_opened_through(class, asked, goal, alias);
-        self.holds_together();
-        self.is_well_formed();
-        self.rollback(before);
-        self.end(around);
-        self.or_undecided(answer)
-    }
-
-    /// What the candidates of a projection make of a goal of a kind for the head form of the self type. There is no answer where none are considered.
-    fn answer_opened_through<G: GoalKind + Drop>(
-        &mut self,
-        class: TraitGoalProvenVia,
-        asked: &NormalizesTo,
-        goal: &Goal<G>,
-        alias: AliasTerm,
-    ) -> Result<Option<Response>, Fault>
-        ensures by { WhenTried result (InTrial (ByFormedGroups (kind_of G.words G.has_fault) asked.now class goal.now) goal.now.param_env.items alias self.old result self.new) }
-        ensures lists { IfOk result (λ o. IfSome o (IsListedIn self.new)) }
-        ensures goes_back { GoesBack self.old self.new }
-        ensures fault { IsFaultFor self.old self.new result }
-    {
-        let found = self.form_of_open(&goal.param_env, alias)?;
-        let Some(rules) = groups_for_form(self.tables, &self.typing_mode, class, goal, found)?
-        else {
-            return Ok(None);
-        };
-        let answer = self.merge_groups(class, asked, &rules)?;
-        self.beside(answer)
     }
 
     /// The rules of the groups of a goal's candidates for the head form of its self type, if candidates are considered
@@ -299,7 +158,7 @@ impl EvalCtxt<'_> {
     /// What the groups of candidates make of a goal, whose self type is a head form: the environment, then those
     /// that go with the class.
     #[cycle(open)]
-    fn merge_groups(
+    pub(crate) fn merge_groups(
         &mut self,
         class: TraitGoalProvenVia,
         asked: &NormalizesTo,

@@ -7,7 +7,7 @@ ghost use Rattle.goal_lists.specs.Projections.{projected_item};
 ghost use Rattle.goal_lists.specs.Settings.{is_headline};
 ghost use Rattle.goal_solver.specs.Answers.{IsOwed, is_closed_alias, AnswersAside, IsFaultOf};
 ghost use Rattle.goal_solver.specs.GoingBack.{GoesBack, restored};
-ghost use Rattle.goal_eval.specs.Outcomes.{RunsAs, RunsFor, setting_in, level_in, FoundIn};
+ghost use Rattle.goal_eval.specs.Outcomes.{RunsFor, setting_in, level_in, FoundIn};
 ghost use Rattle.goal_solver.specs.Promises.{ListsTerm};
 ghost use Rattle.goal_solver.specs.State.{kinds_of};
 ghost use Rattle.goal_solver.specs.ThroughClasses.{SaysTermThrough, SaysClassTerm, SoundThrough, DecidesThrough, AppliesThrough};
@@ -15,10 +15,11 @@ ghost use Rattle.goal_eval.specs.Effects.{AreSound, IsStop};
 
 use crate::context::EvalCtxt;
 use crate::eval::closed_goals::is_closed_alias;
+use crate::eval::questions::Question;
 use crate::faults::Fault;
 use goal_eval::eval::effects::Effects;
 use goal_eval::eval::interning::intern_args;
-use goal_eval::eval::outcomes::{Found, OnAccess, Setting, Stop};
+use goal_eval::eval::outcomes::{Found, Setting, Stop};
 use goal_eval::eval::region_constraints::RegionConstraints;
 use goal_eval::normalizes_to::projections::{Given, term_proven_via};
 use goal_terms::answers::{Certainty, Response, TraitGoalProvenVia};
@@ -75,6 +76,48 @@ fn alias_proven_via(
     term_proven_via(setting, terms, effects, &given, depth)
 }
 
+/// An alias whose trait goal is taken to hold through a class, if it is a projection.
+#[derive(Clone, Copy)]
+struct AliasThrough<'a> {
+    class: TraitGoalProvenVia,
+    alias: &'a AliasTerm,
+}
+
+/// Which term the alias has, one above a depth.
+impl Question for AliasThrough<'_> {
+    ghost use Rattle.goal_lists.specs.Levels.{level};
+    ghost use Rattle.goal_eval.specs.Outcomes.{FoundIn};
+    ghost use Rattle.goal_solver.specs.ThroughClasses.{SaysFoundThrough};
+
+    type Answer = Found;
+
+    const LISTS_REGIONS: bool = true;
+
+    ghost can_ask = { λ T q. Unit {0} };
+
+    ghost within = { FoundIn };
+
+    ghost says = { λ S n T q U o. SaysFoundThrough S (level S n) q.class q.alias.now U o };
+
+    ghost ends_for_memory = { λ T q. ⊥ };
+
+    fn ask(
+        &self,
+        setting: &Setting<'_>,
+        terms: &mut TermTable,
+        effects: &mut Effects,
+        depth: u32,
+    ) -> Result<Found, Stop> {
+        alias_proven_via(setting, terms, effects, self.class, self.alias, depth)
+    }
+
+    ghost asked_again = { λ T U q k h. tt };
+
+    ghost said_before = { λ S n T U V q o k h says. says };
+
+    ghost ends_so_again = { λ T U q k h never. never };
+}
+
 #[tactic(auto, using(crate::proofs::AnswerLemmas::answering))]
 impl EvalCtxt<'_> {
     /// The term that an alias has by the candidates at the remaining depth, if it is a projection whose trait
@@ -94,41 +137,9 @@ impl EvalCtxt<'_> {
         ensures says { (m : TypingMode) → IsOwed self.new m → SaysClassTerm self.old self.new m environment.now class alias.now result }
         ensures stops { is_headline self.old.typing_mode ≡ true → IfErr result (λ s. s ≡ Stop.OutOfMemory) }
     {
-        let on_access = self.first_access();
-        let first = self.class_run(on_access, class, alias, environment, listed);
-        if let Some(found) = self.first_answer(first)? {
-            return Ok(found);
-        }
-        self.class_run(OnAccess::Record, class, alias, environment, listed)
-    }
-
-    /// One run over the candidates.
-    fn class_run(
-        &mut self,
-        on_access: OnAccess,
-        class: TraitGoalProvenVia,
-        alias: &AliasTerm,
-        environment: &[Clause],
-        listed: &mut RegionConstraints,
-    ) -> Result<Found, Stop>
-        ensures kept { Keeps self.old.terms self.new.terms }
-        ensures unchanged { self.new ≡ restored self.old self.new }
-        ensures goes_back { GoesBack self.old self.new }
-        ensures within { IfOk result (FoundIn self.new.terms) }
-        ensures says { (m : TypingMode) → RunsAs on_access self.old.typing_mode m → SaysClassTerm self.old self.new m environment.now class alias.now result }
-        ensures stops { is_headline self.old.typing_mode ≡ true → IfErr result (λ s. s ≡ Stop.OutOfMemory) }
-    {
-        let mut effects = self.listing_effects();
-        let setting = Setting {
-            rows: self.tables.rows(),
-            typing_mode: &self.typing_mode,
-            on_access,
-            environment,
-        };
-        let depth = self.remaining_depth;
-        let found = alias_proven_via(&setting, &mut self.terms, &mut effects, class, alias, depth);
-        self.record_listed(&effects, listed)?;
-        found
+        let asked = AliasThrough { class, alias };
+        let depth = self.remaining_depth();
+        self.evaluate(&asked, environment, depth, listed)
     }
 
     /// What is answered to the goal of an alias's term by the candidates at the remaining depth, if the alias is

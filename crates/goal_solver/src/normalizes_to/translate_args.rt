@@ -24,17 +24,18 @@ ghost use Rattle.goal_solver.specs.State.{kinds_of};
 ghost use Rattle.goal_solver.specs.TranslatedArgs.{taken_by, own_after, certainty_in, AnswersJust, IsTranslation, IsHeaderOpen, IsFresh, BindsNothing, IsMadeEqual, IsAdded, AddsClauses, MakesVariables, ChangesGoals, MatchCounts, Takes, args_asked, TranslatesOther, asked_of, asked_for, ReadsSoundly, LeavesHeaderOpen, MakesFresh, BindsNone, EquatesHeader, IsHeaderEqual, IsNeverEqual, AddsItsGoals, FreshIfUnknown, EqualsWhereYes, NeverEquals, SaysHeader};
 ghost use Rattle.goal_solver.specs.Variables.{fresh_args};
 ghost use Rattle.goal_solver.specs.Promises.{WhereOwed, WhereOwedBeyond};
-ghost use Rattle.goal_solver.specs.Evaluations.{WhereRun};
 
 use crate::context::EvalCtxt;
 use crate::context::rebuilding::rebuilt_args;
 use crate::eval::open_terms::any_variable;
+use crate::eval::questions::Question;
 use crate::eval::where_goals::goals_under;
 use crate::faults::Fault;
 use goal_eval::eval::effects::Effects;
 use goal_eval::eval::interning::intern_args;
-use goal_eval::eval::outcomes::{HeaderMatch, OnAccess, Setting, Stop};
-use goal_eval::relate::headers::match_header;
+use goal_eval::eval::outcomes::{HeaderMatch, Setting, Stop};
+use goal_eval::eval::region_constraints::RegionConstraints;
+use goal_eval::relate::headers::{AskedHeader, match_header};
 use goal_infer::followed::follow_all;
 use goal_tables::predicate_terms::some_in_env;
 use goal_tables::rows::{Container, ImplRow};
@@ -45,7 +46,59 @@ use goal_terms::modes::TypingMode;
 use goal_terms::node_tests::NodeTest;
 use goal_terms::predicates::{Clause, Goal, NormalizesTo, TraitRef};
 use goal_terms::term_nodes::TermId;
+use goal_terms::term_table::TermTable;
 use goal_terms::terms::GenericArg;
+
+/// An impl's header, matched with given terms.
+#[derive(Clone, Copy)]
+struct ImplHeader<'a> {
+    row: &'a ImplRow,
+    given: &'a [TermId],
+}
+
+/// What the header comes to. A match has as many terms as the impl has parameters.
+impl Question for ImplHeader<'_> {
+    ghost use Rattle.goal_lists.specs.Interned.{AreIn, erased_all};
+    ghost use Rattle.goal_lists.specs.Levels.{level};
+    ghost use Rattle.goal_lists.proofs.InternedLemmas.{are_in-grown};
+    ghost use Rattle.goal_eval.specs.Outcomes.{MatchIn};
+    ghost use Rattle.goal_solver.specs.Questions.{before-all};
+    ghost use Rattle.goal_solver.specs.TranslatedArgs.{SaysCounted};
+
+    type Answer = HeaderMatch;
+
+    const LISTS_REGIONS: bool = false;
+
+    ghost can_ask = { λ T q. AreIn T q.given.now };
+
+    ghost within = { MatchIn };
+
+    ghost says = { λ S n T q U o. SaysCounted (level S n) q.row.now (erased_all T q.given.now) U o };
+
+    ghost ends_for_memory = { λ T q. ⊥ };
+
+    fn ask(
+        &self,
+        setting: &Setting<'_>,
+        terms: &mut TermTable,
+        effects: &mut Effects,
+        depth: u32,
+    ) -> Result<HeaderMatch, Stop> {
+        let asked = AskedHeader {
+            params: &self.row.params,
+            header: &self.row.trait_args,
+            given: self.given,
+        };
+        let found = match_header(setting, terms, effects, &asked, depth)?;
+        Ok(counted(found, self.row.params.len()))
+    }
+
+    ghost asked_again = { λ T U q k h. are_in-grown T U k q.given.now h };
+
+    ghost said_before = { λ S n T U V q o k h. before-all T U q.given.now (λ ts. SaysCounted (level S n) q.row.now ts V o) k h };
+
+    ghost ends_so_again = { λ T U q k h never. never };
+}
 
 impl EvalCtxt<'_> {
     /// The arguments that a definition takes, which the impl `impl_id` uses for the item of a goal's alias, and
@@ -295,51 +348,10 @@ impl EvalCtxt<'_> {
         ensures says { WhereOwed self.old self.new environment.now (λ L. SaysHeader L other.now (erased_all self.old.terms given.now) self.new.terms result) }
         ensures stops { is_headline self.old.typing_mode ≡ true → IfErr result (λ s. s ≡ Stop.OutOfMemory) }
     {
-        let on_access = self.first_access();
-        let first = self.header_run(on_access, environment, other, given);
-        if let Some(found) = self.first_answer(first)? {
-            return Ok(found);
-        }
-        self.header_run(OnAccess::Record, environment, other, given)
-    }
-
-    /// One run of an impl's header at the remaining depth.
-    fn header_run(
-        &mut self,
-        on_access: OnAccess,
-        environment: &[Clause],
-        other: &ImplRow,
-        given: &[TermId],
-    ) -> Result<HeaderMatch, Stop>
-        requires { AreIn self.old.terms given.now }
-        ensures kept { Keeps self.old.terms self.new.terms }
-        ensures unchanged { self.new ≡ restored self.old self.new }
-        ensures goes_back { GoesBack self.old self.new }
-        ensures count { IfOk result (MatchCounts (length other.now.params.items)) }
-        ensures within { IfOk result (MatchIn self.new.terms) }
-        ensures says { WhereRun on_access self.old environment.now (λ L. SaysHeader L other.now (erased_all self.old.terms given.now) self.new.terms result) }
-        ensures stops { is_headline self.old.typing_mode ≡ true → IfErr result (λ s. s ≡ Stop.OutOfMemory) }
-    {
-        let mut effects = Effects::new(self.allocator());
-        let setting = Setting {
-            rows: self.tables.rows(),
-            typing_mode: &self.typing_mode,
-            on_access,
-            environment,
-        };
-        let depth = self.remaining_depth;
-        let found = match_header(
-            &setting,
-            &mut self.terms,
-            &mut effects,
-            &other.params,
-            &other.trait_args,
-            given,
-            depth,
-        );
-        self.record_effects(&effects)?;
-        let found = found?;
-        Ok(counted(found, other.params.len()))
+        let asked = ImplHeader { row: other, given };
+        let depth = self.remaining_depth();
+        let mut listed = RegionConstraints::new(self.allocator());
+        self.evaluate(&asked, environment, depth, &mut listed)
     }
 
     /// The arguments of some numbers. Only memory is refused.

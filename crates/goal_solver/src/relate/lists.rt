@@ -10,15 +10,16 @@ ghost use Rattle.goal_lists.specs.Settings.{is_headline};
 ghost use Rattle.goal_solver.specs.Accesses.{RecordsCausedFaults};
 ghost use Rattle.goal_solver.specs.Answers.{IsOwed};
 ghost use Rattle.goal_solver.specs.GoingBack.{GoesBack, restored};
-ghost use Rattle.goal_eval.specs.Outcomes.{RunsAs};
 ghost use Rattle.goal_solver.specs.Relating.{IsRelated, ChangesRecords, AgreesWith, bound_at};
 ghost use Rattle.goal_solver.specs.Settled.{HoldsWithMemory, AreSettledIn, outcome_in, IsPlainOrSame};
 ghost use Rattle.goal_solver.specs.State.{kinds_of};
 
 use crate::context::EvalCtxt;
-use crate::relate::resolved::relate_resolved_lists;
+use crate::eval::questions::Question;
+use crate::relate::resolved::{RelatedUnder, relate_resolved_lists};
 use goal_eval::eval::effects::Effects;
-use goal_eval::eval::outcomes::{OnAccess, Setting, Stop};
+use goal_eval::eval::outcomes::{Setting, Stop};
+use goal_eval::eval::region_constraints::RegionConstraints;
 use goal_infer::followed::follow_all;
 use goal_infer::unify::Unified;
 use goal_infer::unify_all::unify_all;
@@ -28,6 +29,57 @@ use goal_terms::modes::TypingMode;
 use goal_terms::node_tests::NodeTest;
 use goal_terms::predicates::Clause;
 use goal_terms::term_nodes::{OutOfMemory, TermId};
+use goal_terms::term_table::TermTable;
+
+/// Two lists of terms whose bindings are followed. Aliases are opened only where `opens` says so.
+#[derive(Clone, Copy)]
+struct FollowedLists<'a> {
+    left: &'a [TermId],
+    right: &'a [TermId],
+    opens: bool,
+}
+
+/// What the lists come to in pairs.
+impl Question for FollowedLists<'_> {
+    ghost use Rattle.std.specs.Prelude.{◌≡◌};
+    ghost use Rattle.goal_lists.specs.Interned.{AreIn, erased_all};
+    ghost use Rattle.goal_lists.proofs.InternedLemmas.{are_in-grown};
+    ghost use Rattle.goal_solver.specs.Questions.{before-both, same-after};
+    ghost use Rattle.goal_solver.specs.Settled.{SaysSettled};
+
+    type Answer = Outcome;
+
+    const LISTS_REGIONS: bool = false;
+
+    ghost can_ask = { λ T q. AreIn T q.left.now × AreIn T q.right.now };
+
+    ghost within = { λ T o. Unit {0} };
+
+    ghost says = { λ S n T q U o. SaysSettled S q.opens n (erased_all T q.left.now) (erased_all T q.right.now) o };
+
+    ghost ends_for_memory = { λ T q. erased_all T q.left.now ≡ erased_all T q.right.now };
+
+    fn ask(
+        &self,
+        setting: &Setting<'_>,
+        terms: &mut TermTable,
+        effects: &mut Effects,
+        depth: u32,
+    ) -> Result<Outcome, Stop> {
+        let under = RelatedUnder {
+            setting,
+            opens: self.opens,
+            depth,
+        };
+        relate_resolved_lists(&under, terms, effects, self.left, self.right)
+    }
+
+    ghost asked_again = { λ T U q k h. (are_in-grown T U k q.left.now h.0, are_in-grown T U k q.right.now h.1) };
+
+    ghost said_before = { λ S n T U V q o k h. before-both T U q.left.now q.right.now (λ ts us. SaysSettled S q.opens n ts us o) k h.0 h.1 };
+
+    ghost ends_so_again = { λ T U q k h. same-after T U q.left.now q.right.now k h.0 h.1 };
+}
 
 impl EvalCtxt<'_> {
     /// Makes two lists of terms equal in pairs, at a depth: variables are bound where the terms can be the same in
@@ -95,54 +147,27 @@ impl EvalCtxt<'_> {
         ensures stops { is_headline self.old.typing_mode ≡ true → IfErr result (λ s. s ≡ Stop.OutOfMemory) }
     {
         self.holds_together();
-        let on_access = self.first_access();
-        let first = self.relate_run(on_access, environment, left, right, depth);
-        if let Some(outcome) = self.first_answer(first)? {
-            return Ok(outcome);
-        }
-        self.relate_run(OnAccess::Record, environment, left, right, depth)
+        let lefts = self.followed_ids(left)?;
+        let rights = self.followed_ids(right)?;
+        let opens = !some_in_env(NodeTest::IsAnyInfer, environment);
+        let asked = FollowedLists {
+            left: &lefts,
+            right: &rights,
+            opens,
+        };
+        let mut listed = RegionConstraints::new(self.allocator());
+        self.evaluate(&asked, environment, depth, &mut listed)
     }
 
-    /// One run over two lists of terms.
-    fn relate_run(
-        &mut self,
-        on_access: OnAccess,
-        environment: &[Clause],
-        left: &[TermId],
-        right: &[TermId],
-        depth: u32,
-    ) -> Result<Outcome, Stop>
-        requires first { AreIn self.old.terms left.now }
-        requires second { AreIn self.old.terms right.now }
+    /// The numbers of terms with their bindings followed. Nothing changes but that there may be more terms.
+    fn followed_ids(&mut self, ids: &[TermId]) -> Result<Vec<TermId>, OutOfMemory>
+        requires { AreIn self.old.terms ids.now }
         ensures kept { Keeps self.old.terms self.new.terms }
-        ensures alone { self.new ≡ restored self.old self.new }
-        ensures faults { RecordsCausedFaults self.old self.new }
-        ensures goes_back { GoesBack self.old self.new }
-        ensures settled { IfOk result (AreSettledIn self.old (RunsAs on_access self.old.typing_mode) environment.now depth (bound_at self.old left.now) (bound_at self.old right.now)) }
-        ensures same { bound_at self.old left.now ≡ bound_at self.old right.now → HoldsWithMemory result }
-        ensures stops { is_headline self.old.typing_mode ≡ true → IfErr result (λ s. s ≡ Stop.OutOfMemory) }
+        ensures unchanged { self.new ≡ record self.old { terms = self.new.terms } }
+        ensures within { IfOk result (λ rs. AreIn self.new.terms rs.items) }
+        ensures trees { IfOk result (λ rs. erased_all self.new.terms rs.items ≡ bound_at self.old ids.now) }
     {
-        let mut effects = Effects::new(self.allocator());
-        let lefts = follow_all(&mut self.terms, &self.inference, left)?;
-        let rights = follow_all(&mut self.terms, &self.inference, right)?;
-        let opens = !some_in_env(NodeTest::IsAnyInfer, environment);
-        let setting = Setting {
-            rows: self.tables.rows(),
-            typing_mode: &self.typing_mode,
-            on_access,
-            environment,
-        };
-        let outcome = relate_resolved_lists(
-            &setting,
-            &mut self.terms,
-            &mut effects,
-            &lefts,
-            &rights,
-            opens,
-            depth,
-        );
-        self.record_effects(&effects)?;
-        outcome
+        follow_all(&mut self.terms, &self.inference, ids)
     }
 
     /// What an outcome comes to in the context's typing mode: in coherence no refusal is final.

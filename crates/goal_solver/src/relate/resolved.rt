@@ -16,37 +16,43 @@ use goal_lists::outcomes::Outcome;
 use goal_terms::term_nodes::TermId;
 use goal_terms::term_table::TermTable;
 
+/// Under what terms are related that may hold inference variables: the setting, whether aliases are opened, which they
+/// are where the environment holds no variable, and the depth.
+#[derive(Clone, Copy)]
+pub(crate) struct RelatedUnder<'e> {
+    pub(crate) setting: &'e Setting<'e>,
+    pub(crate) opens: bool,
+    pub(crate) depth: u32,
+}
+
 /// What two terms come to, lifetimes aside, whatever stands for their inference variables. It holds where
 /// they are equal at the depth in any case, and is refuted where they can't be made identical. An alias is
-/// opened only where neither it nor what it is compared with holds a variable and, as `opens` says, neither
+/// opened only where neither it nor what it is compared with holds a variable and, as `under` says, neither
 /// does the environment.
 #[cycle(relating)]
 pub(crate) fn relate_resolved(
-    setting: &Setting<'_>,
+    under: &RelatedUnder<'_>,
     terms: &mut TermTable,
     effects: &mut Effects,
     left: TermId,
     right: TermId,
-    opens: bool,
-    depth: u32,
 ) -> Result<Outcome, Stop>
-    requires effects { AreSound setting.now terms.old effects.old }
+    requires effects { AreSound under.now.setting.now terms.old effects.old }
     requires alike { AreOfOneKind terms.old left right }
-    ensures effects { AreSound setting.now terms.new effects.new }
+    ensures effects { AreSound under.now.setting.now terms.new effects.new }
     ensures kept { Keeps terms.old terms.new }
-    ensures stops { IfErr result (IsStop setting.now) }
-    ensures says { IfOk result (IsSettled setting.now opens depth (erased_at terms.old left) (erased_at terms.old right)) }
+    ensures stops { IfErr result (IsStop under.now.setting.now) }
+    ensures says { IfOk result (IsSettled under.now.setting.now under.now.opens under.now.depth (erased_at terms.old left) (erased_at terms.old right)) }
     ensures same { erased_at terms.old left ≡ erased_at terms.old right → HoldsWithMemory result }
 {
     match compare_tops(terms, left, right) {
         Tops::Settled(outcome) => Ok(outcome),
-        Tops::NeedForms => relate_resolved_forms(
-            setting, terms, effects, left, right, opens, depth,
-        ),
+        Tops::NeedForms => relate_resolved_forms(under, terms, effects, left, right),
         Tops::NeedParts => {
-            let parts = copied(setting.allocator(), terms.parts(left))?;
-            let others = copied(setting.allocator(), terms.parts(right))?;
-            relate_resolved_lists(setting, terms, effects, &parts, &others, opens, depth)
+            let alloc = under.setting.allocator();
+            let parts = copied(alloc, terms.parts(left))?;
+            let others = copied(alloc, terms.parts(right))?;
+            relate_resolved_lists(under, terms, effects, &parts, &others)
         }
     }
 }
@@ -63,46 +69,42 @@ fn stays_open(terms: &TermTable, left: TermId, right: TermId, opens: bool) -> bo
 
 /// What two terms come to of which one is an alias.
 fn relate_resolved_forms(
-    setting: &Setting<'_>,
+    under: &RelatedUnder<'_>,
     terms: &mut TermTable,
     effects: &mut Effects,
     left: TermId,
     right: TermId,
-    opens: bool,
-    depth: u32,
 ) -> Result<Outcome, Stop>
-    requires effects { AreSound setting.now terms.old effects.old }
+    requires effects { AreSound under.now.setting.now terms.old effects.old }
     requires alike { AreOfOneKind terms.old left right }
     requires forms { NeedForms (erased_at terms.old left) (erased_at terms.old right) }
-    ensures effects { AreSound setting.now terms.new effects.new }
+    ensures effects { AreSound under.now.setting.now terms.new effects.new }
     ensures kept { Keeps terms.old terms.new }
-    ensures stops { IfErr result (IsStop setting.now) }
-    ensures says { IfOk result (IsSettled setting.now opens depth (erased_at terms.old left) (erased_at terms.old right)) }
+    ensures stops { IfErr result (IsStop under.now.setting.now) }
+    ensures says { IfOk result (IsSettled under.now.setting.now under.now.opens under.now.depth (erased_at terms.old left) (erased_at terms.old right)) }
 {
-    if stays_open(terms, left, right, opens) {
+    if stays_open(terms, left, right, under.opens) {
         return Ok(Outcome::Undecided);
     }
-    compare_terms(setting, terms, effects, left, right, depth)
+    compare_terms(under.setting, terms, effects, left, right, under.depth)
 }
 
 /// What two lists of terms come to in pairs, as `relate_resolved` says it of two terms. Lists of unlike lengths are
 /// refuted.
 #[cycle(relating)]
 pub(crate) fn relate_resolved_lists(
-    setting: &Setting<'_>,
+    under: &RelatedUnder<'_>,
     terms: &mut TermTable,
     effects: &mut Effects,
     left: &[TermId],
     right: &[TermId],
-    opens: bool,
-    depth: u32,
 ) -> Result<Outcome, Stop>
-    requires effects { AreSound setting.now terms.old effects.old }
+    requires effects { AreSound under.now.setting.now terms.old effects.old }
     requires alike { AreListsOfOneKind terms.old left.now right.now }
-    ensures effects { AreSound setting.now terms.new effects.new }
+    ensures effects { AreSound under.now.setting.now terms.new effects.new }
     ensures kept { Keeps terms.old terms.new }
-    ensures stops { IfErr result (IsStop setting.now) }
-    ensures says { IfOk result (AreSettled setting.now opens depth (erased_all terms.old left.now) (erased_all terms.old right.now)) }
+    ensures stops { IfErr result (IsStop under.now.setting.now) }
+    ensures says { IfOk result (AreSettled under.now.setting.now under.now.opens under.now.depth (erased_all terms.old left.now) (erased_all terms.old right.now)) }
     ensures same { erased_all terms.old left.now ≡ erased_all terms.old right.now → HoldsWithMemory result }
 {
     let count = left.len();
@@ -114,7 +116,7 @@ pub(crate) fn relate_resolved_lists(
         if outcome.is_refuted() {
             return Ok(Outcome::Refuted);
         }
-        let next = relate_resolved(setting, terms, effects, left[i], right[i], opens, depth)?;
+        let next = relate_resolved(under, terms, effects, left[i], right[i])?;
         outcome = outcome.and(next);
     }
     Ok(outcome)

@@ -3,30 +3,22 @@ ghost use Rattle.std.specs.Prelude.{◌≡◌, ◌<◌, ℕ, suc, [], true, is_s
 ghost use Rattle.goal_terms.specs.TableMeaning.{Keeps};
 ghost use Rattle.goal_terms.specs.TreeOf.{tree_of_ty};
 ghost use Rattle.goal_solver.specs.Binding.{IsApplicable};
-ghost use Rattle.goal_solver.specs.Answers.{IsMaybe, IsQuiet};
-ghost use Rattle.goal_kinds.specs.Collecting.{kind_of, trait_kind};
+ghost use Rattle.goal_solver.specs.Answers.{IsQuiet};
+ghost use Rattle.goal_kinds.specs.Collecting.{has_kind_fault, kind_of};
 ghost use Rattle.goal_solver.specs.GoingBack.{GoesBack, restored};
-ghost use Rattle.goal_solver.specs.OpenAnswers.{InTrial, MergesGoal, MergesOpened, MergesTrait, OpensIfAsked};
-ghost use Rattle.goal_solver.specs.OpenGoals.{FormsGoal, IsFormless, WhenAnswered, at_depth, AreOfClass, ConsidersRules, ClassAnswers, ByClasses, proven_by, trait_classes, AsksOpenSelf, IsSelfAlias, WhenTried, ByFormedClasses, IsListedIn, IsBeside, IsAfterTrial};
-ghost use Rattle.goal_kinds.specs.Collecting.{has_kind_fault};
+ghost use Rattle.goal_solver.specs.OpenAnswers.{MergesGoal, MergesTrait};
+ghost use Rattle.goal_solver.specs.OpenGoals.{FormsGoal, IsFormless, WhenAnswered, at_depth, AreOfClass, ConsidersRules, ClassAnswers, ByClasses, proven_by, trait_classes, AsksOpenSelf, IsSelfAlias, IsListedIn, IsBeside, IsAfterTrial};
 ghost use Rattle.goal_solver.specs.Relating.{IsFaultFor};
 ghost use Rattle.goal_solver.specs.State.{State as state, kinds_of};
 
-use crate::assembly::formed_rules::{
-    classes_for_form, form_to_consider, has_kind_fault, with_form,
-};
+use crate::assembly::asked_goals::AskedGoal;
+use crate::assembly::formed_rules::{Merging, form_to_consider, has_kind_fault, with_form};
 use crate::assembly::merged_rules::Merged;
 use crate::context::EvalCtxt;
-use crate::eval::goals::lies_in_goal;
-use crate::eval::where_goals::copied_clauses;
 use crate::faults::Fault;
 use goal_kinds::assembly::class_rules::{ClassRules, rules_by_class};
 use goal_kinds::goal_kind::GoalKind;
-use goal_tables::checked::CheckedTables;
-use goal_tables::sites::TermFault;
 use goal_terms::answers::{Certainty, Response, TraitGoalProvenVia};
-use goal_terms::modes::TypingMode;
-use goal_terms::node_tests::general_variable;
 use goal_terms::predicates::{Goal, TraitPredicate};
 use goal_terms::terms::{AliasTerm, Term, Ty};
 
@@ -61,73 +53,9 @@ impl EvalCtxt<'_> {
         ensures fault { IsFaultFor self.old self.new result }
     {
         match self.considered_rules(goal)? {
-            None => self.merge_open_trait(goal),
+            None => self.merge_open(AskedGoal::Trait(goal)),
             Some(rules) => self.merge_classes(&rules),
         }
-    }
-
-    /// What the candidates of a trait goal make of it where no candidates are considered, or where the self type is an alias with inference variables: it is
-    /// undecided, or answered in a trial.
-    #[cycle(open)]
-    fn merge_open_trait(&mut self, goal: &Goal<TraitPredicate>) -> Result<Response, Fault>
-        ensures undecided { (AsksOpenSelf trait_kind.words.self_type goal.now self.old → ⊥) → WhenAnswered result (IsMaybe result) }
-        ensures opened { OpensIfAsked trait_kind.words.self_type (ByFormedClasses trait_kind goal.now) goal.now self.old result self.new }
-        ensures applies { IfOk result (IsApplicable self.new) }
-        ensures unchanged { self.new ≡ restored self.old self.new }
-        ensures goes_back { GoesBack self.old self.new }
-        ensures fault { IsFaultFor self.old self.new result }
-    {
-        self.is_well_formed();
-        match self.open_self(goal)? {
-            None => Ok(self.respond(Certainty::Maybe, None)),
-            Some(alias) => self.merge_opened_trait(goal, alias),
-        }
-    }
-
-    /// What the candidates of a trait goal make of it in a trial, beside what the head form of the self type binds.
-    #[cycle(open)]
-    fn merge_opened_trait(
-        &mut self,
-        goal: &Goal<TraitPredicate>,
-        alias: AliasTerm,
-    ) -> Result<Response, Fault>
-        requires opens { IsSelfAlias trait_kind.words.self_type goal.now self.old alias }
-        ensures merges { WhenAnswered result (MergesOpened trait_kind.words.self_type (ByFormedClasses trait_kind goal.now) goal.now self.old result self.new) }
-        ensures applies { IfOk result (IsApplicable self.new) }
-        ensures unchanged { self.new ≡ restored self.old self.new }
-        ensures goes_back { GoesBack self.old self.new }
-        ensures fault { IsFaultFor self.old self.new result }
-    {
-        self.holds_together();
-        self.is_well_formed();
-        let before = self.snapshot();
-        let around = self.begin();
-        let answer = self.answer_opened_trait(goal, alias);
-        self.holds_together();
-        self.is_well_formed();
-        self.rollback(before);
-        self.end(around);
-        self.or_undecided(answer)
-    }
-
-    /// What the candidates of a trait goal make of it for the head form of the self type. There is no answer where none are considered.
-    #[cycle(open)]
-    fn answer_opened_trait(
-        &mut self,
-        goal: &Goal<TraitPredicate>,
-        alias: AliasTerm,
-    ) -> Result<Option<Response>, Fault>
-        ensures by { WhenTried result (InTrial (ByFormedClasses trait_kind goal.now) goal.now.param_env.items alias self.old result self.new) }
-        ensures lists { IfOk result (λ o. IfSome o (IsListedIn self.new)) }
-        ensures goes_back { GoesBack self.old self.new }
-        ensures fault { IsFaultFor self.old self.new result }
-    {
-        let found = self.form_of_open(&goal.param_env, alias)?;
-        let Some(rules) = classes_for_form(self.tables, &self.typing_mode, goal, found)? else {
-            return Ok(None);
-        };
-        let answer = self.merge_classes(&rules)?;
-        self.beside(answer)
     }
 
     /// What the candidates of a goal make of it at the remaining depth, by the classes of a trait goal. Inference
@@ -143,70 +71,9 @@ impl EvalCtxt<'_> {
         ensures fault { IsFaultFor self.old self.new result }
     {
         match self.considered_rules(goal)? {
-            None => self.merge_open_goal(goal),
+            None => self.merge_open_goal(Merging::Classes, goal),
             Some(rules) => self.merge_classes(&rules),
         }
-    }
-
-    /// What the candidates of a goal make of it where no candidates are considered, or where the self type is an alias with inference variables: it is
-    /// undecided, or answered in a trial.
-    fn merge_open_goal<G: GoalKind + Drop>(&mut self, goal: &Goal<G>) -> Result<Response, Fault>
-        ensures undecided { (AsksOpenSelf G.words.self_type goal.now self.old → ⊥) → WhenAnswered result (IsMaybe result) }
-        ensures opened { OpensIfAsked G.words.self_type (ByFormedClasses (kind_of G.words G.has_fault) goal.now) goal.now self.old result self.new }
-        ensures applies { IfOk result (IsApplicable self.new) }
-        ensures unchanged { self.new ≡ restored self.old self.new }
-        ensures goes_back { GoesBack self.old self.new }
-        ensures fault { IsFaultFor self.old self.new result }
-    {
-        self.is_well_formed();
-        match self.open_self(goal)? {
-            None => Ok(self.respond(Certainty::Maybe, None)),
-            Some(alias) => self.merge_opened_goal(goal, alias),
-        }
-    }
-
-    /// What the candidates of a goal make of it in a trial, beside what the head form of the self type binds.
-    fn merge_opened_goal<G: GoalKind + Drop>(
-        &mut self,
-        goal: &Goal<G>,
-        alias: AliasTerm,
-    ) -> Result<Response, Fault>
-        requires opens { IsSelfAlias G.words.self_type goal.now self.old alias }
-        ensures merges { WhenAnswered result (MergesOpened G.words.self_type (ByFormedClasses (kind_of G.words G.has_fault) goal.now) goal.now self.old result self.new) }
-        ensures applies { IfOk result (IsApplicable self.new) }
-        ensures unchanged { self.new ≡ restored self.old self.new }
-        ensures goes_back { GoesBack self.old self.new }
-        ensures fault { IsFaultFor self.old self.new result }
-    {
-        self.holds_together();
-        self.is_well_formed();
-        let before = self.snapshot();
-        let around = self.begin();
-        let answer = self.answer_opened_goal(goal, alias);
-        self.holds_together();
-        self.is_well_formed();
-        self.rollback(before);
-        self.end(around);
-        self.or_undecided(answer)
-    }
-
-    /// What the candidates of a goal make of it for the head form of the self type. There is no answer where none are considered.
-    fn answer_opened_goal<G: GoalKind + Drop>(
-        &mut self,
-        goal: &Goal<G>,
-        alias: AliasTerm,
-    ) -> Result<Option<Response>, Fault>
-        ensures by { WhenTried result (InTrial (ByFormedClasses (kind_of G.words G.has_fault) goal.now) goal.now.param_env.items alias self.old result self.new) }
-        ensures lists { IfOk result (λ o. IfSome o (IsListedIn self.new)) }
-        ensures goes_back { GoesBack self.old self.new }
-        ensures fault { IsFaultFor self.old self.new result }
-    {
-        let found = self.form_of_open(&goal.param_env, alias)?;
-        let Some(rules) = classes_for_form(self.tables, &self.typing_mode, goal, found)? else {
-            return Ok(None);
-        };
-        let answer = self.merge_classes(&rules)?;
-        self.beside(answer)
     }
 
     /// The alias that the self type of a goal is, bindings followed, if an inference variable stands in it or in the
@@ -311,7 +178,7 @@ impl EvalCtxt<'_> {
     /// What a trait goal comes to at the remaining depth, by the rules of its classes: those of the environment, then
     /// those of the bounds of its self type, then the rest. Inference state, added goals and storage are as before.
     #[cycle(open)]
-    fn merge_classes(&mut self, rules: &ClassRules) -> Result<Response, Fault>
+    pub(crate) fn merge_classes(&mut self, rules: &ClassRules) -> Result<Response, Fault>
         ensures decides { WhenAnswered result (ByClasses (AreOfClass self.old.typing_mode rules.now) rules.now.param_env.items trait_classes self.old result self.new) }
         ensures applies { IfOk result (IsApplicable self.new) }
         ensures unchanged { self.new ≡ restored self.old self.new }

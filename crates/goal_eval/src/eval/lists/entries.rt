@@ -23,7 +23,7 @@ use crate::eval::outcomes::{Found, HeaderMatch, OnAccess, Setting, Stop};
 use crate::eval::premises::{clauses_outcome, conditions_outcome, predicate_outcome};
 use crate::relate::equality::compare_lists;
 use crate::relate::header_args::instances;
-use crate::relate::headers::match_header;
+use crate::relate::headers::{AskedHeader, match_header};
 use goal_lists::candidates::premises::traits_under;
 use goal_lists::lists::parts::copied;
 use goal_lists::lists::{
@@ -212,11 +212,21 @@ fn header_match(
 {
     match header.terms {
         HeaderTerms::Arguments(args) => {
-            match_header(setting, terms, effects, header.params, args, given, depth)
+            let asked = AskedHeader {
+                params: header.params,
+                header: args,
+                given,
+            };
+            match_header(setting, terms, effects, &asked, depth)
         }
         HeaderTerms::SelfType(ty) => {
             let made = header_of_type(setting, ty)?;
-            match_header(setting, terms, effects, header.params, &made, given, depth)
+            let asked = AskedHeader {
+                params: header.params,
+                header: &made,
+                given,
+            };
+            match_header(setting, terms, effects, &asked, depth)
         }
     }
 }

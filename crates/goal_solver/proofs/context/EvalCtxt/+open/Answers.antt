@@ -49,13 +49,13 @@ use Rattle.goal_terms.specs.declared.answers.Response.{Response}
 use Rattle.goal_eval.specs.ErasedArgs.{erased_args}
 use Rattle.goal_solver.specs.Answers.{IsOpen, IsQuiet, level_over}
 use Rattle.goal_kinds.specs.Collecting.{trait_kind, rules_of_class}
-use Rattle.goal_solver.specs.OpenGoals.{AsksOpenSelf, WhenTried, ConsidersRules, AreOfClass, trait_classes, WhenAnswered, ByClasses, ByFormedClasses}
+use Rattle.goal_solver.specs.OpenGoals.{WhenTried, ConsidersRules, AreOfClass, WhenAnswered}
 use Rattle.goal_solver.proofs.ApplicableLemmas.{nothing-applies-after, nothing-applies}
 use Rattle.goal_solver.proofs.OpenClassLemmas.{answered-in, by-classes, class-answers, first-answers, next-answers, none-answers, none-left}
 use Rattle.goal_solver.proofs.OpenTraitLemmas.{grown-records, some-unless, restored-records, let-go, let-go-back, let-go-caused, let-go-fault}
-use Rattle.goal_solver.specs.OpenHostGoals.{host_kind, rules_of_groups, AnswersPlain, ByFormedRuleGroups, ByRuleGroups, MergesHostEffect}
+use Rattle.goal_solver.specs.OpenHostGoals.{host_kind, AnswersPlain, MergesHostEffect}
 use Rattle.goal_solver.proofs.OpenHostLemmas.{const-at_once, const-below, const-grouped, const-refused, const-through, const-unproven, group-answered, group-first, group-later, group-none, group-refuted, group-split}
-use Rattle.goal_solver.specs.OpenProjections.{ConsidersGroups, IsAliasRule, IsRigid, WithForms, alias_kind, own_args, ByFormedGroups, ByGroups}
+use Rattle.goal_solver.specs.OpenProjections.{ConsidersGroups, IsAliasRule, IsRigid, WithForms, alias_kind, own_args}
 use Rattle.goal_solver.proofs.OpenProjectionLemmas.{alias-none, alias-run, asks-its-trait, no-trait, projects-alias, projects-refused, projects-unproven, projects-through, rules-merged, environment-answers, environment-splits, later-answers, bounds-answer, bounds-split, bounds-rigid, rest-answers, rest-splits, rest-refuses, through-groups, not-maybe}
 use Rattle.goal_lists.specs.Answers.{setting_of}
 use Rattle.goal_lists.specs.Levels.{level}
@@ -69,11 +69,14 @@ use Rattle.goal_lists.specs.Interned.{erased_at}
 use Rattle.goal_solver.specs.OpenForms.{OpensFrom}
 use Rattle.goal_solver.proofs.OpenFormLemmas.{answers-err, answers-ok, asks-term, grown-left, known, made-records, opens-answered, opens-let_go, opens-refused, opens-undone, refuses-term, same-records, undone-fault, with-fresh, restored-grown, restored-twice}
 use Rattle.goal_terms.specs.declared.terms.AliasTerm.{AliasTerm}
-use Rattle.goal_solver.proofs.OpenedSelfLemmas.{left-or_opened, left-or_opened-const, left-or_opened-through, after-fault, classes-passed, classes-shown, form-passed, form-refused, groups-passed, groups-shown, merge-answered, merge-refused, opened-applies, opened-merges, opened-unsaid}
+use Rattle.goal_solver.proofs.AskedGoalLemmas.{asked-merges, asked-passed, asked-refused, asked-shown}
+use Rattle.goal_solver.specs.AskedGoals.{AsksOpen, DecidesBy, MergesAsked, asked_environment, formed_as}
+use Rattle.goal_solver.proofs.OpenedSelfLemmas.{left-or_opened, left-or_opened-const, left-or_opened-through, after-fault, form-passed, form-refused, merge-answered, merge-refused, opened-applies, opened-unsaid}
 use Rattle.goal_solver.specs.Accesses.{RecordsCausedFaults, uncaused}
 use Rattle.goal_terms.specs.declared.answers.TraitGoalProvenVia.TheVariants as class
 use Rattle.goal_kinds.specs.declared.faults.Fault.TheVariants as fault
 use Rattle.goal_solver.specs.declared.assembly.merged_rules.Merged.TheVariants as merged
+use Rattle.goal_solver.specs.declared.assembly.formed_rules.FormedRules.{FormedRules}
 use Rattle.goal_solver.proofs.context.EvalCtxt.+open.Goals as goal
 
 pub evaluate_round-loop-i-init : goal.evaluate_round-loop-i-init
@@ -898,9 +901,9 @@ hold_const-returns-clause-goes_back t c =
 
 pub merge_const_through-returns-in-None-clause-merges : goal.merge_const_through-returns-in-None-clause-merges
 merge_const_through-returns-in-None-clause-merges t c =
-    left-or_opened-const host_kind c.args.class c.args.goal.now c.args.self.now c.considered_groups.new.self c.merge_open_const.new.self c.merge_open_const.result
+    left-or_opened-const host_kind c.args.class c.args.goal.now c.args.self.now c.considered_groups.new.self c.merge_open.new.self c.merge_open.result
     (subst (λ o. ConsidersGroups host_kind c.args.class c.args.goal.now c.args.self.now o c.considered_groups.new.self) c.in-None.is c.in_ok-considered_groups.ensures.considers) c.considered_groups.ensures.unchanged
-    c.merge_open_const.ensures.unchanged c.merge_open_const.ensures.undecided c.merge_open_const.ensures.opened
+    c.merge_open.ensures.unchanged c.merge_open.ensures.undecided c.merge_open.ensures.opened
 
 pub merge_const_through-returns-in-Some-clause-merges : goal.merge_const_through-returns-in-Some-clause-merges
 merge_const_through-returns-in-Some-clause-merges t c =
@@ -1499,386 +1502,142 @@ pub found_form-returns-clause-goes_back : goal.found_form-returns-clause-goes_ba
 found_form-returns-clause-goes_back t c =
     goes_back-through c.args.self.now c.apply_sure.new.self c.bound_form.new.self (goes_back-through c.args.self.now c.project_below.new.self c.apply_sure.new.self (goes_back-through c.args.self.now c.fresh_term.new.self c.project_below.new.self c.fresh_term.ensures.goes_back c.project_below.ensures.goes_back) c.apply_sure.ensures.goes_back) (goes_back-grown c.apply_sure.new.self c.bound_form.new.self c.bound_form.ensures.unchanged c.bound_form.ensures.kept)
 
-pub merge_open_trait-returns-in_err-open_self-clause-opened : goal.merge_open_trait-returns-in_err-open_self-clause-opened
-merge_open_trait-returns-in_err-open_self-clause-opened t c =
-    λ asks. opened-unsaid trait_kind.words.self_type (ByFormedClasses trait_kind c.args.goal.now) c.args.goal.now c.args.self.now c.open_self.new.self c.from_residual.result c.in_err-open_self.field-0.0 c.open_self.ensures.unchanged c.from_residual.ensures.1 c.in_err-open_self.ensures.only_memory
+pub merge_open-returns-in_err-open_self_of-clause-opened : goal.merge_open-returns-in_err-open_self_of-clause-opened
+merge_open-returns-in_err-open_self_of-clause-opened t c =
+    λ asks. opened-unsaid (MergesAsked c.args.asked) c.args.self.now c.open_self_of.new.self c.from_residual.result c.in_err-open_self_of.field-0.0 c.open_self_of.ensures.unchanged c.from_residual.ensures.1 c.in_err-open_self_of.ensures.only_memory
 
-pub merge_open_trait-returns-in_err-open_self-clause-goes_back : goal.merge_open_trait-returns-in_err-open_self-clause-goes_back
-merge_open_trait-returns-in_err-open_self-clause-goes_back t c =
-    goes_back-grown c.args.self.now c.open_self.new.self c.open_self.ensures.unchanged c.open_self.ensures.kept
+pub merge_open-returns-in_err-open_self_of-clause-goes_back : goal.merge_open-returns-in_err-open_self_of-clause-goes_back
+merge_open-returns-in_err-open_self_of-clause-goes_back t c =
+    goes_back-grown c.args.self.now c.open_self_of.new.self c.open_self_of.ensures.unchanged c.open_self_of.ensures.kept
 
-pub merge_open_trait-returns-in-None-clause-opened : goal.merge_open_trait-returns-in-None-clause-opened
-merge_open_trait-returns-in-None-clause-opened t c =
-    λ asks. absurd (c.open_self.ensures.none (c.in_ok-open_self.was ∙ ap (λ (o : Option AliasTerm). Ok o) c.in-None.is) asks)
+pub merge_open-returns-in-None-clause-opened : goal.merge_open-returns-in-None-clause-opened
+merge_open-returns-in-None-clause-opened t c =
+    λ asks. absurd (c.open_self_of.ensures.none (c.in_ok-open_self_of.was ∙ ap (λ (o : Option AliasTerm). Ok o) c.in-None.is) asks)
 
-pub merge_open_trait-returns-in-None-clause-applies : goal.merge_open_trait-returns-in-None-clause-applies
-merge_open_trait-returns-in-None-clause-applies t c =
-    nothing-applies-after c.args.self.now c.open_self.new.self c.respond.result (restored-grown c.args.self.now c.open_self.new.self c.open_self.ensures.unchanged) c.is_well_formed.ensures.storage
-    (subst (λ (s : State). IsQuiet (length (kinds_of s)) c.respond.result) c.open_self.ensures.unchanged c.respond.ensures.quiet) c.respond.ensures.values
+pub merge_open-returns-in-None-clause-applies : goal.merge_open-returns-in-None-clause-applies
+merge_open-returns-in-None-clause-applies t c =
+    nothing-applies-after c.args.self.now c.open_self_of.new.self c.respond.result (restored-grown c.args.self.now c.open_self_of.new.self c.open_self_of.ensures.unchanged) c.is_well_formed.ensures.storage
+    (subst (λ (s : State). IsQuiet (length (kinds_of s)) c.respond.result) c.open_self_of.ensures.unchanged c.respond.ensures.quiet) c.respond.ensures.values
 
-pub merge_open_trait-returns-in-None-clause-goes_back : goal.merge_open_trait-returns-in-None-clause-goes_back
-merge_open_trait-returns-in-None-clause-goes_back t c =
-    goes_back-grown c.args.self.now c.open_self.new.self c.open_self.ensures.unchanged c.open_self.ensures.kept
+pub merge_open-returns-in-None-clause-goes_back : goal.merge_open-returns-in-None-clause-goes_back
+merge_open-returns-in-None-clause-goes_back t c =
+    goes_back-grown c.args.self.now c.open_self_of.new.self c.open_self_of.ensures.unchanged c.open_self_of.ensures.kept
 
-pub merge_open_trait-returns-in-Some-clause-undecided : goal.merge_open_trait-returns-in-Some-clause-undecided
-merge_open_trait-returns-in-Some-clause-undecided t c =
-    λ other. absurd (other (known c.in_ok-open_self.field-0 c.in-Some.alias (λ a. AsksOpenSelf trait_kind.words.self_type c.args.goal.now c.args.self.now) c.in-Some.is c.in_ok-open_self.ensures.asks))
+pub merge_open-returns-in-Some-clause-undecided : goal.merge_open-returns-in-Some-clause-undecided
+merge_open-returns-in-Some-clause-undecided t c =
+    λ other. absurd (other (known c.in_ok-open_self_of.field-0 c.in-Some.alias (λ a. AsksOpen c.args.asked c.args.self.now) c.in-Some.is c.in_ok-open_self_of.ensures.asks))
 
-pub merge_open_trait-returns-in-Some-clause-opened : goal.merge_open_trait-returns-in-Some-clause-opened
-merge_open_trait-returns-in-Some-clause-opened t c =
-    λ asks. (c.open_self.new.self, restored-grown c.args.self.now c.open_self.new.self c.open_self.ensures.unchanged, c.merge_opened_trait.ensures.merges)
+pub merge_open-returns-in-Some-clause-opened : goal.merge_open-returns-in-Some-clause-opened
+merge_open-returns-in-Some-clause-opened t c =
+    λ asks. (c.open_self_of.new.self, restored-grown c.args.self.now c.open_self_of.new.self c.open_self_of.ensures.unchanged, c.merge_opened.ensures.merges)
 
-pub merge_open_trait-returns-in-Some-clause-unchanged : goal.merge_open_trait-returns-in-Some-clause-unchanged
-merge_open_trait-returns-in-Some-clause-unchanged t c =
-    restored-twice c.args.self.now c.open_self.new.self c.merge_opened_trait.new.self (restored-grown c.args.self.now c.open_self.new.self c.open_self.ensures.unchanged) c.merge_opened_trait.ensures.unchanged
+pub merge_open-returns-in-Some-clause-unchanged : goal.merge_open-returns-in-Some-clause-unchanged
+merge_open-returns-in-Some-clause-unchanged t c =
+    restored-twice c.args.self.now c.open_self_of.new.self c.merge_opened.new.self (restored-grown c.args.self.now c.open_self_of.new.self c.open_self_of.ensures.unchanged) c.merge_opened.ensures.unchanged
 
-pub merge_open_trait-returns-in-Some-clause-goes_back : goal.merge_open_trait-returns-in-Some-clause-goes_back
-merge_open_trait-returns-in-Some-clause-goes_back t c =
-    goes_back-through c.args.self.now c.open_self.new.self c.merge_opened_trait.new.self (goes_back-grown c.args.self.now c.open_self.new.self c.open_self.ensures.unchanged c.open_self.ensures.kept) c.merge_opened_trait.ensures.goes_back
+pub merge_open-returns-in-Some-clause-goes_back : goal.merge_open-returns-in-Some-clause-goes_back
+merge_open-returns-in-Some-clause-goes_back t c =
+    goes_back-through c.args.self.now c.open_self_of.new.self c.merge_opened.new.self (goes_back-grown c.args.self.now c.open_self_of.new.self c.open_self_of.ensures.unchanged c.open_self_of.ensures.kept) c.merge_opened.ensures.goes_back
 
-pub merge_open_trait-returns-in-Some-clause-fault : goal.merge_open_trait-returns-in-Some-clause-fault
-merge_open_trait-returns-in-Some-clause-fault t c =
-    fault-later c.args.self.now c.open_self.new.self c.merge_opened_trait.new.self c.merge_opened_trait.result (goes_back-grown c.args.self.now c.open_self.new.self c.open_self.ensures.unchanged c.open_self.ensures.kept) c.merge_opened_trait.ensures.fault
+pub merge_open-returns-in-Some-clause-fault : goal.merge_open-returns-in-Some-clause-fault
+merge_open-returns-in-Some-clause-fault t c =
+    fault-later c.args.self.now c.open_self_of.new.self c.merge_opened.new.self c.merge_opened.result (goes_back-grown c.args.self.now c.open_self_of.new.self c.open_self_of.ensures.unchanged c.open_self_of.ensures.kept) c.merge_opened.ensures.fault
 
-pub merge_opened_trait-rollback-requires : goal.merge_opened_trait-rollback-requires
-merge_opened_trait-rollback-requires t c =
-    let back : GoesBack (begun c.args.self.now) c.answer_opened_trait-answer.new.self = subst (λ (z : State). GoesBack z c.answer_opened_trait-answer.new.self) c.begin-around.ensures.began c.answer_opened_trait-answer.ensures.goes_back in
+pub merge_opened-rollback-requires : goal.merge_opened-rollback-requires
+merge_opened-rollback-requires t c =
+    let back : GoesBack (begun c.args.self.now) c.answer_opened-answer.new.self = subst (λ (z : State). GoesBack z c.answer_opened-answer.new.self) c.begin-around.ensures.began c.answer_opened-answer.ensures.goes_back in
     record { valid = (begun c.args.self.now, c.snapshot-before.ensures, back, valid-begun c.args.self.now c.holds_together.ensures) }
 
-pub merge_opened_trait-returns-clause-merges : goal.merge_opened_trait-returns-clause-merges
-merge_opened_trait-returns-clause-merges t c =
-    let back : GoesBack (begun c.args.self.now) c.answer_opened_trait-answer.new.self = subst (λ (z : State). GoesBack z c.answer_opened_trait-answer.new.self) c.begin-around.ensures.began c.answer_opened_trait-answer.ensures.goes_back in
-    let undone : c.end.new.self ≡ restored c.args.self.now c.answer_opened_trait-answer.new.self =
+pub merge_opened-returns-clause-merges : goal.merge_opened-returns-clause-merges
+merge_opened-returns-clause-merges t c =
+    let back : GoesBack (begun c.args.self.now) c.answer_opened-answer.new.self = subst (λ (z : State). GoesBack z c.answer_opened-answer.new.self) c.begin-around.ensures.began c.answer_opened-answer.ensures.goes_back in
+    let undone : c.end.new.self ≡ restored c.args.self.now c.answer_opened-answer.new.self =
     c.end.ensures ∙ ap (λ (z : State). record z { mark = c.begin-around.result }) (c.rollback.ensures.undone (begun c.args.self.now) c.snapshot-before.ensures back)
-    ∙ ap (λ m. record (restored (begun c.args.self.now) c.answer_opened_trait-answer.new.self) { mark = m }) c.begin-around.ensures.around in
-    opened-merges trait_kind.words.self_type (ByFormedClasses trait_kind c.args.goal.now) c.args.goal.now c.args.alias c.args.self.now c.begin-around.new.self c.answer_opened_trait-answer.new.self c.end.new.self c.answer_opened_trait-answer.result c.or_undecided.result
-    c.begin-around.ensures.began undone c.requires.opens c.answer_opened_trait-answer.ensures.by c.or_undecided.ensures.after
+    ∙ ap (λ m. record (restored (begun c.args.self.now) c.answer_opened-answer.new.self) { mark = m }) c.begin-around.ensures.around in
+    asked-merges c.args.asked c.args.alias c.args.self.now c.begin-around.new.self c.answer_opened-answer.new.self c.end.new.self c.answer_opened-answer.result c.or_undecided.result
+    c.begin-around.ensures.began undone c.requires.opens c.answer_opened-answer.ensures.by c.or_undecided.ensures.after
 
-pub merge_opened_trait-returns-clause-applies : goal.merge_opened_trait-returns-clause-applies
-merge_opened_trait-returns-clause-applies t c =
-    let back : GoesBack (begun c.args.self.now) c.answer_opened_trait-answer.new.self = subst (λ (z : State). GoesBack z c.answer_opened_trait-answer.new.self) c.begin-around.ensures.began c.answer_opened_trait-answer.ensures.goes_back in
-    let undone : c.end.new.self ≡ restored c.args.self.now c.answer_opened_trait-answer.new.self =
+pub merge_opened-returns-clause-applies : goal.merge_opened-returns-clause-applies
+merge_opened-returns-clause-applies t c =
+    let back : GoesBack (begun c.args.self.now) c.answer_opened-answer.new.self = subst (λ (z : State). GoesBack z c.answer_opened-answer.new.self) c.begin-around.ensures.began c.answer_opened-answer.ensures.goes_back in
+    let undone : c.end.new.self ≡ restored c.args.self.now c.answer_opened-answer.new.self =
     c.end.ensures ∙ ap (λ (z : State). record z { mark = c.begin-around.result }) (c.rollback.ensures.undone (begun c.args.self.now) c.snapshot-before.ensures back)
-    ∙ ap (λ m. record (restored (begun c.args.self.now) c.answer_opened_trait-answer.new.self) { mark = m }) c.begin-around.ensures.around in
-    opened-applies c.args.self.now c.answer_opened_trait-answer.new.self c.end.new.self c.answer_opened_trait-answer.result c.or_undecided.result back undone c.holds_together.ensures.solved c.holds_together-2.ensures.solved
-    c.is_well_formed.ensures.storage c.is_well_formed-2.ensures.storage c.answer_opened_trait-answer.ensures.lists c.or_undecided.ensures.left c.or_undecided.ensures.after
+    ∙ ap (λ m. record (restored (begun c.args.self.now) c.answer_opened-answer.new.self) { mark = m }) c.begin-around.ensures.around in
+    opened-applies c.args.self.now c.answer_opened-answer.new.self c.end.new.self c.answer_opened-answer.result c.or_undecided.result back undone c.holds_together.ensures.solved c.holds_together-2.ensures.solved
+    c.is_well_formed.ensures.storage c.is_well_formed-2.ensures.storage c.answer_opened-answer.ensures.lists c.or_undecided.ensures.left c.or_undecided.ensures.after
 
-pub merge_opened_trait-returns-clause-unchanged : goal.merge_opened_trait-returns-clause-unchanged
-merge_opened_trait-returns-clause-unchanged t c =
-    let back : GoesBack (begun c.args.self.now) c.answer_opened_trait-answer.new.self = subst (λ (z : State). GoesBack z c.answer_opened_trait-answer.new.self) c.begin-around.ensures.began c.answer_opened_trait-answer.ensures.goes_back in
-    let undone : c.end.new.self ≡ restored c.args.self.now c.answer_opened_trait-answer.new.self =
+pub merge_opened-returns-clause-unchanged : goal.merge_opened-returns-clause-unchanged
+merge_opened-returns-clause-unchanged t c =
+    let back : GoesBack (begun c.args.self.now) c.answer_opened-answer.new.self = subst (λ (z : State). GoesBack z c.answer_opened-answer.new.self) c.begin-around.ensures.began c.answer_opened-answer.ensures.goes_back in
+    let undone : c.end.new.self ≡ restored c.args.self.now c.answer_opened-answer.new.self =
     c.end.ensures ∙ ap (λ (z : State). record z { mark = c.begin-around.result }) (c.rollback.ensures.undone (begun c.args.self.now) c.snapshot-before.ensures back)
-    ∙ ap (λ m. record (restored (begun c.args.self.now) c.answer_opened_trait-answer.new.self) { mark = m }) c.begin-around.ensures.around in
+    ∙ ap (λ m. record (restored (begun c.args.self.now) c.answer_opened-answer.new.self) { mark = m }) c.begin-around.ensures.around in
     undone ∙ sym (ap (restored c.args.self.now) undone)
 
-pub merge_opened_trait-returns-clause-goes_back : goal.merge_opened_trait-returns-clause-goes_back
-merge_opened_trait-returns-clause-goes_back t c =
-    let back : GoesBack (begun c.args.self.now) c.answer_opened_trait-answer.new.self = subst (λ (z : State). GoesBack z c.answer_opened_trait-answer.new.self) c.begin-around.ensures.began c.answer_opened_trait-answer.ensures.goes_back in
-    let undone : c.end.new.self ≡ restored c.args.self.now c.answer_opened_trait-answer.new.self =
+pub merge_opened-returns-clause-goes_back : goal.merge_opened-returns-clause-goes_back
+merge_opened-returns-clause-goes_back t c =
+    let back : GoesBack (begun c.args.self.now) c.answer_opened-answer.new.self = subst (λ (z : State). GoesBack z c.answer_opened-answer.new.self) c.begin-around.ensures.began c.answer_opened-answer.ensures.goes_back in
+    let undone : c.end.new.self ≡ restored c.args.self.now c.answer_opened-answer.new.self =
     c.end.ensures ∙ ap (λ (z : State). record z { mark = c.begin-around.result }) (c.rollback.ensures.undone (begun c.args.self.now) c.snapshot-before.ensures back)
-    ∙ ap (λ m. record (restored (begun c.args.self.now) c.answer_opened_trait-answer.new.self) { mark = m }) c.begin-around.ensures.around in
-    subst (GoesBack c.args.self.now) (sym undone) (goes_back-tried c.args.self.now c.answer_opened_trait-answer.new.self back)
+    ∙ ap (λ m. record (restored (begun c.args.self.now) c.answer_opened-answer.new.self) { mark = m }) c.begin-around.ensures.around in
+    subst (GoesBack c.args.self.now) (sym undone) (goes_back-tried c.args.self.now c.answer_opened-answer.new.self back)
 
-pub merge_opened_trait-returns-clause-fault : goal.merge_opened_trait-returns-clause-fault
-merge_opened_trait-returns-clause-fault t c =
-    let back : GoesBack (begun c.args.self.now) c.answer_opened_trait-answer.new.self = subst (λ (z : State). GoesBack z c.answer_opened_trait-answer.new.self) c.begin-around.ensures.began c.answer_opened_trait-answer.ensures.goes_back in
-    let undone : c.end.new.self ≡ restored c.args.self.now c.answer_opened_trait-answer.new.self =
+pub merge_opened-returns-clause-fault : goal.merge_opened-returns-clause-fault
+merge_opened-returns-clause-fault t c =
+    let back : GoesBack (begun c.args.self.now) c.answer_opened-answer.new.self = subst (λ (z : State). GoesBack z c.answer_opened-answer.new.self) c.begin-around.ensures.began c.answer_opened-answer.ensures.goes_back in
+    let undone : c.end.new.self ≡ restored c.args.self.now c.answer_opened-answer.new.self =
     c.end.ensures ∙ ap (λ (z : State). record z { mark = c.begin-around.result }) (c.rollback.ensures.undone (begun c.args.self.now) c.snapshot-before.ensures back)
-    ∙ ap (λ m. record (restored (begun c.args.self.now) c.answer_opened_trait-answer.new.self) { mark = m }) c.begin-around.ensures.around in
-    after-fault c.args.self.now c.end.new.self c.answer_opened_trait-answer.result c.or_undecided.result
-    (fault-tried c.args.self.now c.begin-around.new.self c.answer_opened_trait-answer.new.self c.end.new.self c.answer_opened_trait-answer.result c.begin-around.ensures.began undone c.answer_opened_trait-answer.ensures.fault) c.or_undecided.ensures.after
+    ∙ ap (λ m. record (restored (begun c.args.self.now) c.answer_opened-answer.new.self) { mark = m }) c.begin-around.ensures.around in
+    after-fault c.args.self.now c.end.new.self c.answer_opened-answer.result c.or_undecided.result
+    (fault-tried c.args.self.now c.begin-around.new.self c.answer_opened-answer.new.self c.end.new.self c.answer_opened-answer.result c.begin-around.ensures.began undone c.answer_opened-answer.ensures.fault) c.or_undecided.ensures.after
 
-pub answer_opened_trait-returns-in_err-found-clause-by : goal.answer_opened_trait-returns-in_err-found-clause-by
-answer_opened_trait-returns-in_err-found-clause-by t c =
-    handed-on c.from_residual.result c.in_err-found.field-0.0 (λ (r : Result (Option Response) Fault). WhenTried r (InTrial (ByFormedClasses trait_kind c.args.goal.now) c.args.goal.now.param_env.items c.args.alias c.args.self.now r c.form_of_open.new.self)) c.from_residual.ensures.1
-    (form-refused (ByFormedClasses trait_kind c.args.goal.now) c.args.goal.now.param_env.items c.args.alias c.args.self.now c.form_of_open.new.self c.in_err-found.field-0.0 (subst (λ (es : List Clause). OpensFrom answers_term es (erased (tree_of_alias c.args.alias)) c.args.self.now (Err c.in_err-found.field-0.0) c.form_of_open.new.self) c.deref.ensures.value c.in_err-found.ensures.opens) c.form_of_open.ensures.alone (refl, refl))
+pub answer_opened-returns-in_err-found-clause-by : goal.answer_opened-returns-in_err-found-clause-by
+answer_opened-returns-in_err-found-clause-by t c =
+    handed-on c.from_residual.result c.in_err-found.field-0.0 (λ (r : Result (Option Response) Fault). WhenTried r (InTrial (formed_as c.args.asked) (asked_environment c.args.asked) c.args.alias c.args.self.now r c.form_of_open.new.self)) c.from_residual.ensures.1
+    (form-refused (formed_as c.args.asked) (asked_environment c.args.asked) c.args.alias c.args.self.now c.form_of_open.new.self c.in_err-found.field-0.0 (subst (λ (es : List Clause). OpensFrom answers_term es (erased (tree_of_alias c.args.alias)) c.args.self.now (Err c.in_err-found.field-0.0) c.form_of_open.new.self) c.environment_of.ensures c.in_err-found.ensures.opens) c.form_of_open.ensures.alone (asked-refused c.args.asked c.in_err-found.field-0.0 c.form_of_open.new.self))
 
-pub answer_opened_trait-returns-in_default-clause-by : goal.answer_opened_trait-returns-in_default-clause-by
-answer_opened_trait-returns-in_default-clause-by t c =
-    form-passed (ByFormedClasses trait_kind c.args.goal.now) c.args.goal.now.param_env.items c.args.alias c.args.self.now c.form_of_open.new.self c.in_ok-found.found (subst (λ (es : List Clause). OpensFrom answers_term es (erased (tree_of_alias c.args.alias)) c.args.self.now (Ok c.in_ok-found.found) c.form_of_open.new.self) c.deref.ensures.value c.in_ok-found.ensures.opens) c.form_of_open.ensures.alone
-    (inl (classes-passed trait_kind _ c.form_of_open.new.self c.args.goal.now c.in_ok-found.found c.in_ok-rules.field-0 c.self.view_is (none-left _ c.in_default.not-Some) c.in_ok-rules.ensures.rules, refl, refl))
+pub answer_opened-returns-in_default-clause-by : goal.answer_opened-returns-in_default-clause-by
+answer_opened-returns-in_default-clause-by t c =
+    form-passed (formed_as c.args.asked) (asked_environment c.args.asked) c.args.alias c.args.self.now c.form_of_open.new.self c.in_ok-found.found (subst (λ (es : List Clause). OpensFrom answers_term es (erased (tree_of_alias c.args.alias)) c.args.self.now (Ok c.in_ok-found.found) c.form_of_open.new.self) c.environment_of.ensures c.in_ok-found.ensures.opens) c.form_of_open.ensures.alone
+    (asked-passed c.args.asked _ c.form_of_open.new.self c.in_ok-found.found c.in_ok-rules.field-0 c.self.view_is (none-left _ c.in_default.not-Some) c.in_ok-rules.ensures.rules)
 
-pub answer_opened_trait-returns-in_err-answer-clause-by : goal.answer_opened_trait-returns-in_err-answer-clause-by
-answer_opened_trait-returns-in_err-answer-clause-by t c =
-    handed-on c.from_residual-in_err-answer.result c.in_err-answer.field-0.0 (λ (r : Result (Option Response) Fault). WhenTried r (InTrial (ByFormedClasses trait_kind c.args.goal.now) c.args.goal.now.param_env.items c.args.alias c.args.self.now r c.merge_classes.new.self)) c.from_residual-in_err-answer.ensures.1
-    (merge-refused (ByFormedClasses trait_kind c.args.goal.now) (λ x. ByClasses (AreOfClass c.form_of_open.new.self.typing_mode c.in-Some.rules) c.in-Some.rules.param_env.items trait_classes c.form_of_open.new.self x c.merge_classes.new.self) c.args.goal.now.param_env.items c.args.alias c.args.self.now c.form_of_open.new.self c.merge_classes.new.self c.in_ok-found.found c.merge_classes.result c.in_err-answer.field-0.0 c.in_err-answer.was (subst (λ (es : List Clause). OpensFrom answers_term es (erased (tree_of_alias c.args.alias)) c.args.self.now (Ok c.in_ok-found.found) c.form_of_open.new.self) c.deref.ensures.value c.in_ok-found.ensures.opens) c.form_of_open.ensures.alone c.merge_classes.ensures.decides
-    (λ d. inr (c.in-Some.rules, Err c.in_err-answer.field-0.0, c.merge_classes.new.self, classes-shown trait_kind _ c.form_of_open.new.self c.args.goal.now c.in_ok-found.found c.in_ok-rules.field-0 c.in-Some.rules c.self.view_is c.in-Some.is c.in_ok-rules.ensures.rules, d, (refl, refl))))
+pub answer_opened-returns-in_err-answer-clause-by : goal.answer_opened-returns-in_err-answer-clause-by
+answer_opened-returns-in_err-answer-clause-by t c =
+    handed-on c.from_residual-in_err-answer.result c.in_err-answer.field-0.0 (λ (r : Result (Option Response) Fault). WhenTried r (InTrial (formed_as c.args.asked) (asked_environment c.args.asked) c.args.alias c.args.self.now r c.merge_formed.new.self)) c.from_residual-in_err-answer.ensures.1
+    (merge-refused (formed_as c.args.asked) (λ x. DecidesBy c.in-Some.rules c.form_of_open.new.self x c.merge_formed.new.self) (asked_environment c.args.asked) c.args.alias c.args.self.now c.form_of_open.new.self c.merge_formed.new.self c.in_ok-found.found c.merge_formed.result c.in_err-answer.field-0.0 c.in_err-answer.was (subst (λ (es : List Clause). OpensFrom answers_term es (erased (tree_of_alias c.args.alias)) c.args.self.now (Ok c.in_ok-found.found) c.form_of_open.new.self) c.environment_of.ensures c.in_ok-found.ensures.opens) c.form_of_open.ensures.alone c.merge_formed.ensures.decides
+    (λ d. asked-shown c.args.asked _ c.form_of_open.new.self c.in_ok-found.found c.in_ok-rules.field-0 c.in-Some.rules (Err c.in_err-answer.field-0.0) c.merge_formed.new.self (Err c.in_err-answer.field-0.0) c.merge_formed.new.self
+    c.self.view_is c.in-Some.is c.in_ok-rules.ensures.rules d (refl, refl)))
 
-pub answer_opened_trait-returns-clause-by : goal.answer_opened_trait-returns-clause-by
-answer_opened_trait-returns-clause-by t c =
-    merge-answered (ByFormedClasses trait_kind c.args.goal.now) (λ x. ByClasses (AreOfClass c.form_of_open.new.self.typing_mode c.in-Some.rules) c.in-Some.rules.param_env.items trait_classes c.form_of_open.new.self x c.merge_classes.new.self) c.args.goal.now.param_env.items c.args.alias c.args.self.now c.form_of_open.new.self c.merge_classes.new.self c.beside.new.self c.in_ok-found.found c.merge_classes.result c.in_ok-answer.answer c.beside.result c.in_ok-answer.was (subst (λ (es : List Clause). OpensFrom answers_term es (erased (tree_of_alias c.args.alias)) c.args.self.now (Ok c.in_ok-found.found) c.form_of_open.new.self) c.deref.ensures.value c.in_ok-found.ensures.opens) c.form_of_open.ensures.alone c.merge_classes.ensures.decides c.beside.ensures.beside c.beside.ensures.only_memory
-    (λ x b d. inr (c.in-Some.rules, Ok c.in_ok-answer.answer, c.merge_classes.new.self, classes-shown trait_kind _ c.form_of_open.new.self c.args.goal.now c.in_ok-found.found c.in_ok-rules.field-0 c.in-Some.rules c.self.view_is c.in-Some.is c.in_ok-rules.ensures.rules, d, (x, b, refl)))
+pub answer_opened-returns-clause-by : goal.answer_opened-returns-clause-by
+answer_opened-returns-clause-by t c =
+    merge-answered (formed_as c.args.asked) (λ x. DecidesBy c.in-Some.rules c.form_of_open.new.self x c.merge_formed.new.self) (asked_environment c.args.asked) c.args.alias c.args.self.now c.form_of_open.new.self c.merge_formed.new.self c.beside.new.self c.in_ok-found.found c.merge_formed.result c.in_ok-answer.answer c.beside.result c.in_ok-answer.was (subst (λ (es : List Clause). OpensFrom answers_term es (erased (tree_of_alias c.args.alias)) c.args.self.now (Ok c.in_ok-found.found) c.form_of_open.new.self) c.environment_of.ensures c.in_ok-found.ensures.opens) c.form_of_open.ensures.alone c.merge_formed.ensures.decides c.beside.ensures.beside c.beside.ensures.only_memory
+    (λ x b d. asked-shown c.args.asked _ c.form_of_open.new.self c.in_ok-found.found c.in_ok-rules.field-0 c.in-Some.rules (Ok c.in_ok-answer.answer) c.merge_formed.new.self (Ok (Some x)) c.beside.new.self
+    c.self.view_is c.in-Some.is c.in_ok-rules.ensures.rules d (x, b, refl))
 
-pub answer_opened_trait-returns-in_err-answer-clause-goes_back : goal.answer_opened_trait-returns-in_err-answer-clause-goes_back
-answer_opened_trait-returns-in_err-answer-clause-goes_back t c =
-    goes_back-through c.args.self.now c.form_of_open.new.self c.merge_classes.new.self c.form_of_open.ensures.goes_back c.merge_classes.ensures.goes_back
+pub answer_opened-returns-in_err-answer-clause-goes_back : goal.answer_opened-returns-in_err-answer-clause-goes_back
+answer_opened-returns-in_err-answer-clause-goes_back t c =
+    goes_back-through c.args.self.now c.form_of_open.new.self c.merge_formed.new.self c.form_of_open.ensures.goes_back c.merge_formed.ensures.goes_back
 
-pub answer_opened_trait-returns-clause-goes_back : goal.answer_opened_trait-returns-clause-goes_back
-answer_opened_trait-returns-clause-goes_back t c =
-    goes_back-through c.args.self.now c.merge_classes.new.self c.beside.new.self (goes_back-through c.args.self.now c.form_of_open.new.self c.merge_classes.new.self c.form_of_open.ensures.goes_back c.merge_classes.ensures.goes_back) c.beside.ensures.goes_back
+pub answer_opened-returns-clause-goes_back : goal.answer_opened-returns-clause-goes_back
+answer_opened-returns-clause-goes_back t c =
+    goes_back-through c.args.self.now c.merge_formed.new.self c.beside.new.self (goes_back-through c.args.self.now c.form_of_open.new.self c.merge_formed.new.self c.form_of_open.ensures.goes_back c.merge_formed.ensures.goes_back) c.beside.ensures.goes_back
 
-pub answer_opened_trait-returns-in_err-answer-clause-fault : goal.answer_opened_trait-returns-in_err-answer-clause-fault
-answer_opened_trait-returns-in_err-answer-clause-fault t c =
-    handed-on c.from_residual-in_err-answer.result c.in_err-answer.field-0.0 (λ (r : Result (Option Response) Fault). IsFaultFor c.args.self.now c.merge_classes.new.self r) c.from_residual-in_err-answer.ensures.1
-    (fault-before Response (Option Response) c.args.self.now c.form_of_open.new.self c.merge_classes.new.self c.in_err-answer.field-0.0 c.form_of_open.ensures.goes_back c.in_err-answer.ensures.fault)
-
-pub merge_open_alias-returns-in_err-open_self-clause-opened : goal.merge_open_alias-returns-in_err-open_self-clause-opened
-merge_open_alias-returns-in_err-open_self-clause-opened t c =
-    λ asks. opened-unsaid alias_kind.words.self_type (ByFormedGroups alias_kind c.args.goal.now.predicate c.args.class c.args.goal.now) c.args.goal.now c.args.self.now c.open_self.new.self c.from_residual.result c.in_err-open_self.field-0.0 c.open_self.ensures.unchanged c.from_residual.ensures.1 c.in_err-open_self.ensures.only_memory
-
-pub merge_open_alias-returns-in_err-open_self-clause-goes_back : goal.merge_open_alias-returns-in_err-open_self-clause-goes_back
-merge_open_alias-returns-in_err-open_self-clause-goes_back t c =
-    goes_back-grown c.args.self.now c.open_self.new.self c.open_self.ensures.unchanged c.open_self.ensures.kept
-
-pub merge_open_alias-returns-in-None-clause-opened : goal.merge_open_alias-returns-in-None-clause-opened
-merge_open_alias-returns-in-None-clause-opened t c =
-    λ asks. absurd (c.open_self.ensures.none (c.in_ok-open_self.was ∙ ap (λ (o : Option AliasTerm). Ok o) c.in-None.is) asks)
-
-pub merge_open_alias-returns-in-None-clause-applies : goal.merge_open_alias-returns-in-None-clause-applies
-merge_open_alias-returns-in-None-clause-applies t c =
-    nothing-applies-after c.args.self.now c.open_self.new.self c.respond.result (restored-grown c.args.self.now c.open_self.new.self c.open_self.ensures.unchanged) c.is_well_formed.ensures.storage
-    (subst (λ (s : State). IsQuiet (length (kinds_of s)) c.respond.result) c.open_self.ensures.unchanged c.respond.ensures.quiet) c.respond.ensures.values
-
-pub merge_open_alias-returns-in-None-clause-goes_back : goal.merge_open_alias-returns-in-None-clause-goes_back
-merge_open_alias-returns-in-None-clause-goes_back t c =
-    goes_back-grown c.args.self.now c.open_self.new.self c.open_self.ensures.unchanged c.open_self.ensures.kept
-
-pub merge_open_alias-returns-in-Some-clause-undecided : goal.merge_open_alias-returns-in-Some-clause-undecided
-merge_open_alias-returns-in-Some-clause-undecided t c =
-    λ other. absurd (other (known c.in_ok-open_self.field-0 c.in-Some.alias (λ a. AsksOpenSelf alias_kind.words.self_type c.args.goal.now c.args.self.now) c.in-Some.is c.in_ok-open_self.ensures.asks))
-
-pub merge_open_alias-returns-in-Some-clause-opened : goal.merge_open_alias-returns-in-Some-clause-opened
-merge_open_alias-returns-in-Some-clause-opened t c =
-    λ asks. (c.open_self.new.self, restored-grown c.args.self.now c.open_self.new.self c.open_self.ensures.unchanged, c.merge_opened_alias.ensures.merges)
-
-pub merge_open_alias-returns-in-Some-clause-unchanged : goal.merge_open_alias-returns-in-Some-clause-unchanged
-merge_open_alias-returns-in-Some-clause-unchanged t c =
-    restored-twice c.args.self.now c.open_self.new.self c.merge_opened_alias.new.self (restored-grown c.args.self.now c.open_self.new.self c.open_self.ensures.unchanged) c.merge_opened_alias.ensures.unchanged
-
-pub merge_open_alias-returns-in-Some-clause-goes_back : goal.merge_open_alias-returns-in-Some-clause-goes_back
-merge_open_alias-returns-in-Some-clause-goes_back t c =
-    goes_back-through c.args.self.now c.open_self.new.self c.merge_opened_alias.new.self (goes_back-grown c.args.self.now c.open_self.new.self c.open_self.ensures.unchanged c.open_self.ensures.kept) c.merge_opened_alias.ensures.goes_back
-
-pub merge_open_alias-returns-in-Some-clause-fault : goal.merge_open_alias-returns-in-Some-clause-fault
-merge_open_alias-returns-in-Some-clause-fault t c =
-    fault-later c.args.self.now c.open_self.new.self c.merge_opened_alias.new.self c.merge_opened_alias.result (goes_back-grown c.args.self.now c.open_self.new.self c.open_self.ensures.unchanged c.open_self.ensures.kept) c.merge_opened_alias.ensures.fault
-
-pub merge_opened_alias-rollback-requires : goal.merge_opened_alias-rollback-requires
-merge_opened_alias-rollback-requires t c =
-    let back : GoesBack (begun c.args.self.now) c.answer_opened_alias-answer.new.self = subst (λ (z : State). GoesBack z c.answer_opened_alias-answer.new.self) c.begin-around.ensures.began c.answer_opened_alias-answer.ensures.goes_back in
-    record { valid = (begun c.args.self.now, c.snapshot-before.ensures, back, valid-begun c.args.self.now c.holds_together.ensures) }
-
-pub merge_opened_alias-returns-clause-merges : goal.merge_opened_alias-returns-clause-merges
-merge_opened_alias-returns-clause-merges t c =
-    let back : GoesBack (begun c.args.self.now) c.answer_opened_alias-answer.new.self = subst (λ (z : State). GoesBack z c.answer_opened_alias-answer.new.self) c.begin-around.ensures.began c.answer_opened_alias-answer.ensures.goes_back in
-    let undone : c.end.new.self ≡ restored c.args.self.now c.answer_opened_alias-answer.new.self =
-    c.end.ensures ∙ ap (λ (z : State). record z { mark = c.begin-around.result }) (c.rollback.ensures.undone (begun c.args.self.now) c.snapshot-before.ensures back)
-    ∙ ap (λ m. record (restored (begun c.args.self.now) c.answer_opened_alias-answer.new.self) { mark = m }) c.begin-around.ensures.around in
-    opened-merges alias_kind.words.self_type (ByFormedGroups alias_kind c.args.goal.now.predicate c.args.class c.args.goal.now) c.args.goal.now c.args.alias c.args.self.now c.begin-around.new.self c.answer_opened_alias-answer.new.self c.end.new.self c.answer_opened_alias-answer.result c.or_undecided.result
-    c.begin-around.ensures.began undone c.requires.opens c.answer_opened_alias-answer.ensures.by c.or_undecided.ensures.after
-
-pub merge_opened_alias-returns-clause-applies : goal.merge_opened_alias-returns-clause-applies
-merge_opened_alias-returns-clause-applies t c =
-    let back : GoesBack (begun c.args.self.now) c.answer_opened_alias-answer.new.self = subst (λ (z : State). GoesBack z c.answer_opened_alias-answer.new.self) c.begin-around.ensures.began c.answer_opened_alias-answer.ensures.goes_back in
-    let undone : c.end.new.self ≡ restored c.args.self.now c.answer_opened_alias-answer.new.self =
-    c.end.ensures ∙ ap (λ (z : State). record z { mark = c.begin-around.result }) (c.rollback.ensures.undone (begun c.args.self.now) c.snapshot-before.ensures back)
-    ∙ ap (λ m. record (restored (begun c.args.self.now) c.answer_opened_alias-answer.new.self) { mark = m }) c.begin-around.ensures.around in
-    opened-applies c.args.self.now c.answer_opened_alias-answer.new.self c.end.new.self c.answer_opened_alias-answer.result c.or_undecided.result back undone c.holds_together.ensures.solved c.holds_together-2.ensures.solved
-    c.is_well_formed.ensures.storage c.is_well_formed-2.ensures.storage c.answer_opened_alias-answer.ensures.lists c.or_undecided.ensures.left c.or_undecided.ensures.after
-
-pub merge_opened_alias-returns-clause-unchanged : goal.merge_opened_alias-returns-clause-unchanged
-merge_opened_alias-returns-clause-unchanged t c =
-    let back : GoesBack (begun c.args.self.now) c.answer_opened_alias-answer.new.self = subst (λ (z : State). GoesBack z c.answer_opened_alias-answer.new.self) c.begin-around.ensures.began c.answer_opened_alias-answer.ensures.goes_back in
-    let undone : c.end.new.self ≡ restored c.args.self.now c.answer_opened_alias-answer.new.self =
-    c.end.ensures ∙ ap (λ (z : State). record z { mark = c.begin-around.result }) (c.rollback.ensures.undone (begun c.args.self.now) c.snapshot-before.ensures back)
-    ∙ ap (λ m. record (restored (begun c.args.self.now) c.answer_opened_alias-answer.new.self) { mark = m }) c.begin-around.ensures.around in
-    undone ∙ sym (ap (restored c.args.self.now) undone)
-
-pub merge_opened_alias-returns-clause-goes_back : goal.merge_opened_alias-returns-clause-goes_back
-merge_opened_alias-returns-clause-goes_back t c =
-    let back : GoesBack (begun c.args.self.now) c.answer_opened_alias-answer.new.self = subst (λ (z : State). GoesBack z c.answer_opened_alias-answer.new.self) c.begin-around.ensures.began c.answer_opened_alias-answer.ensures.goes_back in
-    let undone : c.end.new.self ≡ restored c.args.self.now c.answer_opened_alias-answer.new.self =
-    c.end.ensures ∙ ap (λ (z : State). record z { mark = c.begin-around.result }) (c.rollback.ensures.undone (begun c.args.self.now) c.snapshot-before.ensures back)
-    ∙ ap (λ m. record (restored (begun c.args.self.now) c.answer_opened_alias-answer.new.self) { mark = m }) c.begin-around.ensures.around in
-    subst (GoesBack c.args.self.now) (sym undone) (goes_back-tried c.args.self.now c.answer_opened_alias-answer.new.self back)
-
-pub merge_opened_alias-returns-clause-fault : goal.merge_opened_alias-returns-clause-fault
-merge_opened_alias-returns-clause-fault t c =
-    let back : GoesBack (begun c.args.self.now) c.answer_opened_alias-answer.new.self = subst (λ (z : State). GoesBack z c.answer_opened_alias-answer.new.self) c.begin-around.ensures.began c.answer_opened_alias-answer.ensures.goes_back in
-    let undone : c.end.new.self ≡ restored c.args.self.now c.answer_opened_alias-answer.new.self =
-    c.end.ensures ∙ ap (λ (z : State). record z { mark = c.begin-around.result }) (c.rollback.ensures.undone (begun c.args.self.now) c.snapshot-before.ensures back)
-    ∙ ap (λ m. record (restored (begun c.args.self.now) c.answer_opened_alias-answer.new.self) { mark = m }) c.begin-around.ensures.around in
-    after-fault c.args.self.now c.end.new.self c.answer_opened_alias-answer.result c.or_undecided.result
-    (fault-tried c.args.self.now c.begin-around.new.self c.answer_opened_alias-answer.new.self c.end.new.self c.answer_opened_alias-answer.result c.begin-around.ensures.began undone c.answer_opened_alias-answer.ensures.fault) c.or_undecided.ensures.after
-
-pub answer_opened_alias-returns-in_err-found-clause-by : goal.answer_opened_alias-returns-in_err-found-clause-by
-answer_opened_alias-returns-in_err-found-clause-by t c =
-    handed-on c.from_residual.result c.in_err-found.field-0.0 (λ (r : Result (Option Response) Fault). WhenTried r (InTrial (ByFormedGroups alias_kind c.args.goal.now.predicate c.args.class c.args.goal.now) c.args.goal.now.param_env.items c.args.alias c.args.self.now r c.form_of_open.new.self)) c.from_residual.ensures.1
-    (form-refused (ByFormedGroups alias_kind c.args.goal.now.predicate c.args.class c.args.goal.now) c.args.goal.now.param_env.items c.args.alias c.args.self.now c.form_of_open.new.self c.in_err-found.field-0.0 (subst (λ (es : List Clause). OpensFrom answers_term es (erased (tree_of_alias c.args.alias)) c.args.self.now (Err c.in_err-found.field-0.0) c.form_of_open.new.self) c.deref.ensures.value c.in_err-found.ensures.opens) c.form_of_open.ensures.alone (refl, refl))
-
-pub answer_opened_alias-returns-in_default-clause-by : goal.answer_opened_alias-returns-in_default-clause-by
-answer_opened_alias-returns-in_default-clause-by t c =
-    form-passed (ByFormedGroups alias_kind c.args.goal.now.predicate c.args.class c.args.goal.now) c.args.goal.now.param_env.items c.args.alias c.args.self.now c.form_of_open.new.self c.in_ok-found.found (subst (λ (es : List Clause). OpensFrom answers_term es (erased (tree_of_alias c.args.alias)) c.args.self.now (Ok c.in_ok-found.found) c.form_of_open.new.self) c.deref.ensures.value c.in_ok-found.ensures.opens) c.form_of_open.ensures.alone
-    (inl (groups-passed alias_kind _ c.form_of_open.new.self c.args.class c.args.goal.now c.in_ok-found.found c.in_ok-rules.field-0 c.self.view_is (none-left _ c.in_default.not-Some) c.in_ok-rules.ensures.rules, refl, refl))
-
-pub answer_opened_alias-returns-in_err-answer-clause-by : goal.answer_opened_alias-returns-in_err-answer-clause-by
-answer_opened_alias-returns-in_err-answer-clause-by t c =
-    handed-on c.from_residual-in_err-answer.result c.in_err-answer.field-0.0 (λ (r : Result (Option Response) Fault). WhenTried r (InTrial (ByFormedGroups alias_kind c.args.goal.now.predicate c.args.class c.args.goal.now) c.args.goal.now.param_env.items c.args.alias c.args.self.now r c.merge_groups.new.self)) c.from_residual-in_err-answer.ensures.1
-    (merge-refused (ByFormedGroups alias_kind c.args.goal.now.predicate c.args.class c.args.goal.now) (λ x. ByGroups c.args.class c.in-Some.rules.param_env.items c.in-Some.rules.environment.items c.in-Some.rules.later.items (own_args c.form_of_open.new.self.tables c.args.goal.now.predicate.alias) c.args.goal.now.predicate c.form_of_open.new.self x c.merge_groups.new.self) c.args.goal.now.param_env.items c.args.alias c.args.self.now c.form_of_open.new.self c.merge_groups.new.self c.in_ok-found.found c.merge_groups.result c.in_err-answer.field-0.0 c.in_err-answer.was (subst (λ (es : List Clause). OpensFrom answers_term es (erased (tree_of_alias c.args.alias)) c.args.self.now (Ok c.in_ok-found.found) c.form_of_open.new.self) c.deref.ensures.value c.in_ok-found.ensures.opens) c.form_of_open.ensures.alone c.merge_groups.ensures.decides
-    (λ d. inr (c.in-Some.rules, Err c.in_err-answer.field-0.0, c.merge_groups.new.self, groups-shown alias_kind _ c.form_of_open.new.self c.args.class c.args.goal.now c.in_ok-found.found c.in_ok-rules.field-0 c.in-Some.rules c.self.view_is c.in-Some.is c.in_ok-rules.ensures.rules, d, (refl, refl))))
-
-pub answer_opened_alias-returns-clause-by : goal.answer_opened_alias-returns-clause-by
-answer_opened_alias-returns-clause-by t c =
-    merge-answered (ByFormedGroups alias_kind c.args.goal.now.predicate c.args.class c.args.goal.now) (λ x. ByGroups c.args.class c.in-Some.rules.param_env.items c.in-Some.rules.environment.items c.in-Some.rules.later.items (own_args c.form_of_open.new.self.tables c.args.goal.now.predicate.alias) c.args.goal.now.predicate c.form_of_open.new.self x c.merge_groups.new.self) c.args.goal.now.param_env.items c.args.alias c.args.self.now c.form_of_open.new.self c.merge_groups.new.self c.beside.new.self c.in_ok-found.found c.merge_groups.result c.in_ok-answer.answer c.beside.result c.in_ok-answer.was (subst (λ (es : List Clause). OpensFrom answers_term es (erased (tree_of_alias c.args.alias)) c.args.self.now (Ok c.in_ok-found.found) c.form_of_open.new.self) c.deref.ensures.value c.in_ok-found.ensures.opens) c.form_of_open.ensures.alone c.merge_groups.ensures.decides c.beside.ensures.beside c.beside.ensures.only_memory
-    (λ x b d. inr (c.in-Some.rules, Ok c.in_ok-answer.answer, c.merge_groups.new.self, groups-shown alias_kind _ c.form_of_open.new.self c.args.class c.args.goal.now c.in_ok-found.found c.in_ok-rules.field-0 c.in-Some.rules c.self.view_is c.in-Some.is c.in_ok-rules.ensures.rules, d, (x, b, refl)))
-
-pub answer_opened_alias-returns-in_err-answer-clause-goes_back : goal.answer_opened_alias-returns-in_err-answer-clause-goes_back
-answer_opened_alias-returns-in_err-answer-clause-goes_back t c =
-    goes_back-through c.args.self.now c.form_of_open.new.self c.merge_groups.new.self c.form_of_open.ensures.goes_back c.merge_groups.ensures.goes_back
-
-pub answer_opened_alias-returns-clause-goes_back : goal.answer_opened_alias-returns-clause-goes_back
-answer_opened_alias-returns-clause-goes_back t c =
-    goes_back-through c.args.self.now c.merge_groups.new.self c.beside.new.self (goes_back-through c.args.self.now c.form_of_open.new.self c.merge_groups.new.self c.form_of_open.ensures.goes_back c.merge_groups.ensures.goes_back) c.beside.ensures.goes_back
-
-pub answer_opened_alias-returns-in_err-answer-clause-fault : goal.answer_opened_alias-returns-in_err-answer-clause-fault
-answer_opened_alias-returns-in_err-answer-clause-fault t c =
-    handed-on c.from_residual-in_err-answer.result c.in_err-answer.field-0.0 (λ (r : Result (Option Response) Fault). IsFaultFor c.args.self.now c.merge_groups.new.self r) c.from_residual-in_err-answer.ensures.1
-    (fault-before Response (Option Response) c.args.self.now c.form_of_open.new.self c.merge_groups.new.self c.in_err-answer.field-0.0 c.form_of_open.ensures.goes_back c.in_err-answer.ensures.fault)
-
-pub merge_open_const-returns-in_err-open_self-clause-opened : goal.merge_open_const-returns-in_err-open_self-clause-opened
-merge_open_const-returns-in_err-open_self-clause-opened t c =
-    λ asks. opened-unsaid host_kind.words.self_type (ByFormedRuleGroups host_kind c.args.class c.args.goal.now) c.args.goal.now c.args.self.now c.open_self.new.self c.from_residual.result c.in_err-open_self.field-0.0 c.open_self.ensures.unchanged c.from_residual.ensures.1 c.in_err-open_self.ensures.only_memory
-
-pub merge_open_const-returns-in_err-open_self-clause-goes_back : goal.merge_open_const-returns-in_err-open_self-clause-goes_back
-merge_open_const-returns-in_err-open_self-clause-goes_back t c =
-    goes_back-grown c.args.self.now c.open_self.new.self c.open_self.ensures.unchanged c.open_self.ensures.kept
-
-pub merge_open_const-returns-in-None-clause-opened : goal.merge_open_const-returns-in-None-clause-opened
-merge_open_const-returns-in-None-clause-opened t c =
-    λ asks. absurd (c.open_self.ensures.none (c.in_ok-open_self.was ∙ ap (λ (o : Option AliasTerm). Ok o) c.in-None.is) asks)
-
-pub merge_open_const-returns-in-None-clause-applies : goal.merge_open_const-returns-in-None-clause-applies
-merge_open_const-returns-in-None-clause-applies t c =
-    nothing-applies-after c.args.self.now c.open_self.new.self c.respond.result (restored-grown c.args.self.now c.open_self.new.self c.open_self.ensures.unchanged) c.is_well_formed.ensures.storage
-    (subst (λ (s : State). IsQuiet (length (kinds_of s)) c.respond.result) c.open_self.ensures.unchanged c.respond.ensures.quiet) c.respond.ensures.values
-
-pub merge_open_const-returns-in-None-clause-goes_back : goal.merge_open_const-returns-in-None-clause-goes_back
-merge_open_const-returns-in-None-clause-goes_back t c =
-    goes_back-grown c.args.self.now c.open_self.new.self c.open_self.ensures.unchanged c.open_self.ensures.kept
-
-pub merge_open_const-returns-in-Some-clause-undecided : goal.merge_open_const-returns-in-Some-clause-undecided
-merge_open_const-returns-in-Some-clause-undecided t c =
-    λ other. absurd (other (known c.in_ok-open_self.field-0 c.in-Some.alias (λ a. AsksOpenSelf host_kind.words.self_type c.args.goal.now c.args.self.now) c.in-Some.is c.in_ok-open_self.ensures.asks))
-
-pub merge_open_const-returns-in-Some-clause-opened : goal.merge_open_const-returns-in-Some-clause-opened
-merge_open_const-returns-in-Some-clause-opened t c =
-    λ asks. (c.open_self.new.self, restored-grown c.args.self.now c.open_self.new.self c.open_self.ensures.unchanged, c.merge_opened_const.ensures.merges)
-
-pub merge_open_const-returns-in-Some-clause-unchanged : goal.merge_open_const-returns-in-Some-clause-unchanged
-merge_open_const-returns-in-Some-clause-unchanged t c =
-    restored-twice c.args.self.now c.open_self.new.self c.merge_opened_const.new.self (restored-grown c.args.self.now c.open_self.new.self c.open_self.ensures.unchanged) c.merge_opened_const.ensures.unchanged
-
-pub merge_open_const-returns-in-Some-clause-goes_back : goal.merge_open_const-returns-in-Some-clause-goes_back
-merge_open_const-returns-in-Some-clause-goes_back t c =
-    goes_back-through c.args.self.now c.open_self.new.self c.merge_opened_const.new.self (goes_back-grown c.args.self.now c.open_self.new.self c.open_self.ensures.unchanged c.open_self.ensures.kept) c.merge_opened_const.ensures.goes_back
-
-pub merge_open_const-returns-in-Some-clause-fault : goal.merge_open_const-returns-in-Some-clause-fault
-merge_open_const-returns-in-Some-clause-fault t c =
-    fault-later c.args.self.now c.open_self.new.self c.merge_opened_const.new.self c.merge_opened_const.result (goes_back-grown c.args.self.now c.open_self.new.self c.open_self.ensures.unchanged c.open_self.ensures.kept) c.merge_opened_const.ensures.fault
-
-pub merge_opened_const-rollback-requires : goal.merge_opened_const-rollback-requires
-merge_opened_const-rollback-requires t c =
-    let back : GoesBack (begun c.args.self.now) c.answer_opened_const-answer.new.self = subst (λ (z : State). GoesBack z c.answer_opened_const-answer.new.self) c.begin-around.ensures.began c.answer_opened_const-answer.ensures.goes_back in
-    record { valid = (begun c.args.self.now, c.snapshot-before.ensures, back, valid-begun c.args.self.now c.holds_together.ensures) }
-
-pub merge_opened_const-returns-clause-merges : goal.merge_opened_const-returns-clause-merges
-merge_opened_const-returns-clause-merges t c =
-    let back : GoesBack (begun c.args.self.now) c.answer_opened_const-answer.new.self = subst (λ (z : State). GoesBack z c.answer_opened_const-answer.new.self) c.begin-around.ensures.began c.answer_opened_const-answer.ensures.goes_back in
-    let undone : c.end.new.self ≡ restored c.args.self.now c.answer_opened_const-answer.new.self =
-    c.end.ensures ∙ ap (λ (z : State). record z { mark = c.begin-around.result }) (c.rollback.ensures.undone (begun c.args.self.now) c.snapshot-before.ensures back)
-    ∙ ap (λ m. record (restored (begun c.args.self.now) c.answer_opened_const-answer.new.self) { mark = m }) c.begin-around.ensures.around in
-    opened-merges host_kind.words.self_type (ByFormedRuleGroups host_kind c.args.class c.args.goal.now) c.args.goal.now c.args.alias c.args.self.now c.begin-around.new.self c.answer_opened_const-answer.new.self c.end.new.self c.answer_opened_const-answer.result c.or_undecided.result
-    c.begin-around.ensures.began undone c.requires.opens c.answer_opened_const-answer.ensures.by c.or_undecided.ensures.after
-
-pub merge_opened_const-returns-clause-applies : goal.merge_opened_const-returns-clause-applies
-merge_opened_const-returns-clause-applies t c =
-    let back : GoesBack (begun c.args.self.now) c.answer_opened_const-answer.new.self = subst (λ (z : State). GoesBack z c.answer_opened_const-answer.new.self) c.begin-around.ensures.began c.answer_opened_const-answer.ensures.goes_back in
-    let undone : c.end.new.self ≡ restored c.args.self.now c.answer_opened_const-answer.new.self =
-    c.end.ensures ∙ ap (λ (z : State). record z { mark = c.begin-around.result }) (c.rollback.ensures.undone (begun c.args.self.now) c.snapshot-before.ensures back)
-    ∙ ap (λ m. record (restored (begun c.args.self.now) c.answer_opened_const-answer.new.self) { mark = m }) c.begin-around.ensures.around in
-    opened-applies c.args.self.now c.answer_opened_const-answer.new.self c.end.new.self c.answer_opened_const-answer.result c.or_undecided.result back undone c.holds_together.ensures.solved c.holds_together-2.ensures.solved
-    c.is_well_formed.ensures.storage c.is_well_formed-2.ensures.storage c.answer_opened_const-answer.ensures.lists c.or_undecided.ensures.left c.or_undecided.ensures.after
-
-pub merge_opened_const-returns-clause-unchanged : goal.merge_opened_const-returns-clause-unchanged
-merge_opened_const-returns-clause-unchanged t c =
-    let back : GoesBack (begun c.args.self.now) c.answer_opened_const-answer.new.self = subst (λ (z : State). GoesBack z c.answer_opened_const-answer.new.self) c.begin-around.ensures.began c.answer_opened_const-answer.ensures.goes_back in
-    let undone : c.end.new.self ≡ restored c.args.self.now c.answer_opened_const-answer.new.self =
-    c.end.ensures ∙ ap (λ (z : State). record z { mark = c.begin-around.result }) (c.rollback.ensures.undone (begun c.args.self.now) c.snapshot-before.ensures back)
-    ∙ ap (λ m. record (restored (begun c.args.self.now) c.answer_opened_const-answer.new.self) { mark = m }) c.begin-around.ensures.around in
-    undone ∙ sym (ap (restored c.args.self.now) undone)
-
-pub merge_opened_const-returns-clause-goes_back : goal.merge_opened_const-returns-clause-goes_back
-merge_opened_const-returns-clause-goes_back t c =
-    let back : GoesBack (begun c.args.self.now) c.answer_opened_const-answer.new.self = subst (λ (z : State). GoesBack z c.answer_opened_const-answer.new.self) c.begin-around.ensures.began c.answer_opened_const-answer.ensures.goes_back in
-    let undone : c.end.new.self ≡ restored c.args.self.now c.answer_opened_const-answer.new.self =
-    c.end.ensures ∙ ap (λ (z : State). record z { mark = c.begin-around.result }) (c.rollback.ensures.undone (begun c.args.self.now) c.snapshot-before.ensures back)
-    ∙ ap (λ m. record (restored (begun c.args.self.now) c.answer_opened_const-answer.new.self) { mark = m }) c.begin-around.ensures.around in
-    subst (GoesBack c.args.self.now) (sym undone) (goes_back-tried c.args.self.now c.answer_opened_const-answer.new.self back)
-
-pub merge_opened_const-returns-clause-fault : goal.merge_opened_const-returns-clause-fault
-merge_opened_const-returns-clause-fault t c =
-    let back : GoesBack (begun c.args.self.now) c.answer_opened_const-answer.new.self = subst (λ (z : State). GoesBack z c.answer_opened_const-answer.new.self) c.begin-around.ensures.began c.answer_opened_const-answer.ensures.goes_back in
-    let undone : c.end.new.self ≡ restored c.args.self.now c.answer_opened_const-answer.new.self =
-    c.end.ensures ∙ ap (λ (z : State). record z { mark = c.begin-around.result }) (c.rollback.ensures.undone (begun c.args.self.now) c.snapshot-before.ensures back)
-    ∙ ap (λ m. record (restored (begun c.args.self.now) c.answer_opened_const-answer.new.self) { mark = m }) c.begin-around.ensures.around in
-    after-fault c.args.self.now c.end.new.self c.answer_opened_const-answer.result c.or_undecided.result
-    (fault-tried c.args.self.now c.begin-around.new.self c.answer_opened_const-answer.new.self c.end.new.self c.answer_opened_const-answer.result c.begin-around.ensures.began undone c.answer_opened_const-answer.ensures.fault) c.or_undecided.ensures.after
-
-pub answer_opened_const-returns-in_err-found-clause-by : goal.answer_opened_const-returns-in_err-found-clause-by
-answer_opened_const-returns-in_err-found-clause-by t c =
-    handed-on c.from_residual.result c.in_err-found.field-0.0 (λ (r : Result (Option Response) Fault). WhenTried r (InTrial (ByFormedRuleGroups host_kind c.args.class c.args.goal.now) c.args.goal.now.param_env.items c.args.alias c.args.self.now r c.form_of_open.new.self)) c.from_residual.ensures.1
-    (form-refused (ByFormedRuleGroups host_kind c.args.class c.args.goal.now) c.args.goal.now.param_env.items c.args.alias c.args.self.now c.form_of_open.new.self c.in_err-found.field-0.0 (subst (λ (es : List Clause). OpensFrom answers_term es (erased (tree_of_alias c.args.alias)) c.args.self.now (Err c.in_err-found.field-0.0) c.form_of_open.new.self) c.deref.ensures.value c.in_err-found.ensures.opens) c.form_of_open.ensures.alone (refl, refl))
-
-pub answer_opened_const-returns-in_default-clause-by : goal.answer_opened_const-returns-in_default-clause-by
-answer_opened_const-returns-in_default-clause-by t c =
-    form-passed (ByFormedRuleGroups host_kind c.args.class c.args.goal.now) c.args.goal.now.param_env.items c.args.alias c.args.self.now c.form_of_open.new.self c.in_ok-found.found (subst (λ (es : List Clause). OpensFrom answers_term es (erased (tree_of_alias c.args.alias)) c.args.self.now (Ok c.in_ok-found.found) c.form_of_open.new.self) c.deref.ensures.value c.in_ok-found.ensures.opens) c.form_of_open.ensures.alone
-    (inl (groups-passed host_kind _ c.form_of_open.new.self c.args.class c.args.goal.now c.in_ok-found.found c.in_ok-rules.field-0 c.self.view_is (none-left _ c.in_default.not-Some) c.in_ok-rules.ensures.rules, refl, refl))
-
-pub answer_opened_const-returns-in_err-answer-clause-by : goal.answer_opened_const-returns-in_err-answer-clause-by
-answer_opened_const-returns-in_err-answer-clause-by t c =
-    handed-on c.from_residual-in_err-answer.result c.in_err-answer.field-0.0 (λ (r : Result (Option Response) Fault). WhenTried r (InTrial (ByFormedRuleGroups host_kind c.args.class c.args.goal.now) c.args.goal.now.param_env.items c.args.alias c.args.self.now r c.merge_const_groups.new.self)) c.from_residual-in_err-answer.ensures.1
-    (merge-refused (ByFormedRuleGroups host_kind c.args.class c.args.goal.now) (λ x. ByRuleGroups c.in-Some.rules.param_env.items (rules_of_groups c.in-Some.rules) c.form_of_open.new.self x c.merge_const_groups.new.self) c.args.goal.now.param_env.items c.args.alias c.args.self.now c.form_of_open.new.self c.merge_const_groups.new.self c.in_ok-found.found c.merge_const_groups.result c.in_err-answer.field-0.0 c.in_err-answer.was (subst (λ (es : List Clause). OpensFrom answers_term es (erased (tree_of_alias c.args.alias)) c.args.self.now (Ok c.in_ok-found.found) c.form_of_open.new.self) c.deref.ensures.value c.in_ok-found.ensures.opens) c.form_of_open.ensures.alone c.merge_const_groups.ensures.decides
-    (λ d. inr (c.in-Some.rules, Err c.in_err-answer.field-0.0, c.merge_const_groups.new.self, groups-shown host_kind _ c.form_of_open.new.self c.args.class c.args.goal.now c.in_ok-found.found c.in_ok-rules.field-0 c.in-Some.rules c.self.view_is c.in-Some.is c.in_ok-rules.ensures.rules, d, (refl, refl))))
-
-pub answer_opened_const-returns-clause-by : goal.answer_opened_const-returns-clause-by
-answer_opened_const-returns-clause-by t c =
-    merge-answered (ByFormedRuleGroups host_kind c.args.class c.args.goal.now) (λ x. ByRuleGroups c.in-Some.rules.param_env.items (rules_of_groups c.in-Some.rules) c.form_of_open.new.self x c.merge_const_groups.new.self) c.args.goal.now.param_env.items c.args.alias c.args.self.now c.form_of_open.new.self c.merge_const_groups.new.self c.beside.new.self c.in_ok-found.found c.merge_const_groups.result c.in_ok-answer.answer c.beside.result c.in_ok-answer.was (subst (λ (es : List Clause). OpensFrom answers_term es (erased (tree_of_alias c.args.alias)) c.args.self.now (Ok c.in_ok-found.found) c.form_of_open.new.self) c.deref.ensures.value c.in_ok-found.ensures.opens) c.form_of_open.ensures.alone c.merge_const_groups.ensures.decides c.beside.ensures.beside c.beside.ensures.only_memory
-    (λ x b d. inr (c.in-Some.rules, Ok c.in_ok-answer.answer, c.merge_const_groups.new.self, groups-shown host_kind _ c.form_of_open.new.self c.args.class c.args.goal.now c.in_ok-found.found c.in_ok-rules.field-0 c.in-Some.rules c.self.view_is c.in-Some.is c.in_ok-rules.ensures.rules, d, (x, b, refl)))
-
-pub answer_opened_const-returns-in_err-answer-clause-goes_back : goal.answer_opened_const-returns-in_err-answer-clause-goes_back
-answer_opened_const-returns-in_err-answer-clause-goes_back t c =
-    goes_back-through c.args.self.now c.form_of_open.new.self c.merge_const_groups.new.self c.form_of_open.ensures.goes_back c.merge_const_groups.ensures.goes_back
-
-pub answer_opened_const-returns-clause-goes_back : goal.answer_opened_const-returns-clause-goes_back
-answer_opened_const-returns-clause-goes_back t c =
-    goes_back-through c.args.self.now c.merge_const_groups.new.self c.beside.new.self (goes_back-through c.args.self.now c.form_of_open.new.self c.merge_const_groups.new.self c.form_of_open.ensures.goes_back c.merge_const_groups.ensures.goes_back) c.beside.ensures.goes_back
-
-pub answer_opened_const-returns-in_err-answer-clause-fault : goal.answer_opened_const-returns-in_err-answer-clause-fault
-answer_opened_const-returns-in_err-answer-clause-fault t c =
-    handed-on c.from_residual-in_err-answer.result c.in_err-answer.field-0.0 (λ (r : Result (Option Response) Fault). IsFaultFor c.args.self.now c.merge_const_groups.new.self r) c.from_residual-in_err-answer.ensures.1
-    (fault-before Response (Option Response) c.args.self.now c.form_of_open.new.self c.merge_const_groups.new.self c.in_err-answer.field-0.0 c.form_of_open.ensures.goes_back c.in_err-answer.ensures.fault)
+pub answer_opened-returns-in_err-answer-clause-fault : goal.answer_opened-returns-in_err-answer-clause-fault
+answer_opened-returns-in_err-answer-clause-fault t c =
+    handed-on c.from_residual-in_err-answer.result c.in_err-answer.field-0.0 (λ (r : Result (Option Response) Fault). IsFaultFor c.args.self.now c.merge_formed.new.self r) c.from_residual-in_err-answer.ensures.1
+    (fault-before Response (Option Response) c.args.self.now c.form_of_open.new.self c.merge_formed.new.self c.in_err-answer.field-0.0 c.form_of_open.ensures.goes_back c.in_err-answer.ensures.fault)
 
 pub merge_trait-returns-in-None-clause-merges : goal.merge_trait-returns-in-None-clause-merges
 merge_trait-returns-in-None-clause-merges t c =
-    left-or_opened trait_kind c.args.goal.now c.args.self.now c.considered_rules.new.self c.merge_open_trait.new.self c.merge_open_trait.result
+    left-or_opened trait_kind c.args.goal.now c.args.self.now c.considered_rules.new.self c.merge_open.new.self c.merge_open.result
     (subst (λ o. ConsidersRules trait_kind c.args.goal.now c.args.self.now o c.considered_rules.new.self) c.in-None.is c.in_ok-considered_rules.ensures.considers) c.considered_rules.ensures.unchanged
-    c.merge_open_trait.ensures.unchanged c.merge_open_trait.ensures.undecided c.merge_open_trait.ensures.opened
+    c.merge_open.ensures.unchanged c.merge_open.ensures.undecided c.merge_open.ensures.opened
 
 pub merge_alias-returns-in-None-clause-merges : goal.merge_alias-returns-in-None-clause-merges
 merge_alias-returns-in-None-clause-merges t c =
-    left-or_opened-through alias_kind c.args.goal.now.predicate c.args.class c.args.goal.now c.args.self.now c.considered_groups.new.self c.merge_open_alias.new.self c.merge_open_alias.result
+    left-or_opened-through alias_kind c.args.goal.now.predicate c.args.class c.args.goal.now c.args.self.now c.considered_groups.new.self c.merge_open.new.self c.merge_open.result
     (subst (λ o. ConsidersGroups alias_kind c.args.class c.args.goal.now c.args.self.now o c.considered_groups.new.self) c.in-None.is c.in_ok-considered_groups.ensures.considers) c.considered_groups.ensures.unchanged
-    c.merge_open_alias.ensures.unchanged c.merge_open_alias.ensures.undecided c.merge_open_alias.ensures.opened
+    c.merge_open.ensures.unchanged c.merge_open.ensures.undecided c.merge_open.ensures.opened
 
 pub evaluate_open_alias-rollback-requires : goal.evaluate_open_alias-rollback-requires
 evaluate_open_alias-rollback-requires t c =
@@ -2027,3 +1786,7 @@ give_term-returns-in-ChosenBy-clause-refused t c =
     refused-map c.give_chosen.result
     (chosen-refused c.args.environment.now (named_trees c.args.named.now) (tree_of_term c.args.expected.now) c.args.term.now c.in-ChosenBy.clause c.in-ChosenBy.held c.in-ChosenBy.refuted c.args.self.now c.give_chosen.new.self c.in-ChosenBy.is)
     c.give_chosen.ensures.refused
+
+pub merge_formed-returns-in-Projection-clause-decides : goal.merge_formed-returns-in-Projection-clause-decides
+merge_formed-returns-in-Projection-clause-decides t c =
+    subst (λ (w : FormedRules). WhenAnswered c.merge_groups.result (DecidesBy w c.args.self.now c.merge_groups.result c.merge_groups.new.self)) (sym c.in-Projection.is) c.merge_groups.ensures.decides

@@ -131,32 +131,14 @@ decreases-merge_classes l = 40 * l.self.now.remaining_depth + 24
 abbrev pub decreases-merge_const_groups : goal.decreases-merge_const_groups
 decreases-merge_const_groups l = 40 * l.self.now.remaining_depth + 24
 
-abbrev pub decreases-answer_opened_trait : goal.decreases-answer_opened_trait
-decreases-answer_opened_trait l = 40 * l.self.now.remaining_depth + 25
-
-abbrev pub decreases-merge_opened_trait : goal.decreases-merge_opened_trait
-decreases-merge_opened_trait l = 40 * l.self.now.remaining_depth + 26
-
-abbrev pub decreases-merge_open_trait : goal.decreases-merge_open_trait
-decreases-merge_open_trait l = 40 * l.self.now.remaining_depth + 27
-
 abbrev pub decreases-merge_trait : goal.decreases-merge_trait
-decreases-merge_trait l = 40 * l.self.now.remaining_depth + 28
-
-abbrev pub decreases-answer_opened_const : goal.decreases-answer_opened_const
-decreases-answer_opened_const l = 40 * l.self.now.remaining_depth + 25
-
-abbrev pub decreases-merge_opened_const : goal.decreases-merge_opened_const
-decreases-merge_opened_const l = 40 * l.self.now.remaining_depth + 26
-
-abbrev pub decreases-merge_open_const : goal.decreases-merge_open_const
-decreases-merge_open_const l = 40 * l.self.now.remaining_depth + 27
+decreases-merge_trait l = 40 * l.self.now.remaining_depth + 30
 
 abbrev pub decreases-merge_const_through : goal.decreases-merge_const_through
-decreases-merge_const_through l = 40 * l.self.now.remaining_depth + 28
+decreases-merge_const_through l = 40 * l.self.now.remaining_depth + 30
 
 abbrev pub decreases-hold_const : goal.decreases-hold_const
-decreases-hold_const l = 40 * l.self.now.remaining_depth + 29
+decreases-hold_const l = 40 * l.self.now.remaining_depth + 31
 
 abbrev pub decreases-merge_bounds : goal.decreases-merge_bounds
 decreases-merge_bounds l = 40 * l.self.now.remaining_depth + 23
@@ -170,20 +152,11 @@ decreases-merge_later l = 40 * l.self.now.remaining_depth + 24
 abbrev pub decreases-merge_groups : goal.decreases-merge_groups
 decreases-merge_groups l = 40 * l.self.now.remaining_depth + 25
 
-abbrev pub decreases-answer_opened_alias : goal.decreases-answer_opened_alias
-decreases-answer_opened_alias l = 40 * l.self.now.remaining_depth + 26
-
-abbrev pub decreases-merge_opened_alias : goal.decreases-merge_opened_alias
-decreases-merge_opened_alias l = 40 * l.self.now.remaining_depth + 27
-
-abbrev pub decreases-merge_open_alias : goal.decreases-merge_open_alias
-decreases-merge_open_alias l = 40 * l.self.now.remaining_depth + 28
-
 abbrev pub decreases-merge_alias : goal.decreases-merge_alias
-decreases-merge_alias l = 40 * l.self.now.remaining_depth + 29
+decreases-merge_alias l = 40 * l.self.now.remaining_depth + 30
 
 abbrev pub decreases-project : goal.decreases-project
-decreases-project l = 40 * l.self.now.remaining_depth + 30
+decreases-project l = 40 * l.self.now.remaining_depth + 31
 
 abbrev pub invariant-evaluate_round-loop-i : goal.invariant-evaluate_round-loop-i
 invariant-evaluate_round-loop-i l = record {
@@ -233,3 +206,15 @@ invariant-more_special_outcome-loop-i l = record {
   unchanged : l.self ≡ restored l.fn.self l.self;
   back : GoesBack l.fn.self l.self;
 }
+
+abbrev pub decreases-merge_formed : goal.decreases-merge_formed
+decreases-merge_formed l = 40 * l.self.now.remaining_depth + 26
+
+abbrev pub decreases-answer_opened : goal.decreases-answer_opened
+decreases-answer_opened l = 40 * l.self.now.remaining_depth + 27
+
+abbrev pub decreases-merge_opened : goal.decreases-merge_opened
+decreases-merge_opened l = 40 * l.self.now.remaining_depth + 28
+
+abbrev pub decreases-merge_open : goal.decreases-merge_open
+decreases-merge_open l = 40 * l.self.now.remaining_depth + 29

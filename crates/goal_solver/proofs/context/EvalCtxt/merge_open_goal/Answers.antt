@@ -2,7 +2,9 @@ use Rattle.std.proofs.Common.{◌∙◌, ap, subst, length, Option, Ok}
 use Rattle.goal_terms.specs.declared.terms.AliasTerm.{AliasTerm}
 use Rattle.goal_solver.specs.Answers.{IsQuiet}
 use Rattle.goal_kinds.specs.Collecting.{kind_of}
-use Rattle.goal_solver.specs.OpenGoals.{AsksOpenSelf, ByFormedClasses}
+use Rattle.goal_solver.specs.AskedGoals.{formed_by, merged_as}
+use Rattle.goal_solver.specs.OpenAnswers.{MergesOpened}
+use Rattle.goal_solver.specs.OpenGoals.{AsksOpenSelf}
 use Rattle.goal_solver.specs.State.{State, kinds_of}
 use Rattle.goal_solver.proofs.AddedGoalLemmas.{fault-later}
 use Rattle.goal_solver.proofs.GoingBackLemmas.{goes_back-grown, goes_back-through}
@@ -13,7 +15,7 @@ use Rattle.goal_solver.proofs.context.EvalCtxt.merge_open_goal.Goals as goal
 
 pub returns-in_err-open_self-clause-opened : goal.returns-in_err-open_self-clause-opened
 returns-in_err-open_self-clause-opened g c =
-    λ asks. opened-unsaid g.G.GoalKind.words.self_type (ByFormedClasses (kind_of g.G.GoalKind.words g.G.PredicateTerms.has_fault) c.args.goal.now) c.args.goal.now c.args.self.now c.open_self.new.self c.from_residual.result c.in_err-open_self.field-0.0 c.open_self.ensures.unchanged c.from_residual.ensures.1 c.in_err-open_self.ensures.only_memory
+    λ asks. opened-unsaid (MergesOpened g.G.GoalKind.words.self_type (formed_by (merged_as c.args.by) (kind_of g.G.GoalKind.words g.G.PredicateTerms.has_fault) c.args.goal.now) c.args.goal.now) c.args.self.now c.open_self.new.self c.from_residual.result c.in_err-open_self.field-0.0 c.open_self.ensures.unchanged c.from_residual.ensures.1 c.in_err-open_self.ensures.only_memory
 
 pub returns-in_err-open_self-clause-goes_back : goal.returns-in_err-open_self-clause-goes_back
 returns-in_err-open_self-clause-goes_back g c =

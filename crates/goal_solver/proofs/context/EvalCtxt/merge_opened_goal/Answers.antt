@@ -1,7 +1,7 @@
 use Rattle.std.proofs.Common.{◌≡◌, ◌∙◌, ap, sym, subst}
 use Rattle.goal_kinds.specs.Collecting.{kind_of}
 use Rattle.goal_solver.specs.GoingBack.{GoesBack, begun, restored}
-use Rattle.goal_solver.specs.OpenGoals.{ByFormedClasses}
+use Rattle.goal_solver.specs.AskedGoals.{formed_by, merged_as}
 use Rattle.goal_solver.specs.State.{State}
 use Rattle.goal_solver.proofs.GoingBackLemmas.{goes_back-tried, valid-begun}
 use Rattle.goal_solver.proofs.OpenRecordLemmas.{fault-tried}
@@ -19,7 +19,7 @@ returns-clause-merges g c =
     let undone : c.end.new.self ≡ restored c.args.self.now c.answer_opened_goal-answer.new.self =
     c.end.ensures ∙ ap (λ (z : State). record z { mark = c.begin-around.result }) (c.rollback.ensures.undone (begun c.args.self.now) c.snapshot-before.ensures back)
     ∙ ap (λ m. record (restored (begun c.args.self.now) c.answer_opened_goal-answer.new.self) { mark = m }) c.begin-around.ensures.around in
-    opened-merges g.G.GoalKind.words.self_type (ByFormedClasses (kind_of g.G.GoalKind.words g.G.PredicateTerms.has_fault) c.args.goal.now) c.args.goal.now c.args.alias c.args.self.now c.begin-around.new.self c.answer_opened_goal-answer.new.self c.end.new.self c.answer_opened_goal-answer.result c.or_undecided.result
+    opened-merges g.G.GoalKind.words.self_type (formed_by (merged_as c.args.by) (kind_of g.G.GoalKind.words g.G.PredicateTerms.has_fault) c.args.goal.now) c.args.goal.now c.args.alias c.args.self.now c.begin-around.new.self c.answer_opened_goal-answer.new.self c.end.new.self c.answer_opened_goal-answer.result c.or_undecided.result
     c.begin-around.ensures.began undone c.requires.opens c.answer_opened_goal-answer.ensures.by c.or_undecided.ensures.after
 
 pub returns-clause-applies : goal.returns-clause-applies

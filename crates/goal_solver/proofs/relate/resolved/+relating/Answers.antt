@@ -29,17 +29,17 @@ relate_resolved-relate_resolved_lists-requires t c =
 
 pub relate_resolved-returns-in-Settled-clause-says : goal.relate_resolved-returns-in-Settled-clause-says
 relate_resolved-returns-in-Settled-clause-says t c =
-    settled-tops c.args.setting.now c.args.opens c.args.depth (erased_at c.args.terms.now c.args.left) (erased_at c.args.terms.now c.args.right) c.in-Settled.outcome c.in-Settled.ensures
+    settled-tops c.args.under.now.setting.now c.args.under.now.opens c.args.under.now.depth (erased_at c.args.terms.now c.args.left) (erased_at c.args.terms.now c.args.right) c.in-Settled.outcome c.in-Settled.ensures
 
 pub relate_resolved-returns-in-Settled-clause-same : goal.relate_resolved-returns-in-Settled-clause-same
 relate_resolved-returns-in-Settled-clause-same t c =
-    λ e. same-tops (erased_at c.args.terms.now c.args.left) (erased_at c.args.terms.now c.args.right) c.in-Settled.outcome c.in-Settled.ensures (setting_in c.args.setting.now mode.PostAnalysis) e
+    λ e. same-tops (erased_at c.args.terms.now c.args.left) (erased_at c.args.terms.now c.args.right) c.in-Settled.outcome c.in-Settled.ensures (setting_in c.args.under.now.setting.now mode.PostAnalysis) e
 
 pub relate_resolved-returns-in_ok-others-in-NeedParts-clause-says : goal.relate_resolved-returns-in_ok-others-in-NeedParts-clause-says
 relate_resolved-returns-in_ok-others-in-NeedParts-clause-says t c =
     let ls : c.deref.result.now ≡ c.parts.result.now = c.deref.ensures.value ∙ c.in_ok-parts-in-NeedParts.ensures in
     let rs : c.deref-in-NeedParts.result.now ≡ c.parts-in-NeedParts.result.now = c.deref-in-NeedParts.ensures.value ∙ c.in_ok-others-in-NeedParts.ensures in
-    settled-by_parts c.args.setting.now c.args.opens c.args.depth c.args.terms.now c.args.left c.args.right c.deref.result.now c.deref-in-NeedParts.result.now c.relate_resolved_lists.result c.in-NeedParts.ensures.0
+    settled-by_parts c.args.under.now.setting.now c.args.under.now.opens c.args.under.now.depth c.args.terms.now c.args.left c.args.right c.deref.result.now c.deref-in-NeedParts.result.now c.relate_resolved_lists.result c.in-NeedParts.ensures.0
     (ap (map (tree_at c.args.terms.now)) ls ∙ c.parts.ensures.trees) (ap (map (tree_at c.args.terms.now)) rs ∙ c.parts-in-NeedParts.ensures.trees) c.relate_resolved_lists.ensures.says
 
 pub relate_resolved-returns-in_ok-others-in-NeedParts-clause-same : goal.relate_resolved-returns-in_ok-others-in-NeedParts-clause-same
@@ -51,7 +51,7 @@ relate_resolved-returns-in_ok-others-in-NeedParts-clause-same t c =
 
 pub relate_resolved_lists-returns-then-right-count-clause-says : goal.relate_resolved_lists-returns-then-right-count-clause-says
 relate_resolved_lists-returns-then-right-count-clause-says t c =
-    settled-unlike c.args.setting.now c.args.opens c.args.depth c.args.terms.now c.args.left.now c.args.right.now c.if-right-count.true
+    settled-unlike c.args.under.now.setting.now c.args.under.now.opens c.args.under.now.depth c.args.terms.now c.args.left.now c.args.right.now c.if-right-count.true
 
 pub relate_resolved_lists-returns-then-right-count-clause-same : goal.relate_resolved_lists-returns-then-right-count-clause-same
 relate_resolved_lists-returns-then-right-count-clause-same t c = λ e. absurd (same-unlike c.args.terms.now c.args.left.now c.args.right.now c.if-right-count.true e)
@@ -60,7 +60,7 @@ pub relate_resolved_lists-loop-i-init : goal.relate_resolved_lists-loop-i-init
 relate_resolved_lists-loop-i-init t c = record {
   effects = c.requires.effects;
   kept = record { longer = omega arith; same = λ id e. refl };
-  settled = settled-none c.args.setting.now c.args.opens c.args.depth;
+  settled = settled-none c.args.under.now.setting.now c.args.under.now.opens c.args.under.now.depth;
   same = λ e. refl;
 }
 
@@ -69,7 +69,7 @@ relate_resolved_lists-returns-then-is_refuted-clause-kept t c = c.loop-i.invaria
 
 pub relate_resolved_lists-returns-then-is_refuted-clause-says : goal.relate_resolved_lists-returns-then-is_refuted-clause-says
 relate_resolved_lists-returns-then-is_refuted-clause-says t c =
-    settled-early c.args.setting.now c.args.opens c.args.depth c.args.terms.now c.args.left.now c.args.right.now c.loop-i.i c.loop-i.outcome
+    settled-early c.args.under.now.setting.now c.args.under.now.opens c.args.under.now.depth c.args.terms.now c.args.left.now c.args.right.now c.loop-i.i c.loop-i.outcome
     (c.is_refuted.ensures.0 c.if-is_refuted.true) (omega arith) (omega arith) c.loop-i.invariant.settled
 
 pub relate_resolved_lists-returns-then-is_refuted-clause-same : goal.relate_resolved_lists-returns-then-is_refuted-clause-same
@@ -105,8 +105,8 @@ relate_resolved_lists-loop-i-preserved t c =
     let right : IsOfKind c.args.terms.now c.requires.alike.0 (get_or c.args.right.now c.loop-i.i (record { 0 = 0 })) = All-get_or (IsOfKind c.args.terms.now c.requires.alike.0) c.args.right.now c.loop-i.i (record { 0 = 0 }) r c.requires.alike.2 in record {
       effects = c.in_ok-next.ensures.effects;
       kept = keeps-chain _ _ _ c.loop-i.invariant.kept c.in_ok-next.ensures.kept;
-      settled = subst (AreSettled c.args.setting.now c.args.opens c.args.depth (take (c.loop-i.i + 1) (erased_all c.args.terms.now c.args.left.now)) (take (c.loop-i.i + 1) (erased_all c.args.terms.now c.args.right.now))) (sym c.and-outcome.ensures)
-          (settled-more c.args.setting.now c.args.opens c.args.depth c.args.terms.now c.loop-i.terms c.args.left.now c.args.right.now c.loop-i.i (record { 0 = 0 }) c.loop-i.outcome c.in_ok-next.next
+      settled = subst (AreSettled c.args.under.now.setting.now c.args.under.now.opens c.args.under.now.depth (take (c.loop-i.i + 1) (erased_all c.args.terms.now c.args.left.now)) (take (c.loop-i.i + 1) (erased_all c.args.terms.now c.args.right.now))) (sym c.and-outcome.ensures)
+          (settled-more c.args.under.now.setting.now c.args.under.now.opens c.args.under.now.depth c.args.terms.now c.loop-i.terms c.args.left.now c.args.right.now c.loop-i.i (record { 0 = 0 }) c.loop-i.outcome c.in_ok-next.next
           c.loop-i.invariant.kept p r left.0 right.0 c.loop-i.invariant.settled c.in_ok-next.ensures.says);
       same = λ e. c.and-outcome.ensures ∙ both-held c.loop-i.outcome c.in_ok-next.next (c.loop-i.invariant.same e)
           (c.in_ok-next.ensures.same (same-at c.args.terms.now c.loop-i.terms c.args.left.now c.args.right.now c.loop-i.i (record { 0 = 0 }) c.loop-i.invariant.kept p r left.0 right.0 e));
@@ -117,7 +117,7 @@ relate_resolved_lists-returns-clause-kept t c = c.loop-i.invariant.kept
 
 pub relate_resolved_lists-returns-clause-says : goal.relate_resolved_lists-returns-clause-says
 relate_resolved_lists-returns-clause-says t c =
-    settled-all c.args.setting.now c.args.opens c.args.depth c.args.terms.now c.args.left.now c.args.right.now c.loop-i.i c.loop-i.outcome (omega arith) (omega arith) c.loop-i.invariant.settled
+    settled-all c.args.under.now.setting.now c.args.under.now.opens c.args.under.now.depth c.args.terms.now c.args.left.now c.args.right.now c.loop-i.i c.loop-i.outcome (omega arith) (omega arith) c.loop-i.invariant.settled
 
 pub relate_resolved_lists-returns-clause-same : goal.relate_resolved_lists-returns-clause-same
 relate_resolved_lists-returns-clause-same t c = c.loop-i.invariant.same

@@ -15,8 +15,8 @@ decreases-relate_resolved_lists l = 2 * ceiling l.left.now
 
 abbrev pub invariant-relate_resolved_lists-loop-i : goal.invariant-relate_resolved_lists-loop-i
 invariant-relate_resolved_lists-loop-i l = record {
-  effects : AreSound l.setting l.terms l.effects;
+  effects : AreSound l.under.setting.now l.terms l.effects;
   kept : Keeps l.fn.terms l.terms;
-  settled : AreSettled l.setting l.opens l.depth (take l.i (erased_all l.fn.terms l.left)) (take l.i (erased_all l.fn.terms l.right)) l.outcome;
+  settled : AreSettled l.under.setting.now l.under.opens l.under.depth (take l.i (erased_all l.fn.terms l.left)) (take l.i (erased_all l.fn.terms l.right)) l.outcome;
   same : erased_all l.fn.terms l.left ≡ erased_all l.fn.terms l.right → l.outcome ≡ outcome.Holds;
 }

@@ -28,15 +28,15 @@ compare_terms-requires-clause-second c = (open-pair c.args.terms.now c.args.left
 
 pub returns-then-stays_open-clause-says : goal.returns-then-stays_open-clause-says
 returns-then-stays_open-clause-says c =
-    settled-open c.args.setting.now c.args.opens c.args.depth (erased_at c.args.terms.now c.args.left) (erased_at c.args.terms.now c.args.right)
+    settled-open c.args.under.now.setting.now c.args.under.now.opens c.args.under.now.depth (erased_at c.args.terms.now c.args.left) (erased_at c.args.terms.now c.args.right)
     (λ opens left right.
-    in-the-way c.args.opens (some_node is_any_infer (tree_at c.args.terms.now c.args.left)) (some_node is_any_infer (tree_at c.args.terms.now c.args.right))
+    in-the-way c.args.under.now.opens (some_node is_any_infer (tree_at c.args.terms.now c.args.left)) (some_node is_any_infer (tree_at c.args.terms.now c.args.right))
     (sym c.stays_open.ensures ∙ c.if-stays_open.true) opens
     (sym (closed-erased (tree_at c.args.terms.now c.args.left)) ∙ left) (sym (closed-erased (tree_at c.args.terms.now c.args.right)) ∙ right))
 
 pub returns-clause-says : goal.returns-clause-says
 returns-clause-says c =
     let none : (some_node is_any_infer (tree_at c.args.terms.now c.args.left) ≡ false) × (some_node is_any_infer (tree_at c.args.terms.now c.args.right) ≡ false) =
-    out-of-the-way c.args.opens (some_node is_any_infer (tree_at c.args.terms.now c.args.left)) (some_node is_any_infer (tree_at c.args.terms.now c.args.right)) (sym c.stays_open.ensures ∙ c.if-stays_open.false) in
-    settled-closed c.args.setting.now c.args.opens c.args.depth (erased_at c.args.terms.now c.args.left) (erased_at c.args.terms.now c.args.right) c.compare_terms.result
+    out-of-the-way c.args.under.now.opens (some_node is_any_infer (tree_at c.args.terms.now c.args.left)) (some_node is_any_infer (tree_at c.args.terms.now c.args.right)) (sym c.stays_open.ensures ∙ c.if-stays_open.false) in
+    settled-closed c.args.under.now.setting.now c.args.under.now.opens c.args.under.now.depth (erased_at c.args.terms.now c.args.left) (erased_at c.args.terms.now c.args.right) c.compare_terms.result
     (closed-erased (tree_at c.args.terms.now c.args.left) ∙ none.0) (closed-erased (tree_at c.args.terms.now c.args.right) ∙ none.1) c.requires.forms.1 c.compare_terms.ensures.says
