@@ -18,21 +18,24 @@ use Rattle.goal_terms.specs.declared.terms.AliasTermKind.{AliasTermKind}
 use Rattle.goal_terms.specs.declared.view.Parts.{Parts}
 use Rattle.goal_terms.specs.declared.view.TermRef.{TermRef}
 use Rattle.goal_lists.specs.Headers.{is_number, parameter_of, no_lifetime, under, PartAmong}
-use Rattle.goal_lists.specs.Interned.{erased_at, IsIn}
+use Rattle.goal_lists.specs.Interned.{erased_at, erased_all, IsIn}
 use Rattle.goal_lists.specs.Level.{Level}
 use Rattle.goal_lists.specs.Levels.{level}
 use Rattle.goal_lists.specs.Settings.{Setting}
 use Rattle.goal_lists.specs.Words.{Exists, Pairs, SomePair}
 use Rattle.goal_terms.specs.declared.modes.TypingMode.{TypingMode}
-use Rattle.goal_eval.specs.Outcomes.{RunsFor, level_in, SaysMatch}
+use Rattle.goal_eval.specs.Outcomes.{RunsFor, level_in, header_terms, SaysMatch}
 use Rattle.goal_eval.specs.declared.eval.outcomes.Setting as over
 use Rattle.goal_eval.specs.declared.eval.outcomes.HeaderMatch.{HeaderMatch}
+use Rattle.goal_eval.specs.declared.relate.header_args.FilledArgs.{FilledArgs}
+use Rattle.goal_eval.specs.declared.relate.header_places.Against.{Against}
 use Rattle.goal_eval.specs.declared.relate.header_places.Place.{Place}
 use Rattle.goal_eval.specs.declared.relate.header_places.Place.TheVariants as place
 use Rattle.goal_eval.specs.declared.relate.header_questions.Question.{Question}
 use Rattle.goal_eval.specs.declared.relate.header_questions.Question.TheVariants as question
 use Rattle.goal_eval.specs.declared.relate.header_questions.Meeting.{Meeting}
 use Rattle.goal_eval.specs.declared.relate.header_questions.Meeting.TheVariants as meeting
+use Rattle.goal_eval.specs.declared.relate.headers.AskedHeader.{AskedHeader}
 
 -- a part of a row, without lifetimes
 abbrev pub erased_ref : TermRef → Tree
@@ -45,6 +48,13 @@ erased_refs ps = map erased (trees_seen ps)
 -- the terms of some numbers, and these without lifetimes
 abbrev pub erased_trees : List Tree → List TermId → List Tree
 erased_trees T ids = map erased (map (tree_at T) ids)
+
+-- the arguments of a header that is asked, and the terms that it is matched with, without lifetimes
+abbrev pub asked_terms : AskedHeader → List Tree
+asked_terms a = header_terms a.header.now
+
+abbrev pub asked_given : List Tree → AskedHeader → List Tree
+asked_given T a = erased_all T a.given.now
 
 -- a term may stand for a part of a header: it is an argument if that is one
 abbrev pub MayStand : Tree → Tree → Type 0
@@ -108,6 +118,14 @@ IsKnown ks n u = slice_get ks n ≡ Some (Some u)
 -- the terms that are known, of some numbers
 abbrev pub known_trees : List Tree → List (Option TermId) → List (Option Tree)
 known_trees T known = map (option_map (erased_at T)) known
+
+-- the terms that are known where arguments were filled from them
+abbrev pub filled_trees : List Tree → FilledArgs → List (Option Tree)
+filled_trees T f = known_trees T f.known.now
+
+-- a header's part and the given term against which it stands clash
+abbrev pub ClashAgainst : Level → List (Option Tree) → List Tree → Against → Type 0
+ClashAgainst L ks T a = L.clash (IsKnown ks) (erased_ref a.header) (erased_at T a.given)
 
 -- what is asked has the answer that header and given term clash
 abbrev pub ClashAt : Level → List (Option Tree) → List Tree → Question → Type 0
@@ -240,6 +258,18 @@ TestOutcome c d P b = (m : TypingMode) → RunsFor c m → Answers (P (level_in 
 abbrev pub KnownOutcome : over.Setting → ℕ → List Tree → List Tree → List ParamKind → List (Option Tree) → Type 0
 KnownOutcome c d hs gs ps ks = (m : TypingMode) → RunsFor c m → KnownFrom (level_in c m d) hs gs 0 ps ks
 
+-- the same for a header that is asked
+abbrev pub AskedKnown : over.Setting → ℕ → List Tree → AskedHeader → List (Option Tree) → Type 0
+AskedKnown c d T a = KnownOutcome c d (asked_terms a) (asked_given T a) a.params.now
+
 -- what a header comes to, in each of them
 abbrev pub MatchOutcome : over.Setting → ℕ → List ParamKind → List Tree → List Tree → List Tree → HeaderMatch → Type 0
 MatchOutcome c d ps hs gs T r = (m : TypingMode) → RunsFor c m → SaysMatch (level_in c m d) ps hs gs T r
+
+-- the same for a header that is asked, by the table before and the one after
+abbrev pub AskedOutcome : over.Setting → ℕ → List Tree → AskedHeader → List Tree → HeaderMatch → Type 0
+AskedOutcome c d T a = MatchOutcome c d a.params.now (asked_terms a) (asked_given T a)
+
+-- what such a header comes to at a level
+abbrev pub SaysAsked : Level → List Tree → AskedHeader → List Tree → HeaderMatch → Type 0
+SaysAsked L T a = SaysMatch L a.params.now (asked_terms a) (asked_given T a)

@@ -1,14 +1,11 @@
 -- Which term a projection has: what is said of it by its item, by its trait goal, by groups of candidates and by one candidate.
 use Rattle.std.specs.Prelude.{List, Option}
 use Rattle.goal_terms.specs.Tree.{Tree}
-use Rattle.goal_terms.specs.declared.answers.TraitGoalProvenVia.{TraitGoalProvenVia}
 use Rattle.goal_terms.specs.declared.ids.ItemId.{ItemId}
 use Rattle.goal_terms.specs.declared.term_nodes.TermId.{TermId}
-use Rattle.goal_terms.specs.declared.terms.AliasTermKind.{AliasTermKind}
-use Rattle.goal_tables.specs.declared.rows.ItemRow.{ItemRow}
-use Rattle.goal_tables.specs.declared.rows.TraitRow.{TraitRow}
 use Rattle.goal_lists.specs.Candidates.{Candidate, second_group}
 use Rattle.goal_lists.specs.Entries.{Entry}
+use Rattle.goal_lists.specs.ImplTerms as asked
 use Rattle.goal_lists.specs.Interned.{erased_at, erased_all}
 use Rattle.goal_lists.specs.Level.{Level}
 use Rattle.goal_lists.specs.ProjectionLists.{projection_list}
@@ -20,15 +17,25 @@ use Rattle.goal_eval.specs.SpecialImpls.{SaysGiven}
 use Rattle.goal_eval.specs.declared.eval.outcomes.Found.{Found}
 use Rattle.goal_eval.specs.declared.eval.outcomes.Projection.{Projection}
 use Rattle.goal_eval.specs.declared.normalizes_to.projection_candidates.GivenTerm.{GivenTerm}
+use Rattle.goal_eval.specs.declared.normalizes_to.projections.AliasWithArgs.{AliasWithArgs}
 use Rattle.goal_eval.specs.declared.normalizes_to.projections.Given.{Given}
+use Rattle.goal_eval.specs.declared.normalizes_to.projections.ItemRows.{ItemRows}
+use Rattle.goal_eval.specs.declared.normalizes_to.projections.ProvenProjection.{ProvenProjection}
+
+-- the arguments of an alias, without lifetimes
+abbrev pub alias_args : List Tree → AliasWithArgs → List Tree
+alias_args T a = erased_all T a.args.now
 
 -- which term a projection of an item has
-abbrev pub SaysProjection : Setting → Level → AliasTermKind → ItemId → List Tree → List Tree → Found → Type 0
-SaysProjection S L k i args = SaysWhich (ProjectionGives S L k i args) (ProjectionRefuted S L k i args)
+abbrev pub SaysProjection : Setting → Level → List Tree → AliasWithArgs → ItemId → List Tree → Found → Type 0
+SaysProjection S L T a i =
+    SaysWhich (ProjectionGives S L a.kind i (alias_args T a)) (ProjectionRefuted S L a.kind i (alias_args T a))
 
 -- which term it has by its item's row and its trait's
-abbrev pub SaysItem : Setting → Level → AliasTermKind → List Tree → ItemRow → TraitRow → List Tree → Found → Type 0
-SaysItem S L k args q r = SaysWhich (λ u. ItemGives S L k args u q r) (ItemRefuted S L k args q r)
+abbrev pub SaysItem : Setting → Level → List Tree → AliasWithArgs → ItemRows → List Tree → Found → Type 0
+SaysItem S L T a r =
+    SaysWhich (λ u. ItemGives S L a.kind (alias_args T a) u r.item.now r.trait_row.now)
+    (ItemRefuted S L a.kind (alias_args T a) r.item.now r.trait_row.now)
 
 -- which term it has by the class through which its trait goal holds
 abbrev pub SaysProven : Setting → Level → List Tree → Given → List Tree → Found → Type 0
@@ -42,21 +49,28 @@ SaysReplaced S L T g s =
     SaysWhich (ReplacedGives S L g.kind g.item.now g.trait_params g.class (erased_all T g.args.now) (erased_at T s))
     (ReplacedRefuted S L g.kind g.item.now g.trait_params g.class (erased_all T g.args.now) (erased_at T s))
 
--- the candidates after the environment, for a projection and the head form of its self type
-abbrev pub second_at : Setting → List Tree → Projection → TermId → TraitGoalProvenVia → List Candidate
-second_at S T p s c = second_group S p.item.now.trait_id (erased_at T s) c
+-- the candidates after the environment, for a projection whose trait goal holds
+abbrev pub second_at : Setting → List Tree → ProvenProjection → List Candidate
+second_at S T p = second_group S p.projection.item.now.trait_id (erased_at T p.self_ty) p.class
 
--- which term the two groups of candidates give a projection, by its self type, the alias as it was given, and the class
-abbrev pub SaysBothGroups : Setting → Level → List Tree → Projection → TermId → TermId → TraitGoalProvenVia → List Tree → Found → Type 0
-SaysBothGroups S L T p s g c =
-    SaysWhich (GroupsGive S L c (projection_at T p) (erased_at T p.rigid_alias) (erased_at T g) (second_at S T p s c))
-    (GroupsRefuted S L c (projection_at T p) (erased_at T p.rigid_alias) (second_at S T p s c))
+-- such a projection as it is asked, and its alias without lifetimes
+abbrev pub proven_at : List Tree → ProvenProjection → asked.Projection
+proven_at T p = projection_at T p.projection
+
+abbrev pub proven_alias : List Tree → ProvenProjection → Tree
+proven_alias T p = erased_at T p.projection.rigid_alias
+
+-- which term the two groups of candidates give it
+abbrev pub SaysBothGroups : Setting → Level → List Tree → ProvenProjection → List Tree → Found → Type 0
+SaysBothGroups S L T p =
+    SaysWhich (GroupsGive S L p.class (proven_at T p) (proven_alias T p) (erased_at T p.given) (second_at S T p))
+    (GroupsRefuted S L p.class (proven_at T p) (proven_alias T p) (second_at S T p))
 
 -- the same where all candidates of the environment are refuted
-abbrev pub SaysLaterGroup : Setting → Level → List Tree → Projection → TermId → TermId → TraitGoalProvenVia → List Tree → Found → Type 0
-SaysLaterGroup S L T p s g c =
-    SaysWhich (LaterGives S L c (projection_at T p) (erased_at T p.rigid_alias) (erased_at T g) (second_at S T p s c))
-    (LaterRefuted S L c (projection_at T p) (erased_at T p.rigid_alias) (second_at S T p s c))
+abbrev pub SaysLaterGroup : Setting → Level → List Tree → ProvenProjection → List Tree → Found → Type 0
+SaysLaterGroup S L T p =
+    SaysWhich (LaterGives S L p.class (proven_at T p) (proven_alias T p) (erased_at T p.given) (second_at S T p))
+    (LaterRefuted S L p.class (proven_at T p) (proven_alias T p) (second_at S T p))
 
 -- which term a group of candidates gives a projection
 abbrev pub SaysGroup : Setting → Level → List Tree → Projection → List Candidate → List Tree → Found → Type 0

@@ -1,6 +1,6 @@
 -- What evaluating the goals that were added says, goal by goal.
 use Rattle.std.proofs.Common.{◌≡◌, inl, inr, ℕ, zero, suc, ◌+◌, ◌<◌, List, [], ◌∷◌, ◌++◌, length, Some, Result, Ok, Err, refl, sym, ap, ◌∙◌, subst, arith}
-use Rattle.std.specs.Prelude.{IfErr, IfOk, slice_get}
+use Rattle.std.specs.Prelude.{IfOk, slice_get}
 use Rattle.goal_terms.specs.declared.answers.Certainty.{Certainty}
 use Rattle.goal_terms.specs.declared.answers.Certainty.TheVariants as certainty
 use Rattle.goal_terms.specs.declared.answers.GoalSource.{GoalSource}
@@ -67,11 +67,6 @@ fault-before T U a b c fault.NotForThisKind g h = h
 pub fault-later : {T : Type 0} (a b c : State) (r : Result T Fault) → GoesBack a b → IsFaultFor b c r → IsFaultFor a c r
 fault-later a b c (Ok x) g h = tt
 fault-later {T} a b c (Err f) g h = fault-before T T a b c f g h
-
--- a refusal is one that an answer may be
-pub refused-fault : (a b : State) (r : Result Certainty Fault) → IfErr r (λ f. f ≡ fault.NoSolution) → IsFaultFor a b r
-refused-fault a b (Ok c) h = tt
-refused-fault a b (Err f) h = subst (λ x. IsFaultFor {T = Certainty} a b (Err x)) (sym h) tt
 
 -- where the evaluation was stopped nothing is said
 stopped-goal : (s : State) (m : TypingMode) (g : Goal Predicate) (r : Result Certainty Fault) → IsStopped r → IsGoalAnswer s m g r

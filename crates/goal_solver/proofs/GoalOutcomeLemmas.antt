@@ -2,7 +2,7 @@
 use Rattle.std.proofs.Common.{◌≡◌, ◌<◌, List, [], ◌∷◌, length, map, sym, ap, ◌∙◌, subst}
 use Rattle.std.proofs.lemmas.List.Elements.{All-nil, All-cons, All-head, All-tail}
 use Rattle.goal_terms.specs.Sorts.{IsArgument, sort_of, is_argument_sort}
-use Rattle.goal_terms.specs.TableMeaning.{tree_at, AreBelow, Keeps}
+use Rattle.goal_terms.specs.TableMeaning.{tree_at, AreBelow, HasTerm, Keeps}
 use Rattle.goal_terms.specs.Tree.{Tree, node_of}
 use Rattle.goal_terms.specs.TreeOf.{tree_of_term}
 use Rattle.goal_terms.specs.declared.term_nodes.TermId.{TermId}
@@ -18,6 +18,11 @@ use Rattle.goal_eval.proofs.InterningLemmas.{is_argument-term}
 -- the number of a type or a constant is that of an argument
 pub term-in : (U : List Tree) (t : Term) (id : TermId) → id.0 < length U → tree_at U id ≡ tree_of_term t → IsIn U id
 term-in U t id l e = (l, subst IsArgument (sym e) (is_argument-term (sort_of (node_of (tree_of_term t))) (term_sort t)))
+
+pub has-term_in : (U : List Tree) (id : TermId) → HasTerm U id → IsIn U id
+has-term_in U id h = (h.0, is_argument-term (sort_of (node_of (tree_at U id))) h.1)
+
+pub ruleset numbers = (has-term_in)
 
 -- a term with its bindings followed is an argument where the term is one
 pub followed-in : (T U : List Tree) (id r : TermId) → IsIn T id → r.0 < length U → sort_at U r ≡ sort_at T id → IsIn U r

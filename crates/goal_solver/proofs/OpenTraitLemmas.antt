@@ -1,15 +1,20 @@
 -- Trait goals with inference variables that were added: what computing and applying their answers leaves.
 use Rattle.std.proofs.Common.{◌≡◌, ◌<◌, ◌==◌, ℕ, Bool, true, List, [], ◌∷◌, length, take, Option, Some, None, Result, Ok, Err, refl, sym, ap, subst, ◌∙◌, arith}
 use Rattle.std.specs.List.{AllZip}
-use Rattle.std.specs.Prelude.{OnOk, OnErr}
+use Rattle.std.specs.Prelude.{IfOk, IfSome, OnOk, OnErr}
 use Rattle.std.proofs.lemmas.List.{append-nil}
 use Rattle.goal_terms.specs.declared.answers.Certainty.{Certainty}
 use Rattle.goal_terms.specs.declared.answers.OpaqueAccess.{OpaqueAccess}
 use Rattle.goal_terms.specs.declared.answers.OpaqueTypeKey.{OpaqueTypeKey}
 use Rattle.goal_terms.specs.declared.answers.Response.{Response}
+use Rattle.goal_terms.specs.TableMeaning.{Keeps}
+use Rattle.goal_terms.specs.Tree.{Tree}
+use Rattle.goal_terms.specs.declared.term_nodes.TermId.{TermId}
 use Rattle.goal_terms.specs.declared.terms.Term.{Term}
 use Rattle.goal_terms.specs.declared.terms.Ty.{Ty}
 use Rattle.goal_tables.specs.declared.rows.Tables.{Tables}
+use Rattle.goal_lists.specs.Interned.{IsIn}
+use Rattle.goal_lists.proofs.InternedLemmas.{in-grown}
 use Rattle.goal_kinds.specs.declared.faults.Fault.{Fault}
 use Rattle.goal_kinds.specs.declared.faults.Fault.TheVariants as fault
 use Rattle.goal_solver.specs.Accesses.{uncaused, uncaused_faults, RecordsCausedFaults}
@@ -77,6 +82,20 @@ let-go-fault T s b z (Err fault.NoSolution) e h = tt
 let-go-fault T s b z (Err fault.RerunNonErased) e h = (h.0, subst (λ (xs : List OpaqueAccess). 0 < length xs) (sym (ap (λ (x : State). x.accesses) e)) h.1)
 let-go-fault T s b z (Err fault.OutOfMemory) e h = tt
 let-go-fault T s b z (Err fault.NotForThisKind) e h = h
+
+-- more terms make no other fault
+pub ended-fault : (T : Type 0) (s b z : State) (r : Result T Fault) → z ≡ record b { terms = z.terms } → IsFaultFor s b r → IsFaultFor s z r
+ended-fault T s b z (Ok x) e h = tt
+ended-fault T s b z (Err fault.NoSolution) e h = tt
+ended-fault T s b z (Err fault.RerunNonErased) e h = (h.0, subst (λ (xs : List OpaqueAccess). 0 < length xs) (sym (ap (λ (x : State). x.accesses) e)) h.1)
+ended-fault T s b z (Err fault.OutOfMemory) e h = tt
+ended-fault T s b z (Err fault.NotForThisKind) e h = h
+
+-- the number of a head form is in a table that has grown
+pub form-grown : (T U : List Tree) (r : Result (Option TermId) Fault) → Keeps T U → IfOk r (λ o. IfSome o (IsIn T)) → IfOk r (λ o. IfSome o (IsIn U))
+form-grown T U (Ok (Some id)) k h = in-grown T U k id h
+form-grown T U (Ok None) k h = tt
+form-grown T U (Err f) k h = tt
 
 -- an answer that is applied changes inference state alone, if it lists no hidden type
 given-alone : (s z : State) (ps : List (ℕ × Term)) → GetValues s z ps → ChangesInference s z

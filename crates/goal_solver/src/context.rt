@@ -18,7 +18,7 @@ pub(crate) mod respond;
 pub mod storage;
 pub mod variables;
 
-use crate::eval::open_asked::OpenAsked;
+use crate::eval::search_graph::SearchGraph;
 use crate::faults::DepthTooLarge;
 use goal_eval::eval::effects::Effects;
 use goal_eval::eval::region_constraints::RegionConstraints;
@@ -57,8 +57,8 @@ pub struct EvalCtxt<'t> {
     pub(crate) accesses: Vec<OpaqueAccess>,
     pub(crate) delayed_faults: Vec<DelayedFault>,
     pub(crate) mark: Mark,
-    /// The goals with inference variables that are being answered, and what others were answered.
-    pub(crate) asked: OpenAsked,
+    /// The goals with inference variables that are being answered, and what is known of others.
+    pub(crate) search_graph: SearchGraph,
 }
 
 impl Drop for EvalCtxt<'_> {
@@ -77,7 +77,7 @@ impl Drop for EvalCtxt<'_> {
             accesses: _,
             delayed_faults: _,
             mark: _,
-            asked: _,
+            search_graph: _,
         } = self;
     }
 }
@@ -157,7 +157,7 @@ impl<'t> EvalCtxt<'t> {
             accesses: Vec::new(alloc),
             delayed_faults: Vec::new(alloc),
             mark,
-            asked: OpenAsked::new(alloc),
+            search_graph: SearchGraph::new(alloc),
         })
     }
 

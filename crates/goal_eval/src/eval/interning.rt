@@ -69,7 +69,7 @@ pub fn intern_pair(
 
 /// The number of a trait with its arguments, the self type among them, which the table gets. Want of memory or
 /// of numbers is the only refusal.
-pub(crate) fn intern_trait_ref(
+pub fn intern_trait_ref(
     alloc: Global,
     terms: &mut TermTable,
     trait_id: TraitId,

@@ -79,7 +79,7 @@ pub(crate) fn projection_term(
     ensures kept { Keeps terms.old terms.new }
     ensures within { IfOk result (FoundIn terms.new) }
     ensures stops { IfErr result (IsStop setting.now) }
-    ensures says { ForEachMode setting.now depth (λ S L. IfOk result (SaysProjection S L alias.now.kind item (erased_all terms.old alias.now.args.now) terms.new)) }
+    ensures says { ForEachMode setting.now depth (λ S L. IfOk result (SaysProjection S L terms.old alias.now item terms.new)) }
 {
     let Some(row) = setting.rows.item_row(item) else {
         return Ok(Found::Undecided);
@@ -111,7 +111,7 @@ fn item_term(
     ensures kept { Keeps terms.old terms.new }
     ensures within { IfOk result (FoundIn terms.new) }
     ensures stops { IfErr result (IsStop setting.now) }
-    ensures says { ForEachMode setting.now depth (λ S L. IfOk result (SaysItem S L alias.now.kind (erased_all terms.old alias.now.args.now) rows.now.item.now rows.now.trait_row.now terms.new)) }
+    ensures says { ForEachMode setting.now depth (λ S L. IfOk result (SaysItem S L terms.old alias.now rows.now terms.new)) }
 {
     let AliasWithArgs { kind, args } = *alias;
     if args.is_empty() {
@@ -222,7 +222,7 @@ fn groups_term(
     ensures kept { Keeps terms.old terms.new }
     ensures within { IfOk result (FoundIn terms.new) }
     ensures stops { IfErr result (IsStop setting.now) }
-    ensures says { ForEachMode setting.now depth (λ S L. IfOk result (SaysBothGroups S L terms.old proven.now.projection proven.now.self_ty proven.now.given proven.now.class terms.new)) }
+    ensures says { ForEachMode setting.now depth (λ S L. IfOk result (SaysBothGroups S L terms.old proven.now terms.new)) }
 {
     let projection = &proven.projection;
     match environment_term(setting, terms, effects, projection, proven.self_ty, depth)? {
@@ -249,7 +249,7 @@ fn later_term(
     ensures kept { Keeps terms.old terms.new }
     ensures within { IfOk result (FoundIn terms.new) }
     ensures stops { IfErr result (IsStop setting.now) }
-    ensures says { ForEachMode setting.now depth (λ S L. IfOk result (SaysLaterGroup S L terms.old proven.now.projection proven.now.self_ty proven.now.given proven.now.class terms.new)) }
+    ensures says { ForEachMode setting.now depth (λ S L. IfOk result (SaysLaterGroup S L terms.old proven.now terms.new)) }
 {
     let class = proven.class;
     match second_term(setting, terms, effects, proven, depth)? {
@@ -320,7 +320,7 @@ fn second_term(
     ensures kept { Keeps terms.old terms.new }
     ensures within { IfOk result (FoundIn terms.new) }
     ensures stops { IfErr result (IsStop setting.now) }
-    ensures says { ForEachMode setting.now depth (λ S L. IfOk result (SaysGroup S L terms.old proven.now.projection (second_at S terms.old proven.now.projection proven.now.self_ty proven.now.class) terms.new)) }
+    ensures says { ForEachMode setting.now depth (λ S L. IfOk result (SaysGroup S L terms.old proven.now.projection (second_at S terms.old proven.now) terms.new)) }
 {
     let projection = &proven.projection;
     let sought = Sought {

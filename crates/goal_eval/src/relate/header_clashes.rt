@@ -2,10 +2,9 @@
 ghost use Rattle.std.specs.Prelude.{IfErr, IfOk};
 ghost use Rattle.std.specs.List.{All};
 ghost use Rattle.goal_terms.specs.TableMeaning.{Keeps};
-ghost use Rattle.goal_lists.specs.Interned.{IsIn, AreIn, erased_at, erased_all};
+ghost use Rattle.goal_lists.specs.Interned.{IsIn, AreIn};
 ghost use Rattle.goal_lists.specs.Words.{Exists};
-ghost use Rattle.goal_eval.specs.Outcomes.{header_terms};
-ghost use Rattle.goal_eval.specs.HeaderWords.{is_any, erased_ref, IsBehind, KnownIn, IsKnown, known_trees, ClashAt, QuestionIn, Fills, TestOutcome, SomeClash};
+ghost use Rattle.goal_eval.specs.HeaderWords.{is_any, asked_terms, asked_given, IsBehind, KnownIn, filled_trees, ClashAgainst, ClashAt, QuestionIn, Fills, TestOutcome, SomeClash};
 ghost use Rattle.goal_eval.specs.Effects.{AreSound, IsStop};
 
 use crate::eval::effects::Effects;
@@ -40,7 +39,7 @@ fn instance_clashes(
     ensures effects { AreSound setting.now terms.new effects.new }
     ensures kept { Keeps terms.old terms.new }
     ensures stops { IfErr result (IsStop setting.now) }
-    ensures says { IfOk result (TestOutcome setting.now depth (λ L. L.clash (IsKnown (known_trees terms.old filled.now.known.now)) (erased_ref against.entry.header) (erased_at terms.old against.entry.given))) }
+    ensures says { IfOk result (TestOutcome setting.now depth (λ L. ClashAgainst L (filled_trees terms.old filled.now) terms.old against.entry)) }
 {
     if mentions_unknown(filled.known, against.header) {
         return Ok(false);
@@ -71,7 +70,7 @@ fn question_clashes(
     ensures effects { AreSound setting.now terms.new effects.new }
     ensures kept { Keeps terms.old terms.new }
     ensures stops { IfErr result (IsStop setting.now) }
-    ensures says { IfOk result (TestOutcome setting.now depth (λ L. ClashAt L (known_trees terms.old filled.now.known.now) terms.old question.entry)) }
+    ensures says { IfOk result (TestOutcome setting.now depth (λ L. ClashAt L (filled_trees terms.old filled.now) terms.old question.entry)) }
 {
     match question {
         Question::Differs => Ok(true),
@@ -104,7 +103,7 @@ fn behind_clashes(
     ensures effects { AreSound setting.now terms.new effects.new }
     ensures kept { Keeps terms.old terms.new }
     ensures stops { IfErr result (IsStop setting.now) }
-    ensures says { IfOk result (TestOutcome setting.now depth (λ L. L.clash (IsKnown (known_trees terms.old filled.now.known.now)) (erased_ref against.entry.header) (erased_at terms.old against.entry.given))) }
+    ensures says { IfOk result (TestOutcome setting.now depth (λ L. ClashAgainst L (filled_trees terms.old filled.now) terms.old against.entry)) }
 {
     if depth == 0 {
         return Ok(false);
@@ -144,7 +143,7 @@ fn form_clashes(
     ensures effects { AreSound setting.now terms.new effects.new }
     ensures kept { Keeps terms.old terms.new }
     ensures stops { IfErr result (IsStop setting.now) }
-    ensures says { IfOk result (TestOutcome setting.now depth (λ L. L.clash (IsKnown (known_trees terms.old filled.now.known.now)) (erased_ref against.entry.header) (erased_at terms.old against.entry.given))) }
+    ensures says { IfOk result (TestOutcome setting.now depth (λ L. ClashAgainst L (filled_trees terms.old filled.now) terms.old against.entry)) }
 {
     let questions = questions_of(setting.allocator(), terms, against.header, against.given)?;
     any_clash(setting, terms, effects, filled, &questions, depth)
@@ -168,7 +167,7 @@ fn any_clash(
     ensures effects { AreSound setting.now terms.new effects.new }
     ensures kept { Keeps terms.old terms.new }
     ensures stops { IfErr result (IsStop setting.now) }
-    ensures says { IfOk result (TestOutcome setting.now depth (λ L. Exists (ClashAt L (known_trees terms.old filled.now.known.now) terms.old) questions.now)) }
+    ensures says { IfOk result (TestOutcome setting.now depth (λ L. Exists (ClashAt L (filled_trees terms.old filled.now) terms.old) questions.now)) }
 {
     for i in 0..questions.len() {
         if question_clashes(setting, terms, effects, filled, questions[i], depth)? {
@@ -196,7 +195,7 @@ pub(crate) fn header_clashes(
     ensures effects { AreSound setting.now terms.new effects.new }
     ensures kept { Keeps terms.old terms.new }
     ensures stops { IfErr result (IsStop setting.now) }
-    ensures says { IfOk result (TestOutcome setting.now depth (λ L. SomeClash L (known_trees terms.old filled.now.known.now) (header_terms asked.now.header.now) (erased_all terms.old asked.now.given.now))) }
+    ensures says { IfOk result (TestOutcome setting.now depth (λ L. SomeClash L (filled_trees terms.old filled.now) (asked_terms asked.now) (asked_given terms.old asked.now))) }
 {
     let questions = questions_of_args(setting.allocator(), terms, asked.header, asked.given)?;
     any_clash(setting, terms, effects, filled, &questions, depth)

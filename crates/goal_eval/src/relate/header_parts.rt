@@ -2,9 +2,8 @@
 ghost use Rattle.std.specs.Prelude.{IfErr, ◌≡◌, length, IfOk};
 ghost use Rattle.goal_terms.specs.TableMeaning.{Keeps};
 ghost use Rattle.goal_lists.specs.Headers.{PartAmong};
-ghost use Rattle.goal_lists.specs.Interned.{AreIn, erased_at, erased_all};
-ghost use Rattle.goal_eval.specs.Outcomes.{header_terms};
-ghost use Rattle.goal_eval.specs.HeaderWords.{is_this, erased_ref, IsBehind, GivesPart, PlaceIn, OptionIn, KnownIn, known_trees, SaysKnown, PartOutcome, KnownOutcome, TermOutcome};
+ghost use Rattle.goal_lists.specs.Interned.{AreIn, erased_at};
+ghost use Rattle.goal_eval.specs.HeaderWords.{is_this, erased_ref, asked_terms, asked_given, IsBehind, GivesPart, PlaceIn, OptionIn, KnownIn, known_trees, SaysKnown, PartOutcome, TermOutcome, AskedKnown};
 ghost use Rattle.goal_eval.specs.Effects.{AreSound, IsStop};
 
 use crate::eval::effects::Effects;
@@ -105,7 +104,7 @@ fn known_part(
     ensures kept { Keeps terms.old terms.new }
     ensures within { IfOk result (OptionIn terms.new) }
     ensures stops { IfErr result (IsStop setting.now) }
-    ensures says { IfOk result (PartOutcome setting.now depth (λ L. PartAmong L number (header_terms asked.now.header.now) (erased_all terms.old asked.now.given.now)) terms.new) }
+    ensures says { IfOk result (PartOutcome setting.now depth (λ L. PartAmong L number (asked_terms asked.now) (asked_given terms.old asked.now)) terms.new) }
 {
     let place = find_among(terms, number, Parts::Args(asked.header), asked.given);
     part_at(setting, terms, effects, number, place, depth)
@@ -127,7 +126,7 @@ fn known_arg(
     ensures kept { Keeps terms.old terms.new }
     ensures within { IfOk result (OptionIn terms.new) }
     ensures stops { IfErr result (IsStop setting.now) }
-    ensures says { IfOk result (TermOutcome setting.now depth (λ L. SaysKnown L (header_terms asked.now.header.now) (erased_all terms.old asked.now.given.now) param.kind param.number) terms.new) }
+    ensures says { IfOk result (TermOutcome setting.now depth (λ L. SaysKnown L (asked_terms asked.now) (asked_given terms.old asked.now) param.kind param.number) terms.new) }
 {
     match param.kind {
         ParamKind::Lifetime => Ok(None),
@@ -152,7 +151,7 @@ pub(crate) fn known_args(
     ensures within { IfOk result (λ known. KnownIn terms.new known.items) }
     ensures count { IfOk result (λ known. length known.items ≡ length asked.now.params.now) }
     ensures stops { IfErr result (IsStop setting.now) }
-    ensures says { IfOk result (λ known. KnownOutcome setting.now depth (header_terms asked.now.header.now) (erased_all terms.old asked.now.given.now) asked.now.params.now (known_trees terms.new known.items)) }
+    ensures says { IfOk result (λ known. AskedKnown setting.now depth terms.old asked.now (known_trees terms.new known.items)) }
 {
     let mut known = Vec::new(setting.allocator());
     for i in 0..asked.params.len() {

@@ -2,8 +2,8 @@
 ghost use Rattle.std.specs.Prelude.{IfErr, ◌≡◌, true, false, length, IfOk};
 ghost use Rattle.goal_terms.specs.TableMeaning.{Keeps};
 ghost use Rattle.goal_lists.specs.Interned.{AreIn, erased_all};
-ghost use Rattle.goal_eval.specs.Outcomes.{header_terms, SaysMatch, MatchIn, ForEachMode};
-ghost use Rattle.goal_eval.specs.HeaderWords.{KnownIn, known_trees, AreFilled, is_complete, TestOutcome, KnownOutcome, MatchOutcome, EqualUnder};
+ghost use Rattle.goal_eval.specs.Outcomes.{MatchIn, ForEachMode};
+ghost use Rattle.goal_eval.specs.HeaderWords.{asked_terms, asked_given, KnownIn, known_trees, filled_trees, AreFilled, is_complete, TestOutcome, EqualUnder, AskedKnown, AskedOutcome, SaysAsked};
 ghost use Rattle.goal_eval.specs.Effects.{AreSound, IsStop};
 
 use crate::eval::effects::Effects;
@@ -43,7 +43,7 @@ fn instances_fit(
     ensures effects { AreSound setting.now terms.new effects.new }
     ensures kept { Keeps terms.old terms.new }
     ensures stops { IfErr result (IsStop setting.now) }
-    ensures says { IfOk result (TestOutcome setting.now depth (λ L. EqualUnder L (erased_all terms.old args.now) (header_terms asked.now.header.now) (erased_all terms.old asked.now.given.now))) }
+    ensures says { IfOk result (TestOutcome setting.now depth (λ L. EqualUnder L (erased_all terms.old args.now) (asked_terms asked.now) (asked_given terms.old asked.now))) }
 {
     let ids = instances(setting.allocator(), terms, asked.header, args)?;
     match compare_lists(setting, terms, effects, &ids, asked.given, depth)? {
@@ -69,12 +69,12 @@ fn match_complete(
     requires args { AreIn terms.old filled.args.items }
     requires filled { AreFilled terms.old filled.known.now filled.args.items }
     requires complete { is_complete asked.now.params.now filled.known.now ≡ true }
-    requires says { KnownOutcome setting.now depth (header_terms asked.now.header.now) (erased_all terms.old asked.now.given.now) asked.now.params.now (known_trees terms.old filled.known.now) }
+    requires says { AskedKnown setting.now depth terms.old asked.now (filled_trees terms.old filled) }
     ensures effects { AreSound setting.now terms.new effects.new }
     ensures kept { Keeps terms.old terms.new }
     ensures within { IfOk result (MatchIn terms.new) }
     ensures stops { IfErr result (IsStop setting.now) }
-    ensures says { IfOk result (MatchOutcome setting.now depth asked.now.params.now (header_terms asked.now.header.now) (erased_all terms.old asked.now.given.now) terms.new) }
+    ensures says { IfOk result (AskedOutcome setting.now depth terms.old asked.now terms.new) }
 {
     if instances_fit(setting, terms, effects, asked, &filled.args, depth)? {
         return Ok(HeaderMatch::Fits(filled.args));
@@ -101,12 +101,12 @@ fn match_incomplete(
     requires args { AreIn terms.old filled.now.args.items }
     requires filled { AreFilled terms.old filled.now.known.now filled.now.args.items }
     requires complete { is_complete asked.now.params.now filled.now.known.now ≡ false }
-    requires says { KnownOutcome setting.now depth (header_terms asked.now.header.now) (erased_all terms.old asked.now.given.now) asked.now.params.now (known_trees terms.old filled.now.known.now) }
+    requires says { AskedKnown setting.now depth terms.old asked.now (filled_trees terms.old filled.now) }
     ensures effects { AreSound setting.now terms.new effects.new }
     ensures kept { Keeps terms.old terms.new }
     ensures within { IfOk result (MatchIn terms.new) }
     ensures stops { IfErr result (IsStop setting.now) }
-    ensures says { IfOk result (MatchOutcome setting.now depth asked.now.params.now (header_terms asked.now.header.now) (erased_all terms.old asked.now.given.now) terms.new) }
+    ensures says { IfOk result (AskedOutcome setting.now depth terms.old asked.now terms.new) }
 {
     if header_clashes(setting, terms, effects, asked, filled, depth)? {
         Ok(HeaderMatch::Clashes)
@@ -130,12 +130,12 @@ fn match_known(
     requires given { AreIn terms.old asked.now.given.now }
     requires known { KnownIn terms.old known.now }
     requires count { length asked.now.params.now ≡ length known.now }
-    requires says { KnownOutcome setting.now depth (header_terms asked.now.header.now) (erased_all terms.old asked.now.given.now) asked.now.params.now (known_trees terms.old known.now) }
+    requires says { AskedKnown setting.now depth terms.old asked.now (known_trees terms.old known.now) }
     ensures effects { AreSound setting.now terms.new effects.new }
     ensures kept { Keeps terms.old terms.new }
     ensures within { IfOk result (MatchIn terms.new) }
     ensures stops { IfErr result (IsStop setting.now) }
-    ensures says { IfOk result (MatchOutcome setting.now depth asked.now.params.now (header_terms asked.now.header.now) (erased_all terms.old asked.now.given.now) terms.new) }
+    ensures says { IfOk result (AskedOutcome setting.now depth terms.old asked.now terms.new) }
 {
     let args = filled_args(setting, terms, effects, known)?;
     let filled = FilledArgs { known, args };
@@ -163,7 +163,7 @@ pub fn match_header(
     ensures kept { Keeps terms.old terms.new }
     ensures within { IfOk result (MatchIn terms.new) }
     ensures stops { IfErr result (IsStop setting.now) }
-    ensures says { ForEachMode setting.now depth (λ _ L. IfOk result (SaysMatch L asked.now.params.now (header_terms asked.now.header.now) (erased_all terms.old asked.now.given.now) terms.new)) }
+    ensures says { ForEachMode setting.now depth (λ _ L. IfOk result (SaysAsked L terms.old asked.now terms.new)) }
 {
     let known = known_args(setting, terms, effects, asked, depth)?;
     match_known(setting, terms, effects, asked, &known, depth)

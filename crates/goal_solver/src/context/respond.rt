@@ -184,7 +184,7 @@ fn values_of(
 }
 
 /// The variable of a number, if one was made that stands for types or for constants.
-fn variable_at(inference: &InferState, number: u32) -> Option<Variable>
+pub(crate) fn variable_at(inference: &InferState, number: u32) -> Option<Variable>
     ensures { result ≡ variable_at inference.now number }
 {
     if number as usize >= inference.len() {

@@ -1,7 +1,8 @@
 //! Evaluating the goals that were added to a context.
-ghost use Rattle.std.specs.Prelude.{◌≡◌, ◌↔◌, ◌<◌, ℕ, List, [], ◌∷◌, ◌++◌, length, true, false, Some, slice_get, Err, IfOk, IfErr, OnOk, OnErr, IsTrue, IsOkUnless};
+ghost use Rattle.std.specs.Prelude.{◌≡◌, ◌↔◌, ◌<◌, ℕ, List, [], ◌∷◌, ◌++◌, length, true, false, Some, slice_get, Err, IfOk, IfErr, IfSome, OnOk, OnErr, IsTrue, IsOkUnless};
 ghost use Rattle.std.specs.List.{Contains};
 ghost use Rattle.goal_terms.specs.declared.modes.TypingMode.{TypingMode as modes};
+ghost use Rattle.goal_lists.specs.Interned.{IsIn};
 ghost use Rattle.goal_lists.specs.Settings.{is_headline};
 ghost use Rattle.goal_solver.specs.Accesses.{RecordsCausedFaults};
 ghost use Rattle.goal_solver.specs.Added.{has_goals};
@@ -17,12 +18,13 @@ ghost use Rattle.goal_solver.specs.Relating.{ChangesRecords, IsFaultFor, SaysYes
 use crate::assembly::more_special::binds_nothing;
 use crate::context::{EvalCtxt, Snapshot};
 use crate::eval::goal_outcomes::OpenGoal;
-use crate::eval::open_asked::answer_of;
+use crate::eval::recalled::{outcome_of, outcome_of_form};
 use crate::faults::Fault;
 use goal_eval::eval::outcomes::Stop;
 use goal_lists::outcomes::Outcome;
 use goal_terms::answers::{Certainty, GoalSource, Response};
-use goal_terms::predicates::{Goal, Predicate};
+use goal_terms::predicates::{Clause, Goal, Predicate};
+use goal_terms::term_nodes::TermId;
 use goal_terms::terms::AliasTerm;
 use std::mem;
 
@@ -252,11 +254,60 @@ impl EvalCtxt<'_> {
         let Predicate::NormalizesTo(asked) = &goal.predicate else {
             return Ok(Certainty::Maybe);
         };
-        let Some(form) = self.form_of_open(&goal.param_env, alias)? else {
+        let Some(form) = self.form_once(&goal.param_env, alias)? else {
             return Ok(Certainty::Maybe);
         };
-        let outcome = self.expect_form(&goal.param_env, &asked.term, &form);
+        let outcome = self.expect_term(&goal.param_env, &asked.term, form);
         self.verdict(outcome)
+    }
+
+    /// The number of the head form of an alias with inference variables. There is none so far of one whose head form
+    /// is being found already; one that is known is given again.
+    #[cycle(open)]
+    fn form_once(
+        &mut self,
+        environment: &[Clause],
+        alias: AliasTerm,
+    ) -> Result<Option<TermId>, Fault>
+        ensures within { IfOk result (λ o. IfSome o (IsIn self.new.terms)) }
+        ensures alone { ChangesRecords self.old self.new }
+        ensures faults { RecordsCausedFaults self.old self.new }
+        ensures goes_back { GoesBack self.old self.new }
+        ensures fault { IsFaultFor self.old self.new result }
+    {
+        if let Some(known) = self.begin_form(environment, &alias)? {
+            return self.repeat_form(known);
+        }
+        self.holds_together();
+        let before = self.snapshot();
+        let form = self.form_number(environment, alias);
+        let Some(kept) = self.end_goal(outcome_of_form(&form), number_in(&form)) else {
+            return form;
+        };
+        self.rollback(before);
+        self.give_form_again(kept)
+    }
+
+    /// The same of an alias whose head form isn't known.
+    #[cycle(open)]
+    fn form_number(
+        &mut self,
+        environment: &[Clause],
+        alias: AliasTerm,
+    ) -> Result<Option<TermId>, Fault>
+        ensures within { IfOk result (λ o. IfSome o (IsIn self.new.terms)) }
+        ensures alone { ChangesRecords self.old self.new }
+        ensures faults { RecordsCausedFaults self.old self.new }
+        ensures goes_back { GoesBack self.old self.new }
+        ensures fault { IsFaultFor self.old self.new result }
+    {
+        let Some(form) = self.form_of_open(environment, alias)? else {
+            return Ok(None);
+        };
+        match self.interned_term(&form) {
+            Ok(id) => Ok(Some(id)),
+            Err(_) => Err(Fault::OutOfMemory),
+        }
     }
 
     /// What a goal comes to at the remaining depth, if its candidates aren't asked for it, and it isn't one of the term of
@@ -277,7 +328,8 @@ impl EvalCtxt<'_> {
 
     /// What a goal with inference variables comes to. One that is being answered already leads back to itself, and is
     /// undecided: asking it again at less depth says nothing that this depth doesn't. One that was answered is answered
-    /// so again.
+    /// so again. Whether it was or not, all that an answer which is kept leaves is what it keeps: so goals that ask the
+    /// same are left with the same.
     #[cycle(open)]
     fn evaluate_open(&mut self, goal: &OpenGoal) -> Result<Certainty, Fault>
         ensures alone { ChangesRecords self.old self.new }
@@ -286,11 +338,16 @@ impl EvalCtxt<'_> {
         ensures fault { IsFaultFor self.old self.new result }
     {
         if let Some(known) = self.begin_open(goal)? {
-            return answer_of(known);
+            return self.repeat(known);
         }
+        self.holds_together();
+        let before = self.snapshot();
         let answered = self.evaluate_once(goal);
-        self.end_open(&answered);
-        answered
+        let Some(kept) = self.end_goal(outcome_of(&answered), None) else {
+            return answered;
+        };
+        self.rollback(before);
+        self.give_again(kept)
     }
 
     /// What a goal with inference variables comes to: it is answered by its candidates, at one less of the depth, and
@@ -364,6 +421,14 @@ pub(crate) fn is_sure(answered: &Result<Certainty, Fault>) -> bool
     ensures { result ≡ is_sure answered.now }
 {
     matches!(answered, Ok(Certainty::Yes))
+}
+
+/// The number of a head form, if there is one.
+fn number_in(found: &Result<Option<TermId>, Fault>) -> Option<TermId> {
+    match found {
+        Ok(form) => *form,
+        Err(_) => None,
+    }
 }
 
 fn goal_at(goals: &[(GoalSource, Goal<Predicate>)], place: usize) -> &(GoalSource, Goal<Predicate>)

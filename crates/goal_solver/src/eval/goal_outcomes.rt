@@ -410,25 +410,9 @@ impl EvalCtxt<'_> {
         }
     }
 
-    /// Makes an expected term a head form.
-    pub(crate) fn expect_form(
-        &mut self,
-        environment: &[Clause],
-        expected: &Term,
-        form: &Term,
-    ) -> Result<Outcome, Stop>
-        ensures alone { ChangesRecords self.old self.new }
-        ensures faults { RecordsCausedFaults self.old self.new }
-        ensures goes_back { GoesBack self.old self.new }
-        ensures stops { StopsForMemory self.old result }
-    {
-        let found = self.interned_term(form)?;
-        self.expect_term(environment, expected, found)
-    }
-
     /// Makes an expected term the term that was found. An unbound general variable is bound to it as it stands,
     /// and anything else is made equal to it at the remaining depth.
-    fn expect_term(
+    pub(crate) fn expect_term(
         &mut self,
         environment: &[Clause],
         expected: &Term,
@@ -451,7 +435,7 @@ impl EvalCtxt<'_> {
     }
 
     /// The number of a term. Nothing changes but that there may be more terms.
-    fn interned_term(&mut self, term: &Term) -> Result<TermId, Stop>
+    pub(crate) fn interned_term(&mut self, term: &Term) -> Result<TermId, Stop>
         ensures kept { Keeps self.old.terms self.new.terms }
         ensures unchanged { self.new ≡ record self.old { terms = self.new.terms } }
         ensures within { IfOk result (IsIn self.new.terms) }
@@ -489,7 +473,7 @@ impl EvalCtxt<'_> {
     }
 
     /// Makes two terms the same, as far as their structure goes.
-    fn unify_found(&mut self, left: TermId, right: TermId) -> Result<Outcome, Stop>
+    pub(crate) fn unify_found(&mut self, left: TermId, right: TermId) -> Result<Outcome, Stop>
         requires first { left.0 < length self.old.terms }
         requires second { right.0 < length self.old.terms }
         ensures unchanged { self.new ≡ record self.old { inference = self.new.inference } }

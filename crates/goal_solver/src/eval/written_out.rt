@@ -7,7 +7,7 @@ use goal_terms::term_table::TermTable;
 
 /// The most parts that the arguments of a goal with inference variables may have, written out, for its candidates to
 /// be asked. A list that doubles a type would else double the work with each unit of the depth.
-const MOST_PARTS: u32 = 16_384;
+const MOST_PARTS: u32 = 4_096;
 
 /// Whether the arguments of a goal with inference variables have few enough parts to be written out. It takes no
 /// memory.

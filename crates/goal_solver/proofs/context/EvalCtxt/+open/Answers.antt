@@ -10,7 +10,7 @@ use Rattle.goal_kinds.specs.declared.faults.Fault.{Fault}
 use Rattle.goal_solver.specs.AddedGoals.{AllTakeAt, AreSplit, LeavesUndecided, IsRefusalAt, AreAnswerableAt, AreClosedAt, IsAnswerable, IsAnswerAt}
 use Rattle.goal_solver.specs.GoingBack.{BeginsWith, GoesBack, restored, begun}
 use Rattle.goal_solver.specs.Relating.{IsFaultFor, SaysYes, ChangesRecords}
-use Rattle.goal_solver.proofs.AddedGoalLemmas.{round-begins, records-through, fault-before, refused-fault, restored-owed, restored-alone, restored-fault, restored-itself, answer-before, fault-later}
+use Rattle.goal_solver.proofs.AddedGoalLemmas.{round-begins, records-through, fault-before, restored-owed, restored-alone, restored-fault, restored-itself, answer-before, fault-later}
 use Rattle.goal_solver.proofs.RoundLemmas.{next-answerable, next-listed, next-within, next-fault, next-says, next-split, next-takes, next-waiting, next-begins, ends-says, ends-split, ends-taking, ends-waiting, takes-none, takes-over, gone-over, over-done, over-fault, over-last, over-open, handed-on, left-none, left-some, same-lengths}
 use Rattle.goal_solver.proofs.RefusalLemmas.{refused-on, refuses-later, refuses-among, aside-refused, restored-refused, memory-only, pending-refused, stops-at, refused-map, stops-last, open-refused, open-goal-refused, evaluation-refused, term-refused}
 use Rattle.std.proofs.lemmas.Bool.{false≢true}
@@ -52,7 +52,7 @@ use Rattle.goal_kinds.specs.Collecting.{trait_kind, rules_of_class}
 use Rattle.goal_solver.specs.OpenGoals.{WhenTried, ConsidersRules, AreOfClass, WhenAnswered}
 use Rattle.goal_solver.proofs.ApplicableLemmas.{nothing-applies-after, nothing-applies}
 use Rattle.goal_solver.proofs.OpenClassLemmas.{answered-in, by-classes, class-answers, first-answers, next-answers, none-answers, none-left}
-use Rattle.goal_solver.proofs.OpenTraitLemmas.{grown-records, some-unless, restored-records, let-go, let-go-back, let-go-caused, let-go-fault}
+use Rattle.goal_solver.proofs.OpenTraitLemmas.{ended-fault, form-grown, grown-records, some-unless, restored-records, let-go, let-go-back, let-go-caused, let-go-fault}
 use Rattle.goal_solver.specs.OpenHostGoals.{host_kind, AnswersPlain, MergesHostEffect}
 use Rattle.goal_solver.proofs.OpenHostLemmas.{const-at_once, const-below, const-grouped, const-refused, const-through, const-unproven, group-answered, group-first, group-later, group-none, group-refuted, group-split}
 use Rattle.goal_solver.specs.OpenProjections.{ConsidersGroups, IsAliasRule, IsRigid, WithForms, alias_kind, own_args}
@@ -69,6 +69,7 @@ use Rattle.goal_lists.specs.Interned.{erased_at}
 use Rattle.goal_solver.specs.OpenForms.{OpensFrom}
 use Rattle.goal_solver.proofs.OpenFormLemmas.{answers-err, answers-ok, asks-term, grown-left, known, made-records, opens-answered, opens-let_go, opens-refused, opens-undone, refuses-term, same-records, undone-fault, with-fresh, restored-grown, restored-twice}
 use Rattle.goal_terms.specs.declared.terms.AliasTerm.{AliasTerm}
+use Rattle.goal_terms.specs.declared.term_nodes.TermId.{TermId}
 use Rattle.goal_solver.proofs.AskedGoalLemmas.{asked-merges, asked-passed, asked-refused, asked-shown}
 use Rattle.goal_solver.specs.AskedGoals.{AsksOpen, DecidesBy, MergesAsked, asked_environment, formed_as}
 use Rattle.goal_solver.proofs.OpenedSelfLemmas.{left-or_opened, left-or_opened-const, left-or_opened-through, after-fault, form-passed, form-refused, merge-answered, merge-refused, opened-applies, opened-unsaid}
@@ -1090,37 +1091,137 @@ pub evaluate_open-returns-in_err-known-clause-goes_back : goal.evaluate_open-ret
 evaluate_open-returns-in_err-known-clause-goes_back t c = goes_back-grown c.args.self.now c.begin_open.new.self c.begin_open.ensures.unchanged c.begin_open.ensures.kept
 
 pub evaluate_open-returns-in-Some-clause-alone : goal.evaluate_open-returns-in-Some-clause-alone
-evaluate_open-returns-in-Some-clause-alone t c = grown-records c.args.self.now c.begin_open.new.self c.begin_open.ensures.unchanged
+evaluate_open-returns-in-Some-clause-alone t c =
+    records-through c.args.self.now c.begin_open.new.self c.repeat.new.self (grown-records c.args.self.now c.begin_open.new.self c.begin_open.ensures.unchanged) c.repeat.ensures.alone
 
 pub evaluate_open-returns-in-Some-clause-faults : goal.evaluate_open-returns-in-Some-clause-faults
-evaluate_open-returns-in-Some-clause-faults t c = grown-faults c.args.self.now c.begin_open.new.self c.begin_open.ensures.unchanged
+evaluate_open-returns-in-Some-clause-faults t c =
+    c.repeat.ensures.faults ∙ grown-faults c.args.self.now c.begin_open.new.self c.begin_open.ensures.unchanged
 
 pub evaluate_open-returns-in-Some-clause-goes_back : goal.evaluate_open-returns-in-Some-clause-goes_back
-evaluate_open-returns-in-Some-clause-goes_back t c = goes_back-grown c.args.self.now c.begin_open.new.self c.begin_open.ensures.unchanged c.begin_open.ensures.kept
+evaluate_open-returns-in-Some-clause-goes_back t c =
+    goes_back-through c.args.self.now c.begin_open.new.self c.repeat.new.self (goes_back-grown c.args.self.now c.begin_open.new.self c.begin_open.ensures.unchanged c.begin_open.ensures.kept) c.repeat.ensures.goes_back
 
 pub evaluate_open-returns-in-Some-clause-fault : goal.evaluate_open-returns-in-Some-clause-fault
-evaluate_open-returns-in-Some-clause-fault t c = refused-fault c.args.self.now c.begin_open.new.self c.answer_of.result c.answer_of.ensures
+evaluate_open-returns-in-Some-clause-fault t c =
+    fault-later c.args.self.now c.begin_open.new.self c.repeat.new.self c.repeat.result (goes_back-grown c.args.self.now c.begin_open.new.self c.begin_open.ensures.unchanged c.begin_open.ensures.kept) c.repeat.ensures.fault
+
+pub evaluate_open-rollback-requires : goal.evaluate_open-rollback-requires
+evaluate_open-rollback-requires t c =
+    record { valid = (c.begin_open.new.self, c.snapshot-before.ensures, (goes_back-through c.begin_open.new.self c.evaluate_once-answered.new.self c.end_goal.new.self c.evaluate_once-answered.ensures.goes_back (goes_back-grown c.evaluate_once-answered.new.self c.end_goal.new.self c.end_goal.ensures.unchanged c.end_goal.ensures.kept)), c.holds_together.ensures) }
+
+pub evaluate_open-returns-in_default-end_goal-clause-alone : goal.evaluate_open-returns-in_default-end_goal-clause-alone
+evaluate_open-returns-in_default-end_goal-clause-alone t c =
+    records-through c.args.self.now c.begin_open.new.self c.end_goal.new.self (grown-records c.args.self.now c.begin_open.new.self c.begin_open.ensures.unchanged) (records-through c.begin_open.new.self c.evaluate_once-answered.new.self c.end_goal.new.self c.evaluate_once-answered.ensures.alone (grown-records c.evaluate_once-answered.new.self c.end_goal.new.self c.end_goal.ensures.unchanged))
+
+pub evaluate_open-returns-in_default-end_goal-clause-faults : goal.evaluate_open-returns-in_default-end_goal-clause-faults
+evaluate_open-returns-in_default-end_goal-clause-faults t c =
+    (grown-faults c.evaluate_once-answered.new.self c.end_goal.new.self c.end_goal.ensures.unchanged ∙ c.evaluate_once-answered.ensures.faults) ∙ grown-faults c.args.self.now c.begin_open.new.self c.begin_open.ensures.unchanged
+
+pub evaluate_open-returns-in_default-end_goal-clause-goes_back : goal.evaluate_open-returns-in_default-end_goal-clause-goes_back
+evaluate_open-returns-in_default-end_goal-clause-goes_back t c =
+    goes_back-through c.args.self.now c.begin_open.new.self c.end_goal.new.self (goes_back-grown c.args.self.now c.begin_open.new.self c.begin_open.ensures.unchanged c.begin_open.ensures.kept) (goes_back-through c.begin_open.new.self c.evaluate_once-answered.new.self c.end_goal.new.self c.evaluate_once-answered.ensures.goes_back (goes_back-grown c.evaluate_once-answered.new.self c.end_goal.new.self c.end_goal.ensures.unchanged c.end_goal.ensures.kept))
+
+pub evaluate_open-returns-in_default-end_goal-clause-fault : goal.evaluate_open-returns-in_default-end_goal-clause-fault
+evaluate_open-returns-in_default-end_goal-clause-fault t c =
+    fault-later c.args.self.now c.begin_open.new.self c.end_goal.new.self c.evaluate_once-answered.result (goes_back-grown c.args.self.now c.begin_open.new.self c.begin_open.ensures.unchanged c.begin_open.ensures.kept)
+    (ended-fault Certainty c.begin_open.new.self c.evaluate_once-answered.new.self c.end_goal.new.self c.evaluate_once-answered.result c.end_goal.ensures.unchanged c.evaluate_once-answered.ensures.fault)
 
 pub evaluate_open-returns-clause-alone : goal.evaluate_open-returns-clause-alone
 evaluate_open-returns-clause-alone t c =
-    records-through c.args.self.now c.begin_open.new.self c.end_open.new.self (grown-records c.args.self.now c.begin_open.new.self c.begin_open.ensures.unchanged)
-    (subst (λ (s : State). ChangesRecords c.begin_open.new.self s) (sym c.end_open.ensures) c.evaluate_once-answered.ensures.alone)
+    records-through c.args.self.now c.rollback.new.self c.give_again.new.self
+    (records-through c.args.self.now c.begin_open.new.self c.rollback.new.self (grown-records c.args.self.now c.begin_open.new.self c.begin_open.ensures.unchanged) (restored-records c.begin_open.new.self c.rollback.new.self (restored-itself c.begin_open.new.self c.end_goal.new.self c.rollback.new.self (c.rollback.ensures.undone c.begin_open.new.self c.snapshot-before.ensures (goes_back-through c.begin_open.new.self c.evaluate_once-answered.new.self c.end_goal.new.self c.evaluate_once-answered.ensures.goes_back (goes_back-grown c.evaluate_once-answered.new.self c.end_goal.new.self c.end_goal.ensures.unchanged c.end_goal.ensures.kept))))))
+    c.give_again.ensures.alone
 
 pub evaluate_open-returns-clause-faults : goal.evaluate_open-returns-clause-faults
 evaluate_open-returns-clause-faults t c =
-    subst (λ (s : State). RecordsCausedFaults c.args.self.now s) (sym c.end_open.ensures)
-    (c.evaluate_once-answered.ensures.faults ∙ grown-faults c.args.self.now c.begin_open.new.self c.begin_open.ensures.unchanged)
+    c.give_again.ensures.faults ∙
+    undone-faults c.begin_open.new.self c.end_goal.new.self c.rollback.new.self (goes_back-through c.begin_open.new.self c.evaluate_once-answered.new.self c.end_goal.new.self c.evaluate_once-answered.ensures.goes_back (goes_back-grown c.evaluate_once-answered.new.self c.end_goal.new.self c.end_goal.ensures.unchanged c.end_goal.ensures.kept)) (grown-faults c.evaluate_once-answered.new.self c.end_goal.new.self c.end_goal.ensures.unchanged ∙ c.evaluate_once-answered.ensures.faults) (c.rollback.ensures.undone c.begin_open.new.self c.snapshot-before.ensures (goes_back-through c.begin_open.new.self c.evaluate_once-answered.new.self c.end_goal.new.self c.evaluate_once-answered.ensures.goes_back (goes_back-grown c.evaluate_once-answered.new.self c.end_goal.new.self c.end_goal.ensures.unchanged c.end_goal.ensures.kept))) ∙ grown-faults c.args.self.now c.begin_open.new.self c.begin_open.ensures.unchanged
 
 pub evaluate_open-returns-clause-goes_back : goal.evaluate_open-returns-clause-goes_back
 evaluate_open-returns-clause-goes_back t c =
-    goes_back-through c.args.self.now c.begin_open.new.self c.end_open.new.self (goes_back-grown c.args.self.now c.begin_open.new.self c.begin_open.ensures.unchanged c.begin_open.ensures.kept)
-    (subst (λ (s : State). GoesBack c.begin_open.new.self s) (sym c.end_open.ensures) c.evaluate_once-answered.ensures.goes_back)
+    goes_back-through c.args.self.now c.rollback.new.self c.give_again.new.self
+    (goes_back-through c.args.self.now c.begin_open.new.self c.rollback.new.self (goes_back-grown c.args.self.now c.begin_open.new.self c.begin_open.ensures.unchanged c.begin_open.ensures.kept) (subst (GoesBack c.begin_open.new.self) (sym (c.rollback.ensures.undone c.begin_open.new.self c.snapshot-before.ensures (goes_back-through c.begin_open.new.self c.evaluate_once-answered.new.self c.end_goal.new.self c.evaluate_once-answered.ensures.goes_back (goes_back-grown c.evaluate_once-answered.new.self c.end_goal.new.self c.end_goal.ensures.unchanged c.end_goal.ensures.kept)))) (goes_back-restored c.begin_open.new.self c.end_goal.new.self (goes_back-through c.begin_open.new.self c.evaluate_once-answered.new.self c.end_goal.new.self c.evaluate_once-answered.ensures.goes_back (goes_back-grown c.evaluate_once-answered.new.self c.end_goal.new.self c.end_goal.ensures.unchanged c.end_goal.ensures.kept)))))
+    c.give_again.ensures.goes_back
 
 pub evaluate_open-returns-clause-fault : goal.evaluate_open-returns-clause-fault
 evaluate_open-returns-clause-fault t c =
-    fault-later c.args.self.now c.begin_open.new.self c.end_open.new.self c.evaluate_once-answered.result
-    (goes_back-grown c.args.self.now c.begin_open.new.self c.begin_open.ensures.unchanged c.begin_open.ensures.kept)
-    (subst (λ (s : State). IsFaultFor c.begin_open.new.self s c.evaluate_once-answered.result) (sym c.end_open.ensures) c.evaluate_once-answered.ensures.fault)
+    fault-later c.args.self.now c.rollback.new.self c.give_again.new.self c.give_again.result
+    (goes_back-through c.args.self.now c.begin_open.new.self c.rollback.new.self (goes_back-grown c.args.self.now c.begin_open.new.self c.begin_open.ensures.unchanged c.begin_open.ensures.kept) (subst (GoesBack c.begin_open.new.self) (sym (c.rollback.ensures.undone c.begin_open.new.self c.snapshot-before.ensures (goes_back-through c.begin_open.new.self c.evaluate_once-answered.new.self c.end_goal.new.self c.evaluate_once-answered.ensures.goes_back (goes_back-grown c.evaluate_once-answered.new.self c.end_goal.new.self c.end_goal.ensures.unchanged c.end_goal.ensures.kept)))) (goes_back-restored c.begin_open.new.self c.end_goal.new.self (goes_back-through c.begin_open.new.self c.evaluate_once-answered.new.self c.end_goal.new.self c.evaluate_once-answered.ensures.goes_back (goes_back-grown c.evaluate_once-answered.new.self c.end_goal.new.self c.end_goal.ensures.unchanged c.end_goal.ensures.kept)))))
+    c.give_again.ensures.fault
+
+pub form_once-returns-in_err-known-clause-alone : goal.form_once-returns-in_err-known-clause-alone
+form_once-returns-in_err-known-clause-alone t c = grown-records c.args.self.now c.begin_form.new.self c.begin_form.ensures.unchanged
+
+pub form_once-returns-in_err-known-clause-faults : goal.form_once-returns-in_err-known-clause-faults
+form_once-returns-in_err-known-clause-faults t c = grown-faults c.args.self.now c.begin_form.new.self c.begin_form.ensures.unchanged
+
+pub form_once-returns-in_err-known-clause-goes_back : goal.form_once-returns-in_err-known-clause-goes_back
+form_once-returns-in_err-known-clause-goes_back t c = goes_back-grown c.args.self.now c.begin_form.new.self c.begin_form.ensures.unchanged c.begin_form.ensures.kept
+
+pub form_once-returns-in-Some-clause-alone : goal.form_once-returns-in-Some-clause-alone
+form_once-returns-in-Some-clause-alone t c =
+    records-through c.args.self.now c.begin_form.new.self c.repeat_form.new.self (grown-records c.args.self.now c.begin_form.new.self c.begin_form.ensures.unchanged) c.repeat_form.ensures.alone
+
+pub form_once-returns-in-Some-clause-faults : goal.form_once-returns-in-Some-clause-faults
+form_once-returns-in-Some-clause-faults t c =
+    c.repeat_form.ensures.faults ∙ grown-faults c.args.self.now c.begin_form.new.self c.begin_form.ensures.unchanged
+
+pub form_once-returns-in-Some-clause-goes_back : goal.form_once-returns-in-Some-clause-goes_back
+form_once-returns-in-Some-clause-goes_back t c =
+    goes_back-through c.args.self.now c.begin_form.new.self c.repeat_form.new.self (goes_back-grown c.args.self.now c.begin_form.new.self c.begin_form.ensures.unchanged c.begin_form.ensures.kept) c.repeat_form.ensures.goes_back
+
+pub form_once-returns-in-Some-clause-fault : goal.form_once-returns-in-Some-clause-fault
+form_once-returns-in-Some-clause-fault t c =
+    fault-later c.args.self.now c.begin_form.new.self c.repeat_form.new.self c.repeat_form.result (goes_back-grown c.args.self.now c.begin_form.new.self c.begin_form.ensures.unchanged c.begin_form.ensures.kept) c.repeat_form.ensures.fault
+
+pub form_once-rollback-requires : goal.form_once-rollback-requires
+form_once-rollback-requires t c =
+    record { valid = (c.begin_form.new.self, c.snapshot-before.ensures, (goes_back-through c.begin_form.new.self c.form_number-form.new.self c.end_goal.new.self c.form_number-form.ensures.goes_back (goes_back-grown c.form_number-form.new.self c.end_goal.new.self c.end_goal.ensures.unchanged c.end_goal.ensures.kept)), c.holds_together.ensures) }
+
+pub form_once-returns-in_default-end_goal-clause-within : goal.form_once-returns-in_default-end_goal-clause-within
+form_once-returns-in_default-end_goal-clause-within t c =
+    form-grown c.form_number-form.new.self.terms c.end_goal.new.self.terms c.form_number-form.result c.end_goal.ensures.kept c.form_number-form.ensures.within
+
+pub form_once-returns-in_default-end_goal-clause-alone : goal.form_once-returns-in_default-end_goal-clause-alone
+form_once-returns-in_default-end_goal-clause-alone t c =
+    records-through c.args.self.now c.begin_form.new.self c.end_goal.new.self (grown-records c.args.self.now c.begin_form.new.self c.begin_form.ensures.unchanged) (records-through c.begin_form.new.self c.form_number-form.new.self c.end_goal.new.self c.form_number-form.ensures.alone (grown-records c.form_number-form.new.self c.end_goal.new.self c.end_goal.ensures.unchanged))
+
+pub form_once-returns-in_default-end_goal-clause-faults : goal.form_once-returns-in_default-end_goal-clause-faults
+form_once-returns-in_default-end_goal-clause-faults t c =
+    (grown-faults c.form_number-form.new.self c.end_goal.new.self c.end_goal.ensures.unchanged ∙ c.form_number-form.ensures.faults) ∙ grown-faults c.args.self.now c.begin_form.new.self c.begin_form.ensures.unchanged
+
+pub form_once-returns-in_default-end_goal-clause-goes_back : goal.form_once-returns-in_default-end_goal-clause-goes_back
+form_once-returns-in_default-end_goal-clause-goes_back t c =
+    goes_back-through c.args.self.now c.begin_form.new.self c.end_goal.new.self (goes_back-grown c.args.self.now c.begin_form.new.self c.begin_form.ensures.unchanged c.begin_form.ensures.kept) (goes_back-through c.begin_form.new.self c.form_number-form.new.self c.end_goal.new.self c.form_number-form.ensures.goes_back (goes_back-grown c.form_number-form.new.self c.end_goal.new.self c.end_goal.ensures.unchanged c.end_goal.ensures.kept))
+
+pub form_once-returns-in_default-end_goal-clause-fault : goal.form_once-returns-in_default-end_goal-clause-fault
+form_once-returns-in_default-end_goal-clause-fault t c =
+    fault-later c.args.self.now c.begin_form.new.self c.end_goal.new.self c.form_number-form.result (goes_back-grown c.args.self.now c.begin_form.new.self c.begin_form.ensures.unchanged c.begin_form.ensures.kept)
+    (ended-fault (Option TermId) c.begin_form.new.self c.form_number-form.new.self c.end_goal.new.self c.form_number-form.result c.end_goal.ensures.unchanged c.form_number-form.ensures.fault)
+
+pub form_once-returns-clause-alone : goal.form_once-returns-clause-alone
+form_once-returns-clause-alone t c =
+    records-through c.args.self.now c.rollback.new.self c.give_form_again.new.self
+    (records-through c.args.self.now c.begin_form.new.self c.rollback.new.self (grown-records c.args.self.now c.begin_form.new.self c.begin_form.ensures.unchanged) (restored-records c.begin_form.new.self c.rollback.new.self (restored-itself c.begin_form.new.self c.end_goal.new.self c.rollback.new.self (c.rollback.ensures.undone c.begin_form.new.self c.snapshot-before.ensures (goes_back-through c.begin_form.new.self c.form_number-form.new.self c.end_goal.new.self c.form_number-form.ensures.goes_back (goes_back-grown c.form_number-form.new.self c.end_goal.new.self c.end_goal.ensures.unchanged c.end_goal.ensures.kept))))))
+    c.give_form_again.ensures.alone
+
+pub form_once-returns-clause-faults : goal.form_once-returns-clause-faults
+form_once-returns-clause-faults t c =
+    c.give_form_again.ensures.faults ∙
+    undone-faults c.begin_form.new.self c.end_goal.new.self c.rollback.new.self (goes_back-through c.begin_form.new.self c.form_number-form.new.self c.end_goal.new.self c.form_number-form.ensures.goes_back (goes_back-grown c.form_number-form.new.self c.end_goal.new.self c.end_goal.ensures.unchanged c.end_goal.ensures.kept)) (grown-faults c.form_number-form.new.self c.end_goal.new.self c.end_goal.ensures.unchanged ∙ c.form_number-form.ensures.faults) (c.rollback.ensures.undone c.begin_form.new.self c.snapshot-before.ensures (goes_back-through c.begin_form.new.self c.form_number-form.new.self c.end_goal.new.self c.form_number-form.ensures.goes_back (goes_back-grown c.form_number-form.new.self c.end_goal.new.self c.end_goal.ensures.unchanged c.end_goal.ensures.kept))) ∙ grown-faults c.args.self.now c.begin_form.new.self c.begin_form.ensures.unchanged
+
+pub form_once-returns-clause-goes_back : goal.form_once-returns-clause-goes_back
+form_once-returns-clause-goes_back t c =
+    goes_back-through c.args.self.now c.rollback.new.self c.give_form_again.new.self
+    (goes_back-through c.args.self.now c.begin_form.new.self c.rollback.new.self (goes_back-grown c.args.self.now c.begin_form.new.self c.begin_form.ensures.unchanged c.begin_form.ensures.kept) (subst (GoesBack c.begin_form.new.self) (sym (c.rollback.ensures.undone c.begin_form.new.self c.snapshot-before.ensures (goes_back-through c.begin_form.new.self c.form_number-form.new.self c.end_goal.new.self c.form_number-form.ensures.goes_back (goes_back-grown c.form_number-form.new.self c.end_goal.new.self c.end_goal.ensures.unchanged c.end_goal.ensures.kept)))) (goes_back-restored c.begin_form.new.self c.end_goal.new.self (goes_back-through c.begin_form.new.self c.form_number-form.new.self c.end_goal.new.self c.form_number-form.ensures.goes_back (goes_back-grown c.form_number-form.new.self c.end_goal.new.self c.end_goal.ensures.unchanged c.end_goal.ensures.kept)))))
+    c.give_form_again.ensures.goes_back
+
+pub form_once-returns-clause-fault : goal.form_once-returns-clause-fault
+form_once-returns-clause-fault t c =
+    fault-later c.args.self.now c.rollback.new.self c.give_form_again.new.self c.give_form_again.result
+    (goes_back-through c.args.self.now c.begin_form.new.self c.rollback.new.self (goes_back-grown c.args.self.now c.begin_form.new.self c.begin_form.ensures.unchanged c.begin_form.ensures.kept) (subst (GoesBack c.begin_form.new.self) (sym (c.rollback.ensures.undone c.begin_form.new.self c.snapshot-before.ensures (goes_back-through c.begin_form.new.self c.form_number-form.new.self c.end_goal.new.self c.form_number-form.ensures.goes_back (goes_back-grown c.form_number-form.new.self c.end_goal.new.self c.end_goal.ensures.unchanged c.end_goal.ensures.kept)))) (goes_back-restored c.begin_form.new.self c.end_goal.new.self (goes_back-through c.begin_form.new.self c.form_number-form.new.self c.end_goal.new.self c.form_number-form.ensures.goes_back (goes_back-grown c.form_number-form.new.self c.end_goal.new.self c.end_goal.ensures.unchanged c.end_goal.ensures.kept)))))
+    c.give_form_again.ensures.fault
 
 pub evaluate_once-returns-then-self-eq0-clause-goes_back : goal.evaluate_once-returns-then-self-eq0-clause-goes_back
 evaluate_once-returns-then-self-eq0-clause-goes_back t c =
@@ -1673,19 +1774,19 @@ expected_form-returns-in_default-clause-goes_back t c =
 
 pub expected_form-returns-clause-alone : goal.expected_form-returns-clause-alone
 expected_form-returns-clause-alone t c =
-    records-through c.args.self.now c.expect_form-outcome.new.self c.verdict.new.self (records-through c.args.self.now c.form_of_open.new.self c.expect_form-outcome.new.self c.form_of_open.ensures.alone c.expect_form-outcome.ensures.alone) (restored-records c.expect_form-outcome.new.self c.verdict.new.self c.verdict.ensures.unchanged)
+    records-through c.args.self.now c.expect_term-outcome.new.self c.verdict.new.self (records-through c.args.self.now c.form_once.new.self c.expect_term-outcome.new.self c.form_once.ensures.alone c.expect_term-outcome.ensures.alone) (restored-records c.expect_term-outcome.new.self c.verdict.new.self c.verdict.ensures.unchanged)
 
 pub expected_form-returns-clause-faults : goal.expected_form-returns-clause-faults
 expected_form-returns-clause-faults t c =
-    ap (λ (s : State). uncaused s.tables s.delayed_faults) c.verdict.ensures.alone ∙ c.expect_form-outcome.ensures.faults ∙ c.form_of_open.ensures.faults
+    ap (λ (s : State). uncaused s.tables s.delayed_faults) c.verdict.ensures.alone ∙ c.expect_term-outcome.ensures.faults ∙ c.form_once.ensures.faults
 
 pub expected_form-returns-clause-goes_back : goal.expected_form-returns-clause-goes_back
 expected_form-returns-clause-goes_back t c =
-    goes_back-through c.args.self.now c.expect_form-outcome.new.self c.verdict.new.self (goes_back-through c.args.self.now c.form_of_open.new.self c.expect_form-outcome.new.self c.form_of_open.ensures.goes_back c.expect_form-outcome.ensures.goes_back) c.verdict.ensures.goes_back
+    goes_back-through c.args.self.now c.expect_term-outcome.new.self c.verdict.new.self (goes_back-through c.args.self.now c.form_once.new.self c.expect_term-outcome.new.self c.form_once.ensures.goes_back c.expect_term-outcome.ensures.goes_back) c.verdict.ensures.goes_back
 
 pub expected_form-returns-clause-fault : goal.expected_form-returns-clause-fault
 expected_form-returns-clause-fault t c =
-    fault-later c.args.self.now c.expect_form-outcome.new.self c.verdict.new.self c.verdict.result (goes_back-through c.args.self.now c.form_of_open.new.self c.expect_form-outcome.new.self c.form_of_open.ensures.goes_back c.expect_form-outcome.ensures.goes_back) c.verdict.ensures.fault
+    fault-later c.args.self.now c.expect_term-outcome.new.self c.verdict.new.self c.verdict.result (goes_back-through c.args.self.now c.form_once.new.self c.expect_term-outcome.new.self c.form_once.ensures.goes_back c.expect_term-outcome.ensures.goes_back) c.verdict.ensures.fault
 
 pub ask_goal-rollback-requires : goal.ask_goal-rollback-requires
 ask_goal-rollback-requires t c =

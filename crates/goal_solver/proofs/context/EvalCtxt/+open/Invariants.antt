@@ -41,122 +41,128 @@ decreases-evaluate_open l = 40 * l.self.now.remaining_depth + 4
 abbrev pub decreases-form_of_open : goal.decreases-form_of_open
 decreases-form_of_open l = 40 * l.self.now.remaining_depth + 2
 
+abbrev pub decreases-form_number : goal.decreases-form_number
+decreases-form_number l = 40 * l.self.now.remaining_depth + 3
+
+abbrev pub decreases-form_once : goal.decreases-form_once
+decreases-form_once l = 40 * l.self.now.remaining_depth + 4
+
 abbrev pub decreases-expected_form : goal.decreases-expected_form
-decreases-expected_form l = 40 * l.self.now.remaining_depth + 3
+decreases-expected_form l = 40 * l.self.now.remaining_depth + 5
 
 abbrev pub decreases-evaluate_open_alias : goal.decreases-evaluate_open_alias
-decreases-evaluate_open_alias l = 40 * l.self.now.remaining_depth + 4
+decreases-evaluate_open_alias l = 40 * l.self.now.remaining_depth + 6
 
 abbrev pub decreases-evaluate_alias_or_other : goal.decreases-evaluate_alias_or_other
-decreases-evaluate_alias_or_other l = 40 * l.self.now.remaining_depth + 5
+decreases-evaluate_alias_or_other l = 40 * l.self.now.remaining_depth + 7
 
 abbrev pub decreases-evaluate_goal : goal.decreases-evaluate_goal
-decreases-evaluate_goal l = 40 * l.self.now.remaining_depth + 6
+decreases-evaluate_goal l = 40 * l.self.now.remaining_depth + 8
 
 abbrev pub decreases-evaluate_round : goal.decreases-evaluate_round
-decreases-evaluate_round l = 40 * l.self.now.remaining_depth + 7
+decreases-evaluate_round l = 40 * l.self.now.remaining_depth + 9
 
 abbrev pub decreases-evaluate_rounds : goal.decreases-evaluate_rounds
-decreases-evaluate_rounds l = 40 * l.self.now.remaining_depth + 8
+decreases-evaluate_rounds l = 40 * l.self.now.remaining_depth + 10
 
 abbrev pub decreases-evaluate_added_goals : goal.decreases-evaluate_added_goals
-decreases-evaluate_added_goals l = 40 * l.self.now.remaining_depth + 9
+decreases-evaluate_added_goals l = 40 * l.self.now.remaining_depth + 11
 
 abbrev pub decreases-try_evaluate_added_goals : goal.decreases-try_evaluate_added_goals
-decreases-try_evaluate_added_goals l = 40 * l.self.now.remaining_depth + 10
+decreases-try_evaluate_added_goals l = 40 * l.self.now.remaining_depth + 12
 
 abbrev pub decreases-evaluate_added_goals_and_make_canonical_response : goal.decreases-evaluate_added_goals_and_make_canonical_response
-decreases-evaluate_added_goals_and_make_canonical_response l = 40 * l.self.now.remaining_depth + 11
+decreases-evaluate_added_goals_and_make_canonical_response l = 40 * l.self.now.remaining_depth + 13
 
 abbrev pub decreases-evaluate_pending : goal.decreases-evaluate_pending
-decreases-evaluate_pending l = 40 * l.self.now.remaining_depth + 12
+decreases-evaluate_pending l = 40 * l.self.now.remaining_depth + 14
 
 abbrev pub decreases-step_or_evaluate : goal.decreases-step_or_evaluate
-decreases-step_or_evaluate l = 40 * l.self.now.remaining_depth + 13
+decreases-step_or_evaluate l = 40 * l.self.now.remaining_depth + 15
 
 abbrev pub decreases-ask_goal : goal.decreases-ask_goal
-decreases-ask_goal l = 40 * l.self.now.remaining_depth + 7
+decreases-ask_goal l = 40 * l.self.now.remaining_depth + 9
 
 abbrev pub decreases-ask_alone : goal.decreases-ask_alone
-decreases-ask_alone l = 40 * l.self.now.remaining_depth + 8
+decreases-ask_alone l = 40 * l.self.now.remaining_depth + 10
 
 abbrev pub decreases-give_chosen : goal.decreases-give_chosen
-decreases-give_chosen l = 40 * l.self.now.remaining_depth + 9
+decreases-give_chosen l = 40 * l.self.now.remaining_depth + 11
 
 abbrev pub decreases-give_term : goal.decreases-give_term
-decreases-give_term l = 40 * l.self.now.remaining_depth + 10
+decreases-give_term l = 40 * l.self.now.remaining_depth + 12
 
 abbrev pub decreases-run_through : goal.decreases-run_through
-decreases-run_through l = 40 * l.self.now.remaining_depth + 14
+decreases-run_through l = 40 * l.self.now.remaining_depth + 16
 
 abbrev pub decreases-answer_open : goal.decreases-answer_open
-decreases-answer_open l = 40 * l.self.now.remaining_depth + 15
+decreases-answer_open l = 40 * l.self.now.remaining_depth + 17
 
 abbrev pub decreases-run_open : goal.decreases-run_open
-decreases-run_open l = 40 * l.self.now.remaining_depth + 16
+decreases-run_open l = 40 * l.self.now.remaining_depth + 18
 
 abbrev pub decreases-run_alone : goal.decreases-run_alone
-decreases-run_alone l = 40 * l.self.now.remaining_depth + 17
+decreases-run_alone l = 40 * l.self.now.remaining_depth + 19
 
 abbrev pub decreases-impl_outcome : goal.decreases-impl_outcome
-decreases-impl_outcome l = 40 * l.self.now.remaining_depth + 18
+decreases-impl_outcome l = 40 * l.self.now.remaining_depth + 20
 
 abbrev pub decreases-more_special_outcome : goal.decreases-more_special_outcome
-decreases-more_special_outcome l = 40 * l.self.now.remaining_depth + 19
+decreases-more_special_outcome l = 40 * l.self.now.remaining_depth + 21
 
 abbrev pub decreases-run_beside : goal.decreases-run_beside
-decreases-run_beside l = 40 * l.self.now.remaining_depth + 20
+decreases-run_beside l = 40 * l.self.now.remaining_depth + 22
 
 abbrev pub decreases-rigid : goal.decreases-rigid
-decreases-rigid l = 40 * l.self.now.remaining_depth + 17
+decreases-rigid l = 40 * l.self.now.remaining_depth + 19
 
 abbrev pub decreases-run_alias_rule : goal.decreases-run_alias_rule
-decreases-run_alias_rule l = 40 * l.self.now.remaining_depth + 17
+decreases-run_alias_rule l = 40 * l.self.now.remaining_depth + 19
 
 abbrev pub decreases-merge_next : goal.decreases-merge_next
-decreases-merge_next l = 40 * l.self.now.remaining_depth + 21
+decreases-merge_next l = 40 * l.self.now.remaining_depth + 23
 
 abbrev pub decreases-merge_rules : goal.decreases-merge_rules
-decreases-merge_rules l = 40 * l.self.now.remaining_depth + 22
+decreases-merge_rules l = 40 * l.self.now.remaining_depth + 24
 
 abbrev pub decreases-class_answer : goal.decreases-class_answer
-decreases-class_answer l = 40 * l.self.now.remaining_depth + 23
+decreases-class_answer l = 40 * l.self.now.remaining_depth + 25
 
 abbrev pub decreases-group_answer : goal.decreases-group_answer
-decreases-group_answer l = 40 * l.self.now.remaining_depth + 23
+decreases-group_answer l = 40 * l.self.now.remaining_depth + 25
 
 abbrev pub decreases-merge_classes : goal.decreases-merge_classes
-decreases-merge_classes l = 40 * l.self.now.remaining_depth + 24
+decreases-merge_classes l = 40 * l.self.now.remaining_depth + 26
 
 abbrev pub decreases-merge_const_groups : goal.decreases-merge_const_groups
-decreases-merge_const_groups l = 40 * l.self.now.remaining_depth + 24
+decreases-merge_const_groups l = 40 * l.self.now.remaining_depth + 26
 
 abbrev pub decreases-merge_trait : goal.decreases-merge_trait
-decreases-merge_trait l = 40 * l.self.now.remaining_depth + 30
+decreases-merge_trait l = 40 * l.self.now.remaining_depth + 32
 
 abbrev pub decreases-merge_const_through : goal.decreases-merge_const_through
-decreases-merge_const_through l = 40 * l.self.now.remaining_depth + 30
+decreases-merge_const_through l = 40 * l.self.now.remaining_depth + 32
 
 abbrev pub decreases-hold_const : goal.decreases-hold_const
-decreases-hold_const l = 40 * l.self.now.remaining_depth + 31
+decreases-hold_const l = 40 * l.self.now.remaining_depth + 33
 
 abbrev pub decreases-merge_bounds : goal.decreases-merge_bounds
-decreases-merge_bounds l = 40 * l.self.now.remaining_depth + 23
+decreases-merge_bounds l = 40 * l.self.now.remaining_depth + 25
 
 abbrev pub decreases-merge_rest : goal.decreases-merge_rest
-decreases-merge_rest l = 40 * l.self.now.remaining_depth + 23
+decreases-merge_rest l = 40 * l.self.now.remaining_depth + 25
 
 abbrev pub decreases-merge_later : goal.decreases-merge_later
-decreases-merge_later l = 40 * l.self.now.remaining_depth + 24
+decreases-merge_later l = 40 * l.self.now.remaining_depth + 26
 
 abbrev pub decreases-merge_groups : goal.decreases-merge_groups
-decreases-merge_groups l = 40 * l.self.now.remaining_depth + 25
+decreases-merge_groups l = 40 * l.self.now.remaining_depth + 27
 
 abbrev pub decreases-merge_alias : goal.decreases-merge_alias
-decreases-merge_alias l = 40 * l.self.now.remaining_depth + 30
+decreases-merge_alias l = 40 * l.self.now.remaining_depth + 32
 
 abbrev pub decreases-project : goal.decreases-project
-decreases-project l = 40 * l.self.now.remaining_depth + 31
+decreases-project l = 40 * l.self.now.remaining_depth + 33
 
 abbrev pub invariant-evaluate_round-loop-i : goal.invariant-evaluate_round-loop-i
 invariant-evaluate_round-loop-i l = record {
@@ -208,13 +214,13 @@ invariant-more_special_outcome-loop-i l = record {
 }
 
 abbrev pub decreases-merge_formed : goal.decreases-merge_formed
-decreases-merge_formed l = 40 * l.self.now.remaining_depth + 26
+decreases-merge_formed l = 40 * l.self.now.remaining_depth + 28
 
 abbrev pub decreases-answer_opened : goal.decreases-answer_opened
-decreases-answer_opened l = 40 * l.self.now.remaining_depth + 27
+decreases-answer_opened l = 40 * l.self.now.remaining_depth + 29
 
 abbrev pub decreases-merge_opened : goal.decreases-merge_opened
-decreases-merge_opened l = 40 * l.self.now.remaining_depth + 28
+decreases-merge_opened l = 40 * l.self.now.remaining_depth + 30
 
 abbrev pub decreases-merge_open : goal.decreases-merge_open
-decreases-merge_open l = 40 * l.self.now.remaining_depth + 29
+decreases-merge_open l = 40 * l.self.now.remaining_depth + 31
