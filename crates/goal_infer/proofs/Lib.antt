@@ -16,6 +16,8 @@ pub mod IdentityLemmas
 pub mod PlainLemmas
 pub mod ClashLemmas
 pub mod BindingLemmas
+pub mod SortLemmas
 pub mod FollowLemmas
 pub mod RegionStateLemmas
 pub mod RegionEquationLemmas
+pub mod RenumberingLemmas

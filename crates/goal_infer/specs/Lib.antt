@@ -8,3 +8,4 @@ pub mod ListUnification
 pub mod Binding
 pub mod Following
 pub mod RegionEquations
+pub mod Renumbering

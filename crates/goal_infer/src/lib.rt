@@ -7,6 +7,7 @@ pub mod followed;
 pub mod laws;
 pub mod occurs;
 pub mod region_equations;
+pub mod renumbering;
 pub mod resolve;
 pub mod same_resolved;
 pub mod state;

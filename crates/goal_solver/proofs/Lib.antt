@@ -13,6 +13,7 @@ pub mod RecordedLemmas
 pub mod FoundAnswers
 pub mod FormAnswerLemmas
 pub mod BindingLemmas
+pub mod BoundAliasLemmas
 pub mod AliasShapeLemmas
 pub mod CloneLemmas
 pub mod ResponseLemmas

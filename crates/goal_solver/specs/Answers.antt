@@ -47,7 +47,7 @@ IsOwed s m =
 abbrev pub IsOwedBeyond : State → TypingMode → Type 0
 IsOwedBeyond s m = (is_coherence m ≡ false) × IsOwed s m
 
--- what trees no higher than the depth that is left prove over an environment in a mode, by the definitions of `goal_kinds`
+-- what trees no higher than the depth that is left prove over an environment in a mode, by the definitions of `goal_lists`
 abbrev pub level_over : State → TypingMode → List Clause → Level
 level_over s m clauses = level (setting_of s.tables m clauses) s.remaining_depth
 

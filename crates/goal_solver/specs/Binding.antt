@@ -1,5 +1,5 @@
 -- What binding a variable to a term does to a context, and when a response can be applied.
-use Rattle.std.specs.Prelude.{◌≡◌, ◌↔◌, ℕ, IsTrue, List, [], ◌∷◌, ◌++◌, length, map, None}
+use Rattle.std.specs.Prelude.{◌≡◌, ◌↔◌, ℕ, true, false, IsTrue, List, [], ◌∷◌, ◌++◌, length, map, None}
 use Rattle.std.specs.List.{AllZip}
 use Rattle.goal_terms.specs.Erased.{erased}
 use Rattle.goal_terms.specs.Tree.{Tree, variable, node_of}
@@ -22,6 +22,7 @@ use Rattle.goal_infer.specs.Replacement.{number_of, replaced, takes}
 use Rattle.goal_infer.specs.Resolution.{resolution, binding_of, IsSolved}
 use Rattle.goal_infer.specs.Unification.{is_made_in}
 use Rattle.goal_infer.specs.declared.occurs.Occurrence.TheVariants.{Nowhere}
+use Rattle.goal_eval.specs.Pending.{is_alias}
 use Rattle.goal_solver.specs.Added.{with_goals}
 use Rattle.goal_solver.specs.Relating.{AgreesWith, ChangesInference}
 use Rattle.goal_solver.specs.State.{State, kinds_of}
@@ -31,6 +32,14 @@ use Rattle.goal_solver.specs.Variables.{with_variables}
 -- a term with the bindings of a context followed, lifetimes aside
 abbrev pub bound_term : State → Tree → Tree
 bound_term s t = replaced (resolution s.terms s.inference) (erased t)
+
+-- a tree is the alias that a term stands for: the two are the same with bindings followed, lifetimes aside
+abbrev pub StandsForAlias : State → Tree → Tree → Type 0
+StandsForAlias s t a = (is_alias (node_of a) ≡ true) × (bound_term s a ≡ bound_term s t)
+
+-- a term stands for no alias
+abbrev pub StandsForNoAlias : State → Tree → Type 0
+StandsForNoAlias s t = is_alias (node_of (bound_term s t)) ≡ false
 
 -- a variable is unbound, may stand for a term, and does not stand in it, bindings followed
 pub record IsFreeFor (s : State) (t : Tree) (v : Variable) : Type 0 where

@@ -4,7 +4,7 @@ use Rattle.std.specs.Global.{Global}
 use Rattle.std.specs.List.{AllZip}
 use Rattle.goal_terms.specs.Folding.{instance, instantiating}
 use Rattle.goal_terms.specs.PredicateTrees.{PredicateTree, holds_const, tree_of_kind, tree_of_whole_clause, folded_predicate}
-use Rattle.goal_terms.specs.Tree.{Tree, node_of}
+use Rattle.goal_terms.specs.Tree.{Tree}
 use Rattle.goal_terms.specs.TreeOf.{trees_of, tree_of_ty, tree_of_term}
 use Rattle.goal_terms.specs.declared.answers.Certainty.{Certainty}
 use Rattle.goal_terms.specs.declared.answers.Certainty.TheVariants as certainty
@@ -50,11 +50,10 @@ use Rattle.goal_kinds.specs.declared.rules.RuleTerm.TheVariants as term
 use Rattle.goal_solver.specs.Added.{has_goals, with_goals, RecordsAccess, RecordsFault}
 use Rattle.goal_solver.specs.AddedGoals.{IsAnswerable, IsGoalAnswer, AllPendingTake, ArePendingAnswerable, ArePendingClosed, ArePendingUndecided, IsPendingAnswer, ChangesTaken}
 use Rattle.goal_solver.specs.Answers.{IsOwed}
-use Rattle.goal_solver.specs.Binding.{AddsNormalization}
+use Rattle.goal_solver.specs.Binding.{AddsNormalization, StandsForAlias, StandsForNoAlias}
 use Rattle.goal_solver.specs.Equating.{IsEquated}
 use Rattle.goal_solver.specs.GoingBack.{GoesBack, restored, begun}
 use Rattle.goal_solver.specs.HiddenTypes.{NormalizesArgs, EntersHidden, bounds_in, checked_in}
-use Rattle.goal_eval.specs.Pending.{is_alias}
 use Rattle.goal_solver.specs.OpenForms.{is_sure}
 use Rattle.goal_solver.specs.Relating.{ChangesRecords, LeavesOpen, SaysYes}
 use Rattle.goal_solver.specs.Responses.{ListsSinceMark, both_certain}
@@ -186,11 +185,11 @@ AddsRow under from env (Some xs) (Some ts) s c u = AddsGoals from env (under ts 
 AddsRow under from env (Some xs) None s c u = StaysUndecided s c u
 AddsRow under from env None o s c u = StaysUndecided s c u
 
--- the expected term is given a head form: the goal is added that an alias normalizes to it, and any other term is made equal to it
+-- the expected term is given the head form of a term, bindings followed: the goal is added that the alias which it stands for normalizes to the expected term, and any other term is made equal to that
 abbrev pub GivesForm : List Clause → Tree → Tree → State → Certainty → State → Type 0
 GivesForm env v t s c u =
-    ((is_alias (node_of t) ≡ true) × AddsNormalization s u t v env × (c ≡ certainty.Yes))
-    ⊎ ((is_alias (node_of t) ≡ false) × Equates env (v ∷ []) (t ∷ []) s u c)
+    ((a : Tree) × StandsForAlias s t a × AddsNormalization s u a v env × (c ≡ certainty.Yes))
+    ⊎ (StandsForNoAlias s t × Equates env (v ∷ []) (t ∷ []) s u c)
 
 -- that of a row's value under earlier arguments
 abbrev pub GivesValue : List Clause → Tree → Option Tree → Option (List Tree) → State → Certainty → State → Type 0

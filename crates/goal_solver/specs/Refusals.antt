@@ -1,7 +1,7 @@
 -- What refusals rest on: those of the goals that are pending, of the steps of a list of entries with inference variables, and of such a list.
 use Rattle.std.specs.Prelude.{◌≡◌, ◌⊎◌, ◌<◌, ℕ, false, List, [], ◌∷◌, ◌++◌, length, map, Option, Some, None, slice_get, Result, Ok, Err, IfErr}
 use Rattle.goal_terms.specs.Folding.{instance}
-use Rattle.goal_terms.specs.Tree.{Tree, node_of}
+use Rattle.goal_terms.specs.Tree.{Tree}
 use Rattle.goal_terms.specs.TreeOf.{trees_of, tree_of_ty, tree_of_term}
 use Rattle.goal_terms.specs.declared.answers.Certainty.TheVariants as certainty
 use Rattle.goal_terms.specs.declared.answers.GoalSource.{GoalSource}
@@ -34,7 +34,7 @@ use Rattle.goal_solver.specs.Equating.{IsEquated}
 use Rattle.goal_solver.specs.GoingBack.{GoesBack, restored, begun}
 use Rattle.goal_solver.specs.HiddenTypes.{NormalizesArgs, RefusesArgs, EntersHidden, checked_in}
 use Rattle.goal_solver.specs.OpenRuns.{OpenProgress, open_start, open_header, other_header, AnswersAlone, RunsThrough}
-use Rattle.goal_eval.specs.Pending.{is_alias}
+use Rattle.goal_solver.specs.Binding.{StandsForNoAlias}
 use Rattle.goal_solver.specs.State.{State, kinds_of}
 use Rattle.goal_solver.specs.Variables.{with_variables, kind_for, fresh_args}
 
@@ -84,9 +84,9 @@ RefusesNames env named (arguments.Header h args) s u = RefusesMatchIf env (open_
 RefusesNames env named (arguments.OtherImpl i j n) s u = RefusesMatchIf env (open_header s.tables (header.Impl i)) (other_header (impl_of s.tables j) (slice_get named n)) s u
 RefusesNames env named (arguments.Followed n own) s u = ⊥
 
--- the head form of a term is refused for an expected one: the term is no alias, and the two can't be made equal
+-- the head form of a term is refused for an expected one: the term stands for no alias, and the two can't be made equal
 abbrev pub RefusesForm : List Clause → Tree → Tree → State → State → Type 0
-RefusesForm env v t s u = (is_alias (node_of t) ≡ false) × RefusesEqual env (v ∷ []) (t ∷ []) s u
+RefusesForm env v t s u = StandsForNoAlias s t × RefusesEqual env (v ∷ []) (t ∷ []) s u
 
 -- that of a row's value under earlier arguments
 abbrev pub RefusesValue : List Clause → Tree → Option Tree → Option (List Tree) → State → State → Type 0

@@ -170,7 +170,7 @@ AddsClauses old new env clauses s = (goals : List (GoalSource × Goal Predicate)
 abbrev pub MakesVariables : State → State → Type 0
 MakesVariables old new = (ks : List VarKind) × (new ≡ with_variables ks old)
 
--- only terms, inference state, added goals and recorded accesses change
+-- only terms, inference state, added goals, recorded accesses and delayed faults change
 abbrev pub ChangesGoals : State → State → Type 0
 ChangesGoals old new = new ≡ record old { terms = new.terms; inference = new.inference; goals = new.goals; accesses = new.accesses; delayed_faults = new.delayed_faults }
 

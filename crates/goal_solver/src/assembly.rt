@@ -33,7 +33,7 @@ impl EvalCtxt<'_> {
     /// A trait goal, also one with inference variables, is answered as [`EvalCtxt::compute_trait_goal`] would one
     /// above, and `proven_via` isn't read. For a projection `proven_via` is taken for the class through which its
     /// trait goal holds: `Yes` gives the term that the candidates then give, as the value of the goal's expected
-    /// variable, `NoSolution` says that they give none, and `Maybe`, for a closed goal in a headline mode whose
+    /// variable, `NoSolution` says that they give none, and `Maybe`, for a closed goal whose
     /// expected term is a general variable, that neither is so, at least of no type and no constant. Where the trait
     /// goal does hold through that class at the remaining depth, this is the alias's answer one above, as
     /// [`EvalCtxt::compute_normalizes_to_goal`] would give it. A projection with inference variables besides the
@@ -43,8 +43,8 @@ impl EvalCtxt<'_> {
     /// it one above; one with inference variables by its candidates, as that call does it. Without a class a
     /// projection and a host effect goal are `Maybe`. In the erased mode what is answered to a closed goal is so of
     /// each headline mode, as long as no access is recorded. The response to a closed goal lists the expected
-    /// variable's value alone, and names no class but a trait goal's. Inference state, added goals and storage are
-    /// as before.
+    /// variable's value and lifetimes alone, and names no class but a trait goal's. Inference state, added goals and
+    /// storage are as before.
     pub fn assemble_and_merge_candidates<G: GoalKind + Drop>(
         &mut self,
         proven_via: Option<TraitGoalProvenVia>,

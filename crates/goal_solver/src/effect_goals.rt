@@ -21,8 +21,9 @@ impl EvalCtxt<'_> {
     /// Whether a trait holds as a const trait, of the goal's constness. `Yes`: a derivation no higher than the
     /// remaining depth shows it; then the plain goal holds too, and the goal of `[const]` is refuted nowhere where
     /// this one is of `const`. `NoSolution`: a refutation no higher does. `Maybe`, for a closed goal: there is
-    /// neither. What is decided stays so at every greater depth. That is so in a headline mode; in the erased mode
-    /// it is so of each headline mode, as long as no access is recorded. No two answers at any depths disagree.
+    /// neither. What is decided stays so at every greater depth. That is so in the context's own mode; in the erased
+    /// one it is so of each headline mode, too, as long as no access is recorded. No two answers at any depths
+    /// disagree.
     ///
     /// A goal with inference variables is answered at one less of the depth: by its plain goal, whose refusal is the
     /// answer, and which leaves it undecided where it is. Else by its candidates for the head form of the self type:

@@ -33,8 +33,8 @@ impl EvalCtxt<'_> {
     /// The term that an alias normalizes to, as the value of the goal's expected variable. For a closed goal, `Yes`:
     /// a derivation no higher than the remaining depth gives the term. `NoSolution`: a refutation no higher shows
     /// that there is none. `Maybe`, for a goal that [`crate::eval::goals::check_goal`] accepts: there is neither.
-    /// What is decided stays so at every greater depth. That is so in a headline mode; in the erased mode it is so
-    /// of each headline mode, as long as no access is recorded. No two answers at any depths disagree.
+    /// What is decided stays so at every greater depth. That is so in the context's own mode; in the erased one it is
+    /// so of each headline mode, too, as long as no access is recorded. No two answers at any depths disagree.
     ///
     /// In the erased mode an access is recorded where a rule reads the mode, and an opaque type stays as it is. In
     /// coherence, and where opaque types are being defined, the goal goes by what its candidates say in that mode;
@@ -53,7 +53,7 @@ impl EvalCtxt<'_> {
     /// goal holds by the environment or the bounds, the head form of each own type or constant argument is asked
     /// for: a refused one makes `NoSolution`, an undecided one or a general variable `Maybe`. Where all are
     /// refused it is `NoSolution` if the trait goal holds by the rest, and else the expected variable's value is the
-    /// alias as it stands. An alias of another kind with such variables is `Maybe`.
+    /// alias as it stands. An alias of another kind with such variables is answered by its list.
     ///
     /// `RerunNonErased`: the erased mode doesn't suffice; an access is recorded. Inference state, added goals and
     /// storage are as before: the answer says what would change, and it can be applied, if the goal was accepted. The

@@ -21,8 +21,8 @@ use goal_terms::predicates::{Goal, ProjectionPredicate};
 impl EvalCtxt<'_> {
     /// Whether an alias and a term are equal, lifetimes aside. `Yes`: a derivation no higher than the remaining
     /// depth shows it. `NoSolution`: a refutation no higher does. `Maybe`, for a closed goal: there is neither. What
-    /// is decided stays so at every greater depth. That is so in a headline mode; in the erased mode it is so of
-    /// each headline mode, as long as no access is recorded. No two answers at any depths disagree.
+    /// is decided stays so at every greater depth. That is so in the context's own mode; in the erased one it is so
+    /// of each headline mode, too, as long as no access is recorded. No two answers at any depths disagree.
     ///
     /// A goal with inference variables is answered at one less of the depth, as [`EvalCtxt::eq`] answers it for the
     /// alias and the term: `Yes` lists what was bound. `NoSolution`: the two can't be made equal.

@@ -27,8 +27,9 @@ use goal_terms::terms::GenericArg;
 impl EvalCtxt<'_> {
     /// Whether a trait goal holds. For a closed goal, `Yes`: a derivation no higher than the remaining depth shows
     /// it, through the class that the answer names. `NoSolution`: a refutation no higher does. `Maybe`: there is
-    /// neither. What is decided stays so at every greater depth. That is so in a headline mode; in the erased mode
-    /// it is so of each headline mode, as long as no access is recorded. No two answers at any depths disagree.
+    /// neither. What is decided stays so at every greater depth. That is so in the context's own mode; in the erased
+    /// one it is so of each headline mode, too, as long as no access is recorded. No two answers at any depths
+    /// disagree.
     ///
     /// In the erased mode an access is recorded where a rule reads the mode, and an opaque type stays as it is. In
     /// coherence, and where opaque types are being defined, the goal goes by what its candidates say in that mode.

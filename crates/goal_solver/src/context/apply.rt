@@ -160,8 +160,9 @@ impl EvalCtxt<'_> {
     }
 
     /// Adds an equation of lifetimes. Only memory is refused; then nothing changes.
-    fn add_equation(&mut self, equation: (Region, Region)) -> Result<(), Fault>
+    pub(crate) fn add_equation(&mut self, equation: (Region, Region)) -> Result<(), Fault>
         ensures added { OnOk result (self.new ≡ with_equations (equation ∷ []) self.old) }
+        ensures unchanged { OnErr result (self.new ≡ self.old) }
         ensures faults { self.new.delayed_faults ≡ self.old.delayed_faults }
         ensures goes_back { GoesBack self.old self.new }
         ensures only_memory { IsOkUnless result Fault.OutOfMemory }

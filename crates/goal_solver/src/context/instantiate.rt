@@ -1,10 +1,10 @@
 //! Giving the expected term of an alias its value.
-ghost use Rattle.std.specs.Prelude.{◌≡◌, ◌<◌, true, false, length, OnOk, OnErr, IsOkUnless};
-ghost use Rattle.goal_terms.specs.Tree.{node_of};
+ghost use Rattle.std.specs.Prelude.{◌≡◌, ◌<◌, true, false, length, is_some, None, IfOk, IfSome, OnOk, OnErr, IsOkUnless};
+ghost use Rattle.goal_terms.specs.Tree.{node_of, variable as tree_of_variable};
 ghost use Rattle.goal_terms.specs.TableMeaning.{tree_at};
 ghost use Rattle.goal_terms.specs.TreeOf.{tree_of_alias, tree_of_ty, tree_of_const, tree_of_term};
 ghost use Rattle.goal_terms.specs.View.{tree_of_ref};
-ghost use Rattle.goal_solver.specs.Binding.{IsFreeFor, BindsTo, OfVariable, AddsNormalization, BindsExpected, AddsExpected};
+ghost use Rattle.goal_solver.specs.Binding.{IsFreeFor, BindsTo, OfVariable, AddsNormalization, BindsExpected, AddsExpected, StandsForAlias, StandsForNoAlias};
 ghost use Rattle.goal_infer.specs.Binding.{bound_to};
 ghost use Rattle.goal_solver.specs.GoingBack.{GoesBack, restored};
 ghost use Rattle.goal_solver.specs.Normalizing.{EndsAt};
@@ -13,6 +13,7 @@ ghost use Rattle.goal_eval.specs.Pending.{is_alias};
 use crate::context::EvalCtxt;
 use crate::faults::Fault;
 use goal_infer::bindings::bind_term;
+use goal_infer::resolve::{binding, resolve};
 use goal_terms::answers::GoalSource;
 use goal_terms::heads::{Node, Variable};
 use goal_terms::predicates::{Clause, Goal, NormalizesTo, Predicate};
@@ -117,6 +118,52 @@ impl EvalCtxt<'_> {
         match expected.view().node() {
             Node::Variable(variable) => self.bind_to(variable, part),
             Node::Head(_) | Node::Alias(_) => unreachable!(),
+        }
+    }
+
+    /// The alias that a term is, or that it stands for, bindings followed at the top. Only memory is refused.
+    pub(crate) fn resolved_alias(&self, term: &Term) -> Result<Option<AliasTerm>, Fault>
+        ensures alias { IfOk result (λ o. IfSome o (λ a. StandsForAlias self.now (tree_of_term term.now) (tree_of_alias a))) }
+        ensures none { IfOk result (λ o. o ≡ None → StandsForNoAlias self.now (tree_of_term term.now)) }
+        ensures only_memory { IsOkUnless result Fault.OutOfMemory }
+    {
+        match term.view().node() {
+            Node::Head(_) => Ok(None),
+            Node::Variable(variable) => self.alias_behind(variable),
+            Node::Alias(_) => match term.clone() {
+                Ok(copy) => Ok(Some(into_alias(copy))),
+                Err(_) => Err(Fault::OutOfMemory),
+            },
+        }
+    }
+
+    /// The alias that a variable stands for. Only memory is refused.
+    fn alias_behind(&self, variable: Variable) -> Result<Option<AliasTerm>, Fault>
+        ensures alias { IfOk result (λ o. IfSome o (λ a. StandsForAlias self.now (tree_of_variable variable) (tree_of_alias a))) }
+        ensures none { IfOk result (λ o. o ≡ None → StandsForNoAlias self.now (tree_of_variable variable)) }
+        ensures only_memory { IsOkUnless result Fault.OutOfMemory }
+    {
+        self.holds_together();
+        match binding(&self.inference, variable) {
+            None => Ok(None),
+            Some(id) => self.alias_at(resolve(&self.terms, &self.inference, id)),
+        }
+    }
+
+    /// The alias that the term of a number is. Only memory is refused.
+    fn alias_at(&self, id: TermId) -> Result<Option<AliasTerm>, Fault>
+        requires { id.0 < length self.now.terms }
+        ensures alias { IfOk result (λ o. IfSome o (λ a. tree_of_alias a ≡ tree_at self.now.terms id)) }
+        ensures none { IfOk result (λ o. is_some o ≡ is_alias (node_of (tree_at self.now.terms id))) }
+        ensures only_memory { IsOkUnless result Fault.OutOfMemory }
+    {
+        match self.terms.node(id) {
+            Node::Head(_) => Ok(None),
+            Node::Variable(_) => Ok(None),
+            Node::Alias(_) => match self.terms.to_term(id) {
+                Ok(copy) => Ok(Some(into_alias(copy))),
+                Err(_) => Err(Fault::OutOfMemory),
+            },
         }
     }
 

@@ -281,7 +281,7 @@ impl EvalCtxt<'_> {
         self.holds_together();
         let before = self.snapshot();
         let form = self.form_number(environment, alias);
-        let Some(kept) = self.end_goal(outcome_of_form(&form), number_in(&form)) else {
+        let Some(kept) = self.end_goal(outcome_of_form(&form), number_in(&form))? else {
             return form;
         };
         self.rollback(before);
@@ -343,7 +343,7 @@ impl EvalCtxt<'_> {
         self.holds_together();
         let before = self.snapshot();
         let answered = self.evaluate_once(goal);
-        let Some(kept) = self.end_goal(outcome_of(&answered), None) else {
+        let Some(kept) = self.end_goal(outcome_of(&answered), None)? else {
             return answered;
         };
         self.rollback(before);

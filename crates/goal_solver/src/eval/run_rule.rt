@@ -49,7 +49,7 @@ impl EvalCtxt<'_> {
     /// from. On a closed list and environment, expected terms aside: `Yes`: all entries hold by derivations no
     /// higher than that depth; where the list has a term for an expected variable, the response lists just this
     /// term as the variable's value. `NoSolution`: a refutation no higher refutes an entry, all arguments that
-    /// were named before it being known. `Maybe`, in a headline mode, where one term at most is asked for, for a
+    /// were named before it being known. `Maybe`, where one term at most is asked for, for a
     /// general variable: there is neither.
     ///
     /// A list that defines an opaque type's hidden type, one with inference variables and one under an environment

@@ -2,16 +2,21 @@
 //! those that were answered.
 ghost use Rattle.std.specs.Prelude.{IsOkUnless};
 
+use crate::eval::canonical::{CanonicalResponse, ResponseCounts};
 use crate::faults::Fault;
+use goal_tables::predicate_terms::some_in_env;
+use goal_terms::answers::VarKind;
+use goal_terms::node_tests::NodeTest;
 use goal_terms::predicates::{BoundConstness, Clause};
 use goal_terms::term_nodes::TermId;
+use goal_terms::terms::Region;
 use indexmap::IndexMap;
 use std::alloc::Global;
 
-/// A goal with inference variables, bindings followed: the number of a trait with its arguments, or of an alias whose
-/// head form is asked for; whether it is of a const trait; and the number of its environment.
+/// A goal with inference variables: the number of a trait with its arguments, or of an alias whose head form is asked
+/// for, by canonical variables; whether it is of a const trait; and the number of its environment.
 #[derive(Clone, Copy, PartialEq, Eq, Hash)]
-pub(crate) struct Input {
+pub(crate) struct CanonicalInput {
     pub goal: TermId,
     pub constness: Option<BoundConstness>,
     pub environment: usize,
@@ -53,25 +58,65 @@ impl CycleHeads {
     }
 }
 
-/// A goal that is being answered.
+/// An environment by its number, and whether no variable stands in it, lifetimes too.
 #[derive(Clone, Copy)]
-pub(crate) struct StackEntry {
-    input: Input,
-    /// Whether an answer is kept: the environment has no variables, and no type is hidden.
+pub(crate) struct KnownEnvironment {
+    pub number: usize,
+    pub is_closed: bool,
+}
+
+/// A goal that is asked.
+#[derive(Drop)]
+pub(crate) struct AskedInput {
+    pub input: CanonicalInput,
+    /// Whether its answer is kept, and its variables are canonical: no variable stands in the environment, and no type
+    /// is hidden.
     pub lasts: bool,
     pub begun: Begun,
+    /// The numbers of its variables, each with its canonical one.
+    pub names: Vec<(u32, u32)>,
+}
+
+impl AskedInput {
+    /// What it leaves, by the place of a response.
+    pub(crate) fn into_answer(self, response: usize) -> KeptAnswer {
+        let AskedInput {
+            input: _,
+            lasts: _,
+            begun: _,
+            names,
+        } = self;
+        KeptAnswer { response, names }
+    }
+}
+
+/// A goal that is being answered.
+#[derive(Drop)]
+pub(crate) struct StackEntry {
+    pub asked: AskedInput,
     /// Which of all goals it is that were ever begun.
     number: u64,
     heads: Option<CycleHeads>,
 }
 
-/// What a goal that holds leaves: the places of the values that its variables got, and the head form, if one is asked
-/// for.
-#[derive(Clone, Copy)]
+impl StackEntry {
+    /// The goal itself.
+    pub(crate) fn into_asked(self) -> AskedInput {
+        let StackEntry {
+            asked,
+            number: _,
+            heads: _,
+        } = self;
+        asked
+    }
+}
+
+/// What a goal that holds leaves: the place of its response, and the numbers of the goal's variables, each with its
+/// canonical one.
+#[derive(Drop)]
 pub(crate) struct KeptAnswer {
-    pub first: usize,
-    pub end: usize,
-    pub form: Option<TermId>,
+    pub response: usize,
+    pub names: Vec<(u32, u32)>,
 }
 
 /// That a goal is undecided. If it led back, that is so while the last one of the goals that it led back to, which
@@ -83,16 +128,35 @@ struct Undecided {
     number: u64,
 }
 
-/// What is known of a goal: the least depth at which it was decided, and whether it holds, and the greatest depth at
-/// which it was undecided.
+/// What is known of a goal: the least depth at which it was decided, with the place of its response if it holds, and the
+/// greatest depth at which it was undecided.
 #[derive(Clone, Copy)]
 struct CacheEntry {
-    decided: Option<(u32, Option<KeptAnswer>)>,
+    decided: Option<(u32, Option<usize>)>,
     undecided: Option<Undecided>,
 }
 
-/// What is known of a goal at a depth.
+/// What is known of a canonical goal at a depth.
 #[derive(Clone, Copy)]
+enum Known {
+    Holds(usize),
+    Refuted,
+    Undecided,
+}
+
+impl Known {
+    /// The same of the goal that is asked.
+    fn of(self, asked: AskedInput) -> Recalled {
+        match self {
+            Known::Holds(response) => Recalled::Holds(asked.into_answer(response)),
+            Known::Refuted => Recalled::Refuted,
+            Known::Undecided => Recalled::Undecided,
+        }
+    }
+}
+
+/// What is known of a goal at a depth.
+#[derive(Drop)]
 pub(crate) enum Recalled {
     Holds(KeptAnswer),
     Refuted,
@@ -102,9 +166,8 @@ pub(crate) enum Recalled {
 /// The goals with inference variables that are being answered, and what is known of others.
 pub(crate) struct SearchGraph {
     stack: Vec<StackEntry>,
-    cache: IndexMap<Input, CacheEntry>,
-    /// Variables that were bound for a goal, each with what it stood for then.
-    values: Vec<(TermId, TermId)>,
+    cache: IndexMap<CanonicalInput, CacheEntry>,
+    responses: Vec<CanonicalResponse>,
     environments: Vec<Vec<Clause>>,
     begun: u64,
 }
@@ -114,7 +177,7 @@ impl Drop for SearchGraph {
         let SearchGraph {
             stack: _,
             cache: _,
-            values: _,
+            responses: _,
             environments: _,
             begun: _,
         } = self;
@@ -127,22 +190,23 @@ impl SearchGraph {
         SearchGraph {
             stack: Vec::new(alloc),
             cache: IndexMap::new(alloc),
-            values: Vec::new(alloc),
+            responses: Vec::new(alloc),
             environments: Vec::new(alloc),
             begun: 0,
         }
     }
 
-    /// The number of an environment. Only memory is refused.
-    pub(crate) fn environment_number(&mut self, environment: &[Clause]) -> Result<usize, Fault>
+    /// What is known of an environment. Only memory is refused.
+    pub(crate) fn environment(&mut self, environment: &[Clause]) -> Result<KnownEnvironment, Fault>
         ensures only_memory { IsOkUnless result Fault.OutOfMemory }
     {
-        if let Some(known) = self
+        let is_closed = !some_in_env(NodeTest::Unmade(&[]), environment);
+        if let Some(number) = self
             .environments
             .iter()
             .position(|other| other.as_slice() == environment)
         {
-            return Ok(known);
+            return Ok(KnownEnvironment { number, is_closed });
         }
         let Ok(copy) = environment.to_vec(*self.environments.allocator()) else {
             return Err(Fault::OutOfMemory);
@@ -151,28 +215,20 @@ impl SearchGraph {
         if self.environments.push(copy).is_err() {
             return Err(Fault::OutOfMemory);
         }
-        Ok(number)
+        Ok(KnownEnvironment { number, is_closed })
     }
 
     /// What is known of a goal at a depth, or else nothing, and it is being answered from now on. One that is being
     /// answered already is undecided. Only memory is refused.
-    pub(crate) fn begin(
-        &mut self,
-        input: Input,
-        lasts: bool,
-        depth: u32,
-        begun: Begun,
-    ) -> Result<Option<Recalled>, Fault>
+    pub(crate) fn begin(&mut self, asked: AskedInput, depth: u32) -> Result<Option<Recalled>, Fault>
         ensures only_memory { IsOkUnless result Fault.OutOfMemory }
     {
-        if let Some(known) = self.recall(input, lasts, depth) {
-            return Ok(Some(known));
+        if let Some(known) = self.recall(asked.input, asked.lasts, depth) {
+            return Ok(Some(known.of(asked)));
         }
         self.begun = self.begun.wrapping_add(1);
         let entry = StackEntry {
-            input,
-            lasts,
-            begun,
+            asked,
             number: self.begun,
             heads: None,
         };
@@ -183,26 +239,30 @@ impl SearchGraph {
     }
 
     /// What is known of a goal at a depth.
-    fn recall(&mut self, input: Input, lasts: bool, depth: u32) -> Option<Recalled> {
-        if let Some(place) = self.stack.iter().position(|other| other.input == input) {
+    fn recall(&mut self, input: CanonicalInput, lasts: bool, depth: u32) -> Option<Known> {
+        if let Some(place) = self
+            .stack
+            .iter()
+            .position(|other| other.asked.input == input)
+        {
             self.lead_back(CycleHeads {
                 first: place,
                 last: place,
             });
-            return Some(Recalled::Undecided);
+            return Some(Known::Undecided);
         }
         if !lasts {
             return None;
         }
         let known = *self.cache.get(&input)?;
         match known.decided {
-            Some((least, answer)) if least <= depth => Some(known_by(answer)),
+            Some((least, response)) if least <= depth => Some(known_by(response)),
             _ => self.recall_undecided(known.undecided?, depth),
         }
     }
 
     /// That a goal is undecided at a depth, if that is known. Then the goal that asks it leads back as it does.
-    fn recall_undecided(&mut self, known: Undecided, depth: u32) -> Option<Recalled> {
+    fn recall_undecided(&mut self, known: Undecided, depth: u32) -> Option<Known> {
         if known.depth < depth {
             return None;
         }
@@ -212,7 +272,7 @@ impl SearchGraph {
             }
             self.lead_back(heads);
         }
-        Some(Recalled::Undecided)
+        Some(Known::Undecided)
     }
 
     /// The goal that was begun last leads back.
@@ -232,7 +292,7 @@ impl SearchGraph {
     }
 
     /// The goal that was just answered is undecided, and so the one that asks it leads back as it did.
-    pub(crate) fn end_undecided(&mut self, ended: StackEntry, depth: u32) {
+    pub(crate) fn end_undecided(&mut self, ended: &StackEntry, depth: u32) {
         let heads = match ended.heads {
             None => None,
             Some(heads) => heads.before(self.stack.len()),
@@ -244,39 +304,35 @@ impl SearchGraph {
             }
             self.lead_back(others);
         }
-        let known = self.known_of(ended.input);
+        let known = self.known_of(ended.asked.input);
+        let undecided = Some(Undecided {
+            depth,
+            heads,
+            number,
+        });
         self.keep(
-            ended,
+            &ended.asked,
             CacheEntry {
                 decided: known.decided,
-                undecided: Some(Undecided {
-                    depth,
-                    heads,
-                    number,
-                }),
+                undecided,
             },
         );
     }
 
-    /// The goal that was just answered holds, and leaves an answer, or is refuted.
-    pub(crate) fn end_decided(
-        &mut self,
-        ended: StackEntry,
-        depth: u32,
-        answer: Option<KeptAnswer>,
-    ) {
+    /// The goal that was just answered holds, and leaves a response, or is refuted.
+    pub(crate) fn end_decided(&mut self, ended: &AskedInput, depth: u32, response: Option<usize>) {
         let known = self.known_of(ended.input);
         self.keep(
             ended,
             CacheEntry {
-                decided: Some((depth, answer)),
+                decided: Some((depth, response)),
                 undecided: known.undecided,
             },
         );
     }
 
     /// What is known of a goal, which may be nothing.
-    fn known_of(&self, input: Input) -> CacheEntry {
+    fn known_of(&self, input: CanonicalInput) -> CacheEntry {
         match self.cache.get(&input) {
             Some(known) => *known,
             None => CacheEntry {
@@ -287,40 +343,67 @@ impl SearchGraph {
     }
 
     /// Keeps what is known of a goal, if its answers last. Where memory is refused it isn't kept.
-    fn keep(&mut self, ended: StackEntry, known: CacheEntry) {
+    fn keep(&mut self, ended: &AskedInput, known: CacheEntry) {
         if ended.lasts {
             let _unless_refused = self.cache.insert(ended.input, known);
         }
     }
 
-    /// How many values are kept.
-    pub(crate) fn values(&self) -> usize {
-        self.values.len()
+    /// Keeps a response, and answers its place. Only memory is refused.
+    pub(crate) fn add_response(&mut self, response: CanonicalResponse) -> Result<usize, Fault>
+        ensures only_memory { IsOkUnless result Fault.OutOfMemory }
+    {
+        let place = self.responses.len();
+        if self.responses.push(response).is_err() {
+            return Err(Fault::OutOfMemory);
+        }
+        Ok(place)
     }
 
-    /// The value at a place, with its variable.
-    pub(crate) fn value(&self, place: usize) -> Option<(TermId, TermId)> {
-        match self.values.get(place) {
-            Some(value) => Some(*value),
-            None => None,
+    /// How much a response has of each.
+    pub(crate) fn counts(&self, response: usize) -> ResponseCounts {
+        match self.responses.get(response) {
+            Some(kept) => kept.counts(),
+            None => ResponseCounts {
+                vars: 0,
+                var_values: 0,
+                region_equations: 0,
+            },
         }
     }
 
-    /// Keeps a variable with its value, and says whether memory allowed it.
-    pub(crate) fn add_value(&mut self, variable: TermId, value: TermId) -> bool {
-        self.values.push((variable, value)).is_ok()
+    /// The kind of a variable that is made for a response, by its place among them.
+    pub(crate) fn var_kind(&self, response: usize, place: usize) -> Option<VarKind> {
+        let kept = self.responses.get(response)?;
+        Some(*kept.vars.get(place)?)
     }
 
-    /// Takes back all values but so many.
-    pub(crate) fn cut_values(&mut self, count: usize) {
-        self.values.truncate(count);
+    /// A variable with its value in a response, by its place among them.
+    pub(crate) fn var_value(&self, response: usize, place: usize) -> Option<(TermId, TermId)> {
+        let kept = self.responses.get(response)?;
+        Some(*kept.var_values.get(place)?)
+    }
+
+    /// An equation of lifetimes in a response, by its place among them.
+    pub(crate) fn region_equation(
+        &self,
+        response: usize,
+        place: usize,
+    ) -> Option<(Region, Region)> {
+        let kept = self.responses.get(response)?;
+        Some(*kept.region_equations.get(place)?)
+    }
+
+    /// The head form in a response.
+    pub(crate) fn form(&self, response: usize) -> Option<TermId> {
+        self.responses.get(response)?.form
     }
 }
 
-/// What is known by an answer, or without one.
-fn known_by(answer: Option<KeptAnswer>) -> Recalled {
-    match answer {
-        Some(answer) => Recalled::Holds(answer),
-        None => Recalled::Refuted,
+/// What is known of a goal that was decided, by the place of its response, if it has one.
+fn known_by(response: Option<usize>) -> Known {
+    match response {
+        Some(place) => Known::Holds(place),
+        None => Known::Refuted,
     }
 }

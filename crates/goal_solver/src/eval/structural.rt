@@ -78,7 +78,7 @@ impl Question for AskedForm {
 impl EvalCtxt<'_> {
     /// The head form of a term at the remaining depth, lifetimes aside: what an alias normalizes to, and each other
     /// term itself, in every mode. The bindings of variables are followed first. A term: a derivation no higher
-    /// than the remaining depth gives it. `None`, for a closed term and environment in a headline mode: no type
+    /// than the remaining depth gives it. `None`, for a closed term and environment: no type
     /// and no constant is the head form, nor is it refuted. In the erased mode an opaque type is itself, which is
     /// recorded.
     ///

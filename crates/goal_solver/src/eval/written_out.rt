@@ -24,6 +24,13 @@ pub(crate) fn may_be_written_out(terms: &TermTable, ids: &[TermId]) -> bool
     true
 }
 
+/// The same of one term.
+pub(crate) fn is_small(terms: &TermTable, id: TermId) -> bool
+    requires { id.0 < length terms.now }
+{
+    left_after(terms, id, MOST_PARTS).is_some()
+}
+
 /// How many of so many parts are left after those of a term, written out. There is nothing left where it has more.
 fn left_after(terms: &TermTable, id: TermId, parts: u32) -> Option<u32>
     requires { id.0 < length terms.now }

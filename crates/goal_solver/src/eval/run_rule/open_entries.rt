@@ -15,7 +15,6 @@ ghost use Rattle.goal_solver.specs.Relating.{IsFaultFor};
 ghost use Rattle.goal_solver.specs.RunRules.{AreListed};
 
 use crate::context::EvalCtxt;
-use crate::context::instantiate::into_alias;
 use crate::eval::run_rule::interned::{clauses_of, conditions_of};
 use crate::eval::run_rule::open_arguments::{OpenRun, args_of_number};
 use crate::eval::where_goals::predicate_of;
@@ -24,7 +23,6 @@ use goal_kinds::rules::{RowClauses, RowValue, RuleEntry, RuleTerm};
 use goal_tables::lookup::IndexedTables;
 use goal_tables::rows::DefValue;
 use goal_terms::answers::{Certainty, GoalSource, OpaqueAccess};
-use goal_terms::heads::Node;
 use goal_terms::ids::{DefId, FreeId, ImplId, InherentId, OpaqueId};
 use goal_terms::instantiate::instantiate;
 use goal_terms::predicates::{
@@ -319,8 +317,8 @@ impl EvalCtxt<'_> {
         }
     }
 
-    /// Gives an expected term the head form of a term: the goal is added that an alias normalizes to it, and any
-    /// other term is made equal to it.
+    /// Gives an expected term the head form of a term, bindings followed: the goal is added that the alias which it
+    /// stands for normalizes to the expected term, and any other term is made equal to that.
     fn give_form(
         &mut self,
         environment: &[Clause],
@@ -333,14 +331,13 @@ impl EvalCtxt<'_> {
         ensures goes_back { GoesBack self.old self.new }
         ensures fault { IsFaultFor self.old self.new result }
     {
-        if let Node::Alias(_) = term.view().node() {
-            let Ok(copy) = term.clone() else {
-                return Err(Fault::OutOfMemory);
-            };
-            self.add_normalization(environment, into_alias(copy), expected)?;
-            return Ok(Certainty::Yes);
+        match self.resolved_alias(term)? {
+            Some(alias) => {
+                self.add_normalization(environment, alias, expected)?;
+                Ok(Certainty::Yes)
+            }
+            None => self.equate_terms(environment, expected, term),
         }
-        self.equate_terms(environment, expected, term)
     }
 
     /// Makes two terms equal, as `eq` does.

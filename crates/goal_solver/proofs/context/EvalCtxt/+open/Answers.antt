@@ -1110,22 +1110,34 @@ pub evaluate_open-rollback-requires : goal.evaluate_open-rollback-requires
 evaluate_open-rollback-requires t c =
     record { valid = (c.begin_open.new.self, c.snapshot-before.ensures, (goes_back-through c.begin_open.new.self c.evaluate_once-answered.new.self c.end_goal.new.self c.evaluate_once-answered.ensures.goes_back (goes_back-grown c.evaluate_once-answered.new.self c.end_goal.new.self c.end_goal.ensures.unchanged c.end_goal.ensures.kept)), c.holds_together.ensures) }
 
-pub evaluate_open-returns-in_default-end_goal-clause-alone : goal.evaluate_open-returns-in_default-end_goal-clause-alone
-evaluate_open-returns-in_default-end_goal-clause-alone t c =
+pub evaluate_open-returns-in_default-2-clause-alone : goal.evaluate_open-returns-in_default-2-clause-alone
+evaluate_open-returns-in_default-2-clause-alone t c =
     records-through c.args.self.now c.begin_open.new.self c.end_goal.new.self (grown-records c.args.self.now c.begin_open.new.self c.begin_open.ensures.unchanged) (records-through c.begin_open.new.self c.evaluate_once-answered.new.self c.end_goal.new.self c.evaluate_once-answered.ensures.alone (grown-records c.evaluate_once-answered.new.self c.end_goal.new.self c.end_goal.ensures.unchanged))
 
-pub evaluate_open-returns-in_default-end_goal-clause-faults : goal.evaluate_open-returns-in_default-end_goal-clause-faults
-evaluate_open-returns-in_default-end_goal-clause-faults t c =
+pub evaluate_open-returns-in_default-2-clause-faults : goal.evaluate_open-returns-in_default-2-clause-faults
+evaluate_open-returns-in_default-2-clause-faults t c =
     (grown-faults c.evaluate_once-answered.new.self c.end_goal.new.self c.end_goal.ensures.unchanged ∙ c.evaluate_once-answered.ensures.faults) ∙ grown-faults c.args.self.now c.begin_open.new.self c.begin_open.ensures.unchanged
 
-pub evaluate_open-returns-in_default-end_goal-clause-goes_back : goal.evaluate_open-returns-in_default-end_goal-clause-goes_back
-evaluate_open-returns-in_default-end_goal-clause-goes_back t c =
+pub evaluate_open-returns-in_default-2-clause-goes_back : goal.evaluate_open-returns-in_default-2-clause-goes_back
+evaluate_open-returns-in_default-2-clause-goes_back t c =
     goes_back-through c.args.self.now c.begin_open.new.self c.end_goal.new.self (goes_back-grown c.args.self.now c.begin_open.new.self c.begin_open.ensures.unchanged c.begin_open.ensures.kept) (goes_back-through c.begin_open.new.self c.evaluate_once-answered.new.self c.end_goal.new.self c.evaluate_once-answered.ensures.goes_back (goes_back-grown c.evaluate_once-answered.new.self c.end_goal.new.self c.end_goal.ensures.unchanged c.end_goal.ensures.kept))
 
-pub evaluate_open-returns-in_default-end_goal-clause-fault : goal.evaluate_open-returns-in_default-end_goal-clause-fault
-evaluate_open-returns-in_default-end_goal-clause-fault t c =
+pub evaluate_open-returns-in_default-2-clause-fault : goal.evaluate_open-returns-in_default-2-clause-fault
+evaluate_open-returns-in_default-2-clause-fault t c =
     fault-later c.args.self.now c.begin_open.new.self c.end_goal.new.self c.evaluate_once-answered.result (goes_back-grown c.args.self.now c.begin_open.new.self c.begin_open.ensures.unchanged c.begin_open.ensures.kept)
     (ended-fault Certainty c.begin_open.new.self c.evaluate_once-answered.new.self c.end_goal.new.self c.evaluate_once-answered.result c.end_goal.ensures.unchanged c.evaluate_once-answered.ensures.fault)
+
+pub evaluate_open-returns-in_err-kept-clause-alone : goal.evaluate_open-returns-in_err-kept-clause-alone
+evaluate_open-returns-in_err-kept-clause-alone t c =
+    records-through c.args.self.now c.begin_open.new.self c.end_goal.new.self (grown-records c.args.self.now c.begin_open.new.self c.begin_open.ensures.unchanged) (records-through c.begin_open.new.self c.evaluate_once-answered.new.self c.end_goal.new.self c.evaluate_once-answered.ensures.alone (grown-records c.evaluate_once-answered.new.self c.end_goal.new.self c.end_goal.ensures.unchanged))
+
+pub evaluate_open-returns-in_err-kept-clause-faults : goal.evaluate_open-returns-in_err-kept-clause-faults
+evaluate_open-returns-in_err-kept-clause-faults t c =
+    (grown-faults c.evaluate_once-answered.new.self c.end_goal.new.self c.end_goal.ensures.unchanged ∙ c.evaluate_once-answered.ensures.faults) ∙ grown-faults c.args.self.now c.begin_open.new.self c.begin_open.ensures.unchanged
+
+pub evaluate_open-returns-in_err-kept-clause-goes_back : goal.evaluate_open-returns-in_err-kept-clause-goes_back
+evaluate_open-returns-in_err-kept-clause-goes_back t c =
+    goes_back-through c.args.self.now c.begin_open.new.self c.end_goal.new.self (goes_back-grown c.args.self.now c.begin_open.new.self c.begin_open.ensures.unchanged c.begin_open.ensures.kept) (goes_back-through c.begin_open.new.self c.evaluate_once-answered.new.self c.end_goal.new.self c.evaluate_once-answered.ensures.goes_back (goes_back-grown c.evaluate_once-answered.new.self c.end_goal.new.self c.end_goal.ensures.unchanged c.end_goal.ensures.kept))
 
 pub evaluate_open-returns-clause-alone : goal.evaluate_open-returns-clause-alone
 evaluate_open-returns-clause-alone t c =
@@ -1179,26 +1191,38 @@ pub form_once-rollback-requires : goal.form_once-rollback-requires
 form_once-rollback-requires t c =
     record { valid = (c.begin_form.new.self, c.snapshot-before.ensures, (goes_back-through c.begin_form.new.self c.form_number-form.new.self c.end_goal.new.self c.form_number-form.ensures.goes_back (goes_back-grown c.form_number-form.new.self c.end_goal.new.self c.end_goal.ensures.unchanged c.end_goal.ensures.kept)), c.holds_together.ensures) }
 
-pub form_once-returns-in_default-end_goal-clause-within : goal.form_once-returns-in_default-end_goal-clause-within
-form_once-returns-in_default-end_goal-clause-within t c =
+pub form_once-returns-in_default-2-clause-within : goal.form_once-returns-in_default-2-clause-within
+form_once-returns-in_default-2-clause-within t c =
     form-grown c.form_number-form.new.self.terms c.end_goal.new.self.terms c.form_number-form.result c.end_goal.ensures.kept c.form_number-form.ensures.within
 
-pub form_once-returns-in_default-end_goal-clause-alone : goal.form_once-returns-in_default-end_goal-clause-alone
-form_once-returns-in_default-end_goal-clause-alone t c =
+pub form_once-returns-in_default-2-clause-alone : goal.form_once-returns-in_default-2-clause-alone
+form_once-returns-in_default-2-clause-alone t c =
     records-through c.args.self.now c.begin_form.new.self c.end_goal.new.self (grown-records c.args.self.now c.begin_form.new.self c.begin_form.ensures.unchanged) (records-through c.begin_form.new.self c.form_number-form.new.self c.end_goal.new.self c.form_number-form.ensures.alone (grown-records c.form_number-form.new.self c.end_goal.new.self c.end_goal.ensures.unchanged))
 
-pub form_once-returns-in_default-end_goal-clause-faults : goal.form_once-returns-in_default-end_goal-clause-faults
-form_once-returns-in_default-end_goal-clause-faults t c =
+pub form_once-returns-in_default-2-clause-faults : goal.form_once-returns-in_default-2-clause-faults
+form_once-returns-in_default-2-clause-faults t c =
     (grown-faults c.form_number-form.new.self c.end_goal.new.self c.end_goal.ensures.unchanged ∙ c.form_number-form.ensures.faults) ∙ grown-faults c.args.self.now c.begin_form.new.self c.begin_form.ensures.unchanged
 
-pub form_once-returns-in_default-end_goal-clause-goes_back : goal.form_once-returns-in_default-end_goal-clause-goes_back
-form_once-returns-in_default-end_goal-clause-goes_back t c =
+pub form_once-returns-in_default-2-clause-goes_back : goal.form_once-returns-in_default-2-clause-goes_back
+form_once-returns-in_default-2-clause-goes_back t c =
     goes_back-through c.args.self.now c.begin_form.new.self c.end_goal.new.self (goes_back-grown c.args.self.now c.begin_form.new.self c.begin_form.ensures.unchanged c.begin_form.ensures.kept) (goes_back-through c.begin_form.new.self c.form_number-form.new.self c.end_goal.new.self c.form_number-form.ensures.goes_back (goes_back-grown c.form_number-form.new.self c.end_goal.new.self c.end_goal.ensures.unchanged c.end_goal.ensures.kept))
 
-pub form_once-returns-in_default-end_goal-clause-fault : goal.form_once-returns-in_default-end_goal-clause-fault
-form_once-returns-in_default-end_goal-clause-fault t c =
+pub form_once-returns-in_default-2-clause-fault : goal.form_once-returns-in_default-2-clause-fault
+form_once-returns-in_default-2-clause-fault t c =
     fault-later c.args.self.now c.begin_form.new.self c.end_goal.new.self c.form_number-form.result (goes_back-grown c.args.self.now c.begin_form.new.self c.begin_form.ensures.unchanged c.begin_form.ensures.kept)
     (ended-fault (Option TermId) c.begin_form.new.self c.form_number-form.new.self c.end_goal.new.self c.form_number-form.result c.end_goal.ensures.unchanged c.form_number-form.ensures.fault)
+
+pub form_once-returns-in_err-kept-clause-alone : goal.form_once-returns-in_err-kept-clause-alone
+form_once-returns-in_err-kept-clause-alone t c =
+    records-through c.args.self.now c.begin_form.new.self c.end_goal.new.self (grown-records c.args.self.now c.begin_form.new.self c.begin_form.ensures.unchanged) (records-through c.begin_form.new.self c.form_number-form.new.self c.end_goal.new.self c.form_number-form.ensures.alone (grown-records c.form_number-form.new.self c.end_goal.new.self c.end_goal.ensures.unchanged))
+
+pub form_once-returns-in_err-kept-clause-faults : goal.form_once-returns-in_err-kept-clause-faults
+form_once-returns-in_err-kept-clause-faults t c =
+    (grown-faults c.form_number-form.new.self c.end_goal.new.self c.end_goal.ensures.unchanged ∙ c.form_number-form.ensures.faults) ∙ grown-faults c.args.self.now c.begin_form.new.self c.begin_form.ensures.unchanged
+
+pub form_once-returns-in_err-kept-clause-goes_back : goal.form_once-returns-in_err-kept-clause-goes_back
+form_once-returns-in_err-kept-clause-goes_back t c =
+    goes_back-through c.args.self.now c.begin_form.new.self c.end_goal.new.self (goes_back-grown c.args.self.now c.begin_form.new.self c.begin_form.ensures.unchanged c.begin_form.ensures.kept) (goes_back-through c.begin_form.new.self c.form_number-form.new.self c.end_goal.new.self c.form_number-form.ensures.goes_back (goes_back-grown c.form_number-form.new.self c.end_goal.new.self c.end_goal.ensures.unchanged c.end_goal.ensures.kept))
 
 pub form_once-returns-clause-alone : goal.form_once-returns-clause-alone
 form_once-returns-clause-alone t c =

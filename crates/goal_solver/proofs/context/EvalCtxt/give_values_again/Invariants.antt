@@ -1,7 +1,7 @@
 use Rattle.goal_solver.specs.Accesses.{RecordsCausedFaults}
 use Rattle.goal_solver.specs.GoingBack.{GoesBack}
 use Rattle.goal_solver.specs.Relating.{ChangesRecords}
-use Rattle.goal_solver.proofs.context.EvalCtxt.give_again.Given as goal
+use Rattle.goal_solver.proofs.context.EvalCtxt.give_values_again.Given as goal
 
 abbrev pub invariant-loop-place : goal.invariant-loop-place
 invariant-loop-place l = record {
