@@ -31,7 +31,8 @@ use Rattle.goal_kinds.specs.declared.rules.Rule.{Rule}
 use Rattle.goal_kinds.specs.declared.rules.RuleEntry.{RuleEntry}
 use Rattle.goal_kinds.specs.declared.rules.RuleEntry.TheVariants as entry
 use Rattle.goal_solver.specs.OpenAnswers.{MergesProjection}
-use Rattle.goal_solver.specs.OpenGoals.{WhenAnswered, at_depth}
+use Rattle.goal_solver.specs.OpenGoals.{WhenAnswered}
+use Rattle.goal_solver.specs.GoingBack.{at_depth}
 use Rattle.goal_solver.specs.OpenProjections.{RunsAlias}
 use Rattle.goal_solver.specs.OpenRuns.{OpenProgress, open_start, RunsOpen, RunsThrough, Steps}
 use Rattle.goal_solver.specs.Promises.{NeverYes}

@@ -10,9 +10,9 @@ use Rattle.goal_terms.proofs.InternLemmas.{keeps-refl}
 use Rattle.goal_infer.specs.Resolution.{IsSolved}
 use Rattle.goal_kinds.specs.declared.faults.Fault.{Fault}
 use Rattle.goal_solver.specs.Binding.{IsApplicable}
-use Rattle.goal_solver.specs.GoingBack.{GoesBack, restored}
+use Rattle.goal_solver.specs.GoingBack.{GoesBack, restored, at_depth}
 use Rattle.goal_solver.specs.OpenAnswers.{MergesProjection, MergesTrait}
-use Rattle.goal_solver.specs.OpenGoals.{WhenAnswered, at_depth}
+use Rattle.goal_solver.specs.OpenGoals.{WhenAnswered}
 use Rattle.goal_solver.specs.OpenProjections.{RunsEquation}
 use Rattle.goal_solver.specs.State.{State}
 use Rattle.goal_solver.proofs.GoingBackLemmas.{solved-grown}

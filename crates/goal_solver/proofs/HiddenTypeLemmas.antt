@@ -16,9 +16,9 @@ use Rattle.goal_terms.specs.declared.terms.Ty.{Ty}
 use Rattle.goal_kinds.specs.declared.faults.Fault.{Fault}
 use Rattle.goal_lists.specs.declared.lists.FirstUse.{FirstUse}
 use Rattle.goal_solver.specs.Added.{EntersType}
-use Rattle.goal_solver.specs.GoingBack.{restored}
+use Rattle.goal_solver.specs.GoingBack.{restored, at_depth}
 use Rattle.goal_solver.specs.HiddenTypes.{EntersHidden, NormalizesArg, behind_all, NormalizesAll, NormalizesArgs, RefusesArg, RefusesArgs, bounds_in}
-use Rattle.goal_solver.specs.OpenGoals.{WhenAnswered, at_depth}
+use Rattle.goal_solver.specs.OpenGoals.{WhenAnswered}
 use Rattle.goal_solver.specs.OpenRuns.{clauses_with, AddsGoals, AddsBounds}
 use Rattle.goal_solver.specs.Promises.{RunsHidden}
 use Rattle.goal_solver.specs.State.{State}

@@ -64,3 +64,5 @@ pub mod HiddenTypeLemmas
 pub mod DefinedGoalLemmas
 mod AmbiguousLemmas
 pub mod ChosenLemmas
+pub mod PutLemmas
+pub mod OpenHeaderLemmas

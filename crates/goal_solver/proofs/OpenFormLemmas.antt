@@ -27,11 +27,11 @@ use Rattle.goal_lists.specs.Level.{Level}
 use Rattle.goal_kinds.specs.declared.faults.Fault.{Fault}
 use Rattle.goal_kinds.specs.declared.faults.Fault.TheVariants as fault
 use Rattle.goal_solver.specs.Binding.{Applies}
-use Rattle.goal_solver.specs.GoingBack.{GoesBack, restored}
+use Rattle.goal_solver.specs.GoingBack.{GoesBack, restored, at_depth}
 use Rattle.goal_solver.specs.HeadForms.{bound_term, is_open_form, IsFormAnswer, IsAnswered}
 use Rattle.goal_solver.specs.OpenAnswers.{answers_at, answers_term, less, merges_at, MergesProjection}
 use Rattle.goal_solver.specs.OpenForms.{AppliesSure, IsUnsure, taking, kind_taking, with_taking, AsksTerm, TakesForm, RefusesTerm, OpensFrom, OpensForm, gives_form}
-use Rattle.goal_solver.specs.OpenGoals.{WhenAnswered, at_depth}
+use Rattle.goal_solver.specs.OpenGoals.{WhenAnswered}
 use Rattle.goal_solver.specs.OpenProjections.{MergesProjectionWith}
 use Rattle.goal_solver.specs.Relating.{ChangesRecords, IsFaultFor}
 use Rattle.goal_solver.specs.State.{State, kinds_of}

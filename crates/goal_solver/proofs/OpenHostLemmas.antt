@@ -11,9 +11,9 @@ use Rattle.goal_kinds.specs.declared.faults.Fault.{Fault}
 use Rattle.goal_kinds.specs.declared.faults.Fault.TheVariants as fault
 use Rattle.goal_kinds.specs.declared.rules.Rule.{Rule}
 use Rattle.goal_kinds.specs.Collecting.{Kind}
-use Rattle.goal_solver.specs.GoingBack.{restored}
+use Rattle.goal_solver.specs.GoingBack.{restored, at_depth}
 use Rattle.goal_solver.specs.MergedRules.{MergesRules}
-use Rattle.goal_solver.specs.OpenGoals.{WhenAnswered, at_depth}
+use Rattle.goal_solver.specs.OpenGoals.{WhenAnswered}
 use Rattle.goal_solver.specs.OpenHostGoals.{rules_of_groups, GroupAnswers, ByRuleGroups, MergesConst, host_kind, IsPlain, AnswersPlain, ByPlainClass, MergesHostEffect}
 use Rattle.goal_solver.specs.OpenProjections.{ConsidersGroups, proven_class}
 use Rattle.goal_solver.specs.State.{State}

@@ -25,12 +25,12 @@ use Rattle.goal_kinds.specs.declared.rules.Rule.{Rule}
 use Rattle.goal_kinds.specs.declared.rules.RuleEntry.{RuleEntry}
 use Rattle.goal_infer.specs.Resolution.{IsSolved}
 use Rattle.goal_solver.specs.Binding.{IsApplicable}
-use Rattle.goal_solver.specs.GoingBack.{GoesBack, restored}
+use Rattle.goal_solver.specs.GoingBack.{GoesBack, restored, at_depth}
 use Rattle.goal_kinds.specs.Collecting.{Kind, CollectsFor, has_kind_fault, CollectsAll, classes_behind}
 use Rattle.goal_solver.specs.MergedRules.{MergesRules}
 use Rattle.goal_solver.specs.HiddenTypes.{tree_in}
 use Rattle.goal_solver.specs.OpenAnswers.{AnswersTrait, answers_at, less, MergesProjection, MergesThrough}
-use Rattle.goal_solver.specs.OpenGoals.{FormsGoal, MergesTraitWith, WhenAnswered, at_depth}
+use Rattle.goal_solver.specs.OpenGoals.{FormsGoal, MergesTraitWith, WhenAnswered}
 use Rattle.goal_solver.specs.OpenProjections.{Forms, FormsAll, RefusesForm, LacksForm, WithForms, IsRigid, own_args, proven_class, CollectsGroups, ConsidersGroups, ByBounds, ByRest, ByLater, ByGroups, alias_kind, AnswersTraitWith, ByClassWith, MergesThroughWith, IsAliasRule, RunsAlias, RunsEquation, AsksItsTrait}
 use Rattle.goal_solver.specs.OpenRuns.{RunsOpen}
 use Rattle.goal_solver.specs.Refusals.{WhenRefused, IsRefusedOpen}

@@ -40,7 +40,7 @@ use Rattle.goal_solver.specs.Accesses.{uncaused_faults, RecordsCausedFaults}
 use Rattle.goal_eval.specs.Entering.{Enters}
 use Rattle.goal_solver.specs.Added.{with_goals, RecordsFault}
 use Rattle.goal_solver.specs.GoingBack.{GoesBack}
-use Rattle.goal_solver.specs.OpenRuns.{OpenProgress, named_trees, after_entry, after_naming, clauses_with, conditions_with, predicate_of, other_header, source_of, AddsGoals, AddsRow, Defines, Equates, Evaluates, Follows, GivesForm, GivesTerm, GivesValue, IsGoalOf, MatchesIf, NamesOpen, ReadsMode, Steps}
+use Rattle.goal_solver.specs.OpenRuns.{OpenProgress, named_trees, after_entry, after_naming, clauses_with, conditions_with, predicate_of, other_header, source_of, AddsGoals, AddsRow, Defines, Equates, Evaluates, Follows, GivesForm, GivesTerm, GivesValue, IsGoalOf, MatchesIf, NamesArguments, ReadsMode, Steps}
 use Rattle.goal_solver.specs.RunRules.{AreListed}
 use Rattle.goal_solver.specs.State.{State}
 use Rattle.goal_solver.proofs.BindingLemmas.{zip-map}
@@ -174,7 +174,7 @@ follows-named z p own s ts c e f h = subst (λ x. Follows x own s ts c s) e (f, 
 
 -- the steps, by the entries
 pub arguments-step : (env : List Clause) (e : RuleEntry) (a : RuleArguments) (s : State) (p : OpenProgress) (u : State) (q : OpenProgress) (ts : List Tree) (c : Certainty) → e ≡ entry.Arguments a →
-    NamesOpen env p.named a s ts c u → q ≡ after_naming p ts c → Steps env e s p u q
+    NamesArguments env p.named a s ts c u → q ≡ after_naming p ts c → Steps env e s p u q
 unfolding Steps
 arguments-step env e a s p u q ts c is names after = subst (λ x. Steps env x s p u q) (sym is) (ts, c, names, after)
 

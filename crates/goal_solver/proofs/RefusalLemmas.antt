@@ -27,7 +27,7 @@ use Rattle.goal_solver.specs.Answers.{IsOwed}
 use Rattle.goal_solver.specs.Equating.{IsEquated}
 use Rattle.goal_solver.specs.GoingBack.{BeginsWith, GoesBack, restored, begun}
 use Rattle.goal_solver.specs.OpenRuns.{OpenProgress, open_start, RunsThrough}
-use Rattle.goal_solver.specs.Refusals.{WhenRefused, RefusesGoal, RefusesListed, RefusesOne, RefusesEqual, RefusesPending, RefusesNames, RefusesTerm, RefusesHidden, StepRefused, StopsAtEntry, StopsSomewhere, IsRefusedOpen}
+use Rattle.goal_solver.specs.Refusals.{WhenRefused, RefusesGoal, RefusesListed, RefusesOne, RefusesEqual, RefusesPending, RefusesArguments, RefusesTerm, RefusesHidden, StepRefused, StopsAtEntry, StopsSomewhere, IsRefusedOpen}
 use Rattle.goal_solver.specs.Relating.{ChangesRecords, SaysYes, Refuses}
 use Rattle.goal_solver.specs.State.{State}
 use Rattle.goal_solver.proofs.AddedGoalLemmas.{listed-pending, restored-owed}
@@ -126,7 +126,7 @@ pub pending-refused : (s u : State) → RefusesOne s u → u ≡ restored s u �
 pending-refused s u h e b = record { one = h; undone = e; back = b }
 
 -- the steps that are refused, by the entries
-pub arguments-refused : (env : List Clause) (e : RuleEntry) (a : RuleArguments) (s : State) (p : OpenProgress) (u : State) → e ≡ entry.Arguments a → RefusesNames env p.named a s u →
+pub arguments-refused : (env : List Clause) (e : RuleEntry) (a : RuleArguments) (s : State) (p : OpenProgress) (u : State) → e ≡ entry.Arguments a → RefusesArguments env p.named a s u →
     StepRefused env e s p u
 unfolding StepRefused
 arguments-refused env e a s p u is h = subst (λ x. StepRefused env x s p u) (sym is) h

@@ -1,5 +1,5 @@
 -- When a context goes back to an earlier one.
-use Rattle.std.specs.Prelude.{◌≡◌, List, length, take}
+use Rattle.std.specs.Prelude.{◌≡◌, ℕ, List, length, take}
 use Rattle.goal_terms.specs.TableMeaning.{Keeps}
 use Rattle.goal_infer.specs.Inference as inference
 use Rattle.goal_solver.specs.State.{State}
@@ -40,3 +40,7 @@ mark_of s = record { inference = inference.lengths_of s.inference; storage = len
 -- a context in which a trial begins
 abbrev pub begun : State → State
 begun s = record s { mark = mark_of s }
+
+-- a context with another depth left
+abbrev pub at_depth : ℕ → State → State
+at_depth n s = record s { remaining_depth = n }

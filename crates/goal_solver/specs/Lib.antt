@@ -20,6 +20,7 @@ pub mod HeadForms
 pub mod HiddenTypes
 pub mod RunAnswers
 pub mod RunRules
+pub mod OpenHeaders
 pub mod OpenRuns
 pub mod Refusals
 pub mod Assembled

@@ -13,9 +13,9 @@ use Rattle.goal_kinds.specs.declared.faults.Fault.{Fault}
 use Rattle.goal_eval.specs.ErasedArgs.{erased_args}
 use Rattle.goal_solver.specs.Answers.{IsOwed, level_over, AreClosed, IsTraitAnswer, IsOpen, IsMaybe}
 use Rattle.goal_kinds.specs.Collecting.{Kind}
-use Rattle.goal_solver.specs.GoingBack.{restored}
+use Rattle.goal_solver.specs.GoingBack.{restored, at_depth}
 use Rattle.goal_solver.specs.OpenForms.{Answering, with_taking}
-use Rattle.goal_solver.specs.OpenGoals.{AsksOpenSelf, FormedBy, InTrialWith, MergesGoalWith, MergesOpenedWith, MergesTraitWith, WhenAnswered, at_depth}
+use Rattle.goal_solver.specs.OpenGoals.{AsksOpenSelf, FormedBy, InTrialWith, MergesGoalWith, MergesOpenedWith, MergesTraitWith, WhenAnswered}
 use Rattle.goal_solver.specs.OpenProjections.{MergesProjectionWith, MergesThroughWith}
 use Rattle.goal_solver.specs.State.{State}
 

@@ -108,10 +108,6 @@ trait_classes = class.ParamEnv ∷ class.AliasBound ∷ class.Misc ∷ []
 abbrev pub AreOfClass : TypingMode → ClassRules → TypingMode → TraitGoalProvenVia → List Rule → Type 0
 AreOfClass mode w m c rs = (m ≡ mode) × (rs ≡ rules_of_class w c)
 
--- a context with another depth left
-abbrev pub at_depth : ℕ → State → State
-at_depth n s = record s { remaining_depth = n }
-
 -- a claim about an answer, where there is one
 abbrev pub WhenAnswered : Result Response Fault → Type 0 → Type 0
 WhenAnswered (Ok r) A = A

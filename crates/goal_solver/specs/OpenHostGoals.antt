@@ -15,10 +15,10 @@ use Rattle.goal_kinds.specs.KindWords.{host_words}
 use Rattle.goal_kinds.specs.declared.rules.Rule.{Rule}
 use Rattle.goal_solver.specs.Answers.{IsMaybe}
 use Rattle.goal_kinds.specs.Collecting.{Kind, kind_of, has_kind_fault}
-use Rattle.goal_solver.specs.GoingBack.{restored}
+use Rattle.goal_solver.specs.GoingBack.{restored, at_depth}
 use Rattle.goal_solver.specs.MergedRules.{MergesRules}
 use Rattle.goal_solver.specs.OpenAnswers.{MergesOpened, MergesTrait}
-use Rattle.goal_solver.specs.OpenGoals.{AnswersBeside, AsksOpenSelf, IsLeft, IsFormless, PassesSelf, WhenAnswered, at_depth}
+use Rattle.goal_solver.specs.OpenGoals.{AnswersBeside, AsksOpenSelf, IsLeft, IsFormless, PassesSelf, WhenAnswered}
 use Rattle.goal_solver.specs.OpenProjections.{CollectsGroups, GroupsForSelf, proven_class}
 use Rattle.goal_solver.specs.State.{State}
 use Rattle.goal_solver.specs.TranslatedArgs.{IsSameEnvironment}

@@ -39,11 +39,11 @@ use Rattle.goal_kinds.specs.declared.rules.RuleTerm.TheVariants as given
 use Rattle.goal_eval.specs.ErasedArgs.{erased_args}
 use Rattle.goal_kinds.specs.Collecting.{CollectsAll, classes_behind, Kind, kind_of, CollectsFor, has_kind_fault}
 use Rattle.goal_solver.specs.Answers.{IsOwed, level_over, AreClosed, IsTraitAnswer, IsOpen, IsMaybe}
-use Rattle.goal_solver.specs.GoingBack.{restored}
+use Rattle.goal_solver.specs.GoingBack.{restored, at_depth}
 use Rattle.goal_solver.specs.MergedRules.{MergesRules}
 use Rattle.goal_solver.specs.HiddenTypes.{AsksForm, tree_in}
 use Rattle.goal_solver.specs.OpenForms.{Answering}
-use Rattle.goal_solver.specs.OpenGoals.{AnswersBeside, AsksOpenSelf, Considers, IsFormless, IsLeft, MergesOpenedWith, MergesTraitWith, PassesSelf, TakesSelf, WhenAnswered, at_depth}
+use Rattle.goal_solver.specs.OpenGoals.{AnswersBeside, AsksOpenSelf, Considers, IsFormless, IsLeft, MergesOpenedWith, MergesTraitWith, PassesSelf, TakesSelf, WhenAnswered}
 use Rattle.goal_solver.specs.OpenRuns.{RunsOpen}
 use Rattle.goal_solver.specs.Refusals.{IsRefusedOpen}
 use Rattle.goal_solver.specs.State.{State}

@@ -1,5 +1,5 @@
 -- What running a list of entries with inference variables does: one step for each entry, in order, and a closing evaluation.
-use Rattle.std.specs.Prelude.{◌≡◌, ◌⊎◌, Bool, true, false, List, [], ◌∷◌, ◌++◌, length, map, Option, Some, None, option_map, slice_get, Result, Ok, Err, Vec, ℕ}
+use Rattle.std.specs.Prelude.{◌≡◌, ◌⊎◌, ◌≤◌, Bool, true, false, List, [], ◌∷◌, ◌++◌, length, map, Option, Some, None, option_map, slice_get, Result, Ok, Err, Vec, ℕ}
 use Rattle.std.specs.Global.{Global}
 use Rattle.std.specs.List.{AllZip}
 use Rattle.goal_terms.specs.Folding.{instance, instantiating}
@@ -52,15 +52,20 @@ use Rattle.goal_solver.specs.AddedGoals.{IsAnswerable, IsGoalAnswer, AllPendingT
 use Rattle.goal_solver.specs.Answers.{IsOwed}
 use Rattle.goal_solver.specs.Binding.{AddsNormalization, StandsForAlias, StandsForNoAlias}
 use Rattle.goal_solver.specs.Equating.{IsEquated}
-use Rattle.goal_solver.specs.GoingBack.{GoesBack, restored, begun}
+use Rattle.goal_solver.specs.GoingBack.{GoesBack, restored, begun, at_depth}
 use Rattle.goal_solver.specs.HiddenTypes.{NormalizesArgs, EntersHidden, bounds_in, checked_in}
 use Rattle.goal_solver.specs.OpenForms.{is_sure}
-use Rattle.goal_solver.specs.Relating.{ChangesRecords, LeavesOpen, SaysYes}
+use Rattle.goal_solver.specs.OpenHeaders.{IsFollowed, Opens}
+use Rattle.goal_solver.specs.Relating.{ChangesRecords, LeavesOpen, SaysYes, all_bound}
 use Rattle.goal_solver.specs.Responses.{ListsSinceMark, both_certain}
 use Rattle.goal_solver.specs.State.{State, kinds_of}
 use Rattle.goal_solver.specs.TranslatedArgs.{Asks, IsSameEnvironment}
 use Rattle.goal_solver.specs.Variables.{with_variables, kind_for, fresh_args}
 use Rattle.goal_solver.specs.declared.eval.run_rule.open_arguments.OpenRun.{OpenRun}
+use Rattle.goal_solver.specs.declared.eval.run_rule.opened_headers.AskedMatch.{AskedMatch}
+use Rattle.goal_terms.specs.Erased.{erased}
+use Rattle.goal_terms.specs.View.{trees_seen}
+use Rattle.goal_lists.specs.Interned.{AreIn, erased_all}
 use Rattle.goal_terms.specs.declared.answers.ParamKind.{ParamKind}
 use Rattle.goal_terms.specs.declared.ids.ImplId.{ImplId}
 use Rattle.goal_solver.specs.declared.eval.run_rule.open_arguments.NamedArgs.{NamedArgs}
@@ -164,6 +169,53 @@ NamesOpen env named (arguments.OtherImpl i j n) s ts c u =
     MatchesIf env (open_header s.tables (header.Impl i)) (other_header (impl_of s.tables j) (slice_get named n)) s ts c u
 NamesOpen env named (arguments.Followed n own) s ts c u = Follows (slice_get named n) (trees_of own.items) s ts c u
 
+-- the header that an entry matches, if it matches one, and what it is matched with
+abbrev pub asked_header : Tables → List (List Tree) → RuleArguments → Option (RuleHeader × Option (List Tree))
+asked_header t named (arguments.Header h args) = Some (h, Some (trees_of args.items))
+asked_header t named (arguments.OtherImpl i j n) = Some (header.Impl i, other_header (impl_of t j) (slice_get named n))
+asked_header t named _ = None
+
+-- an entry matches a header of a row with given terms
+pub record MatchesHeader (named : List (List Tree)) (a : RuleArguments) (s : State) (h : RuleHeader) (terms given : List Tree) : Type 0 where
+  pub asked : asked_header s.tables named a ≡ Some (h, Some given)
+  pub params : List ParamKind
+  pub has : open_header s.tables h ≡ Some (record { params = params; terms = terms })
+
+-- so it does for what is asked of a header with numbers for the given terms, bindings followed
+pub record IsMatchOf (h : RuleHeader) (given : List Tree) (s : State) (T : List Tree) (m : AskedMatch) : Type 0 where
+  pub same : m.header ≡ h
+  pub params : List ParamKind
+  pub has : open_header s.tables h ≡ Some (record { params = params; terms = trees_seen m.terms })
+  pub within : AreIn T m.given.items
+  pub follows : erased_all T m.given.items ≡ all_bound s (map erased given)
+
+pub record IsAskedMatch (named : List (List Tree)) (a : RuleArguments) (s : State) (T : List Tree) (m : AskedMatch) : Type 0 where
+  pub given : List Tree
+  pub asked : asked_header s.tables named a ≡ Some (m.header, Some given)
+  pub is : IsMatchOf m.header given s T m
+
+-- its given terms are opened: with bindings followed, and then alias by alias
+pub record OpensArguments (env : List Clause) (named : List (List Tree)) (a : RuleArguments) (old : State) (opened : RuleArguments) (new : State) : Type 0 where
+  pub header : RuleHeader
+  pub terms : List Tree
+  pub given : List Tree
+  pub matches : MatchesHeader named a old header terms given
+  pub followed : List Tree
+  pub known : State
+  pub follows : IsFollowed given old followed known
+  pub args : Vec GenericArg Global
+  pub is : opened ≡ arguments.Header header args
+  pub opens : Opens env terms followed known (trees_of args.items) new
+
+-- they are, or stay as they stand
+abbrev pub MayOpen : List Clause → List (List Tree) → RuleArguments → State → RuleArguments → State → Type 0
+MayOpen env named a s b z = ((b ≡ a) × (z ≡ restored s z)) ⊎ OpensArguments env named a s b z
+
+-- an entry names arguments, for given terms that may be opened, at no greater depth
+abbrev pub NamesArguments : List Clause → List (List Tree) → RuleArguments → State → List Tree → Certainty → State → Type 0
+NamesArguments env named a s ts c u =
+    (b : RuleArguments) × (z : State) × (k : ℕ) × (k ≤ s.remaining_depth) × MayOpen env named a s b z × NamesOpen env named b (at_depth k z) ts c (at_depth k u)
+
 -- what a row's clauses are asked for
 abbrev pub source_of : RowClauses → GoalSource
 source_of (clauses.Impl i) = source.ImplWhereBound
@@ -233,6 +285,7 @@ is_chosen _ = false
 abbrev pub evaluates : RuleEntry → Bool
 evaluates entry.Evaluation = true
 evaluates (entry.Term v e) = true
+evaluates (entry.Arguments a) = true
 evaluates _ = false
 
 -- the expected term is given what an entry says; a term as it stands is made equal to it
@@ -280,7 +333,7 @@ Joins p q Does = (c : Certainty) × Does c × (q ≡ after_entry p c)
 
 -- the step of an entry: what the call that it stands for may do to a context, and how far the list was run then
 unfoldable pub Steps : List Clause → RuleEntry → State → OpenProgress → State → OpenProgress → Type 0
-Steps env (entry.Arguments a) s p u q = (ts : List Tree) × (c : Certainty) × NamesOpen env p.named a s ts c u × (q ≡ after_naming p ts c)
+Steps env (entry.Arguments a) s p u q = (ts : List Tree) × (c : Certainty) × NamesArguments env p.named a s ts c u × (q ≡ after_naming p ts c)
 Steps env (entry.Equation ts us) s p u q = Joins p q (λ c. Equates env (trees_of ts.items) (trees_of us.items) s u c)
 Steps env (entry.Clause g k) s p u q = Joins p q (λ c. AddsGoals g env (tree_of_kind k ∷ []) s u × (c ≡ certainty.Yes))
 Steps env (entry.RowClauses w n) s p u q = Joins p q (λ c. AddsRow clauses_with (source_of w) env (clauses_in s.tables w) (slice_get p.named n) s c u)

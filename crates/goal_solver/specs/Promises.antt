@@ -41,7 +41,8 @@ use Rattle.goal_solver.specs.Assembled.{level_above, level_through, HoldsThrough
 use Rattle.goal_solver.specs.Binding.{IsApplicable}
 use Rattle.goal_solver.specs.Goals.{IsAcceptedNormalization}
 use Rattle.goal_solver.specs.OpenAnswers.{MergesProjection, MergesTrait}
-use Rattle.goal_solver.specs.OpenGoals.{WhenAnswered, at_depth}
+use Rattle.goal_solver.specs.OpenGoals.{WhenAnswered}
+use Rattle.goal_solver.specs.GoingBack.{at_depth}
 use Rattle.goal_solver.specs.OpenHostGoals.{MergesHostEffect}
 use Rattle.goal_solver.specs.OpenProjections.{RunsEquation, AnswersRun}
 use Rattle.goal_solver.specs.Recording.{is_ambiguous}

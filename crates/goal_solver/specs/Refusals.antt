@@ -1,5 +1,5 @@
 -- What refusals rest on: those of the goals that are pending, of the steps of a list of entries with inference variables, and of such a list.
-use Rattle.std.specs.Prelude.{◌≡◌, ◌⊎◌, ◌<◌, ℕ, false, List, [], ◌∷◌, ◌++◌, length, map, Option, Some, None, slice_get, Result, Ok, Err, IfErr}
+use Rattle.std.specs.Prelude.{◌≡◌, ◌⊎◌, ◌<◌, ◌≤◌, ℕ, false, List, [], ◌∷◌, ◌++◌, length, map, Option, Some, None, slice_get, Result, Ok, Err, IfErr}
 use Rattle.goal_terms.specs.Folding.{instance}
 use Rattle.goal_terms.specs.Tree.{Tree}
 use Rattle.goal_terms.specs.TreeOf.{trees_of, tree_of_ty, tree_of_term}
@@ -25,15 +25,17 @@ use Rattle.goal_kinds.specs.declared.rules.RuleArguments.{RuleArguments}
 use Rattle.goal_kinds.specs.declared.rules.RuleArguments.TheVariants as arguments
 use Rattle.goal_kinds.specs.declared.rules.RuleEntry.{RuleEntry}
 use Rattle.goal_kinds.specs.declared.rules.RuleEntry.TheVariants as entry
+use Rattle.goal_lists.specs.declared.lists.RuleHeader.{RuleHeader}
 use Rattle.goal_lists.specs.declared.lists.RuleHeader.TheVariants as header
 use Rattle.goal_kinds.specs.declared.rules.RuleTerm.{RuleTerm}
 use Rattle.goal_kinds.specs.declared.rules.RuleTerm.TheVariants as term
 use Rattle.goal_solver.specs.AddedGoals.{IsClosedGoal, IsRefutedIn, IsPending, count_of}
 use Rattle.goal_solver.specs.Answers.{IsOwed}
 use Rattle.goal_solver.specs.Equating.{IsEquated}
-use Rattle.goal_solver.specs.GoingBack.{GoesBack, restored, begun}
+use Rattle.goal_solver.specs.GoingBack.{GoesBack, restored, begun, at_depth}
 use Rattle.goal_solver.specs.HiddenTypes.{NormalizesArgs, RefusesArgs, EntersHidden, checked_in}
-use Rattle.goal_solver.specs.OpenRuns.{OpenProgress, open_start, open_header, other_header, AnswersAlone, RunsThrough}
+use Rattle.goal_solver.specs.OpenHeaders.{IsFollowed, StopsOpening}
+use Rattle.goal_solver.specs.OpenRuns.{OpenProgress, open_start, open_header, other_header, AnswersAlone, MatchesHeader, MayOpen, RunsThrough}
 use Rattle.goal_solver.specs.Binding.{StandsForNoAlias}
 use Rattle.goal_solver.specs.State.{State, kinds_of}
 use Rattle.goal_solver.specs.Variables.{with_variables, kind_for, fresh_args}
@@ -84,6 +86,23 @@ RefusesNames env named (arguments.Header h args) s u = RefusesMatchIf env (open_
 RefusesNames env named (arguments.OtherImpl i j n) s u = RefusesMatchIf env (open_header s.tables (header.Impl i)) (other_header (impl_of s.tables j) (slice_get named n)) s u
 RefusesNames env named (arguments.Followed n own) s u = ⊥
 
+-- an alias among a header's given terms is refused
+pub record RefusesOpening (env : List Clause) (named : List (List Tree)) (a : RuleArguments) (old new : State) : Type 0 where
+  pub header : RuleHeader
+  pub terms : List Tree
+  pub given : List Tree
+  pub matches : MatchesHeader named a old header terms given
+  pub followed : List Tree
+  pub known : State
+  pub follows : IsFollowed given old followed known
+  pub stops : StopsOpening env terms followed known new
+
+-- arguments that an entry names are refused where given terms are opened, or once they are
+abbrev pub RefusesArguments : List Clause → List (List Tree) → RuleArguments → State → State → Type 0
+RefusesArguments env named a s u =
+    RefusesOpening env named a s u
+    ⊎ ((b : RuleArguments) × (z : State) × (k : ℕ) × (k ≤ s.remaining_depth) × MayOpen env named a s b z × RefusesNames env named b (at_depth k z) (at_depth k u))
+
 -- the head form of a term is refused for an expected one: the term stands for no alias, and the two can't be made equal
 abbrev pub RefusesForm : List Clause → Tree → Tree → State → State → Type 0
 RefusesForm env v t s u = StandsForNoAlias s t × RefusesEqual env (v ∷ []) (t ∷ []) s u
@@ -129,7 +148,7 @@ RefusesHidden env (expected.Ty t) k f s u =
 
 -- the step of an entry is refused, and what is left then: only a header, an equation, a term, a hidden type, an evaluation and a rule that doesn't stand can be
 unfoldable pub StepRefused : List Clause → RuleEntry → State → OpenProgress → State → Type 0
-StepRefused env (entry.Arguments a) s p u = RefusesNames env p.named a s u
+StepRefused env (entry.Arguments a) s p u = RefusesArguments env p.named a s u
 StepRefused env (entry.Equation ts us) s p u = RefusesEqual env (trees_of ts.items) (trees_of us.items) s u
 StepRefused env (entry.Clause g k) s p u = ⊥
 StepRefused env (entry.RowClauses w n) s p u = ⊥

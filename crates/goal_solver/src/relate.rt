@@ -9,6 +9,7 @@ ghost use Rattle.goal_solver.specs.GoingBack.{GoesBack, restored};
 ghost use Rattle.goal_solver.specs.Relating.{ChangesRecords};
 ghost use Rattle.goal_solver.specs.Relating.{IsFaultFor};
 
+pub(crate) mod headers;
 pub(crate) mod lifetimes;
 pub(crate) mod lists;
 pub(crate) mod resolved;

@@ -151,7 +151,7 @@ impl EvalCtxt<'_> {
     }
 
     /// The alias that the term of a number is. Only memory is refused.
-    fn alias_at(&self, id: TermId) -> Result<Option<AliasTerm>, Fault>
+    pub(crate) fn alias_at(&self, id: TermId) -> Result<Option<AliasTerm>, Fault>
         requires { id.0 < length self.now.terms }
         ensures alias { IfOk result (λ o. IfSome o (λ a. tree_of_alias a ≡ tree_at self.now.terms id)) }
         ensures none { IfOk result (λ o. is_some o ≡ is_alias (node_of (tree_at self.now.terms id))) }

@@ -2,8 +2,8 @@
 ghost use Rattle.std.specs.Prelude.{◌≡◌, ◌<◌, ℕ, suc, Option, Result, Err, IfOk, IfSome, IsOkUnless};
 ghost use Rattle.goal_solver.specs.Binding.{IsApplicable};
 ghost use Rattle.goal_kinds.specs.Collecting.{kind_of};
-ghost use Rattle.goal_solver.specs.GoingBack.{GoesBack, restored};
-ghost use Rattle.goal_solver.specs.OpenGoals.{WhenAnswered, at_depth};
+ghost use Rattle.goal_solver.specs.GoingBack.{GoesBack, restored, at_depth};
+ghost use Rattle.goal_solver.specs.OpenGoals.{WhenAnswered};
 ghost use Rattle.goal_solver.specs.OpenHostGoals.{ByRuleGroups, GroupAnswers, host_kind, IsPlain, MergesConst, MergesHostEffect, rules_of_groups};
 ghost use Rattle.goal_solver.specs.Promises.{LeavesUndecided, MergesOpenHostEffect};
 ghost use Rattle.goal_solver.specs.Relating.{IsFaultFor};

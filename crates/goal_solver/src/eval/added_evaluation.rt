@@ -2,7 +2,7 @@
 ghost use Rattle.std.specs.Prelude.{◌≡◌, ◌↔◌, ◌<◌, ℕ, List, [], ◌∷◌, ◌++◌, length, true, false, Some, slice_get, Err, IfOk, IfErr, IfSome, OnOk, OnErr, IsTrue, IsOkUnless};
 ghost use Rattle.std.specs.List.{Contains};
 ghost use Rattle.goal_terms.specs.declared.modes.TypingMode.{TypingMode as modes};
-ghost use Rattle.goal_lists.specs.Interned.{IsIn};
+ghost use Rattle.goal_lists.specs.Interned.{IsIn, AreIn};
 ghost use Rattle.goal_lists.specs.Settings.{is_headline};
 ghost use Rattle.goal_solver.specs.Accesses.{RecordsCausedFaults};
 ghost use Rattle.goal_solver.specs.Added.{has_goals};
@@ -16,14 +16,18 @@ ghost use Rattle.goal_solver.specs.Refusals.{WhenRefused, RefusesGoal, RefusesLi
 ghost use Rattle.goal_solver.specs.Relating.{ChangesRecords, IsFaultFor, SaysYes, LeavesOpen};
 
 use crate::assembly::more_special::binds_nothing;
+use crate::context::rebuilding::rebuilt_args;
 use crate::context::{EvalCtxt, Snapshot};
 use crate::eval::goal_outcomes::OpenGoal;
 use crate::eval::recalled::{outcome_of, outcome_of_form};
+use crate::eval::where_goals::copied_clauses;
 use crate::faults::Fault;
 use goal_eval::eval::outcomes::Stop;
 use goal_lists::outcomes::Outcome;
 use goal_terms::answers::{Certainty, GoalSource, Response};
-use goal_terms::predicates::{Clause, Goal, Predicate};
+use goal_terms::predicates::{
+    Clause, Goal, HostEffectPredicate, Predicate, TraitPredicate, TraitRef,
+};
 use goal_terms::term_nodes::TermId;
 use goal_terms::terms::AliasTerm;
 use std::mem;
@@ -193,7 +197,7 @@ impl EvalCtxt<'_> {
         ensures fault { IsFaultFor self.old self.new result }
     {
         match self.open_goal(goal)? {
-            Some(asked) => self.evaluate_open(&asked),
+            Some(asked) => self.evaluate_open(&goal.param_env, &asked),
             None => self.evaluate_alias_or_other(goal),
         }
     }
@@ -264,7 +268,7 @@ impl EvalCtxt<'_> {
     /// The number of the head form of an alias with inference variables. There is none so far of one whose head form
     /// is being found already; one that is known is given again.
     #[cycle(open)]
-    fn form_once(
+    pub(crate) fn form_once(
         &mut self,
         environment: &[Clause],
         alias: AliasTerm,
@@ -331,18 +335,19 @@ impl EvalCtxt<'_> {
     /// so again. Whether it was or not, all that an answer which is kept leaves is what it keeps: so goals that ask the
     /// same are left with the same.
     #[cycle(open)]
-    fn evaluate_open(&mut self, goal: &OpenGoal) -> Result<Certainty, Fault>
+    fn evaluate_open(&mut self, environment: &[Clause], goal: &OpenGoal) -> Result<Certainty, Fault>
+        requires args { AreIn self.old.terms goal.now.args.items }
         ensures alone { ChangesRecords self.old self.new }
         ensures faults { RecordsCausedFaults self.old self.new }
         ensures goes_back { GoesBack self.old self.new }
         ensures fault { IsFaultFor self.old self.new result }
     {
-        if let Some(known) = self.begin_open(goal)? {
+        if let Some(known) = self.begin_open(environment, goal)? {
             return self.repeat(known);
         }
         self.holds_together();
         let before = self.snapshot();
-        let answered = self.evaluate_once(goal);
+        let answered = self.evaluate_once(environment, goal);
         let Some(kept) = self.end_goal(outcome_of(&answered), None)? else {
             return answered;
         };
@@ -353,7 +358,8 @@ impl EvalCtxt<'_> {
     /// What a goal with inference variables comes to: it is answered by its candidates, at one less of the depth, and
     /// an answer that is sure is applied. At depth 0 it is undecided.
     #[cycle(open)]
-    fn evaluate_once(&mut self, goal: &OpenGoal) -> Result<Certainty, Fault>
+    fn evaluate_once(&mut self, environment: &[Clause], goal: &OpenGoal) -> Result<Certainty, Fault>
+        requires args { AreIn self.old.terms goal.now.args.items }
         ensures alone { ChangesRecords self.old self.new }
         ensures faults { RecordsCausedFaults self.old self.new }
         ensures goes_back { GoesBack self.old self.new }
@@ -363,20 +369,21 @@ impl EvalCtxt<'_> {
             return Ok(Certainty::Maybe);
         }
         let known = self.delayed_faults.len();
-        let answered = self.apply_below(goal);
+        let answered = self.apply_below(environment, goal);
         self.keep_caused_faults(known);
         answered
     }
 
     /// Applies what a goal with inference variables is answered, if that is sure and tells something.
     #[cycle(open)]
-    fn apply_below(&mut self, goal: &OpenGoal) -> Result<Certainty, Fault>
+    fn apply_below(&mut self, environment: &[Clause], goal: &OpenGoal) -> Result<Certainty, Fault>
         requires positive { 0 < self.old.remaining_depth }
+        requires args { AreIn self.old.terms goal.now.args.items }
         ensures alone { ChangesRecords self.old self.new }
         ensures goes_back { GoesBack self.old self.new }
         ensures fault { IsFaultFor self.old self.new result }
     {
-        let response = self.answer_below(goal)?;
+        let response = self.answer_below(environment, goal)?;
         if tells_nothing(&response) {
             return Ok(response.certainty);
         }
@@ -386,16 +393,52 @@ impl EvalCtxt<'_> {
     /// What a goal with inference variables is answered by its candidates, at one less of the depth. Inference
     /// state, added goals and storage are as before.
     #[cycle(open)]
-    fn answer_below(&mut self, goal: &OpenGoal) -> Result<Response, Fault>
+    fn answer_below(&mut self, environment: &[Clause], goal: &OpenGoal) -> Result<Response, Fault>
         requires positive { 0 < self.old.remaining_depth }
+        requires args { AreIn self.old.terms goal.now.args.items }
         ensures applies { IfOk result (IsApplicable self.new) }
         ensures unchanged { self.new ≡ restored self.old self.new }
         ensures goes_back { GoesBack self.old self.new }
         ensures fault { IsFaultFor self.old self.new result }
     {
-        match goal {
-            OpenGoal::Trait(goal) => self.merge_below(goal),
-            OpenGoal::HostEffect(goal) => self.hold_const_below(goal),
+        let (param_env, trait_ref) = self.rebuilt_parts(environment, goal)?;
+        match goal.constness {
+            None => self.merge_below(&Goal {
+                param_env,
+                predicate: TraitPredicate { trait_ref },
+            }),
+            Some(constness) => self.hold_const_below(&Goal {
+                param_env,
+                predicate: HostEffectPredicate {
+                    trait_ref,
+                    constness,
+                },
+            }),
+        }
+    }
+
+    /// A copy of the environment, and the trait with its arguments, of a goal whose candidates are asked. Only memory is
+    /// refused.
+    fn rebuilt_parts(
+        &self,
+        environment: &[Clause],
+        goal: &OpenGoal,
+    ) -> Result<(Vec<Clause>, TraitRef), Fault>
+        requires { AreIn self.now.terms goal.now.args.items }
+        ensures only_memory { IsOkUnless result Fault.OutOfMemory }
+    {
+        let Ok(param_env) = copied_clauses(self.allocator(), environment) else {
+            return Err(Fault::OutOfMemory);
+        };
+        match rebuilt_args(&self.terms, &goal.args) {
+            Ok(args) => Ok((
+                param_env,
+                TraitRef {
+                    def_id: goal.trait_id,
+                    args,
+                },
+            )),
+            Err(_) => Err(Fault::OutOfMemory),
         }
     }
 

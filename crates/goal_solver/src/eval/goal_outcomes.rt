@@ -1,5 +1,5 @@
 //! Whether a goal that was added holds.
-ghost use Rattle.std.specs.Prelude.{◌≡◌, ◌<◌, ◌||◌, length, None, IfOk, IfErr, OnOk, IsOkUnless};
+ghost use Rattle.std.specs.Prelude.{◌≡◌, ◌<◌, ◌||◌, length, None, IfOk, IfErr, IfSome, OnOk, IsOkUnless};
 ghost use Rattle.goal_terms.specs.TableMeaning.{Keeps, tree_at};
 ghost use Rattle.goal_terms.specs.TreeOf.{tree_of_term};
 ghost use Rattle.goal_infer.specs.Resolution.{binding_of};
@@ -19,7 +19,6 @@ use crate::eval::closed_goals::{has_variable, is_closed_alias};
 use crate::eval::free_variables::general_variable;
 use crate::eval::open_terms::any_variable;
 use crate::eval::predicate_views::PredicateView;
-use crate::eval::where_goals::copied_clauses;
 use crate::eval::written_out::may_be_written_out;
 use crate::faults::Fault;
 use goal_eval::eval::outcomes::{Found, Stop};
@@ -32,18 +31,19 @@ use goal_lists::candidates::interned::{InternedPredicate, InternedTrait};
 use goal_lists::outcomes::Outcome;
 use goal_tables::predicate_terms::some_in_env;
 use goal_terms::heads::Variable;
+use goal_terms::ids::TraitId;
 use goal_terms::node_tests::NodeTest;
-use goal_terms::predicates::{
-    Clause, Goal, HostEffectPredicate, NormalizesTo, Predicate, TraitPredicate, TraitRef,
-};
+use goal_terms::predicates::{BoundConstness, Clause, Goal, NormalizesTo, Predicate, TraitRef};
 use goal_terms::term_nodes::TermId;
-use goal_terms::terms::{AliasTerm, GenericArg, Term};
+use goal_terms::terms::{AliasTerm, AliasTermKind, GenericArg, Term};
 
-/// A goal with inference variables that its candidates are asked for.
+/// A goal with inference variables that its candidates are asked for: a trait with the numbers of its arguments, the
+/// bindings of variables followed, and of which constness it is asked as a const trait.
 #[derive(Drop)]
-pub(crate) enum OpenGoal {
-    Trait(Goal<TraitPredicate>),
-    HostEffect(Goal<HostEffectPredicate>),
+pub(crate) struct OpenGoal {
+    pub trait_id: TraitId,
+    pub args: Vec<TermId>,
+    pub constness: Option<BoundConstness>,
 }
 
 impl EvalCtxt<'_> {
@@ -79,6 +79,7 @@ impl EvalCtxt<'_> {
     /// out. Nothing changes but that there may be more terms. Only memory is refused.
     pub(crate) fn open_goal(&mut self, goal: &Goal<Predicate>) -> Result<Option<OpenGoal>, Fault>
         ensures closed { IsAnswerable self.old goal.now.predicate goal.now.param_env.items → IfOk result (λ o. o ≡ None) }
+        ensures within { IfOk result (λ o. IfSome o (λ asked. AreIn self.new.terms asked.args.items)) }
         ensures unchanged { self.new ≡ record self.old { terms = self.new.terms } }
         ensures kept { Keeps self.old.terms self.new.terms }
         ensures only_memory { IsOkUnless result Fault.OutOfMemory }
@@ -86,76 +87,50 @@ impl EvalCtxt<'_> {
         if !has_variable(goal) {
             return Ok(None);
         }
-        let found = match &goal.predicate {
-            Predicate::Trait(asked) => self.open_trait_goal(asked, &goal.param_env),
-            Predicate::HostEffect(asked) => self.open_const_goal(asked, &goal.param_env),
+        match &goal.predicate {
+            Predicate::Trait(asked) => self.open_trait(&asked.trait_ref, None, &goal.param_env),
+            Predicate::HostEffect(asked) => self.open_trait(
+                &asked.trait_ref,
+                Some(asked.constness),
+                &goal.param_env,
+            ),
             _ => Ok(None),
-        };
-        match found {
-            Ok(open) => Ok(open),
+        }
+    }
+
+    /// The same of a trait with its arguments, as `open_args` has these. Nothing changes but that there may be more
+    /// terms. Only memory is refused.
+    fn open_trait(
+        &mut self,
+        asked: &TraitRef,
+        constness: Option<BoundConstness>,
+        environment: &[Clause],
+    ) -> Result<Option<OpenGoal>, Fault>
+        ensures within { IfOk result (λ o. IfSome o (λ asked. AreIn self.new.terms asked.args.items)) }
+        ensures unchanged { self.new ≡ record self.old { terms = self.new.terms } }
+        ensures kept { Keeps self.old.terms self.new.terms }
+        ensures only_memory { IsOkUnless result Fault.OutOfMemory }
+    {
+        match self.open_args(&asked.args, environment) {
+            Ok(Some(args)) => Ok(Some(OpenGoal {
+                trait_id: asked.def_id,
+                args,
+                constness,
+            })),
+            Ok(None) => Ok(None),
             Err(_) => Err(Fault::OutOfMemory),
         }
     }
 
-    /// A trait goal with the bindings of the variables in its arguments followed, as `open_args` does it. Nothing
-    /// changes but that there may be more terms.
-    fn open_trait_goal(
-        &mut self,
-        asked: &TraitPredicate,
-        environment: &[Clause],
-    ) -> Result<Option<OpenGoal>, Stop>
-        ensures kept { Keeps self.old.terms self.new.terms }
-        ensures unchanged { self.new ≡ record self.old { terms = self.new.terms } }
-    {
-        let Some(args) = self.open_args(&asked.trait_ref.args, environment)? else {
-            return Ok(None);
-        };
-        let def_id = asked.trait_ref.def_id;
-        let trait_ref = TraitRef { def_id, args };
-        let goal = self.goal_under(environment, TraitPredicate { trait_ref })?;
-        Ok(Some(OpenGoal::Trait(goal)))
-    }
-
-    /// The same of a goal that a trait holds as a const trait.
-    fn open_const_goal(
-        &mut self,
-        asked: &HostEffectPredicate,
-        environment: &[Clause],
-    ) -> Result<Option<OpenGoal>, Stop>
-        ensures kept { Keeps self.old.terms self.new.terms }
-        ensures unchanged { self.new ≡ record self.old { terms = self.new.terms } }
-    {
-        let Some(args) = self.open_args(&asked.trait_ref.args, environment)? else {
-            return Ok(None);
-        };
-        let def_id = asked.trait_ref.def_id;
-        let predicate = HostEffectPredicate {
-            trait_ref: TraitRef { def_id, args },
-            constness: asked.constness,
-        };
-        let goal = self.goal_under(environment, predicate)?;
-        Ok(Some(OpenGoal::HostEffect(goal)))
-    }
-
-    /// A goal under a copy of an environment.
-    fn goal_under<P: Drop>(&self, environment: &[Clause], predicate: P) -> Result<Goal<P>, Stop> {
-        match copied_clauses(self.allocator(), environment) {
-            Ok(param_env) => Ok(Goal {
-                param_env,
-                predicate,
-            }),
-            Err(_) => Err(Stop::OutOfMemory),
-        }
-    }
-
-    /// The arguments of a goal with the bindings of their variables followed, if a variable is left in one of them or
-    /// stands in the environment, and they aren't too large to be written out. Nothing changes but that there may
-    /// be more terms.
+    /// The numbers of a goal's arguments with the bindings of their variables followed, if a variable is left in one of
+    /// them or stands in the environment, and they aren't too large to be written out. Nothing changes but that there
+    /// may be more terms.
     fn open_args(
         &mut self,
         args: &[GenericArg],
         environment: &[Clause],
-    ) -> Result<Option<Vec<GenericArg>>, Stop>
+    ) -> Result<Option<Vec<TermId>>, Stop>
+        ensures within { IfOk result (λ o. IfSome o (λ ids. AreIn self.new.terms ids.items)) }
         ensures kept { Keeps self.old.terms self.new.terms }
         ensures unchanged { self.new ≡ record self.old { terms = self.new.terms } }
     {
@@ -166,8 +141,7 @@ impl EvalCtxt<'_> {
         if !is_open || !may_be_written_out(&self.terms, &ids) {
             return Ok(None);
         }
-        let followed = rebuilt_args(&self.terms, &ids)?;
-        Ok(Some(followed))
+        Ok(Some(ids))
     }
 
     /// The alias whose term a goal asks for with the bindings of its variables followed, if a variable is left in it or
@@ -189,11 +163,19 @@ impl EvalCtxt<'_> {
             return Ok(None);
         }
         match self.open_args(&asked.alias.args, &goal.param_env) {
-            Ok(Some(args)) => Ok(Some(AliasTerm {
-                kind: asked.alias.kind,
-                args,
-            })),
+            Ok(Some(ids)) => self.alias_with(asked.alias.kind, &ids),
             Ok(None) => Ok(None),
+            Err(_) => Err(Fault::OutOfMemory),
+        }
+    }
+
+    /// An alias with the arguments of some numbers. Only memory is refused.
+    fn alias_with(&self, kind: AliasTermKind, ids: &[TermId]) -> Result<Option<AliasTerm>, Fault>
+        requires { AreIn self.now.terms ids.now }
+        ensures only_memory { IsOkUnless result Fault.OutOfMemory }
+    {
+        match rebuilt_args(&self.terms, ids) {
+            Ok(args) => Ok(Some(AliasTerm { kind, args })),
             Err(_) => Err(Fault::OutOfMemory),
         }
     }

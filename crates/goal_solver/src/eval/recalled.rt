@@ -20,7 +20,7 @@ use goal_lists::outcomes::Outcome;
 use goal_terms::answers::Certainty;
 use goal_terms::heads::{Node, Variable};
 use goal_terms::ids::TraitId;
-use goal_terms::predicates::{BoundConstness, Clause, TraitRef};
+use goal_terms::predicates::{BoundConstness, Clause};
 use goal_terms::term_nodes::{OutOfMemory, TermId};
 use goal_terms::term_table::TermTable;
 use goal_terms::terms::AliasTerm;
@@ -29,38 +29,20 @@ use goal_terms::view::TermRef;
 impl EvalCtxt<'_> {
     /// What is known of a goal with inference variables. Else it is being answered from now on. Nothing changes but that
     /// there may be more terms. Only memory is refused.
-    pub(crate) fn begin_open(&mut self, goal: &OpenGoal) -> Result<Option<Recalled>, Fault>
-        ensures unchanged { self.new ≡ record self.old { terms = self.new.terms } }
-        ensures kept { Keeps self.old.terms self.new.terms }
-        ensures only_memory { IsOkUnless result Fault.OutOfMemory }
-    {
-        match goal {
-            OpenGoal::Trait(goal) => {
-                self.begin_trait(&goal.predicate.trait_ref, None, &goal.param_env)
-            }
-            OpenGoal::HostEffect(goal) => {
-                let asked = &goal.predicate;
-                self.begin_trait(&asked.trait_ref, Some(asked.constness), &goal.param_env)
-            }
-        }
-    }
-
-    /// The same of a goal that a trait holds, or holds as a const trait.
-    fn begin_trait(
+    pub(crate) fn begin_open(
         &mut self,
-        held: &TraitRef,
-        constness: Option<BoundConstness>,
         environment: &[Clause],
+        goal: &OpenGoal,
     ) -> Result<Option<Recalled>, Fault>
+        requires { AreIn self.old.terms goal.now.args.items }
         ensures unchanged { self.new ≡ record self.old { terms = self.new.terms } }
         ensures kept { Keeps self.old.terms self.new.terms }
         ensures only_memory { IsOkUnless result Fault.OutOfMemory }
     {
-        let args = self.bound_args(&held.args)?;
-        let Ok(goal) = self.trait_number(held.def_id, &args) else {
+        let Ok(number) = self.trait_number(goal.trait_id, &goal.args) else {
             return Err(Fault::OutOfMemory);
         };
-        self.begin_goal(goal, constness, environment)
+        self.begin_goal(number, goal.constness, environment)
     }
 
     /// The same of the head form of an alias, bindings followed.

@@ -26,6 +26,7 @@ pub(crate) mod interned;
 pub(crate) mod open;
 pub(crate) mod open_arguments;
 pub(crate) mod open_entries;
+pub(crate) mod opened_headers;
 pub(crate) mod recorded;
 pub(crate) mod variables;
 

@@ -1,7 +1,7 @@
 //! The head forms of terms in a context.
-ghost use Rattle.std.specs.Prelude.{◌≡◌, ◌||◌, true, false, Ok, None, IfOk, IfErr};
+ghost use Rattle.std.specs.Prelude.{◌≡◌, ◌||◌, true, false, Ok, None, IfOk, IfErr, IfSome};
 ghost use Rattle.goal_terms.specs.NodeTests.{is_any_infer, some_node};
-ghost use Rattle.goal_terms.specs.TableMeaning.{Keeps, HasTerm};
+ghost use Rattle.goal_terms.specs.TableMeaning.{tree_at, Keeps, HasTerm};
 ghost use Rattle.goal_terms.specs.Tree.{node_of};
 ghost use Rattle.goal_terms.specs.declared.modes.TypingMode.{TypingMode as modes};
 ghost use Rattle.goal_tables.specs.Predicates.{some_in_env as some_env};
@@ -14,7 +14,9 @@ ghost use Rattle.goal_solver.specs.GoingBack.{GoesBack, restored};
 ghost use Rattle.goal_solver.specs.HeadForms.{bound_term, IsClosedForm, IsFormAnswer, IsAnswered, IsFormFound, IsFoundItself, LeavesFormOpen, AnswersForm, is_open_form, IsLeftOpen, IsLeftUndecided, IsUnfoundFor, SaysForm};
 ghost use Rattle.goal_solver.specs.OpenAnswers.{answers_term};
 ghost use Rattle.goal_solver.specs.OpenForms.{OpensTerm, gives_form};
+ghost use Rattle.goal_solver.specs.OpenHeaders.{IsFoundForm, LacksConstructor};
 ghost use Rattle.goal_eval.specs.Outcomes.{FoundIn};
+ghost use Rattle.goal_solver.specs.Refusals.{WhenRefused};
 ghost use Rattle.goal_solver.specs.Relating.{IsFaultFor};
 ghost use Rattle.goal_solver.specs.Promises.{WhereOwed};
 
@@ -211,6 +213,34 @@ impl EvalCtxt<'_> {
         let depth = self.remaining_depth();
         let mut listed = RegionConstraints::new(self.allocator());
         self.evaluate(&AskedForm(id), environment, depth, &mut listed)
+    }
+
+    /// The head form of a term without inference variables at a depth, if it is known. Nothing changes but that there may be
+    /// more terms, accesses and delayed faults.
+    pub(crate) fn closed_form_below(
+        &mut self,
+        environment: &[Clause],
+        id: TermId,
+        depth: u32,
+    ) -> Result<Option<TermId>, Fault>
+        requires { IsIn self.old.terms id }
+        ensures found { IfOk result (λ o. IfSome o (IsFoundForm environment.now depth (tree_at self.old.terms id) self.old self.new)) }
+        ensures refused { WhenRefused result (LacksConstructor environment.now depth (tree_at self.old.terms id) self.old self.new) }
+        ensures unchanged { self.new ≡ restored self.old self.new }
+        ensures faults { RecordsCausedFaults self.old self.new }
+        ensures goes_back { GoesBack self.old self.new }
+        ensures fault { IsFaultFor self.old self.new result }
+    {
+        let mut listed = RegionConstraints::new(self.allocator());
+        match self.evaluate(&AskedForm(id), environment, depth, &mut listed) {
+            Ok(Found::Is(form)) => Ok(Some(form)),
+            Ok(Found::Refuted) => Err(Fault::NoSolution),
+            Ok(Found::Undecided) => Ok(None),
+            Err(stop) => {
+                self.undecided_by(stop)?;
+                Ok(None)
+            }
+        }
     }
 
     /// The term of a number, if it is a type or a constant. Only memory is refused.

@@ -5,9 +5,9 @@ ghost use Rattle.goal_terms.specs.TreeOf.{tree_of_ty};
 ghost use Rattle.goal_solver.specs.Binding.{IsApplicable};
 ghost use Rattle.goal_solver.specs.Answers.{IsQuiet};
 ghost use Rattle.goal_kinds.specs.Collecting.{has_kind_fault, kind_of};
-ghost use Rattle.goal_solver.specs.GoingBack.{GoesBack, restored};
+ghost use Rattle.goal_solver.specs.GoingBack.{GoesBack, restored, at_depth};
 ghost use Rattle.goal_solver.specs.OpenAnswers.{MergesGoal, MergesTrait};
-ghost use Rattle.goal_solver.specs.OpenGoals.{FormsGoal, IsFormless, WhenAnswered, at_depth, AreOfClass, ConsidersRules, ClassAnswers, ByClasses, proven_by, trait_classes, AsksOpenSelf, IsSelfAlias, IsListedIn, IsBeside, IsAfterTrial};
+ghost use Rattle.goal_solver.specs.OpenGoals.{FormsGoal, IsFormless, WhenAnswered, AreOfClass, ConsidersRules, ClassAnswers, ByClasses, proven_by, trait_classes, AsksOpenSelf, IsSelfAlias, IsListedIn, IsBeside, IsAfterTrial};
 ghost use Rattle.goal_solver.specs.Relating.{IsFaultFor};
 ghost use Rattle.goal_solver.specs.State.{State as state, kinds_of};
 

@@ -105,6 +105,10 @@ impl EvalCtxt<'_> {
                 let certainty = self.give_term(environment, &run.named, expected, term)?;
                 Ok(run.join(certainty))
             }
+            RuleEntry::Arguments(arguments) => {
+                let found = self.name_arguments(environment, &run.named, arguments)?;
+                run.name(found)
+            }
             _ => self.step_through(environment, run, entry),
         }
     }

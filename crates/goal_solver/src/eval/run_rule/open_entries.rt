@@ -49,10 +49,6 @@ impl EvalCtxt<'_> {
         ensures fault { IsFaultFor self.old self.new result }
     {
         match entry {
-            RuleEntry::Arguments(arguments) => {
-                let found = self.open_arguments(environment, &run.named, arguments)?;
-                run.name(found)
-            }
             RuleEntry::Equation(left, right) => {
                 let certainty = self.equate_args(environment, left, right)?;
                 Ok(run.join(certainty))
@@ -74,7 +70,9 @@ impl EvalCtxt<'_> {
                 Ok(run.join(certainty))
             }
             RuleEntry::DelayedFault(fault) => self.record_fault(*fault),
-            RuleEntry::Evaluation | RuleEntry::Term(_, _) => unreachable!(),
+            RuleEntry::Evaluation | RuleEntry::Term(_, _) | RuleEntry::Arguments(_) => {
+                unreachable!()
+            }
             RuleEntry::RowConditions(constness, row, number) => {
                 let named = run.named.as_slice();
                 let certainty = self.ask_row_conditions(

@@ -1,7 +1,7 @@
 use Rattle.goal_solver.proofs.AnswerLemmas.{owed-before, open-ground}
 use Rattle.goal_solver.proofs.GoingBackLemmas.{goes_back-grown, goes_back-same, goes_back-through, begins-through, goes_back-restored, goes_back-tried, valid-begun}
 use Rattle.goal_solver.proofs.BindingLemmas.{on_ok-map}
-use Rattle.goal_solver.proofs.OpenStepLemmas.{evaluation-step, term-step}
+use Rattle.goal_solver.proofs.OpenStepLemmas.{evaluation-step, term-step, arguments-step}
 use Rattle.std.proofs.Common.{◌≡◌, ◌++◌, ◌+◌, ℕ, List, Vec, Global, Result, length, get_or, drop, take, refl, sym, ◌∙◌, subst, subst₂, arith, [], ap, inl, Some, None, Ok, Err, ◌∷◌, Option, inr}
 use Rattle.std.specs.Prelude.{IfOk, IfErr, IfSome}
 use Rattle.std.proofs.Math.Seq.{take-length}
@@ -12,10 +12,12 @@ use Rattle.goal_solver.specs.GoingBack.{BeginsWith, GoesBack, restored, begun}
 use Rattle.goal_solver.specs.Relating.{IsFaultFor, SaysYes, ChangesRecords}
 use Rattle.goal_solver.proofs.AddedGoalLemmas.{round-begins, records-through, fault-before, restored-owed, restored-alone, restored-fault, restored-itself, answer-before, fault-later}
 use Rattle.goal_solver.proofs.RoundLemmas.{next-answerable, next-listed, next-within, next-fault, next-says, next-split, next-takes, next-waiting, next-begins, ends-says, ends-split, ends-taking, ends-waiting, takes-none, takes-over, gone-over, over-done, over-fault, over-last, over-open, handed-on, left-none, left-some, same-lengths}
-use Rattle.goal_solver.proofs.RefusalLemmas.{refused-on, refuses-later, refuses-among, aside-refused, restored-refused, memory-only, pending-refused, stops-at, refused-map, stops-last, open-refused, open-goal-refused, evaluation-refused, term-refused}
+use Rattle.goal_solver.proofs.RefusalLemmas.{refused-on, refuses-later, refuses-among, aside-refused, restored-refused, memory-only, pending-refused, stops-at, refused-map, stops-last, open-refused, open-goal-refused, evaluation-refused, term-refused, arguments-refused}
 use Rattle.std.proofs.lemmas.Bool.{false≢true}
+use Rattle.std.proofs.Common.{true≢false, ◌<◌}
 use Rattle.goal_solver.specs.State.{State, kinds_of}
-use Rattle.goal_solver.specs.Refusals.{RefusesListed, RefusesTerm}
+use Rattle.goal_solver.specs.Refusals.{RefusesListed, RefusesNames, RefusesTerm, RefusesArguments, WhenRefused}
+use Rattle.goal_terms.specs.TreeOf.{trees_of}
 use Rattle.goal_terms.specs.declared.answers.GoalSource.{GoalSource}
 use Rattle.goal_terms.specs.declared.predicates.Goal.{Goal}
 use Rattle.goal_terms.specs.declared.predicates.Predicate.{Predicate}
@@ -27,7 +29,7 @@ use Rattle.goal_solver.proofs.VariableLemmas.{on_err}
 use Rattle.goal_solver.specs.Responses.{ListsSinceMark}
 use Rattle.goal_solver.specs.OpenAnswers.{answers_term, AnswersTrait, InTrial, MergesProjection}
 use Rattle.goal_solver.proofs.ChosenLemmas.{asked-alone, chooses-held, chooses-refuted, chosen-given, chosen-refused}
-use Rattle.goal_solver.specs.OpenRuns.{AnswersAlone, WhenAsked, Evaluates, GivesTerm, named_trees, open_progress, open_start, RunsThrough, RunsOpen}
+use Rattle.goal_solver.specs.OpenRuns.{AnswersAlone, WhenAsked, Evaluates, GivesTerm, NamesArguments, named_trees, open_progress, open_start, RunsThrough, RunsOpen}
 use Rattle.goal_solver.proofs.ClosingLemmas.{evaluates-grown, closing-answers, closing-recorded}
 use Rattle.goal_lists.proofs.ResultLemmas.{ok-map}
 use Rattle.goal_solver.proofs.SinceMarkLemmas.{lists-kept}
@@ -78,6 +80,11 @@ use Rattle.goal_terms.specs.declared.answers.TraitGoalProvenVia.TheVariants as c
 use Rattle.goal_kinds.specs.declared.faults.Fault.TheVariants as fault
 use Rattle.goal_solver.specs.declared.assembly.merged_rules.Merged.TheVariants as merged
 use Rattle.goal_solver.specs.declared.assembly.formed_rules.FormedRules.{FormedRules}
+use Rattle.goal_solver.specs.OpenHeaders.{trees_at, is_known}
+use Rattle.goal_kinds.specs.declared.rules.RuleArguments.TheVariants as arguments
+use Rattle.goal_terms.specs.View.{trees_seen}
+use Rattle.goal_terms.specs.TableMeaning.{tree_at}
+use Rattle.goal_solver.proofs.OpenHeaderLemmas.{back-at_depth, said-at_depth, refused-always, open-not_closed, lacks-open, lacks-rigid, opens-none, opens-next, opens-through, opens-entered, stops-through, stops-at_one, either-least, names-plainly, names-below, refused-plainly, refused-opened, refused-opening, some-asked}
 use Rattle.goal_solver.proofs.context.EvalCtxt.+open.Goals as goal
 
 pub evaluate_round-loop-i-init : goal.evaluate_round-loop-i-init
@@ -1915,3 +1922,188 @@ give_term-returns-in-ChosenBy-clause-refused t c =
 pub merge_formed-returns-in-Projection-clause-decides : goal.merge_formed-returns-in-Projection-clause-decides
 merge_formed-returns-in-Projection-clause-decides t c =
     subst (λ (w : FormedRules). WhenAnswered c.merge_groups.result (DecidesBy w c.args.self.now c.merge_groups.result c.merge_groups.new.self)) (sym c.in-Projection.is) c.merge_groups.ensures.decides
+
+pub step_or_evaluate-returns-in_ok-found-in-Arguments-clause-steps : goal.step_or_evaluate-returns-in_ok-found-in-Arguments-clause-steps
+step_or_evaluate-returns-in_ok-found-in-Arguments-clause-steps t c =
+    on_ok-map c.name.result
+    (λ after. arguments-step c.args.environment.now c.args.entry.now c.in-Arguments.arguments c.args.self.now (open_progress c.args.run.now) c.name_arguments.new.self (open_progress c.name.new.self)
+    (trees_of c.in_ok-found-in-Arguments.found.args.items) c.in_ok-found-in-Arguments.found.certainty c.in-Arguments.is
+    (subst (λ ns. NamesArguments c.args.environment.now (named_trees ns) c.in-Arguments.arguments c.args.self.now (trees_of c.in_ok-found-in-Arguments.found.args.items) c.in_ok-found-in-Arguments.found.certainty c.name_arguments.new.self)
+    c.deref-in-Arguments.ensures.value c.in_ok-found-in-Arguments.ensures.names)
+    after)
+    c.name.ensures.named
+
+pub step_or_evaluate-returns-in_err-found-in-Arguments-clause-refused : goal.step_or_evaluate-returns-in_err-found-in-Arguments-clause-refused
+step_or_evaluate-returns-in_err-found-in-Arguments-clause-refused t c =
+    refused-on _ c.from_residual-in_err-found-in-Arguments.result c.in_err-found-in-Arguments.field-0.0 c.from_residual-in_err-found-in-Arguments.ensures.1
+    (λ is. arguments-refused c.args.environment.now c.args.entry.now c.in-Arguments.arguments c.args.self.now (open_progress c.args.run.now) c.name_arguments.new.self c.in-Arguments.is
+    (subst (λ ns. RefusesArguments c.args.environment.now (named_trees ns) c.in-Arguments.arguments c.args.self.now c.name_arguments.new.self) c.deref-in-Arguments.ensures.value
+    (c.in_err-found-in-Arguments.ensures.refused is)))
+
+pub step_or_evaluate-returns-in_ok-found-in-Arguments-clause-refused : goal.step_or_evaluate-returns-in_ok-found-in-Arguments-clause-refused
+step_or_evaluate-returns-in_ok-found-in-Arguments-clause-refused t c = memory-only _ c.name.result c.name.ensures.only_memory
+
+pub step_or_evaluate-returns-in_ok-found-in-Arguments-clause-listed : goal.step_or_evaluate-returns-in_ok-found-in-Arguments-clause-listed
+step_or_evaluate-returns-in_ok-found-in-Arguments-clause-listed t c =
+    step-caused c.args.self.now c.name_arguments.new.self (c.args.entry.now ∷ []) c.name_arguments.ensures.goes_back c.name_arguments.ensures.faults
+
+pub step_or_evaluate-returns-in_err-found-in-Arguments-clause-listed : goal.step_or_evaluate-returns-in_err-found-in-Arguments-clause-listed
+step_or_evaluate-returns-in_err-found-in-Arguments-clause-listed t c =
+    step-caused c.args.self.now c.name_arguments.new.self (c.args.entry.now ∷ []) c.name_arguments.ensures.goes_back c.name_arguments.ensures.faults
+
+pub answer_below-returns-in_err-param_env-clause-goes_back : goal.answer_below-returns-in_err-param_env-clause-goes_back
+answer_below-returns-in_err-param_env-clause-goes_back t c = goes_back-same c.args.self.now
+
+pub form_below-returns-then-not-contains-clause-goes_back : goal.form_below-returns-then-not-contains-clause-goes_back
+form_below-returns-then-not-contains-clause-goes_back t c = goes_back-same c.args.self.now
+
+pub form_below-returns-in_err-asked-clause-goes_back : goal.form_below-returns-in_err-asked-clause-goes_back
+form_below-returns-in_err-asked-clause-goes_back t c = goes_back-same c.args.self.now
+
+pub form_below-returns-in_default-clause-goes_back : goal.form_below-returns-in_default-clause-goes_back
+form_below-returns-in_default-clause-goes_back t c = goes_back-same c.args.self.now
+
+pub form_below-rollback-requires : goal.form_below-rollback-requires
+form_below-rollback-requires t c =
+    record { valid = (c.args.self.now, c.snapshot-before.ensures, back-at_depth _ c.args.self.now _ c.form_once-form.new.self _ c.self.inside.remaining_depth c.self.view_is c.self-2.view_is refl c.form_once-form.ensures.goes_back, c.holds_together.ensures) }
+
+pub form_below-returns-then-not-is_known-clause-refused : goal.form_below-returns-then-not-is_known-clause-refused
+form_below-returns-then-not-is_known-clause-refused t c =
+    let back : GoesBack c.args.self.now _ = back-at_depth _ c.args.self.now _ c.form_once-form.new.self _ c.self.inside.remaining_depth c.self.view_is c.self-2.view_is refl c.form_once-form.ensures.goes_back in
+    refused-always _ c.form_once-form.result
+    (lacks-open c.args.environment.now c.args.depth (tree_at c.args.self.now.terms c.args.alias) c.args.self.now c.rollback.new.self (open-not_closed _ _ c.if-not-is_open.false c.is_open.ensures)
+    (subst (GoesBack c.args.self.now) (sym (c.rollback.ensures.undone c.args.self.now c.snapshot-before.ensures back)) (goes_back-restored c.args.self.now _ back)))
+
+pub form_below-returns-then-not-is_known-clause-goes_back : goal.form_below-returns-then-not-is_known-clause-goes_back
+form_below-returns-then-not-is_known-clause-goes_back t c =
+    let back : GoesBack c.args.self.now _ = back-at_depth _ c.args.self.now _ c.form_once-form.new.self _ c.self.inside.remaining_depth c.self.view_is c.self-2.view_is refl c.form_once-form.ensures.goes_back in
+    subst (GoesBack c.args.self.now) (sym (c.rollback.ensures.undone c.args.self.now c.snapshot-before.ensures back)) (goes_back-restored c.args.self.now _ back)
+
+pub form_below-returns-else-not-is_known-clause-none : goal.form_below-returns-else-not-is_known-clause-none
+form_below-returns-else-not-is_known-clause-none t c = λ none. absurd (true≢false (sym c.if-not-is_known.false ∙ c.is_known.ensures ∙ ap is_known none))
+
+pub open_level-loop-i-init : goal.open_level-loop-i-init
+open_level-loop-i-init t c = record {
+  opens = opens-none c.args.environment.now (trees_seen c.args.terms) (trees_at c.args.self.now.terms c.args.opened.now.ids.items) c.args.self.now;
+  within = c.requires.within;
+  faults = refl;
+  back = goes_back-same c.args.self.now;
+}
+
+pub open_level-returns-in_err-form-clause-refused : goal.open_level-returns-in_err-form-clause-refused
+open_level-returns-in_err-form-clause-refused t c =
+    let alias : TermId = get_or c.args.found.now c.loop-i.i (record { 0 = 0 }) in
+    refused-on _ c.from_residual.result c.in_err-form.field-0.0 c.from_residual.ensures.1
+    (λ is. stops-at_one c.args.environment.now (trees_seen c.args.terms) (trees_at c.args.self.now.terms c.args.opened.now.ids.items) (trees_at c.loop-i.self.terms c.loop-i.opened.ids.items) c.args.depth
+    (tree_at c.loop-i.self.terms alias) c.args.self.now c.loop-i.self c.form_below.new.self c.loop-i.invariant.opens
+    (omega (arith, c.requires.depth, c.loop-i.invariant.back.remaining_depth)) (c.in_err-form.ensures.refused is))
+
+pub open_level-returns-in_err-form-clause-goes_back : goal.open_level-returns-in_err-form-clause-goes_back
+open_level-returns-in_err-form-clause-goes_back t c =
+    goes_back-through c.args.self.now c.loop-i.self c.form_below.new.self c.loop-i.invariant.back c.form_below.ensures.goes_back
+
+pub open_level-returns-in_err-enter_form-clause-refused : goal.open_level-returns-in_err-enter_form-clause-refused
+open_level-returns-in_err-enter_form-clause-refused t c =
+    let alias : TermId = get_or c.args.found.now c.loop-i.i (record { 0 = 0 }) in
+    refused-on _ c.from_residual-in_err-enter_form.result c.in_err-enter_form.field-0.0 c.from_residual-in_err-enter_form.ensures.1
+    (λ is. stops-at_one c.args.environment.now (trees_seen c.args.terms) (trees_at c.args.self.now.terms c.args.opened.now.ids.items) (trees_at c.loop-i.self.terms c.loop-i.opened.ids.items) c.args.depth
+    (tree_at c.loop-i.self.terms alias) c.args.self.now c.loop-i.self c.enter_form.new.self c.loop-i.invariant.opens
+    (omega (arith, c.requires.depth, c.loop-i.invariant.back.remaining_depth))
+    (lacks-rigid c.args.environment.now c.args.depth (tree_at c.loop-i.self.terms alias) c.loop-i.self c.form_below.new.self c.enter_form.new.self c.in_ok-form.form c.in_ok-form.ensures.found
+    c.enter_form.ensures.unchanged c.enter_form.ensures.kept (c.in_err-enter_form.ensures.refused is)))
+
+pub open_level-returns-in_err-enter_form-clause-goes_back : goal.open_level-returns-in_err-enter_form-clause-goes_back
+open_level-returns-in_err-enter_form-clause-goes_back t c =
+    goes_back-through c.args.self.now c.loop-i.self c.enter_form.new.self c.loop-i.invariant.back
+    (goes_back-through c.loop-i.self c.form_below.new.self c.enter_form.new.self c.form_below.ensures.goes_back (goes_back-grown c.form_below.new.self c.enter_form.new.self c.enter_form.ensures.unchanged c.enter_form.ensures.kept))
+
+pub open_level-loop-i-preserved : goal.open_level-loop-i-preserved
+open_level-loop-i-preserved t c =
+    let alias : TermId = get_or c.args.found.now c.loop-i.i (record { 0 = 0 }) in
+    let inside : alias.0 < length c.args.self.now.terms = c.requires.found c.loop-i.i _ c.loop-i-test.true in record {
+      opens =
+          opens-next c.args.environment.now (trees_seen c.args.terms) (trees_at c.args.self.now.terms c.args.opened.now.ids.items) (trees_at c.loop-i.self.terms c.loop-i.opened.ids.items)
+          (trees_at c.enter_form.new.self.terms c.enter_form.new.opened.ids.items) c.args.self.now c.loop-i.self c.enter_form.new.self c.loop-i.invariant.opens
+          (opens-entered c.args.environment.now (trees_seen c.args.terms) c.args.depth alias c.in_ok-form.form c.loop-i.self c.form_below.new.self c.enter_form.new.self c.loop-i.opened.ids.items
+          c.enter_form.new.opened.ids.items (omega (arith, c.requires.depth, c.loop-i.invariant.back.remaining_depth)) (omega (arith, inside, c.loop-i.invariant.back.terms.longer)) c.loop-i.invariant.within
+          c.in_ok-form.ensures.found (λ e. c.form_below.ensures.none (c.in_ok-form.was ∙ ap Ok e)) c.form_below.ensures.goes_back c.enter_form.ensures.unchanged c.enter_form.ensures.kept
+          c.in_ok-enter_form.ensures.entered);
+      within = c.in_ok-enter_form.ensures.within;
+      faults = grown-faults c.form_below.new.self c.enter_form.new.self c.enter_form.ensures.unchanged ∙ c.form_below.ensures.faults ∙ c.loop-i.invariant.faults;
+      back =
+          goes_back-through c.args.self.now c.loop-i.self c.enter_form.new.self c.loop-i.invariant.back
+          (goes_back-through c.loop-i.self c.form_below.new.self c.enter_form.new.self c.form_below.ensures.goes_back (goes_back-grown c.form_below.new.self c.enter_form.new.self c.enter_form.ensures.unchanged c.enter_form.ensures.kept));
+    }
+
+pub opened_terms-loop-level-init : goal.opened_terms-loop-level-init
+opened_terms-loop-level-init t c = record {
+  opens = opens-none c.args.environment.now (trees_seen c.args.terms) (trees_at c.args.self.now.terms c.args.given.items) c.args.self.now;
+  last = omega (arith, ap (λ (s : State). s.remaining_depth) c.self.view_is);
+  within = c.requires.given;
+  faults = refl;
+  back = goes_back-same c.args.self.now;
+}
+
+pub opened_terms-returns-in_err-open_level-clause-refused : goal.opened_terms-returns-in_err-open_level-clause-refused
+opened_terms-returns-in_err-open_level-clause-refused t c =
+    refused-on _ c.from_residual-in_err-open_level.result c.in_err-open_level.field-0.0 c.from_residual-in_err-open_level.ensures.1
+    (λ is. stops-through c.args.environment.now (trees_seen c.args.terms) (trees_at c.args.self.now.terms c.args.given.items) (trees_at c.loop-level.self.terms c.loop-level.opened.ids.items) c.args.self.now c.loop-level.self
+    c.open_level.new.self c.loop-level.invariant.opens (c.in_err-open_level.ensures.refused is))
+
+pub opened_terms-returns-in_err-open_level-clause-goes_back : goal.opened_terms-returns-in_err-open_level-clause-goes_back
+opened_terms-returns-in_err-open_level-clause-goes_back t c =
+    goes_back-through c.args.self.now c.loop-level.self c.open_level.new.self c.loop-level.invariant.back c.open_level.ensures.goes_back
+
+pub opened_terms-loop-level-preserved : goal.opened_terms-loop-level-preserved
+opened_terms-loop-level-preserved t c = record {
+  opens =
+      opens-through c.args.environment.now (trees_seen c.args.terms) (trees_at c.args.self.now.terms c.args.given.items) (trees_at c.loop-level.self.terms c.loop-level.opened.ids.items)
+      (trees_at c.open_level.new.self.terms c.open_level.new.opened.ids.items) c.args.self.now c.loop-level.self c.open_level.new.self c.loop-level.invariant.opens c.in_ok-open_level.ensures.opens;
+  last = either-least _ _ _ _ c.depth_for-last.ensures (omega (arith, ap (λ (s : State). s.remaining_depth) c.self.view_is)) c.loop-level.invariant.last;
+  within = c.in_ok-open_level.ensures.within;
+  faults = c.open_level.ensures.faults ∙ c.loop-level.invariant.faults;
+  back = goes_back-through c.args.self.now c.loop-level.self c.open_level.new.self c.loop-level.invariant.back c.open_level.ensures.goes_back;
+}
+
+pub name_arguments-returns-in_err-asked-clause-goes_back : goal.name_arguments-returns-in_err-asked-clause-goes_back
+name_arguments-returns-in_err-asked-clause-goes_back t c = goes_back-grown c.args.self.now c.asked_match.new.self c.asked_match.ensures.unchanged c.asked_match.ensures.kept
+
+pub name_arguments-returns-in_default-clause-names : goal.name_arguments-returns-in_default-clause-names
+name_arguments-returns-in_default-clause-names t c =
+    names-plainly c.args.environment.now (named_trees c.args.named.now) c.args.arguments.now c.args.self.now c.asked_match.new.self c.open_arguments.new.self c.open_arguments.result c.asked_match.ensures.unchanged
+    c.open_arguments.ensures.goes_back c.open_arguments.ensures.names
+
+pub name_arguments-returns-in_default-clause-refused : goal.name_arguments-returns-in_default-clause-refused
+name_arguments-returns-in_default-clause-refused t c =
+    refused-plainly c.args.environment.now (named_trees c.args.named.now) c.args.arguments.now c.args.self.now c.asked_match.new.self c.open_arguments.new.self c.open_arguments.result c.asked_match.ensures.unchanged
+    c.open_arguments.ensures.goes_back c.open_arguments.ensures.refused
+
+pub name_arguments-returns-in_err-ids-clause-refused : goal.name_arguments-returns-in_err-ids-clause-refused
+name_arguments-returns-in_err-ids-clause-refused t c =
+    refused-on _ c.from_residual-in_err-ids.result c.in_err-ids.field-0.0 c.from_residual-in_err-ids.ensures.1
+    (λ is. refused-opening c.args.environment.now (named_trees c.args.named.now) c.args.arguments.now c.args.self.now c.asked_match.new.self c.in-Some.asked
+    (some-asked _ _ _ c.in_ok-asked.ensures.asked c.in-Some.is) c.asked_match.ensures.unchanged c.opened_terms.new.self (c.in_err-ids.ensures.refused is))
+
+pub name_arguments-returns-clause-names : goal.name_arguments-returns-clause-names
+name_arguments-returns-clause-names t c =
+    names-below c.args.environment.now (named_trees c.args.named.now) c.args.arguments.now c.args.self.now c.asked_match.new.self c.in-Some.asked (some-asked _ _ _ c.in_ok-asked.ensures.asked c.in-Some.is)
+    c.asked_match.ensures.unchanged c.in-Ok.args c.in_ok-ids.ids.items _ c.opened_terms.new.self _ c.open_arguments-found.new.self c.in_ok-ids.depth c.self.inside.remaining_depth c.open_arguments-found.result
+    c.in_ok-ids.ensures.depth
+    (c.in-Ok.ensures ∙ ap (trees_at c.self.inside.terms) c.deref.ensures.value ∙ ap (λ (s : State). trees_at s.terms c.in_ok-ids.ids.items) c.self.view_is) c.in_ok-ids.ensures.opens c.self.view_is c.self-2.view_is
+    c.open_arguments-found.ensures.goes_back c.open_arguments-found.ensures.names
+
+pub name_arguments-returns-clause-refused : goal.name_arguments-returns-clause-refused
+name_arguments-returns-clause-refused t c =
+    refused-opened c.args.environment.now (named_trees c.args.named.now) c.args.arguments.now c.args.self.now c.asked_match.new.self c.in-Some.asked (some-asked _ _ _ c.in_ok-asked.ensures.asked c.in-Some.is)
+    c.asked_match.ensures.unchanged c.in-Ok.args c.in_ok-ids.ids.items c.opened_terms.new.self _ c.in_ok-ids.depth c.open_arguments-found.result c.in_ok-ids.ensures.depth
+    (c.in-Ok.ensures ∙ ap (trees_at c.self.inside.terms) c.deref.ensures.value ∙ ap (λ (s : State). trees_at s.terms c.in_ok-ids.ids.items) c.self.view_is) c.in_ok-ids.ensures.opens
+    (said-at_depth
+    (λ p q. WhenRefused c.open_arguments-found.result (RefusesNames c.args.environment.now (named_trees c.args.named.now) (arguments.Header c.in-Some.asked.header c.in-Ok.args) p q))
+    _ c.opened_terms.new.self _ c.open_arguments-found.new.self c.in_ok-ids.depth c.self.inside.remaining_depth c.self.view_is c.self-2.view_is c.open_arguments-found.ensures.goes_back
+    c.open_arguments-found.ensures.refused)
+
+pub name_arguments-returns-clause-goes_back : goal.name_arguments-returns-clause-goes_back
+name_arguments-returns-clause-goes_back t c =
+    goes_back-through c.args.self.now c.asked_match.new.self _ (goes_back-grown c.args.self.now c.asked_match.new.self c.asked_match.ensures.unchanged c.asked_match.ensures.kept)
+    (goes_back-through c.asked_match.new.self c.opened_terms.new.self _ c.opened_terms.ensures.goes_back
+    (back-at_depth _ c.opened_terms.new.self _ c.open_arguments-found.new.self c.in_ok-ids.depth c.self.inside.remaining_depth c.self.view_is c.self-2.view_is refl c.open_arguments-found.ensures.goes_back))

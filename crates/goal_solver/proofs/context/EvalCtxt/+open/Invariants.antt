@@ -1,4 +1,4 @@
-use Rattle.std.proofs.Common.{◌+◌, ◌*◌, ◌≡◌, ◌++◌, length, drop, take}
+use Rattle.std.proofs.Common.{◌+◌, ◌*◌, ◌≡◌, ◌≤◌, ◌++◌, length, drop, take}
 use Rattle.goal_solver.specs.Accesses.{RecordsCausedFaults}
 use Rattle.goal_solver.specs.AddedGoals.{AllTakeAt, AreSplit, AreAnswerableAt, AreClosedAt, IsGoneOver, LeavesUndecided, WhereAnswerableAt}
 use Rattle.goal_solver.specs.GoingBack.{BeginsWith, GoesBack, restored}
@@ -6,6 +6,9 @@ use Rattle.goal_solver.specs.Relating.{ChangesRecords}
 use Rattle.goal_solver.specs.OpenRuns.{RunsThrough, open_progress, open_start}
 use Rattle.goal_solver.specs.RunRules.{AreListed, AreRecorded}
 use Rattle.goal_solver.specs.Binding.{IsApplicable}
+use Rattle.goal_solver.specs.OpenHeaders.{Opens, trees_at}
+use Rattle.goal_terms.specs.View.{trees_seen}
+use Rattle.goal_lists.specs.Interned.{AreIn}
 use Rattle.goal_solver.specs.MergedRules.{MergesRules, IfAnswered}
 use Rattle.goal_solver.specs.MoreSpecial.{AsksEach}
 use Rattle.goal_terms.specs.declared.answers.Certainty.TheVariants as certainty
@@ -224,3 +227,32 @@ decreases-merge_opened l = 40 * l.self.now.remaining_depth + 30
 
 abbrev pub decreases-merge_open : goal.decreases-merge_open
 decreases-merge_open l = 40 * l.self.now.remaining_depth + 31
+
+abbrev pub decreases-form_below : goal.decreases-form_below
+decreases-form_below l = 40 * l.self.now.remaining_depth + 6
+
+abbrev pub decreases-open_level : goal.decreases-open_level
+decreases-open_level l = 40 * l.self.now.remaining_depth + 8
+
+abbrev pub decreases-opened_terms : goal.decreases-opened_terms
+decreases-opened_terms l = 40 * l.self.now.remaining_depth + 9
+
+abbrev pub decreases-name_arguments : goal.decreases-name_arguments
+decreases-name_arguments l = 40 * l.self.now.remaining_depth + 11
+
+abbrev pub invariant-open_level-loop-i : goal.invariant-open_level-loop-i
+invariant-open_level-loop-i l = record {
+  opens : Opens l.environment (trees_seen l.terms) (trees_at l.fn.self.terms l.fn.opened.ids.items) l.fn.self (trees_at l.self.terms l.opened.ids.items) l.self;
+  within : AreIn l.self.terms l.opened.ids.items;
+  faults : RecordsCausedFaults l.fn.self l.self;
+  back : GoesBack l.fn.self l.self;
+}
+
+abbrev pub invariant-opened_terms-loop-level : goal.invariant-opened_terms-loop-level
+invariant-opened_terms-loop-level l = record {
+  opens : Opens l.environment (trees_seen l.terms) (trees_at l.fn.self.terms l.fn.given.items) l.fn.self (trees_at l.self.terms l.opened.ids.items) l.self;
+  last : l.last ≤ l.fn.self.remaining_depth;
+  within : AreIn l.self.terms l.opened.ids.items;
+  faults : RecordsCausedFaults l.fn.self l.self;
+  back : GoesBack l.fn.self l.self;
+}

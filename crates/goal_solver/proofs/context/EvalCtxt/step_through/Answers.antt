@@ -3,29 +3,18 @@ use Rattle.std.specs.Prelude.{slice_get}
 use Rattle.goal_terms.specs.TreeOf.{trees_of}
 use Rattle.goal_terms.specs.declared.answers.GoalSource.TheVariants as source
 use Rattle.goal_lists.specs.RowWords.{clauses_in, conditions_in}
-use Rattle.goal_solver.specs.OpenRuns.{open_progress, named_trees, clauses_with, conditions_with, source_of, AddsRow, NamesOpen}
+use Rattle.goal_solver.specs.OpenRuns.{open_progress, named_trees, clauses_with, conditions_with, source_of, AddsRow}
 use Rattle.goal_solver.proofs.BindingLemmas.{on_ok-map}
 use Rattle.goal_solver.proofs.GoingBackLemmas.{goes_back-same}
-use Rattle.goal_solver.proofs.OpenStepLemmas.{arguments-step, equation-step, clause-step, row-step, conditions-step, hidden-step, access-step, fault-step, fault-listed, undecided-step}
+use Rattle.goal_solver.proofs.OpenStepLemmas.{equation-step, clause-step, row-step, conditions-step, hidden-step, access-step, fault-step, fault-listed, undecided-step}
 use Rattle.goal_solver.proofs.RecordedLemmas.{none-listed}
-use Rattle.goal_solver.specs.Refusals.{RefusesNames}
-use Rattle.goal_solver.proofs.RefusalLemmas.{memory-only, refused-on, arguments-refused, equation-refused, hidden-refused, refusal-refused}
+use Rattle.goal_solver.proofs.RefusalLemmas.{memory-only, refused-on, equation-refused, hidden-refused, refusal-refused}
 use Rattle.goal_solver.proofs.context.EvalCtxt.step_through.Goals as goal
-
-pub returns-in_ok-found-in-Arguments-clause-steps : goal.returns-in_ok-found-in-Arguments-clause-steps
-returns-in_ok-found-in-Arguments-clause-steps c =
-    on_ok-map c.name.result
-    (λ after. arguments-step c.args.environment.now c.args.entry.now c.in-Arguments.arguments c.args.self.now (open_progress c.args.run.now) c.open_arguments.new.self (open_progress c.name.new.self)
-    (trees_of c.in_ok-found-in-Arguments.found.args.items) c.in_ok-found-in-Arguments.found.certainty c.in-Arguments.is
-    (subst (λ ns. NamesOpen c.args.environment.now (named_trees ns) c.in-Arguments.arguments c.args.self.now (trees_of c.in_ok-found-in-Arguments.found.args.items) c.in_ok-found-in-Arguments.found.certainty c.open_arguments.new.self)
-    c.deref.ensures.value c.in_ok-found-in-Arguments.ensures.names)
-    after)
-    c.name.ensures.named
 
 pub returns-in_ok-certainty-in-Equation-clause-steps : goal.returns-in_ok-certainty-in-Equation-clause-steps
 returns-in_ok-certainty-in-Equation-clause-steps c =
-    equation-step c.args.environment.now c.args.entry.now c.in-Equation.left c.in-Equation.right c.deref-in-Equation.result.now c.deref-in-Equation-2.result.now c.args.self.now (open_progress c.args.run.now)
-    c.equate_args.new.self (open_progress c.join.new.self) c.in_ok-certainty-in-Equation.certainty c.in-Equation.is c.deref-in-Equation.ensures.value c.deref-in-Equation-2.ensures.value
+    equation-step c.args.environment.now c.args.entry.now c.in-Equation.left c.in-Equation.right c.deref.result.now c.deref-in-Equation.result.now c.args.self.now (open_progress c.args.run.now)
+    c.equate_args.new.self (open_progress c.join.new.self) c.in_ok-certainty-in-Equation.certainty c.in-Equation.is c.deref.ensures.value c.deref-in-Equation.ensures.value
     c.in_ok-certainty-in-Equation.ensures.equates c.join.ensures
 
 pub returns-in_ok-ask_clause-in-Clause-clause-steps : goal.returns-in_ok-ask_clause-in-Clause-clause-steps
@@ -82,21 +71,11 @@ returns-in-Ambiguous-clause-steps c =
 pub returns-in-Ambiguous-clause-goes_back : goal.returns-in-Ambiguous-clause-goes_back
 returns-in-Ambiguous-clause-goes_back c = goes_back-same c.args.self.now
 
-pub returns-in_err-found-in-Arguments-clause-refused : goal.returns-in_err-found-in-Arguments-clause-refused
-returns-in_err-found-in-Arguments-clause-refused c =
-    refused-on _ c.from_residual.result c.in_err-found-in-Arguments.field-0.0 c.from_residual.ensures.1
-    (λ is. arguments-refused c.args.environment.now c.args.entry.now c.in-Arguments.arguments c.args.self.now (open_progress c.args.run.now) c.open_arguments.new.self c.in-Arguments.is
-    (subst (λ ns. RefusesNames c.args.environment.now (named_trees ns) c.in-Arguments.arguments c.args.self.now c.open_arguments.new.self) c.deref.ensures.value
-    (c.in_err-found-in-Arguments.ensures.refused is)))
-
-pub returns-in_ok-found-in-Arguments-clause-refused : goal.returns-in_ok-found-in-Arguments-clause-refused
-returns-in_ok-found-in-Arguments-clause-refused c = memory-only _ c.name.result c.name.ensures.only_memory
-
 pub returns-in_err-certainty-in-Equation-clause-refused : goal.returns-in_err-certainty-in-Equation-clause-refused
 returns-in_err-certainty-in-Equation-clause-refused c =
-    refused-on _ c.from_residual-in_err-certainty-in-Equation.result c.in_err-certainty-in-Equation.field-0.0 c.from_residual-in_err-certainty-in-Equation.ensures.1
-    (λ is. equation-refused c.args.environment.now c.args.entry.now c.in-Equation.left c.in-Equation.right c.deref-in-Equation.result.now c.deref-in-Equation-2.result.now c.args.self.now
-    (open_progress c.args.run.now) c.equate_args.new.self c.in-Equation.is c.deref-in-Equation.ensures.value c.deref-in-Equation-2.ensures.value (c.in_err-certainty-in-Equation.ensures.refused is))
+    refused-on _ c.from_residual.result c.in_err-certainty-in-Equation.field-0.0 c.from_residual.ensures.1
+    (λ is. equation-refused c.args.environment.now c.args.entry.now c.in-Equation.left c.in-Equation.right c.deref.result.now c.deref-in-Equation.result.now c.args.self.now
+    (open_progress c.args.run.now) c.equate_args.new.self c.in-Equation.is c.deref.ensures.value c.deref-in-Equation.ensures.value (c.in_err-certainty-in-Equation.ensures.refused is))
 
 pub returns-in-DelayedFault-clause-refused : goal.returns-in-DelayedFault-clause-refused
 returns-in-DelayedFault-clause-refused c = memory-only _ c.record_fault.result c.record_fault.ensures.only_memory
