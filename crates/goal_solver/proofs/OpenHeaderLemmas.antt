@@ -1,5 +1,5 @@
 -- Given terms of headers, opened alias by alias.
-use Rattle.std.proofs.Common.{◌≡◌, ◌⊎◌, ◌<◌, ◌≤◌, ◌∷◌, ℕ, zero, suc, Bool, true, false, List, [], Option, Some, None, map, length, refl, sym, ap, ◌∙◌, subst, inl, inr, arith, true≢false, Ok, Err, ⊎_elim}
+use Rattle.std.proofs.Common.{◌≡◌, ◌⊎◌, ◌<◌, ◌≤◌, ◌∷◌, ℕ, zero, suc, Bool, true, false, List, [], Option, Some, None, map, length, refl, sym, ap, ◌∙◌, subst, inl, inr, arith, true≢false, Ok, Err}
 use Rattle.std.specs.Prelude.{IfOk, IfSome, IsOkUnless, OnOk, Result, Vec}
 use Rattle.std.specs.Global.{Global}
 use Rattle.std.specs.List.{AllZip}
@@ -253,10 +253,6 @@ refused-always P (Err f) p = λ is. p
 -- an alias or an environment with inference variables isn't closed
 pub open-not_closed : (b c : Bool) → b ≡ true → b ≡ c → c ≡ false → ⊥
 open-not_closed b c e f g = true≢false (sym e ∙ f ∙ g)
-
--- the one or the other is no greater
-pub either-least : (r a b n : ℕ) → (r ≡ a) ⊎ (r ≡ b) → a ≤ n → b ≤ n → r ≤ n
-either-least r a b n h k l = ⊎_elim (λ e. omega (arith, e, k)) (λ e. omega (arith, e, l)) h
 
 -- what is said of what is there
 pub some-asked : {A : Type 0} (P : A → Type 0) (o : Option A) (x : A) → IfSome o P → o ≡ Some x → P x

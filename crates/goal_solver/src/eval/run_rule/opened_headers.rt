@@ -178,8 +178,8 @@ impl<'t> EvalCtxt<'t> {
     }
 
     /// The given terms of a header, opened level by level: the head forms of the aliases that stand against its
-    /// constructors are found at one less of the depth, those that stand in these forms at two less, and so on. The depth
-    /// of the last level at which there was one is answered, too.
+    /// constructors are found at one less of the depth, those that stand in these forms at two less, and so on until there
+    /// is none. The depth of the last level at which there was one is answered, too.
     #[cycle(open)]
     fn opened_terms(
         &mut self,
@@ -203,10 +203,12 @@ impl<'t> EvalCtxt<'t> {
         let depth = self.remaining_depth;
         let mut last = depth;
         for level in 0..depth {
-            let below = depth - 1 - level;
             let found = self.aliases_against(terms, &opened.ids, &opened.passed)?;
-            last = depth_for(&found, below, last);
-            self.open_level(environment, terms, &mut opened, &found, below)?;
+            if found.is_empty() {
+                break;
+            }
+            last = depth - 1 - level;
+            self.open_level(environment, terms, &mut opened, &found, last)?;
         }
         let OpenedTerms { ids, passed: _ } = opened;
         Ok((ids, last))
@@ -339,13 +341,6 @@ fn is_known(form: &Result<Option<TermId>, Fault>) -> bool
     ensures { result ≡ is_known form.now }
 {
     matches!(form, Ok(Some(_)))
-}
-
-/// The depth of a level, if an alias was found at it; else that of the one before.
-fn depth_for(found: &[TermId], level: u32, before: u32) -> u32
-    ensures { (result ≡ level) ⊎ (result ≡ before) }
-{
-    if found.is_empty() { before } else { level }
 }
 
 /// Passes an alias over from here on. Only memory is refused.

@@ -84,7 +84,7 @@ use Rattle.goal_solver.specs.OpenHeaders.{trees_at, is_known}
 use Rattle.goal_kinds.specs.declared.rules.RuleArguments.TheVariants as arguments
 use Rattle.goal_terms.specs.View.{trees_seen}
 use Rattle.goal_terms.specs.TableMeaning.{tree_at}
-use Rattle.goal_solver.proofs.OpenHeaderLemmas.{back-at_depth, said-at_depth, refused-always, open-not_closed, lacks-open, lacks-rigid, opens-none, opens-next, opens-through, opens-entered, stops-through, stops-at_one, either-least, names-plainly, names-below, refused-plainly, refused-opened, refused-opening, some-asked}
+use Rattle.goal_solver.proofs.OpenHeaderLemmas.{back-at_depth, said-at_depth, refused-always, open-not_closed, lacks-open, lacks-rigid, opens-none, opens-next, opens-through, opens-entered, stops-through, stops-at_one, names-plainly, names-below, refused-plainly, refused-opened, refused-opening, some-asked}
 use Rattle.goal_solver.proofs.context.EvalCtxt.+open.Goals as goal
 
 pub evaluate_round-loop-i-init : goal.evaluate_round-loop-i-init
@@ -2059,7 +2059,7 @@ opened_terms-loop-level-preserved t c = record {
   opens =
       opens-through c.args.environment.now (trees_seen c.args.terms) (trees_at c.args.self.now.terms c.args.given.items) (trees_at c.loop-level.self.terms c.loop-level.opened.ids.items)
       (trees_at c.open_level.new.self.terms c.open_level.new.opened.ids.items) c.args.self.now c.loop-level.self c.open_level.new.self c.loop-level.invariant.opens c.in_ok-open_level.ensures.opens;
-  last = either-least _ _ _ _ c.depth_for-last.ensures (omega (arith, ap (λ (s : State). s.remaining_depth) c.self.view_is)) c.loop-level.invariant.last;
+  last = omega (arith, ap (λ (s : State). s.remaining_depth) c.self.view_is);
   within = c.in_ok-open_level.ensures.within;
   faults = c.open_level.ensures.faults ∙ c.loop-level.invariant.faults;
   back = goes_back-through c.args.self.now c.loop-level.self c.open_level.new.self c.loop-level.invariant.back c.open_level.ensures.goes_back;
