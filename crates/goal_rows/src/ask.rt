@@ -1,4 +1,6 @@
 //! The questions of the rows, one function a kind.
+ghost use Rattle.std.specs.Prelude.{◌≡◌, ◌↔◌, Ok, Err};
+
 use crate::answer::{Answer, Refusal};
 use crate::faults::RowsFault;
 use goal_program::asked_terms::{AskedAlias, AskedType};
@@ -205,7 +207,11 @@ fn ask_projection_impl(alloc: Global) -> Result<Answer, RowsFault> {
     }
 }
 
-fn answer_of(answered: Result<Response, Fault>) -> Result<Answer, RowsFault> {
+/// What is answered where a goal was evaluated. Want of memory is no answer.
+fn answer_of(answered: Result<Response, Fault>) -> Result<Answer, RowsFault>
+    ensures refuted { answered ≡ Err Fault.NoSolution → result ≡ Ok Answer.No }
+    ensures memory { answered ≡ Err Fault.OutOfMemory → result ≡ Err RowsFault.OutOfMemory }
+{
     match answered {
         Ok(response) => Ok(certain_answer(response)),
         Err(Fault::NoSolution) => Ok(Answer::No),
@@ -214,7 +220,10 @@ fn answer_of(answered: Result<Response, Fault>) -> Result<Answer, RowsFault> {
     }
 }
 
-fn certain_answer(response: Response) -> Answer {
+/// What a response says.
+fn certain_answer(response: Response) -> Answer
+    ensures undecided { result ≡ Answer.Maybe ↔ (response.certainty ≡ Certainty.Maybe) }
+{
     let mut values = response.var_values;
     match (response.certainty, values.pop()) {
         (Certainty::Maybe, _) => Answer::Maybe,
