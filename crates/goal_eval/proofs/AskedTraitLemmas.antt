@@ -1,5 +1,5 @@
 -- What the lists of candidates for a trait that is asked say, and what its candidates come to together.
-use Rattle.std.proofs.Common.{◌≡◌, ◌⊎◌, ◌↔◌, inl, inr, ℕ, ◌+◌, ◌<◌, ◌≤◌, ◌∙◌, Bool, true, false, List, length, map, get_or, take, Result, Option, Some, None, refl, sym, ap, ap₂, subst, ⊎_elim}
+use Rattle.std.proofs.Common.{◌≡◌, ◌⊎◌, ◌↔◌, inl, inr, ℕ, ◌+◌, ◌<◌, ◌≤◌, ◌∙◌, Bool, true, false, List, length, map, filter, get_or, take, Result, Option, Some, None, refl, sym, ap, ap₂, subst, ⊎_elim}
 use Rattle.std.specs.Prelude.{IfOk, Vec}
 use Rattle.std.specs.Global.{Global}
 use Rattle.std.specs.List.{All}
@@ -22,7 +22,7 @@ use Rattle.goal_lists.specs.Candidates.{Candidate, by_impl, environment, class_o
 use Rattle.goal_lists.specs.ConstGoals.{satisfies}
 use Rattle.goal_lists.specs.EffectLists.{effect_list}
 use Rattle.goal_lists.specs.Entries.{Entry, ListHolds, ListRefuted, ListAsksNoTerm}
-use Rattle.goal_lists.specs.Fitting.{trees_at, may_fit, fitting}
+use Rattle.goal_lists.specs.Fitting.{trees_at, may_fit, fitting, about_trait, passes}
 use Rattle.goal_lists.specs.Interned.{CandidateIn, AreIn, erased_at, erased_all, candidate_at}
 use Rattle.goal_lists.specs.InternedEntries.{list_at, setting_at}
 use Rattle.goal_lists.specs.Laws.{IsConsistent}
@@ -42,7 +42,7 @@ use Rattle.goal_lists.proofs.ConstLemmas.{no_const_candidate_refuted}
 use Rattle.goal_lists.proofs.ContraryWords.{Exists-Each}
 use Rattle.goal_lists.proofs.EffectLists.{effect_list-holds, effect_list-refuted}
 use Rattle.goal_lists.proofs.FilteredWords.{exists-kept, kept-exists, each-kept, kept-each}
-use Rattle.goal_lists.proofs.FittingLemmas.{trees-erased, candidate_refuted, const_candidate_refuted}
+use Rattle.goal_lists.proofs.FittingLemmas.{trees-erased, candidate_refuted, const_candidate_refuted, passed_refuted, passed_const_refuted}
 use Rattle.goal_lists.proofs.InternedLemmas.{same-grown, are_in-grown, in-grown, all_same-grown, candidate_same-grown}
 use Rattle.goal_lists.proofs.ListModes.{trait_list-stands, effect_list-stands}
 use Rattle.goal_lists.proofs.ListStandIns.{list_stands_in-same}
@@ -248,37 +248,48 @@ asked-back S L T U asked xs ys o k h e s =
     subst (λ zs. SaysCandidates S L T asked zs o) e
     (subst (λ ts. Says (Exists (AskedDecides S L asked.constness asked.trait_id ts) xs) (Each (AskedRuledOut S L asked.constness asked.trait_id ts) xs) o) (all_same-grown T U k asked.args.now h) s)
 
--- candidates that may not fit are refuted, so those that may fit say all
-asked-passed : (S : Setting) (n : ℕ) (o : Option BoundConstness) (i : TraitId) (args : List Tree) (x : Candidate) → may_fit args x ≡ false → AskedRefuted S (level S n) o i (map erased args) x
-asked-passed S n None i args x = candidate_refuted S n i args x
-asked-passed S n (Some c) i args x = const_candidate_refuted S n c i args x
+-- where candidates that don't pass a test are refuted, those that pass it say all
+tested-says : (S : Setting) (n : ℕ) (k : Option BoundConstness) (i : TraitId) (args : List Tree) (test : Candidate → Bool) →
+    ((x : Candidate) → test x ≡ false → AskedRefuted S (level S n) k i args x) → (xs : List Candidate) (o : Outcome) →
+    Says (Exists (AskedDecides S (level S n) k i args) (filter test xs)) (Each (AskedRuledOut S (level S n) k i args) (filter test xs)) o →
+    Says (Exists (AskedDecides S (level S n) k i args) xs) (Each (AskedRuledOut S (level S n) k i args) xs) o
+tested-says S n k i args test refuted xs o =
+    let P : Candidate → Type 0 = AskedDecides S (level S n) k i args in
+    let R : Candidate → Type 0 = AskedRuledOut S (level S n) k i args in
+    let passed : (x : Candidate) → test x ≡ false → R x = λ x e. inl (refuted x e) in
+    says-same (Exists P (filter test xs)) (Exists P xs) (Each R (filter test xs)) (Each R xs)
+    (exists-kept P test xs) (kept-exists P test (λ x e h. no_asked_ruled_out S (level S n) (each_level_is_consistent S n) k i args x h (passed x e)) xs)
+    (kept-each R test passed xs) (each-kept R test xs) o
 
-fitting-says : (S : Setting) (n : ℕ) (k : Option BoundConstness) (i : TraitId) (args : List Tree) (xs : List Candidate) (o : Outcome) →
-    Says (Exists (AskedDecides S (level S n) k i (map erased args)) (fitting args xs)) (Each (AskedRuledOut S (level S n) k i (map erased args)) (fitting args xs)) o →
-    Says (Exists (AskedDecides S (level S n) k i (map erased args)) xs) (Each (AskedRuledOut S (level S n) k i (map erased args)) xs) o
-fitting-says S n k i args xs o =
-    let P : Candidate → Type 0 = AskedDecides S (level S n) k i (map erased args) in
-    let R : Candidate → Type 0 = AskedRuledOut S (level S n) k i (map erased args) in
-    let f : Candidate → Bool = may_fit args in
-    let passed : (x : Candidate) → f x ≡ false → R x = λ x e. inl (asked-passed S n k i args x e) in
-    says-same (Exists P (fitting args xs)) (Exists P xs) (Each R (fitting args xs)) (Each R xs)
-    (exists-kept P f xs) (kept-exists P f (λ x e h. no_asked_ruled_out S (level S n) (each_level_is_consistent S n) k i (map erased args) x h (passed x e)) xs)
-    (kept-each R f passed xs) (each-kept R f xs) o
+asked-tested : (S : Setting) (n : ℕ) (T : List Tree) (asked : AskedTrait) (test : Candidate → Bool) →
+    ((x : Candidate) → test x ≡ false → AskedRefuted S (level S n) asked.constness asked.trait_id (map erased (trees_at T asked.args.now)) x) → (xs : List Candidate) (o : Outcome) →
+    SaysCandidates S (level S n) T asked (filter test xs) o → SaysCandidates S (level S n) T asked xs o
+asked-tested S n T asked test refuted xs o =
+    tested-says S n asked.constness asked.trait_id (erased_all T asked.args.now) test
+    (λ x e. subst (λ args. AskedRefuted S (level S n) asked.constness asked.trait_id args x) (trees-erased T asked.args.now) (refuted x e)) xs o
+
+-- so those that may fit say all
+unfit-refuted : (S : Setting) (n : ℕ) (o : Option BoundConstness) (i : TraitId) (args : List Tree) (x : Candidate) → may_fit args x ≡ false → AskedRefuted S (level S n) o i (map erased args) x
+unfit-refuted S n None i args x = candidate_refuted S n i args x
+unfit-refuted S n (Some c) i args x = const_candidate_refuted S n c i args x
 
 asked-fitting : (S : Setting) (n : ℕ) (T : List Tree) (asked : AskedTrait) (xs : List Candidate) (o : Outcome) →
     SaysCandidates S (level S n) T asked (fitting (trees_at T asked.args.now) xs) o → SaysCandidates S (level S n) T asked xs o
-asked-fitting S n T asked xs o h =
-    let ts : List Tree = trees_at T asked.args.now in
-    subst (λ args. Says (Exists (AskedDecides S (level S n) asked.constness asked.trait_id args) xs) (Each (AskedRuledOut S (level S n) asked.constness asked.trait_id args) xs) o) (trees-erased T asked.args.now)
-    (fitting-says S n asked.constness asked.trait_id ts xs o
-    (subst (λ args. Says (Exists (AskedDecides S (level S n) asked.constness asked.trait_id args) (fitting ts xs)) (Each (AskedRuledOut S (level S n) asked.constness asked.trait_id args) (fitting ts xs)) o)
-    (sym (trees-erased T asked.args.now)) h))
+asked-fitting S n T asked =
+    asked-tested S n T asked (may_fit (trees_at T asked.args.now)) (unfit-refuted S n asked.constness asked.trait_id (trees_at T asked.args.now))
 
-pub asked-listed : (S : Setting) (n : ℕ) (T U : List Tree) (asked : AskedTrait) (xs ys : List Candidate) (res : Result Outcome Stop) → Keeps T U → AskedIn T asked →
-    xs ≡ fitting (trees_at T asked.args.now) ys → IfOk res (SaysCandidates S (level S n) U asked xs) → IfOk res (SaysCandidates S (level S n) T asked ys)
-asked-listed S n T U asked xs ys res k h e s =
+-- and so do those of a class that are looked at
+passed-over : (S : Setting) (n : ℕ) (v : TraitGoalProvenVia) (o : Option BoundConstness) (i : TraitId) (args : List Tree) (x : Candidate) → passes v (about_trait i args) x ≡ false →
+    AskedRefuted S (level S n) o i (map erased args) x
+passed-over S n v None i args x = passed_refuted S n v i args x
+passed-over S n v (Some c) i args x = passed_const_refuted S n v c i args x
+
+pub asked-listed : (S : Setting) (n : ℕ) (T U : List Tree) (asked : AskedTrait) (v : TraitGoalProvenVia) (xs ys : List Candidate) (res : Result Outcome Stop) → Keeps T U → AskedIn T asked →
+    xs ≡ filter (passes v (about_trait asked.trait_id (trees_at T asked.args.now))) ys → IfOk res (SaysCandidates S (level S n) U asked xs) → IfOk res (SaysCandidates S (level S n) T asked ys)
+asked-listed S n T U asked v xs ys res k h e s =
+    let test : Candidate → Bool = passes v (about_trait asked.trait_id (trees_at T asked.args.now)) in
     IfOk-weaker res (SaysCandidates S (level S n) U asked xs) (SaysCandidates S (level S n) T asked ys)
-    (λ o q. asked-fitting S n T asked ys o (asked-back S (level S n) T U asked xs (fitting (trees_at T asked.args.now) ys) o k h.1 e q)) s
+    (λ o q. asked-tested S n T asked test (passed-over S n v asked.constness asked.trait_id (trees_at T asked.args.now)) ys o (asked-back S (level S n) T U asked xs (filter test ys) o k h.1 e q)) s
 
 -- those that depend on the self type
 of_self : (f : Tree → List Candidate) (T U : List Tree) (asked : AskedTrait) → Keeps T U → AskedIn T asked → f (erased_at U asked.self_ty) ≡ f (erased_at T asked.self_ty)

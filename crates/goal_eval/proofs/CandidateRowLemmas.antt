@@ -20,7 +20,7 @@ use Rattle.goal_tables.specs.declared.rows.ItemRow.{ItemRow}
 use Rattle.goal_tables.specs.declared.rows.OpaqueRow.{OpaqueRow}
 use Rattle.goal_tables.specs.declared.rows.Tables.{Tables}
 use Rattle.goal_lists.specs.Candidates.{Candidate, assumption, implied_bound, by_impl, built_in, error, bounds_under, const_bounds_under, item_bounds, opaque_bounds, bounds_of, bounds_of_alias, all_but_last, last_of, projects, object_bound, object_bounds_among, object_bounds, impls_for, environment, alias_bounds, rest, class_of, second_group}
-use Rattle.goal_lists.specs.Fitting.{fitting, may_fit}
+use Rattle.goal_lists.specs.Fitting.{fitting, may_fit, About, passes, class_fitting}
 use Rattle.goal_lists.specs.Interned.{candidate_at}
 use Rattle.goal_lists.specs.NamedRows.{CandidateIsOf}
 use Rattle.goal_lists.specs.Premises.{predicate_under, trait_under, traits_under}
@@ -166,10 +166,10 @@ own-all t T (x ∷ xs) h =
     (own-all t T xs (λ checked. own-later t (candidate_at T x) (map (candidate_at T) xs) (h checked)))
 
 -- the candidates of a class, and of a second group, as far as they may fit
-pub class-rows : (S : Setting) (T : List Tree) (args : List Tree) (i : TraitId) (s : Tree) (v : TraitGoalProvenVia) (xs : List InternedCandidate) →
-    map (candidate_at T) xs ≡ fitting args (class_of S i s v) → All (IsOfRows S.tables) xs
-class-rows S T args i s v xs e =
-    own-all S.tables T xs (λ checked. subst (Each (IsOwn S.tables)) (sym e) (each-kept (IsOwn S.tables) (may_fit args) (class_of S i s v) (own-class S checked i s v)))
+pub class-rows : (S : Setting) (T : List Tree) (s : Tree) (a : About) (v : TraitGoalProvenVia) (xs : List InternedCandidate) →
+    map (candidate_at T) xs ≡ class_fitting S s a v → All (IsOfRows S.tables) xs
+class-rows S T s a v xs e =
+    own-all S.tables T xs (λ checked. subst (Each (IsOwn S.tables)) (sym e) (each-kept (IsOwn S.tables) (passes v a) (class_of S a.trait_id s v) (own-class S checked a.trait_id s v)))
 
 pub second-rows : (S : Setting) (T : List Tree) (args : List Tree) (i : TraitId) (s : Tree) (v : TraitGoalProvenVia) (xs : List InternedCandidate) →
     map (candidate_at T) xs ≡ fitting args (second_group S i s v) → All (IsOfRows S.tables) xs

@@ -1,5 +1,5 @@
 -- What is found of the groups of candidates, and what that says of the projection.
-use Rattle.std.proofs.Common.{◌≡◌, ◌≢◌, inl, inr, ℕ, ◌<◌, Bool, true, false, List, [], ◌∷◌, length, get_or, take, Some, None, refl, sym, subst, ap, ◌∙◌, arith, ⊎_elim, Result}
+use Rattle.std.proofs.Common.{◌≡◌, ◌≢◌, inl, inr, ℕ, ◌<◌, Bool, true, false, List, [], ◌∷◌, length, filter, get_or, take, Some, None, refl, sym, subst, ap, ◌∙◌, arith, ⊎_elim, Result}
 use Rattle.std.specs.Prelude.{IfOk, Option, ◌==◌}
 use Rattle.std.proofs.Math.Dec.{eqb-suc-zero}
 use Rattle.std.proofs.lemmas.Bool.{false≢true}
@@ -17,7 +17,7 @@ use Rattle.goal_tables.specs.Rows.{trait_of, item_of}
 use Rattle.goal_tables.specs.declared.rows.ItemRow.{ItemRow}
 use Rattle.goal_tables.specs.declared.rows.TraitRow.{TraitRow}
 use Rattle.goal_lists.specs.Candidates.{Candidate, environment, second_group, class_of}
-use Rattle.goal_lists.specs.Fitting.{fitting}
+use Rattle.goal_lists.specs.Fitting.{About, near, class_fitting}
 use Rattle.goal_lists.specs.ImplTerms.{Projection}
 use Rattle.goal_lists.specs.Interned.{IsIn, AreIn, erased_at, erased_all}
 use Rattle.goal_lists.specs.Laws.{IsConsistent}
@@ -26,7 +26,6 @@ use Rattle.goal_lists.specs.Projections.{GroupGives, GroupRefuted, GroupsGive, G
 use Rattle.goal_lists.specs.Settings.{Setting}
 use Rattle.goal_lists.specs.Words.{OfRow}
 use Rattle.goal_lists.proofs.EqualLemmas.{one_head_form, no_head_form_refuted}
-use Rattle.goal_lists.proofs.FittingLemmas.{fitting-environment}
 use Rattle.goal_lists.proofs.InternedLemmas.{same-grown, are_in-grown, all_same-grown}
 use Rattle.goal_lists.proofs.ProjectionLemmas.{one_group_term, no_group_refuted}
 use Rattle.goal_eval.specs.Outcomes.{SaysWhich, ProjectionIn, projection_at}
@@ -38,10 +37,10 @@ use Rattle.goal_lists.proofs.ResultLemmas.{ok-map}
 use Rattle.goal_eval.proofs.ProjectionArgLemmas.{rest-erased}
 use Rattle.goal_eval.proofs.ProjectionTermLemmas.{projection_same-grown}
 
--- the environment is the first class, and all of it may fit
-pub fitting-class : (S : Setting) (i : TraitId) (s : Tree) (args : List Tree) → fitting args (class_of S i s class.ParamEnv) ≡ environment S
+-- the environment is the first class
+pub class-near : (S : Setting) (s : Tree) (a : About) → class_fitting S s a class.ParamEnv ≡ filter (near a) (environment S)
 unfolding class_of
-fitting-class S i s args = fitting-environment args S
+class-near S s a = refl
 
 -- where the environment's term is undecided, all is
 pub groups-undecided : (S : Setting) (L : Level) (c : TraitGoalProvenVia) (p : Projection) (rigid_alias given : Tree) (second : List Candidate) →

@@ -1,5 +1,5 @@
 -- What is found of the parts of a projection, and what that says of the whole.
-use Rattle.std.proofs.Common.{◌≡◌, ◌⊎◌, ⊎_elim, inl, inr, Bool, true, false, take, ℕ, zero, suc, ◌+◌, ◌<◌, ◌≤◌, List, [], ◌∷◌, length, map, get_or, drop, refl, sym, subst, ap, ◌∙◌, arith, Result}
+use Rattle.std.proofs.Common.{◌≡◌, ◌⊎◌, ⊎_elim, inl, inr, Bool, true, false, filter, take, ℕ, zero, suc, ◌+◌, ◌<◌, ◌≤◌, List, [], ◌∷◌, length, map, get_or, drop, refl, sym, subst, ap, ◌∙◌, arith, Result}
 use Rattle.std.specs.Prelude.{IfOk, ◌||◌}
 use Rattle.std.specs.List.{All}
 use Rattle.std.proofs.lemmas.List.{drop-map, take-map}
@@ -7,9 +7,10 @@ use Rattle.goal_terms.specs.Erased.{erased}
 use Rattle.goal_terms.specs.TableMeaning.{Keeps}
 use Rattle.goal_terms.specs.Tree.{Tree}
 use Rattle.goal_terms.specs.declared.modes.TypingMode.{TypingMode}
+use Rattle.goal_terms.specs.declared.ids.TraitId.{TraitId}
 use Rattle.goal_terms.specs.declared.term_nodes.TermId.{TermId}
-use Rattle.goal_lists.specs.Candidates.{Candidate}
-use Rattle.goal_lists.specs.Fitting.{trees_at, may_fit, fitting}
+use Rattle.goal_lists.specs.Candidates.{Candidate, environment}
+use Rattle.goal_lists.specs.Fitting.{trees_at, may_fit, fitting, near}
 use Rattle.goal_lists.specs.ImplTerms.{Projection, trait_args, own_args}
 use Rattle.goal_lists.specs.Interned.{IsIn, AreIn, CandidateIn, erased_at, erased_all, candidate_at}
 use Rattle.goal_lists.specs.Laws.{IsConsistent}
@@ -21,7 +22,7 @@ use Rattle.goal_lists.specs.declared.candidates.interned.InternedCandidate.{Inte
 use Rattle.goal_lists.proofs.ConsistentLemmas.{each_level_is_consistent}
 use Rattle.goal_lists.proofs.EqualLemmas.{no_head_form_refuted}
 use Rattle.goal_lists.proofs.FilteredWords.{exists-kept, kept-exists, each-kept, kept-each}
-use Rattle.goal_lists.proofs.FittingLemmas.{trees-erased, term_refuted}
+use Rattle.goal_lists.proofs.FittingLemmas.{trees-erased, term_refuted, about_projection, near_term_refuted}
 use Rattle.goal_lists.proofs.InternedLemmas.{same-grown, all_same-grown, candidate_same-grown}
 use Rattle.goal_lists.proofs.TermCandidateLemmas.{one_candidate_term, no_candidate_term_refuted, no_term_ruled_out}
 use Rattle.goal_eval.specs.Outcomes.{Says, SaysWhich, FoundIn, ProjectionIn, projection_at, setting_in, level_in}
@@ -233,36 +234,53 @@ group-back S L T U V k p i xs ys e r h =
     (subst (λ t. IfOk r (SaysWhich (GroupGives S L (projection_at U p) t ys) (GroupRefuted S L (projection_at U p) ys) V)) (same-grown T U k p.rigid_alias i.1)
     (subst (λ zs. IfOk r (SaysWhich (GroupGives S L (projection_at U p) (erased_at U p.rigid_alias) zs) (GroupRefuted S L (projection_at U p) zs) V)) e h))
 
--- candidates that may not fit give no term, so those that may fit say all
-fitting-says : (S : Setting) (n : ℕ) (p : Projection) (args : List Tree) → map erased args ≡ trait_args p → (rigid_alias : Tree) (xs : List Candidate) (V : List Tree) (f : founds.Found) →
-    SaysWhich (GroupGives S (level S n) p rigid_alias (fitting args xs)) (GroupRefuted S (level S n) p (fitting args xs)) V f →
+-- where candidates that don't pass a test give no term, those that pass it say all
+tested-says : (S : Setting) (n : ℕ) (p : Projection) (rigid_alias : Tree) (test : Candidate → Bool) → ((x : Candidate) → test x ≡ false → TermRefuted S (level S n) p x) →
+    (xs : List Candidate) (V : List Tree) (f : founds.Found) →
+    SaysWhich (GroupGives S (level S n) p rigid_alias (filter test xs)) (GroupRefuted S (level S n) p (filter test xs)) V f →
     SaysWhich (GroupGives S (level S n) p rigid_alias xs) (GroupRefuted S (level S n) p xs) V f
 unfolding GroupGives GroupRefuted
-fitting-says S n p args same rigid_alias xs V f =
+tested-says S n p rigid_alias test refuted xs V f =
     let G : Tree → Candidate → Type 0 = CandidateGives S (level S n) p rigid_alias in
     let R : Candidate → Type 0 = TermRuledOut S (level S n) p in
-    let fits : Candidate → Bool = may_fit args in
-    let passed : (x : Candidate) → fits x ≡ false → R x = λ x e. inl (term_refuted S n p args same x e) in
-    which-map (GroupGives S (level S n) p rigid_alias (fitting args xs)) (GroupGives S (level S n) p rigid_alias xs) (GroupRefuted S (level S n) p (fitting args xs)) (GroupRefuted S (level S n) p xs) V
-    (λ u h. (exists-kept (TermDecides S (level S n) p rigid_alias u) fits xs h.0, kept-each (λ x. G u x ⊎ R x) fits (λ x e. inr (passed x e)) xs h.1))
+    let passed : (x : Candidate) → test x ≡ false → R x = λ x e. inl (refuted x e) in
+    which-map (GroupGives S (level S n) p rigid_alias (filter test xs)) (GroupGives S (level S n) p rigid_alias xs) (GroupRefuted S (level S n) p (filter test xs)) (GroupRefuted S (level S n) p xs) V
+    (λ u h. (exists-kept (TermDecides S (level S n) p rigid_alias u) test xs h.0, kept-each (λ x. G u x ⊎ R x) test (λ x e. inr (passed x e)) xs h.1))
     (λ u h. (
-      kept-exists (TermDecides S (level S n) p rigid_alias u) fits (λ x e g. no_term_ruled_out S (level S n) (each_level_is_consistent S n) p rigid_alias u x g (passed x e)) xs h.0,
-      each-kept (λ x. G u x ⊎ R x) fits xs h.1,
+      kept-exists (TermDecides S (level S n) p rigid_alias u) test (λ x e g. no_term_ruled_out S (level S n) (each_level_is_consistent S n) p rigid_alias u x g (passed x e)) xs h.0,
+      each-kept (λ x. G u x ⊎ R x) test xs h.1,
     ))
-    (kept-each R fits passed xs) (each-kept R fits xs) f
+    (kept-each R test passed xs) (each-kept R test xs) f
 
+group-tested : {E : Type 0} (S : Setting) (n : ℕ) (T U V : List Tree) → Keeps T U → (p : projections.Projection) → ProjectionIn T p → (test : Candidate → Bool) →
+    ((x : Candidate) → test x ≡ false → TermRefuted S (level S n) (projection_at T p) x) → (xs ys : List Candidate) → xs ≡ filter test ys → (r : Result founds.Found E) →
+    IfOk r (SaysWhich (GroupGives S (level S n) (projection_at U p) (erased_at U p.rigid_alias) xs) (GroupRefuted S (level S n) (projection_at U p) xs) V) →
+    IfOk r (SaysWhich (GroupGives S (level S n) (projection_at T p) (erased_at T p.rigid_alias) ys) (GroupRefuted S (level S n) (projection_at T p) ys) V)
+group-tested S n T U V k p i test refuted xs ys same r h =
+    let L : Level = level S n in
+    ok-map (SaysWhich (GroupGives S L (projection_at T p) (erased_at T p.rigid_alias) (filter test ys)) (GroupRefuted S L (projection_at T p) (filter test ys)) V)
+    (SaysWhich (GroupGives S L (projection_at T p) (erased_at T p.rigid_alias) ys) (GroupRefuted S L (projection_at T p) ys) V) r
+    (λ f w. tested-says S n (projection_at T p) (erased_at T p.rigid_alias) test refuted ys V f w)
+    (group-back S L T U V k p i xs (filter test ys) same r h)
+
+-- so those that may fit say all
 pub group-fitting : {E : Type 0} (S : Setting) (n : ℕ) (T U V : List Tree) → Keeps T U → (p : projections.Projection) → ProjectionIn T p → (ids : List TermId) → ids ≡ take p.trait_params p.args.now →
     (xs ys : List Candidate) → xs ≡ fitting (trees_at T ids) ys → (r : Result founds.Found E) →
     IfOk r (SaysWhich (GroupGives S (level S n) (projection_at U p) (erased_at U p.rigid_alias) xs) (GroupRefuted S (level S n) (projection_at U p) xs) V) →
     IfOk r (SaysWhich (GroupGives S (level S n) (projection_at T p) (erased_at T p.rigid_alias) ys) (GroupRefuted S (level S n) (projection_at T p) ys) V)
 group-fitting S n T U V k p i ids e xs ys same r h =
-    let L : Level = level S n in
     let args : map erased (trees_at T ids) ≡ trait_args (projection_at T p) =
     trees-erased T ids ∙ ap (erased_all T) e ∙ sym (take-map (erased_at T) p.trait_params p.args.now) in
-    ok-map (SaysWhich (GroupGives S L (projection_at T p) (erased_at T p.rigid_alias) (fitting (trees_at T ids) ys)) (GroupRefuted S L (projection_at T p) (fitting (trees_at T ids) ys)) V)
-    (SaysWhich (GroupGives S L (projection_at T p) (erased_at T p.rigid_alias) ys) (GroupRefuted S L (projection_at T p) ys) V) r
-    (λ f w. fitting-says S n (projection_at T p) (trees_at T ids) args (erased_at T p.rigid_alias) ys V f w)
-    (group-back S L T U V k p i xs (fitting (trees_at T ids) ys) same r h)
+    group-tested S n T U V k p i (may_fit (trees_at T ids)) (term_refuted S n (projection_at T p) (trees_at T ids) args) xs ys same r h
+
+-- and so do the clauses of the environment that may be about the projection's trait
+pub group-near : {E : Type 0} (S : Setting) (n : ℕ) (T U V : List Tree) → Keeps T U → (p : projections.Projection) → ProjectionIn T p → (j : TraitId) (xs : List Candidate) →
+    xs ≡ filter (near (about_projection j (projection_at T p) (trees_at T p.args.now))) (environment S) → (r : Result founds.Found E) →
+    IfOk r (SaysWhich (GroupGives S (level S n) (projection_at U p) (erased_at U p.rigid_alias) xs) (GroupRefuted S (level S n) (projection_at U p) xs) V) →
+    IfOk r (SaysWhich (GroupGives S (level S n) (projection_at T p) (erased_at T p.rigid_alias) (environment S)) (GroupRefuted S (level S n) (projection_at T p) (environment S)) V)
+group-near S n T U V k p i j xs same r h =
+    let args : List Tree = trees_at T p.args.now in
+    group-tested S n T U V k p i (near (about_projection j (projection_at T p) args)) (near_term_refuted S n j (projection_at T p) args (trees-erased T p.args.now)) xs (environment S) same r h
 
 -- what is found of a term once it is known whether the own arguments have head forms
 abbrev pub formed_of : TermId → outcomes.Outcome → founds.Found

@@ -1,16 +1,16 @@
 -- Lists of candidates, put together.
-use Rattle.std.proofs.Common.{◌≡◌, ◌≢◌, ◌+◌, List, [], ◌∷◌, ◌++◌, map, refl, sym, ap, ◌∙◌, append_assoc, arith}
+use Rattle.std.proofs.Common.{◌≡◌, ◌≢◌, ◌+◌, List, [], ◌∷◌, ◌++◌, map, filter, refl, sym, ap, ◌∙◌, append_assoc, arith}
 use Rattle.std.proofs.lemmas.List.Elements.{filter-append}
 use Rattle.goal_terms.specs.Tree.{Tree}
 use Rattle.goal_terms.specs.declared.answers.TraitGoalProvenVia.{TraitGoalProvenVia}
 use Rattle.goal_terms.specs.declared.answers.TraitGoalProvenVia.TheVariants as class
 use Rattle.goal_terms.specs.declared.ids.TraitId.{TraitId}
 use Rattle.goal_lists.specs.Candidates.{Candidate, by_impl, built_in, error, impls_for, environment, alias_bounds, object_bounds, rest, class_of, second_group}
-use Rattle.goal_lists.specs.Fitting.{may_fit, fitting}
+use Rattle.goal_lists.specs.Fitting.{may_fit, fitting, About, near, class_fitting}
 use Rattle.goal_lists.specs.Interned.{candidate_at}
 use Rattle.goal_lists.specs.Settings.{Setting}
 use Rattle.goal_lists.specs.declared.candidates.interned.InternedCandidate.{InternedCandidate}
-use Rattle.goal_lists.proofs.FittingLemmas.{fitting-environment, fitting-bounds, fitting-rest}
+use Rattle.goal_lists.proofs.FittingLemmas.{fitting-bounds, fitting-rest}
 
 -- the rest, one after the other
 pub rest-made : (args : List Tree) (S : Setting) (i : TraitId) (s : Tree) (front impls with_rule with_objects all : List Candidate) →
@@ -31,17 +31,17 @@ pub from-nothing : (T : List Tree) (found : List InternedCandidate) (all more : 
 from-nothing T found all more e so = so ∙ ap (λ xs. map (candidate_at T) xs ++ more) e
 
 -- the classes
-pub class-environment : (args : List Tree) (S : Setting) (i : TraitId) (s : Tree) (c : TraitGoalProvenVia) → c ≡ class.ParamEnv → environment S ≡ fitting args (class_of S i s c)
+pub class-environment : (S : Setting) (s : Tree) (a : About) (c : TraitGoalProvenVia) → c ≡ class.ParamEnv → filter (near a) (environment S) ≡ class_fitting S s a c
 unfolding class_of
-class-environment args S i s c e = sym (fitting-environment args S) ∙ ap (λ k. fitting args (class_of S i s k)) (sym e)
+class-environment S s a c e = ap (class_fitting S s a) (sym e)
 
-pub class-bounds : (args : List Tree) (S : Setting) (i : TraitId) (s : Tree) (c : TraitGoalProvenVia) → c ≡ class.AliasBound → alias_bounds S s ≡ fitting args (class_of S i s c)
+pub class-bounds : (S : Setting) (s : Tree) (a : About) (c : TraitGoalProvenVia) → c ≡ class.AliasBound → alias_bounds S s ≡ class_fitting S s a c
 unfolding class_of
-class-bounds args S i s c e = sym (fitting-bounds args S s) ∙ ap (λ k. fitting args (class_of S i s k)) (sym e)
+class-bounds S s a c e = sym (fitting-bounds a.args S s) ∙ ap (class_fitting S s a) (sym e)
 
-pub class-rest : (args : List Tree) (S : Setting) (i : TraitId) (s : Tree) (c : TraitGoalProvenVia) → c ≡ class.Misc → fitting args (rest S i s) ≡ fitting args (class_of S i s c)
+pub class-rest : (S : Setting) (s : Tree) (a : About) (c : TraitGoalProvenVia) → c ≡ class.Misc → fitting a.args (rest S a.trait_id s) ≡ class_fitting S s a c
 unfolding class_of
-class-rest args S i s c e = ap (λ k. fitting args (class_of S i s k)) (sym e)
+class-rest S s a c e = ap (class_fitting S s a) (sym e)
 
 -- the second group
 pub group-rest : (args : List Tree) (S : Setting) (i : TraitId) (s : Tree) (c : TraitGoalProvenVia) → c ≡ class.Misc →

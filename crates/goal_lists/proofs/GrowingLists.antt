@@ -1,9 +1,9 @@
 -- Lists that get one more element while a table of terms grows.
-use Rattle.std.proofs.Common.{◌≡◌, ◌<◌, ◌≤◌, ◌+◌, ℕ, List, [], ◌∷◌, ◌++◌, length, map, get_or, take, sym, ap, ap₂, ◌∙◌, append_assoc}
+use Rattle.std.proofs.Common.{◌≡◌, ◌<◌, ◌≤◌, ◌+◌, ℕ, Bool, List, [], ◌∷◌, ◌++◌, length, map, filter, get_or, take, sym, ap, ap₂, ◌∙◌, append_assoc}
 use Rattle.std.specs.Prelude.{Result, Ok, Err, IfOk}
 use Rattle.std.specs.List.{All}
 use Rattle.std.proofs.lemmas.List.{map_more, map_push, take_all}
-use Rattle.std.proofs.lemmas.List.Elements.{All-push}
+use Rattle.std.proofs.lemmas.List.Elements.{All-push, filter-append}
 use Rattle.goal_terms.specs.TableMeaning.{Keeps}
 use Rattle.goal_terms.specs.Tree.{Tree}
 use Rattle.goal_terms.specs.declared.term_nodes.TermId.{TermId}
@@ -27,6 +27,19 @@ one-more f front so_far given g i b within here so one =
 pub all-come : {X B : Type 0} (f : X → B) (front all : List B) (given : List X) (i : ℕ) → length given ≤ i →
     all ≡ front ++ map f (take i given) → all ≡ front ++ map f given
 all-come f front all given i done so = so ∙ ap (λ xs. front ++ map f xs) (take_all i given done)
+
+-- the same of those that pass a test
+pub one-passing : {X B : Type 0} (f : X → B) (test : B → Bool) (front so_far all : List B) (given : List X) (g : X) (i : ℕ) → i < length given → g ≡ get_or given i g →
+    so_far ≡ front ++ filter test (map f (take i given)) → all ≡ so_far ++ filter test (f g ∷ []) → all ≡ front ++ filter test (map f (take (i + 1) given))
+one-passing f test front so_far all given g i within here so e =
+    e ∙ ap₂ (λ xs x. xs ++ filter test (f x ∷ [])) so here
+    ∙ append_assoc front (filter test (map f (take i given))) (filter test (f (get_or given i g) ∷ []))
+    ∙ ap (λ xs. front ++ xs) (sym (filter-append test (map f (take i given)) (f (get_or given i g) ∷ [])))
+    ∙ ap (λ xs. front ++ filter test xs) (sym (map_more f given i g within))
+
+pub all-passing : {X B : Type 0} (f : X → B) (test : B → Bool) (front all : List B) (given : List X) (i : ℕ) → length given ≤ i →
+    all ≡ front ++ filter test (map f (take i given)) → all ≡ front ++ filter test (map f given)
+all-passing f test front all given i done so = so ∙ ap (λ xs. front ++ filter test (map f xs)) (take_all i given done)
 
 -- things that are in a table, and what they stand for there, which stays so when it grows
 module _ {A B : Type 0} (P : List Tree → A → Type 0) (at : List Tree → A → B)

@@ -34,7 +34,7 @@ same_node-back : (m n : Node) → same_node m n ≡ true → same_node n m ≡ t
 same_node-back m n e = subst (λ k. same_node k m ≡ true) (same_node-true m n e) (same_node-refl m)
 
 -- a header's term that agrees with a constructor has that one, or stands for others
-head-near : (j : Head) (gs : Trees) (h : Tree) → head_agrees (node j gs) h ≡ true → may_be (compared_node Forgotten (nodes.Head j)) (known_head (node_of h)) ≡ true
+head-near : (j : Head) (gs : Trees) (h : Tree) → head_agrees Inferred (node j gs) h ≡ true → may_be (compared_node Forgotten (nodes.Head j)) (known_head (node_of h)) ≡ true
 unfolding agree is_open
 head-near j gs (node (head.TyParam n) hs) e = refl
 head-near j gs (node (head.ConstParam n) hs) e = refl
@@ -45,7 +45,7 @@ head-near j gs (variable v) e = refl
 first-near : (j : Head) (gs : Trees) (ts us : List Tree) → heads_agree Inferred (node j gs ∷ ts) us ≡ true → may_be (compared_node Forgotten (nodes.Head j)) (first_head us) ≡ true
 unfolding lists_agree
 first-near j gs ts [] e = refl
-first-near j gs ts (u ∷ us) e = head-near j gs u (first_passes (head_agrees (node j gs) u) (heads_agree Inferred ts us) e)
+first-near j gs ts (u ∷ us) e = head-near j gs u (first_passes (head_agrees Inferred (node j gs) u) (heads_agree Inferred ts us) e)
 
 -- tests that say the same of what may fit
 left_out : (args : List Tree) (b : Bool) (r : ImplRow) (rs : List ImplRow) → may_fit args (by_impl r) ≡ false → fitting args (map by_impl (cond b (r ∷ rs) rs)) ≡ fitting args (map by_impl rs)

@@ -1,5 +1,5 @@
 -- Lists in which two heads differ are unequal, and a header clashes, without any height.
-use Rattle.std.proofs.Common.{◌≡◌, ◌≢◌, ◌⊎◌, ℕ, Bool, true, false, ◌&&◌, List, [], ◌∷◌, map, refl, sym, ap, ◌∙◌, subst, inl, inr}
+use Rattle.std.proofs.Common.{◌≡◌, ◌≢◌, ◌⊎◌, ℕ, Bool, true, false, ◌&&◌, List, [], ◌∷◌, map, refl, sym, ap, ap₂, ◌∙◌, subst, inl, inr}
 use Rattle.std.specs.Prelude.{is_some, if◌then◌else◌}
 use Rattle.std.proofs.lemmas.Bool.{false≢true}
 use Rattle.goal_terms.specs.Erased.{erased, erased_row, erased_head, compared_node}
@@ -23,7 +23,7 @@ abbrev pub any_two : Node → Node → Bool
 any_two n m = true
 
 -- of two tests that don't both pass one fails
-one_fails : (a b : Bool) → a && b ≡ false → (a ≡ false) ⊎ (b ≡ false)
+pub one_fails : (a b : Bool) → a && b ≡ false → (a ≡ false) ⊎ (b ≡ false)
 one_fails true b e = inr e
 one_fails false b e = inl refl
 
@@ -61,6 +61,73 @@ lists_unequal L [] (u ∷ us) e = tt
 lists_unequal L (t ∷ ts) [] e = tt
 lists_unequal L (t ∷ ts) (u ∷ us) e =
     elim (one_fails (agree any_two Rigid t u) (heads_agree Rigid ts us) e) [ inl f ↦ inl (heads_unequal L t u f) | inr f ↦ inr (lists_unequal L ts us f) ]
+
+-- a constructor without lifetimes has none that could go
+erased_head-again : (h : Head) → erased_head (erased_head h) ≡ erased_head h
+erased_head-again (Ref r m) = refl
+erased_head-again (FnPtr bound inputs fn_traits) = refl
+erased_head-again (Dynamic count r) = refl
+erased_head-again (Lifetime r) = refl
+erased_head-again h = refl
+
+-- nodes that are not the same have other heads, also where one side's lifetimes are gone
+heads_other-erased : (h k : Head) → same_node (compared_node Forgotten (nodes.Head h)) (compared_node Forgotten (nodes.Head k)) ≡ false → k ≢ erased_head h
+heads_other-erased h k e f = heads_other h k e (sym (ap erased_head f ∙ erased_head-again h))
+
+mutual
+  unfolding agree is_open Unequal erased
+
+  -- a term is unequal above any level to one in which another head stands
+  head_unequal : (L : Level) (g u : Tree) → agree any_two Rigid g u ≡ false → Unequal L u (erased g)
+  head_unequal L (node h ts) (node k us) e =
+      elim (one_fails (same_node (compared_node Forgotten (nodes.Head h)) (compared_node Forgotten (nodes.Head k))) (row_agrees any_two Rigid ts (list_of us)) e)
+      [ inl f ↦ inl (heads_other-erased h k f) | inr f ↦ inr (row_head_unequal L ts us f) ]
+  head_unequal L (node h ts) (alias k us) e = absurd (false≢true (sym e))
+  head_unequal L (node h ts) (variable w) e = absurd (false≢true (sym e))
+  head_unequal L (alias k ts) u e = absurd (false≢true (sym e))
+  head_unequal L (variable v) u e = absurd (false≢true (sym e))
+
+  row_head_unequal : (L : Level) (ts us : Trees) → row_agrees any_two Rigid ts (list_of us) ≡ false → RowUnequal L us (erased_row ts)
+  row_head_unequal L none none e = absurd (false≢true (sym e))
+  row_head_unequal L none (more u us) e = tt
+  row_head_unequal L (more t ts) none e = tt
+  row_head_unequal L (more t ts) (more u us) e =
+      elim (one_fails (agree any_two Rigid t u) (row_agrees any_two Rigid ts (list_of us)) e)
+      [ inl f ↦ inl (head_unequal L t u f) | inr f ↦ inr (row_head_unequal L ts us f) ]
+
+-- so are the terms of a list, beside given ones
+pub list_unequal : (L : Level) (gs us : List Tree) → heads_agree Rigid gs us ≡ false → SomePair (Unequal L) us (map erased gs)
+unfolding lists_agree SomePair
+list_unequal L [] [] e = false≢true (sym e)
+list_unequal L [] (u ∷ us) e = tt
+list_unequal L (g ∷ gs) [] e = tt
+list_unequal L (g ∷ gs) (u ∷ us) e =
+    elim (one_fails (agree any_two Rigid g u) (heads_agree Rigid gs us) e) [ inl f ↦ inl (head_unequal L g u f) | inr f ↦ inr (list_unequal L gs us f) ]
+
+mutual
+  unfolding agree is_open erased
+
+  -- lifetimes say nothing of whether heads agree
+  agree-erased : (g u : Tree) → agree any_two Rigid g (erased u) ≡ agree any_two Rigid g u
+  agree-erased (node h ts) (node k us) =
+      ap₂ (λ j b. same_node (compared_node Forgotten (nodes.Head h)) (nodes.Head j) && b) (erased_head-again k) (row_agrees-erased ts us)
+  agree-erased (node h ts) (alias k us) = refl
+  agree-erased (node h ts) (variable w) = refl
+  agree-erased (alias k ts) u = refl
+  agree-erased (variable v) u = refl
+
+  row_agrees-erased : (ts us : Trees) → row_agrees any_two Rigid ts (list_of (erased_row us)) ≡ row_agrees any_two Rigid ts (list_of us)
+  row_agrees-erased none none = refl
+  row_agrees-erased none (more u us) = refl
+  row_agrees-erased (more t ts) none = refl
+  row_agrees-erased (more t ts) (more u us) = ap₂ (λ a b. a && b) (agree-erased t u) (row_agrees-erased ts us)
+
+pub heads_agree-erased : (gs us : List Tree) → heads_agree Rigid gs (map erased us) ≡ heads_agree Rigid gs us
+unfolding lists_agree
+heads_agree-erased [] [] = refl
+heads_agree-erased [] (u ∷ us) = refl
+heads_agree-erased (g ∷ gs) [] = refl
+heads_agree-erased (g ∷ gs) (u ∷ us) = ap₂ (λ a b. a && b) (agree-erased g u) (heads_agree-erased gs us)
 
 -- a constructor without lifetimes is the same parameter
 parameter_of-erased : (h : Head) → parameter_of (erased_head h) ≡ parameter_of h

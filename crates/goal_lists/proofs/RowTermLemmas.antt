@@ -54,7 +54,7 @@ numbers-in T (id ∷ ids) below h =
     (numbers-in T ids (All-tail (λ p. p.0 < length T) id ids below) (All-tail IsArgument (tree_at T id) (map (tree_at T) ids) h))
 
 -- erased parts are the parts of the erased term
-erased-list : (ts : Trees) → list_of (erased_row ts) ≡ map erased (list_of ts)
+pub erased-list : (ts : Trees) → list_of (erased_row ts) ≡ map erased (list_of ts)
 unfolding erased_row
 erased-list none = refl
 erased-list (more t ts) = ap (λ us. erased t ∷ us) (erased-list ts)

@@ -1,7 +1,8 @@
 -- Words on the candidates that are added over a table of terms.
-use Rattle.std.specs.Prelude.{◌≡◌, ◌++◌, ℕ, List, map, Option, Some, Result, Vec, slice_get, IfOk}
+use Rattle.std.specs.Prelude.{◌≡◌, ◌++◌, ℕ, List, map, filter, Option, Some, Result, Vec, slice_get, IfOk}
 use Rattle.std.specs.Global.{Global}
 use Rattle.goal_terms.specs.Tree.{Tree}
+use Rattle.goal_terms.specs.declared.answers.TraitGoalProvenVia.{TraitGoalProvenVia}
 use Rattle.goal_terms.specs.declared.ids.TraitId.{TraitId}
 use Rattle.goal_terms.specs.declared.modes.TypingMode.{TypingMode}
 use Rattle.goal_terms.specs.declared.predicates.Clause.{Clause}
@@ -10,7 +11,7 @@ use Rattle.goal_tables.specs.declared.rows.ImplRow.{ImplRow}
 use Rattle.goal_tables.specs.declared.rows.Tables.{Tables}
 use Rattle.goal_lists.specs.Answers.{setting_of}
 use Rattle.goal_lists.specs.Candidates.{Candidate, by_impl, bounds_under, const_bounds_under}
-use Rattle.goal_lists.specs.Fitting.{trees_at, fitting}
+use Rattle.goal_lists.specs.Fitting.{trees_at, fitting, About, near, class_fitting}
 use Rattle.goal_lists.specs.Interned.{erased_at, candidate_at}
 use Rattle.goal_lists.specs.Settings.{Setting}
 use Rattle.goal_lists.specs.declared.candidates.interned.InternedCandidate.{InternedCandidate}
@@ -35,6 +36,18 @@ row_bounds s clauses const_bounds = bounds_under s clauses ++ const_bounds_under
 -- of the candidates for a trait and a self type that are sought, those that may fit the arguments
 abbrev pub fitting_for : List Tree → Sought → (TraitId → Tree → List Candidate) → List Candidate
 fitting_for T s f = fitting (trees_at T s.args.now) (f s.trait_id (erased_at T s.self_ty))
+
+-- what is sought, over trees
+abbrev pub about : List Tree → Sought → About
+about T s = record { trait_id = s.trait_id; item = s.item; args = trees_at T s.args.now }
+
+-- those of a list that may be about what is sought
+abbrev pub near_for : List Tree → Sought → List Candidate → List Candidate
+near_for T s xs = filter (near (about T s)) xs
+
+-- those of a class that are looked at
+abbrev pub class_for : List Tree → Sought → Setting → TraitGoalProvenVia → List Candidate
+class_for T s S c = class_fitting S (erased_at T s.self_ty) (about T s) c
 
 -- for all impls that stand at some places of the tables
 abbrev pub ForImplsAt : Tables → List ℕ → (List ImplRow → Type 0) → Type 0

@@ -1,7 +1,7 @@
 use Rattle.goal_lists.specs.Level.{HasHeadForm, HeadFormRefuted}
 use Rattle.goal_lists.proofs.InternedLemmas.{are_in-grown, all_same-grown, same-grown, in-grown}
 use Rattle.goal_eval.proofs.TraitOutcomeLemmas.{candidate-in, undecided-refuted, environment-decides, bounds-decide, rest-decides, none-decides, trait-ground, trait-bare, trait-unformed, trait-formless, trait-formed, replaced-in, replaced-formed}
-use Rattle.goal_lists.specs.Fitting.{trees_at}
+use Rattle.goal_lists.specs.Fitting.{about_trait, trees_at}
 use Rattle.goal_lists.specs.Causes.{IsCausedEntry}
 use Rattle.goal_lists.specs.Interned.{AreIn, erased_at, erased_all, predicate_at, premise_at, candidate_at, IsIn, trait_at, CandidateIn}
 use Rattle.goal_eval.proofs.PremiseOutcomes.{PremisesSay, SaysClause, const-predicate, equation-predicate, equation-premise, predicate-premise, premise-at, premises-end, premises-refuted, premises-start, premises-step, trait-predicate, conditions-step, conditions-refuted, conditions-end, condition-at, condition_at, equation-ground, equation-result}
@@ -18,6 +18,7 @@ use Rattle.goal_terms.specs.TreeOf.{trees_of}
 use Rattle.goal_terms.specs.TableMeaning.{tree_at, Keeps}
 use Rattle.goal_terms.specs.View.{tree_of_ref}
 use Rattle.goal_lists.proofs.ConsistentLemmas.{each_level_is_consistent}
+use Rattle.goal_lists.proofs.FittingLemmas.{about_projection}
 use Rattle.goal_eval.proofs.HeadFormLemmas.{own_form, alias_found, parts_in}
 use Rattle.goal_eval.proofs.AliasTermLemmas.{depth-zero, projection-above}
 use Rattle.goal_lists.specs.Premises.{clauses_under, conditions_as}
@@ -31,16 +32,16 @@ use Rattle.goal_eval.proofs.HeaderArgLemmas.{known_in-grown}
 use Rattle.goal_eval.proofs.HeaderOutcomeLemmas.{behind_clash-zero, behind_clash-refuted, behind_clash-undecided, behind_clash-other, behind_clash-form, any-found, any-more, any-none, any-end, asked-of, instance-unknown, instance-says}
 use Rattle.goal_lists.specs.Words.{SomePair, Pairs}
 use Rattle.goal_eval.proofs.HeaderMatchLemmas.{fit-says, filled-fills, match-fits, match-clashes, match-known, match-unknown, known-outcome-grown, match-given, known-outcome-given, match-says}
-use Rattle.goal_eval.proofs.ProjectionTermLemmas.{consistent, decided-start, decided-more, given-none, given-beside, formed-says, forms-end, forms-more, forms-refuted, forms-unknown, group-back, group-end, group-fitting, group-more, group-stop, same_element}
+use Rattle.goal_eval.proofs.ProjectionTermLemmas.{consistent, decided-start, decided-more, given-none, given-beside, formed-says, forms-end, forms-more, forms-refuted, forms-unknown, group-end, group-fitting, group-more, group-near, group-stop, same_element}
 use Rattle.goal_lists.specs.Answers.{setting_of}
-use Rattle.goal_lists.specs.Candidates.{by_impl, environment, second_group, class_of}
+use Rattle.goal_lists.specs.Candidates.{by_impl, second_group, class_of}
 use Rattle.goal_lists.specs.TraitLists.{trait_list}
 use Rattle.goal_eval.specs.SpecialImpls.{IsOfRows, SaysMoreSpecial}
 use Rattle.goal_eval.proofs.CandidateRowLemmas.{class-rows, second-rows}
 use Rattle.goal_eval.proofs.OutcomeLists.{All-at}
 use Rattle.goal_eval.proofs.SpecialImplLemmas.{impls-start, impls-more, impls-shown, impls-end, others-decide}
 use Rattle.goal_terms.specs.declared.modes.TypingMode.TheVariants as mode
-use Rattle.goal_eval.proofs.ProjectionGroupLemmas.{fitting-class, groups-by_environment, groups-by_later, groups-undecided, item-none, item-refuted, item-says, item-undecided, later-by_second, no_args, projection-says, projection-without_item, projection-without_trait, refuted-unformed, replaced-says, self_args-grown, some_args, through-says, through-unformed}
+use Rattle.goal_eval.proofs.ProjectionGroupLemmas.{class-near, groups-by_environment, groups-by_later, groups-undecided, item-none, item-refuted, item-says, item-undecided, later-by_second, no_args, projection-says, projection-without_item, projection-without_trait, refuted-unformed, replaced-says, self_args-grown, some_args, through-says, through-unformed}
 use Rattle.goal_eval.proofs.MergingLemmas.{found_in-grown, merged-in}
 use Rattle.goal_eval.proofs.+closed.Goals.{normalizes_to::projections::head_forms_outcome-in-Is, normalizes_to::projections::head_forms_outcome-in-Undecided}
 use Rattle.std.proofs.lemmas.Bool.{false≢true}
@@ -488,10 +489,11 @@ relate::headers::match_header-match_known-requires t c = (
 pub normalizes_to::projections::environment_term-returns-clause-says :
     goal.normalizes_to::projections::environment_term-returns-clause-says
 normalizes_to::projections::environment_term-returns-clause-says t c = λ m s.
-    group-back (setting_in c.args.setting.now m) (level_in c.args.setting.now m c.args.depth) c.args.terms.now c.candidates_of_class.new.terms c.group_term.new.terms c.in_ok-candidates.ensures.kept
-    c.args.projection.now c.requires.projection (map (candidate_at c.candidates_of_class.new.terms) c.as_slice.result.now) (environment (setting_in c.args.setting.now m))
+    group-near (setting_in c.args.setting.now m) c.args.depth c.args.terms.now c.candidates_of_class.new.terms c.group_term.new.terms c.in_ok-candidates.ensures.kept
+    c.args.projection.now c.requires.projection c.args.projection.now.item.now.trait_id (map (candidate_at c.candidates_of_class.new.terms) c.as_slice.result.now)
     (ap (map (candidate_at c.candidates_of_class.new.terms)) c.as_slice.ensures.value ∙ c.in_ok-candidates.ensures.candidates m
-    ∙ fitting-class (setting_in c.args.setting.now m) c.args.projection.now.item.now.trait_id (erased_at c.args.terms.now c.args.self_ty) (trees_at c.args.terms.now c.args.projection.now.args.now))
+    ∙ class-near (setting_in c.args.setting.now m) (erased_at c.args.terms.now c.args.self_ty)
+    (about_projection c.args.projection.now.item.now.trait_id (projection_at c.args.terms.now c.args.projection.now) (trees_at c.args.terms.now c.args.projection.now.args.now)))
     c.group_term.result (c.group_term.ensures.says m s)
 
 pub normalizes_to::projections::environment_term-group_term-requires : goal.normalizes_to::projections::environment_term-group_term-requires
@@ -507,7 +509,7 @@ normalizes_to::projections::environment_term-group_term-requires t c = (
       (
         subst (All (CandidateIn c.candidates_of_class.new.terms)) (sym c.as_slice.ensures.value) c.in_ok-candidates.ensures.within,
         class-rows (setting_of c.args.setting.now.rows.now mode.ErasedNotCoherence c.args.setting.now.environment.now) c.candidates_of_class.new.terms
-            (trees_at c.args.terms.now c.args.projection.now.args.now) c.args.projection.now.item.now.trait_id (erased_at c.args.terms.now c.args.self_ty) class.ParamEnv c.as_slice.result.now
+            (erased_at c.args.terms.now c.args.self_ty) (about_projection c.args.projection.now.item.now.trait_id (projection_at c.args.terms.now c.args.projection.now) (trees_at c.args.terms.now c.args.projection.now.args.now)) class.ParamEnv c.as_slice.result.now
             (ap (map (candidate_at c.candidates_of_class.new.terms)) c.as_slice.ensures.value ∙ c.in_ok-candidates.ensures.candidates mode.ErasedNotCoherence),
       ),
     ),
@@ -1305,7 +1307,7 @@ assembly::candidates::candidates_outcome-returns-clause-says t c =
 
 pub assembly::candidates::class_outcome-returns-clause-says : goal.assembly::candidates::class_outcome-returns-clause-says
 assembly::candidates::class_outcome-returns-clause-says t c m s =
-    asked-listed (setting_in c.args.setting.now m) c.args.depth c.args.terms.now c.candidates_of_class.new.terms c.args.asked.now
+    asked-listed (setting_in c.args.setting.now m) c.args.depth c.args.terms.now c.candidates_of_class.new.terms c.args.asked.now c.args.class
     (map (candidate_at c.candidates_of_class.new.terms) c.deref.result.now) (class_of (setting_in c.args.setting.now m) c.args.asked.now.trait_id (erased_at c.args.terms.now c.args.asked.now.self_ty) c.args.class)
     c.candidates_outcome.result c.in_ok-candidates.ensures.kept c.requires.asked
     (ap (map (candidate_at c.candidates_of_class.new.terms)) c.deref.ensures.value ∙ c.in_ok-candidates.ensures.candidates m) (c.candidates_outcome.ensures.says m s)
@@ -1519,8 +1521,8 @@ assembly::candidates::class_outcome-candidates_outcome-requires t c = (
       (asked_in-grown c.args.terms.now c.candidates_of_class.new.terms c.args.asked.now c.in_ok-candidates.ensures.kept c.requires.asked),
       (
         subst (All (CandidateIn c.candidates_of_class.new.terms)) (sym c.deref.ensures.value) c.in_ok-candidates.ensures.within,
-        class-rows (setting_of c.args.setting.now.rows.now mode.ErasedNotCoherence c.args.setting.now.environment.now) c.candidates_of_class.new.terms (trees_at c.args.terms.now c.args.asked.now.args.now) c.args.asked.now.trait_id
-            (erased_at c.args.terms.now c.args.asked.now.self_ty) c.args.class c.deref.result.now (ap (map (candidate_at c.candidates_of_class.new.terms)) c.deref.ensures.value ∙ c.in_ok-candidates.ensures.candidates mode.ErasedNotCoherence),
+        class-rows (setting_of c.args.setting.now.rows.now mode.ErasedNotCoherence c.args.setting.now.environment.now) c.candidates_of_class.new.terms
+            (erased_at c.args.terms.now c.args.asked.now.self_ty) (about_trait c.args.asked.now.trait_id (trees_at c.args.terms.now c.args.asked.now.args.now)) c.args.class c.deref.result.now (ap (map (candidate_at c.candidates_of_class.new.terms)) c.deref.ensures.value ∙ c.in_ok-candidates.ensures.candidates mode.ErasedNotCoherence),
       ),
     ),
   ),

@@ -175,6 +175,7 @@ pub(crate) fn class_outcome(
 {
     let sought = Sought {
         trait_id: asked.trait_id,
+        item: None,
         self_ty: asked.self_ty,
         args: asked.args,
     };

@@ -140,6 +140,7 @@ pub fn groups_outcome(
     };
     let sought = Sought {
         trait_id: asked.trait_id,
+        item: None,
         self_ty: asked.self_ty,
         args: asked.args,
     };

@@ -287,6 +287,7 @@ fn environment_term(
 {
     let sought = Sought {
         trait_id: projection.item.trait_id,
+        item: Some(projection.item.id),
         self_ty,
         args: projection.args,
     };
@@ -325,6 +326,7 @@ fn second_term(
     let projection = &proven.projection;
     let sought = Sought {
         trait_id: projection.item.trait_id,
+        item: None,
         self_ty: proven.self_ty,
         args: first_of(projection.args, projection.trait_params),
     };

@@ -1,16 +1,18 @@
 //! The clauses of an environment, as candidates.
-ghost use Rattle.std.specs.Prelude.{◌≡◌, map, IfOk};
+ghost use Rattle.std.specs.Prelude.{◌≡◌, ◌∷◌, [], map, IfOk};
 ghost use Rattle.std.specs.List.{All};
 ghost use Rattle.goal_terms.specs.Erased.{erased};
 ghost use Rattle.goal_terms.specs.PredicateTrees.{tree_of_kind};
 ghost use Rattle.goal_terms.specs.TableMeaning.{Keeps};
 ghost use Rattle.goal_terms.specs.TreeOf.{trees_of};
 ghost use Rattle.goal_lists.specs.Answers.{erased_predicate, environment_of};
-ghost use Rattle.goal_lists.specs.CandidateWords.{AddsCandidates};
+ghost use Rattle.goal_lists.specs.CandidateWords.{AddsCandidates, near_for};
 ghost use Rattle.goal_lists.specs.Candidates.{assumption};
 ghost use Rattle.goal_lists.specs.Interned.{AreIn, PredicateIn, CandidateIn, erased_all, predicate_at};
 
+use crate::candidates::fitting::clause_may_fit;
 use crate::candidates::interned::{InternedCandidate, InternedPredicate, InternedTrait};
+use crate::candidates::lists::Sought;
 use goal_terms::predicates::{Clause, ClauseKind};
 use goal_terms::term_nodes::{OutOfMemory, TermId};
 use goal_terms::term_table::TermTable;
@@ -61,21 +63,43 @@ pub fn predicate_given(
     }
 }
 
-/// Adds the clauses of an environment. The table gets their terms. Want of memory or of numbers is the
-/// only refusal.
+/// Adds a clause of an environment, if it may be about what is sought. The table then gets its terms. Want of memory
+/// or of numbers is the only refusal.
+fn push_clause<'t>(
+    terms: &mut TermTable,
+    found: &mut Vec<InternedCandidate<'t>>,
+    clause: &ClauseKind,
+    sought: &Sought<'_>,
+) -> Result<(), OutOfMemory>
+    requires args { AreIn terms.old sought.now.args.now }
+    requires within { All (CandidateIn terms.old) found.old.items }
+    ensures kept { Keeps terms.old terms.new }
+    ensures within { IfOk result (λ _. All (CandidateIn terms.new) found.new.items) }
+    ensures pushed { IfOk result (λ _. AddsCandidates terms.old terms.new found.old found.new (near_for terms.old sought.now (assumption (erased_predicate (tree_of_kind clause.now)) ∷ []))) }
+{
+    if clause_may_fit(terms, sought, clause) {
+        let predicate = predicate_given(terms, clause)?;
+        found.push(InternedCandidate::Assumption(predicate))?;
+    }
+    Ok(())
+}
+
+/// Adds the clauses of an environment that may be about what is sought. The table gets their terms. Want of memory or
+/// of numbers is the only refusal.
 pub fn push_environment<'t>(
     terms: &mut TermTable,
     found: &mut Vec<InternedCandidate<'t>>,
     environment: &[Clause],
+    sought: &Sought<'_>,
 ) -> Result<(), OutOfMemory>
-    requires { All (CandidateIn terms.old) found.old.items }
+    requires args { AreIn terms.old sought.now.args.now }
+    requires within { All (CandidateIn terms.old) found.old.items }
     ensures kept { Keeps terms.old terms.new }
     ensures within { IfOk result (λ _. All (CandidateIn terms.new) found.new.items) }
-    ensures pushed { IfOk result (λ _. AddsCandidates terms.old terms.new found.old found.new (map assumption (environment_of environment.now))) }
+    ensures pushed { IfOk result (λ _. AddsCandidates terms.old terms.new found.old found.new (near_for terms.old sought.now (map assumption (environment_of environment.now)))) }
 {
     for i in 0..environment.len() {
-        let predicate = predicate_given(terms, &environment[i].kind)?;
-        found.push(InternedCandidate::Assumption(predicate))?;
+        push_clause(terms, found, &environment[i].kind, sought)?;
     }
     Ok(())
 }

@@ -5,8 +5,8 @@ ghost use Rattle.goal_terms.specs.TableMeaning.{Keeps};
 ghost use Rattle.goal_terms.specs.Tree.{Tree};
 ghost use Rattle.goal_terms.specs.declared.modes.TypingMode.{TypingMode};
 ghost use Rattle.goal_lists.specs.Answers.{setting_of};
-ghost use Rattle.goal_lists.specs.CandidateWords.{AddsCandidates, AddsImpls, GivesCandidates, fitting_for, ForImplsAt, ForEachSetting};
-ghost use Rattle.goal_lists.specs.Candidates.{by_impl, impls_for, rest, class_of, second_group};
+ghost use Rattle.goal_lists.specs.CandidateWords.{AddsCandidates, AddsImpls, GivesCandidates, fitting_for, class_for, ForImplsAt, ForEachSetting};
+ghost use Rattle.goal_lists.specs.Candidates.{by_impl, impls_for, rest, second_group};
 ghost use Rattle.goal_lists.specs.Fitting.{trees_at, first_constructor, fitting};
 ghost use Rattle.goal_lists.specs.Interned.{IsIn, AreIn, CandidateIn};
 
@@ -19,15 +19,17 @@ use goal_tables::lookup::IndexedTables;
 use goal_tables::rows::ImplRow;
 use goal_terms::answers::TraitGoalProvenVia;
 use goal_terms::heads::Node;
-use goal_terms::ids::TraitId;
+use goal_terms::ids::{ItemId, TraitId};
 use goal_terms::predicates::Clause;
 use goal_terms::term_nodes::{OutOfMemory, TermId};
 use goal_terms::term_table::TermTable;
 
-/// A trait that is asked of arguments, with the head form of their self type.
+/// A trait that is asked of arguments, with the head form of their self type, or the item of it whose term is asked
+/// for, and then the arguments are the item's.
 #[derive(Clone, Copy)]
 pub struct Sought<'a> {
     pub trait_id: TraitId,
+    pub item: Option<ItemId>,
     pub self_ty: TermId,
     pub args: &'a [TermId],
 }
@@ -127,8 +129,8 @@ fn push_rest<'t>(
     Ok(())
 }
 
-/// The candidates of a class that may fit, in order: the environment's clauses, the bounds of a self type
-/// that is a rigid projection or opaque type, or the rest. The table gets their terms. Want of memory or of
+/// The candidates of a class that may fit, in order: the environment's clauses that may be about what is sought, the bounds
+/// of a self type that is a rigid projection or opaque type, or the rest. The table gets their terms. Want of memory or of
 /// numbers is the only refusal.
 pub fn candidates_of_class<'t>(
     rows: &'t IndexedTables,
@@ -141,11 +143,13 @@ pub fn candidates_of_class<'t>(
     requires args { AreIn terms.old sought.now.args.now }
     ensures kept { Keeps terms.old terms.new }
     ensures within { IfOk result (λ cs. All (CandidateIn terms.new) cs.items) }
-    ensures candidates { (m : TypingMode) → GivesCandidates terms.new result (fitting_for terms.old sought.now (λ i t. class_of (setting_of rows.now m environment.now) i t class)) }
+    ensures candidates { (m : TypingMode) → GivesCandidates terms.new result (class_for terms.old sought.now (setting_of rows.now m environment.now) class) }
 {
     let mut found = Vec::new(terms.allocator());
     match class {
-        TraitGoalProvenVia::ParamEnv => push_environment(terms, &mut found, environment)?,
+        TraitGoalProvenVia::ParamEnv => {
+            push_environment(terms, &mut found, environment, sought)?
+        }
         TraitGoalProvenVia::AliasBound => {
             push_alias_bounds(rows, terms, &mut found, sought.self_ty)?
         }

@@ -1,6 +1,6 @@
 use Rattle.std.proofs.Common.{map, ap₂, ◌∙◌}
 use Rattle.goal_lists.specs.Answers.{setting_of}
-use Rattle.goal_lists.specs.Fitting.{trees_at}
+use Rattle.goal_lists.specs.CandidateWords.{about}
 use Rattle.goal_lists.specs.Interned.{candidate_at, erased_at}
 use Rattle.goal_lists.proofs.CandidateClasses.{from-nothing, class-environment, class-bounds, class-rest}
 use Rattle.goal_lists.proofs.candidates.lists.candidates_of_class.Goals as goal
@@ -11,17 +11,17 @@ returns-clause-candidates c m = elim c.match-class.branch [
   | in-ParamEnv+in_ok-push_environment-in-ParamEnv w ↦
       ap₂ (λ T v. map (candidate_at T) v.items) w.terms-is w.found-is
       ∙ from-nothing c.args.terms.now c.new-found.result.items _ _ c.new-found.ensures.items w.in_ok-push_environment-in-ParamEnv.ensures.pushed
-      ∙ class-environment (trees_at c.args.terms.now c.args.sought.now.args.now) (setting_of c.args.rows.now m c.args.environment.now) c.args.sought.now.trait_id (erased_at c.args.terms.now c.args.sought.now.self_ty) c.args.class
+      ∙ class-environment (setting_of c.args.rows.now m c.args.environment.now) (erased_at c.args.terms.now c.args.sought.now.self_ty) (about c.args.terms.now c.args.sought.now) c.args.class
       w.in-ParamEnv.is
   | in-AliasBound+in_ok-push_alias_bounds-in-AliasBound w ↦
       ap₂ (λ T v. map (candidate_at T) v.items) w.terms-is w.found-is
       ∙ from-nothing c.args.terms.now c.new-found.result.items _ _ c.new-found.ensures.items w.in_ok-push_alias_bounds-in-AliasBound.ensures.pushed
-      ∙ class-bounds (trees_at c.args.terms.now c.args.sought.now.args.now) (setting_of c.args.rows.now m c.args.environment.now) c.args.sought.now.trait_id (erased_at c.args.terms.now c.args.sought.now.self_ty) c.args.class
+      ∙ class-bounds (setting_of c.args.rows.now m c.args.environment.now) (erased_at c.args.terms.now c.args.sought.now.self_ty) (about c.args.terms.now c.args.sought.now) c.args.class
       w.in-AliasBound.is
   | in-Misc+in_ok-push_rest-in-Misc w ↦
       ap₂ (λ T v. map (candidate_at T) v.items) w.terms-is w.found-is
       ∙ from-nothing c.args.terms.now c.new-found.result.items _ _ c.new-found.ensures.items
       (w.in_ok-push_rest-in-Misc.ensures.pushed m c.args.environment.now)
-      ∙ class-rest (trees_at c.args.terms.now c.args.sought.now.args.now) (setting_of c.args.rows.now m c.args.environment.now) c.args.sought.now.trait_id (erased_at c.args.terms.now c.args.sought.now.self_ty) c.args.class
+      ∙ class-rest (setting_of c.args.rows.now m c.args.environment.now) (erased_at c.args.terms.now c.args.sought.now.self_ty) (about c.args.terms.now c.args.sought.now) c.args.class
       w.in-Misc.is
 ]
