@@ -48,7 +48,7 @@ use Rattle.goal_lists.proofs.ListModes.{trait_list-stands, effect_list-stands}
 use Rattle.goal_lists.proofs.ListStandIns.{list_stands_in-same}
 use Rattle.goal_lists.proofs.ListTerms.{trait_list-asks_none, effect_list-asks_none, asks_none-with, gives-holds}
 use Rattle.goal_lists.proofs.TraitLists.{trait_list-holds, trait_list-refuted}
-use Rattle.goal_eval.specs.AskedTraits.{asked_list, candidate_list, AskedHolds, AskedRefuted, AskedDecides, AskedRuledOut, AskedIn, SaysListed, SaysCandidate, SaysCandidates, SaysGroups}
+use Rattle.goal_eval.specs.AskedTraits.{asked_list, candidate_list, AskedHolds, AskedRefuted, AskedDecides, AskedRuledOut, AskedIn, SaysListed, SaysCandidate, SaysCandidates, SaysGroups, asked_via}
 use Rattle.goal_lists.specs.Joined.{one_of, beside}
 use Rattle.goal_eval.specs.Lists.{list_mode, IsListFor, SaysList, list_held}
 use Rattle.goal_eval.specs.Outcomes.{RunsFor, setting_in, level_in, Says}
@@ -308,7 +308,7 @@ plain-class S L T U asked v o k h e s =
 
 -- the groups, where the environment decides
 pub groups-first : (S : Setting) (L : Level) (T : List Tree) (asked : AskedTrait) (v : TraitGoalProvenVia) (o : Outcome) → (o ≡ outcome.Refuted → ⊥) →
-    SaysCandidates S L T asked (class_of S asked.trait_id (erased_at T asked.self_ty) class.ParamEnv) o → SaysGroups S L T asked v o
+    SaysCandidates S L T asked (class_of S asked.trait_id (erased_at T asked.self_ty) class.ParamEnv) o → SaysGroups S L T (asked_via asked v) o
 unfolding class_of
 groups-first S L T asked v outcome.Holds n h = inl h
 groups-first S L T asked v outcome.Refuted n h = absurd (n refl)
@@ -317,7 +317,7 @@ groups-first S L T asked v outcome.Undecided n h = (λ x. ⊎_elim h.0 (λ y. h.
 -- where it is refuted, the second group does
 second-only : (S : Setting) (n : ℕ) (T : List Tree) (asked : AskedTrait) (v : TraitGoalProvenVia) (o : Outcome) →
     Each (AskedRuledOut S (level S n) asked.constness asked.trait_id (erased_all T asked.args.now)) (environment S) →
-    SaysCandidates S (level S n) T asked (second_group S asked.trait_id (erased_at T asked.self_ty) v) o → SaysGroups S (level S n) T asked v o
+    SaysCandidates S (level S n) T asked (second_group S asked.trait_id (erased_at T asked.self_ty) v) o → SaysGroups S (level S n) T (asked_via asked v) o
 second-only S n T asked v o refuted h =
     let L : Level = level S n in
     let args : List Tree = erased_all T asked.args.now in
@@ -332,13 +332,13 @@ second-only S n T asked v o refuted h =
 pub groups-second : (S : Setting) (n : ℕ) (T U V : List Tree) (asked : AskedTrait) (v : TraitGoalProvenVia) (o : Outcome) (xs : List Candidate) (res : Result Outcome Stop) →
     Keeps T U → Keeps U V → AskedIn T asked → o ≡ outcome.Refuted → xs ≡ fitting (trees_at U asked.args.now) (second_group S asked.trait_id (erased_at U asked.self_ty) v) →
     SaysCandidates S (level S n) T asked (class_of S asked.trait_id (erased_at T asked.self_ty) class.ParamEnv) o → IfOk res (SaysCandidates S (level S n) V asked xs) →
-    IfOk res (SaysGroups S (level S n) T asked v)
+    IfOk res (SaysGroups S (level S n) T (asked_via asked v))
 unfolding class_of
 groups-second S n T U V asked v o xs res k j h e f first second =
     let L : Level = level S n in
     let ys : List Candidate = second_group S asked.trait_id (erased_at T asked.self_ty) v in
     let zs : List Candidate = second_group S asked.trait_id (erased_at U asked.self_ty) v in
-    IfOk-weaker res (SaysCandidates S L V asked xs) (SaysGroups S L T asked v)
+    IfOk-weaker res (SaysCandidates S L V asked xs) (SaysGroups S L T (asked_via asked v))
     (λ q s.
     second-only S n T asked v q (subst (SaysCandidates S L T asked (environment S)) e first)
     (asked-back S L T U asked zs ys q k h.1 (of_self (λ t. second_group S asked.trait_id t v) T U asked k h)

@@ -20,7 +20,7 @@ use Rattle.goal_lists.specs.Settings.{Setting}
 use Rattle.goal_lists.proofs.ConsistentLemmas.{each_level_is_consistent}
 use Rattle.goal_lists.proofs.EqualLemmas.{one_head_form, no_head_form_refuted}
 use Rattle.goal_lists.proofs.InternedLemmas.{same-grown, all_same-grown}
-use Rattle.goal_eval.specs.AskedTraits.{GroupsHold, GroupsRefuted, SaysGroups}
+use Rattle.goal_eval.specs.AskedTraits.{GroupsHold, GroupsRefuted, SaysGroups, asked_via}
 use Rattle.goal_lists.specs.Joined.{held}
 use Rattle.goal_eval.specs.Outcomes.{Says, SaysThrough, SaysWhich}
 use Rattle.goal_eval.specs.declared.eval.outcomes.Found.{Found}
@@ -113,7 +113,7 @@ module _ (S : Setting) (d : ℕ) (c : BoundConstness) (i : TraitId) (v : TraitGo
   -- one is, and the groups for it decide
   pub host-formed : (V : List Tree) (form : TermId) (args : Bor (List TermId)) (f : Found) (res : Result Outcome Stop) → Keeps U V → f ≡ found.Is form → args.now ≡ form ∷ rest →
       SaysWhich (HasHeadForm (level S (d - 1)) (erased_at U self)) (HeadFormRefuted (level S (d - 1)) (erased_at U self)) V f →
-      IfOk res (SaysGroups S (level S (d - 1)) V (record { constness = Some c; trait_id = i; self_ty = form; args = args }) v) → IfOk res (SaysHost S d c i (erased_all T ids))
+      IfOk res (SaysGroups S (level S (d - 1)) V (asked_via (record { constness = Some c; trait_id = i; self_ty = form; args = args }) v)) → IfOk res (SaysHost S d c i (erased_all T ids))
   host-formed V form args f res k j g h groups =
       let L : Level = level S (d - 1) in
       let s : Tree = erased_at V form in
@@ -146,9 +146,9 @@ module _ (S : Setting) (n : ℕ) (c : BoundConstness) (i : TraitId) (v : TraitGo
   -- one is, and the groups for it decide
   pub through-formed : (V : List Tree) (form : TermId) (args : Bor (List TermId)) (f : Found) (res : Result Outcome Stop) → Keeps T V → f ≡ found.Is form → args.now ≡ form ∷ rest →
       SaysWhich (HasHeadForm (level S n) (erased_at T self)) (HeadFormRefuted (level S n) (erased_at T self)) V f →
-      IfOk res (SaysGroups S (level S n) V (record { constness = Some c; trait_id = i; self_ty = form; args = args }) v) → IfOk res (SaysHost S (suc n) c i (erased_all T ids))
+      IfOk res (SaysGroups S (level S n) V (asked_via (record { constness = Some c; trait_id = i; self_ty = form; args = args }) v)) → IfOk res (SaysHost S (suc n) c i (erased_all T ids))
   through-formed V form args f res k j g h groups =
       host-formed S (suc n) c i v T T self rest ids (trait_outcome.Holds v) (keeps-refl T) within (λ e. absurd (cc)) same refl
       (subst (λ m. (level S m).through v i (erased_all T ids)) (sym below) through) V form args f res k j g
       (subst (λ m. SaysWhich (HasHeadForm (level S m) (erased_at T self)) (HeadFormRefuted (level S m) (erased_at T self)) V f) (sym below) h)
-      (subst (λ m. IfOk res (SaysGroups S (level S m) V (record { constness = Some c; trait_id = i; self_ty = form; args = args }) v)) (sym below) groups)
+      (subst (λ m. IfOk res (SaysGroups S (level S m) V (asked_via (record { constness = Some c; trait_id = i; self_ty = form; args = args }) v))) (sym below) groups)

@@ -79,8 +79,16 @@ SaysCandidates S L T asked xs =
     Says (Exists (AskedDecides S L asked.constness asked.trait_id (erased_all T asked.args.now)) xs)
     (Each (AskedRuledOut S L asked.constness asked.trait_id (erased_all T asked.args.now)) xs)
 
--- and of both groups, by the class through which the trait holds
-abbrev pub SaysGroups : Setting → Level → List Tree → AskedTrait → TraitGoalProvenVia → Outcome → Type 0
-SaysGroups S L T asked v =
-    Says (GroupsHold S L asked.constness asked.trait_id (erased_all T asked.args.now) (erased_at T asked.self_ty) v)
-    (GroupsRefuted S L asked.constness asked.trait_id (erased_all T asked.args.now) (erased_at T asked.self_ty) v)
+-- a trait as it is asked, and the class through which it holds
+pub record AskedVia : Type 0 where
+  pub asked : AskedTrait
+  pub class : TraitGoalProvenVia
+
+abbrev pub asked_via : AskedTrait → TraitGoalProvenVia → AskedVia
+asked_via a v = record { asked = a; class = v }
+
+-- and of both groups, by that class
+abbrev pub SaysGroups : Setting → Level → List Tree → AskedVia → Outcome → Type 0
+SaysGroups S L T a =
+    Says (GroupsHold S L a.asked.constness a.asked.trait_id (erased_all T a.asked.args.now) (erased_at T a.asked.self_ty) a.class)
+    (GroupsRefuted S L a.asked.constness a.asked.trait_id (erased_all T a.asked.args.now) (erased_at T a.asked.self_ty) a.class)

@@ -32,8 +32,8 @@ abbrev pub EntersBy : {A S : Type 0} → HashMap ℕ (CacheEntry A) S → HashMa
 EntersBy before after k f = Enters before after k (f (entry_of (get ◌==◌ before k)))
 
 -- what is kept of a goal says what it comes to at a depth
-abbrev pub IsKeptAt : {A S : Type 0} → HashMap ℕ (CacheEntry A) S → ℕ → ℕ → A → A → Type 0
-IsKeptAt {A} entries k d u o = (e : CacheEntry A) × (get ◌==◌ entries k ≡ Some e) × IsKnownAt e d u o
+abbrev pub IsKeptAt : {A : Type 0} → Option (CacheEntry A) → ℕ → A → A → Type 0
+IsKeptAt {A} c d u o = (e : CacheEntry A) × (c ≡ Some e) × IsKnownAt e d u o
 
 -- an outcome decides its goal
 abbrev pub trait_decided : TraitOutcome → Bool

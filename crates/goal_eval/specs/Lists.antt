@@ -49,6 +49,10 @@ list_mode c = mode_of_lists c.on_access c.typing_mode.now
 abbrev pub IsListFor : over.Setting → Option (List Entry) → Option (List Entry) → Type 0
 IsListFor c o q = (q ≡ o) ⊎ (StopsAtModes c.on_access c.typing_mode.now × ListStandsIn o q)
 
+-- so it is where a run stops at modes
+abbrev pub WhereStopping : over.Setting → Type 0 → Type 0
+WhereStopping c P = c.on_access ≡ on_access.Stop → is_headline c.typing_mode.now ≡ false → P
+
 -- each list that a run's list stands for has a property
 abbrev pub ForEachList : over.Setting → Option (List Entry) → (Option (List Entry) → Type 0) → Type 0
 ForEachList c o P = (q : Option (List Entry)) → IsListFor c o q → P q
@@ -168,9 +172,17 @@ Leads L p left rest all q reached.Undecided = IsRunning L p left all → IsUnset
 abbrev pub LeadsOn : Level → Progress → Entry → Progress → Reached → Type 0
 LeadsOn L p e q r = (rest all : List Entry) → Leads L p (e ∷ rest) rest all q r
 
+-- a run over a list of entries, and the table that has its terms
+pub record RunState : Type 0 where
+  pub terms : List Tree
+  pub run : ListRun
+
+abbrev pub run_state : List Tree → ListRun → RunState
+run_state T r = record { terms = T; run = r }
+
 -- where an entry leads a run, by the numbers of their terms
-abbrev pub RunsOn : Level → List Tree → ListRun → InternedEntry → List Tree → ListRun → Reached → Type 0
-RunsOn L T r e U s q = LeadsOn L (progress_at T r) (entry_at T e) (progress_at U s) q
+abbrev pub RunsOn : Level → RunState → InternedEntry → RunState → Reached → Type 0
+RunsOn L r e s q = LeadsOn L (progress_at r.terms r.run) (entry_at r.terms e) (progress_at s.terms s.run) q
 
 -- what arguments that an entry names come to
 abbrev pub SaysNamed : Level → List (List Tree) → Arguments → List Tree → HeaderMatch → Type 0

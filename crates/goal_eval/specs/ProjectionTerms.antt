@@ -1,8 +1,11 @@
 -- Which term a projection has: what is said of it by its item, by its trait goal, by groups of candidates and by one candidate.
-use Rattle.std.specs.Prelude.{List, Option}
+use Rattle.std.specs.Prelude.{ℕ, List, Option}
 use Rattle.goal_terms.specs.Tree.{Tree}
+use Rattle.goal_terms.specs.declared.answers.TraitGoalProvenVia.{TraitGoalProvenVia}
 use Rattle.goal_terms.specs.declared.ids.ItemId.{ItemId}
 use Rattle.goal_terms.specs.declared.term_nodes.TermId.{TermId}
+use Rattle.goal_terms.specs.declared.terms.AliasTermKind.{AliasTermKind}
+use Rattle.goal_tables.specs.declared.rows.ItemRow.{ItemRow}
 use Rattle.goal_lists.specs.Candidates.{Candidate, second_group}
 use Rattle.goal_lists.specs.Entries.{Entry}
 use Rattle.goal_lists.specs.ImplTerms as asked
@@ -37,11 +40,21 @@ SaysItem S L T a r =
     SaysWhich (λ u. ItemGives S L a.kind (alias_args T a) u r.item.now r.trait_row.now)
     (ItemRefuted S L a.kind (alias_args T a) r.item.now r.trait_row.now)
 
--- which term it has by the class through which its trait goal holds
-abbrev pub SaysProven : Setting → Level → List Tree → Given → List Tree → Found → Type 0
-SaysProven S L T g =
-    SaysWhich (ThroughGives S L g.kind g.item.now g.trait_params g.class (erased_all T g.args.now))
-    (ThroughRefuted S L g.kind g.item.now g.trait_params g.class (erased_all T g.args.now))
+-- a projection whose trait goal holds through a class: its alias, its item, and how many of its arguments are the trait's
+pub record ProvenAlias : Type 0 where
+  pub kind : AliasTermKind
+  pub item : ItemRow
+  pub trait_params : ℕ
+  pub class : TraitGoalProvenVia
+  pub args : List Tree
+
+abbrev pub given_at : List Tree → Given → ProvenAlias
+given_at T g = record { kind = g.kind; item = g.item.now; trait_params = g.trait_params; class = g.class; args = erased_all T g.args.now }
+
+-- which term it has
+abbrev pub SaysProven : Setting → Level → ProvenAlias → List Tree → Found → Type 0
+SaysProven S L a =
+    SaysWhich (ThroughGives S L a.kind a.item a.trait_params a.class a.args) (ThroughRefuted S L a.kind a.item a.trait_params a.class a.args)
 
 -- the same for the head form of its self type
 abbrev pub SaysReplaced : Setting → Level → List Tree → Given → TermId → List Tree → Found → Type 0

@@ -17,7 +17,7 @@ use Rattle.goal_infer.specs.Inference.{Inference}
 use Rattle.goal_infer.specs.Occurrence.{place_of, place_in_row, place_at, joined}
 use Rattle.goal_infer.specs.Replacement.{number_of, kind_of_variable, replaced, replaced_row}
 use Rattle.goal_infer.specs.Resolution.{term_at, binding_at, resolution, resolved, IsSolved}
-use Rattle.goal_infer.specs.Unification.{kinds_of, is_made_in, is_alias, is_open, IsDefinite, KeepsDefinite, IsDecision, IsDecided}
+use Rattle.goal_infer.specs.Unification.{kinds_of, is_made_in, is_alias, is_open, sides, IsDefinite, KeepsDefinite, IsDecision, IsDecided}
 use Rattle.goal_infer.specs.declared.occurs.Occurrence.{Occurrence}
 use Rattle.goal_infer.specs.declared.occurs.Occurrence.TheVariants.{Nowhere, InAliasesAlone, Outside}
 use Rattle.goal_infer.specs.declared.undo.InferVariable.{InferVariable}
@@ -129,7 +129,7 @@ alias-open ks σ (node h ts) e = absurd (false≢true e)
 alias-open ks σ (alias k ts) e = refl
 alias-open ks σ (variable v) e = absurd (false≢true e)
 
-pub alias-undecided : (T : List Tree) (s : Inference) (l r : TermId) → is_alias (node_of (tree_at T l)) || is_alias (node_of (tree_at T r)) ≡ true → (u : Unified) → IsDecided T s s l r u
+pub alias-undecided : (T : List Tree) (s : Inference) (l r : TermId) → is_alias (node_of (tree_at T l)) || is_alias (node_of (tree_at T r)) ≡ true → (u : Unified) → IsDecided T s s (sides l r) u
 unfolding IsDecided IsDefinite resolved term_at
 alias-undecided T s l r e u dl dr = on (is_alias (node_of (tree_at T l))) refl where
   on : (q : Bool) → is_alias (node_of (tree_at T l)) ≡ q → IsDecision T s s u

@@ -10,7 +10,7 @@ use Rattle.goal_terms.proofs.SameTermLemmas.{same-count}
 use Rattle.goal_infer.specs.Inference.{Inference}
 use Rattle.goal_infer.specs.Replacement.{replaced}
 use Rattle.goal_infer.specs.Resolution.{binding_at, resolved, IsSolved}
-use Rattle.goal_infer.specs.Unification.{IsOther, MakesSame, IsUnified, IsIdentified}
+use Rattle.goal_infer.specs.Unification.{IsOther, MakesSame, sides, IsUnified, IsIdentified}
 use Rattle.goal_infer.specs.declared.unify.Unified.{Unified}
 use Rattle.goal_infer.specs.declared.unify.Unified.TheVariants.{Yes}
 use Rattle.goal_infer.proofs.PartLemmas.{resolved-variable}
@@ -25,11 +25,11 @@ yes-resolved T s solved l r e ρ = (
   λ q. q.0,
 )
 
-pub identified-yes : (T : List Tree) (s z : Inference) (l r : TermId) → z ≡ s → IsIdentified T s z l r Yes
+pub identified-yes : (T : List Tree) (s z : Inference) (l r : TermId) → z ≡ s → IsIdentified T s z (sides l r) Yes
 unfolding IsIdentified
 identified-yes T s z l r e same = (refl, e)
 
-pub identified-never : (T : List Tree) (s z : Inference) (l r : TermId) (u : Unified) → resolved T s l ≢ resolved T s r → IsIdentified T s z l r u
+pub identified-never : (T : List Tree) (s z : Inference) (l r : TermId) (u : Unified) → resolved T s l ≢ resolved T s r → IsIdentified T s z (sides l r) u
 unfolding IsIdentified
 identified-never T s z l r u differ same = absurd (differ same)
 
@@ -53,7 +53,7 @@ tops-resolved T s solved l r le re differ same =
 
 -- terms that were given, by resolved ones
 pub identified-given : (T : List Tree) (s z : Inference) (a b c d : TermId) → resolved T s a ≡ resolved T s c → resolved T s b ≡ resolved T s d → (u : Unified) →
-    IsIdentified T s z a b u → IsIdentified T s z c d u
+    IsIdentified T s z (sides a b) u → IsIdentified T s z (sides c d) u
 unfolding IsIdentified
 identified-given T s z a b c d e f u h same = h (e ∙ same ∙ sym f)
 
@@ -85,12 +85,12 @@ module _ (T : List Tree) (s : Inference) (l r l' r' : TermId) (ls rs : List Term
       ∙ parts-if T s w.solved (tree_at T l') (tree_at T r') w.left_ended w.right_ended (settled-is T s l' ∙ w.left ∙ e ∙ sym w.right ∙ sym (settled-is T s r'))
       ∙ ap (map (settled T s)) (sym w.right_parts)
 
-  pub identified-count : (z : Inference) (u : Unified) → length rs ≢ length ls → IsIdentified T s z l r u
+  pub identified-count : (z : Inference) (u : Unified) → length rs ≢ length ls → IsIdentified T s z (sides l r) u
   unfolding IsIdentified
   identified-count z u differ e = absurd (differ (sym (same-count (settled T s) T ls rs (settled-maps e))))
 
-  pub identified-more : (y z : Inference) (i : ℕ) → i < length ls → (a u b : Unified) → IsIdentified T s y l r a →
-      IsIdentified T y z (get_or ls i (record { 0 = 0 })) (get_or rs i (record { 0 = 0 })) u → (a ≡ Yes → u ≡ Yes → b ≡ Yes) → IsIdentified T s z l r b
+  pub identified-more : (y z : Inference) (i : ℕ) → i < length ls → (a u b : Unified) → IsIdentified T s y (sides l r) a →
+      IsIdentified T y z (sides (get_or ls i (record { 0 = 0 })) (get_or rs i (record { 0 = 0 }))) u → (a ≡ Yes → u ≡ Yes → b ≡ Yes) → IsIdentified T s z (sides l r) b
   unfolding IsIdentified
   identified-more y z i f a u b before here after e =
       let old : (a ≡ Yes) × (y ≡ s) = before e in

@@ -10,7 +10,7 @@ use Rattle.goal_terms.specs.declared.term_nodes.TermId.{TermId}
 use Rattle.goal_infer.specs.Inference.{Inference}
 use Rattle.goal_infer.specs.ListUnification.{MakesAllSame, all_resolved, lists_are_plain, ListsClash, AllClosed, AreDecidedWherePlain, AreIdentified, AreClashing, AreUntouched}
 use Rattle.goal_infer.specs.Resolution.{resolved}
-use Rattle.goal_infer.specs.Unification.{kinds_of, MakesSame, IsUnified, are_plain, ArePlain, KeepsPlain, IsDecision, IsDecidedWherePlain, IsIdentified, IsClosed, Clash, IsClashing, IsUntouched}
+use Rattle.goal_infer.specs.Unification.{kinds_of, MakesSame, sides, IsUnified, are_plain, ArePlain, KeepsPlain, IsDecision, IsDecidedWherePlain, IsIdentified, IsClosed, Clash, IsClashing, IsUntouched}
 use Rattle.goal_infer.specs.declared.unify.Unified.{Unified}
 use Rattle.goal_infer.specs.declared.unify.Unified.TheVariants.{Yes, Undecided, No}
 use Rattle.goal_infer.proofs.DecisionLemmas.{either-false}
@@ -74,7 +74,7 @@ module _ (T : List Tree) (s : Inference) (ls rs : List TermId) where
   unfolding IsUnified MakesAllSame
   no-lengths differ ρ kinds a e = differ (lengths-same (standing T ρ) ls rs e)
 
-  pub identified-lengths : length rs ≢ length ls → AreIdentified T s s ls rs No
+  pub identified-lengths : length rs ≢ length ls → AreIdentified T s s (sides ls rs) No
   unfolding AreIdentified
   identified-lengths differ e = absurd (differ (lengths-same (resolved T s) ls rs e))
 
@@ -89,7 +89,7 @@ module _ (T : List Tree) (s : Inference) (ls rs : List TermId) where
   pub plain-none : AreKeptPlain T s s ls rs Yes
   plain-none e = (λ same. absurd (cc), plain-kept T s s refl)
 
-  pub identified-none : AreIdentified T s s ls rs Yes
+  pub identified-none : AreIdentified T s s (sides ls rs) Yes
   unfolding AreIdentified
   identified-none e = (refl, refl)
 
@@ -115,7 +115,7 @@ module _ (T : List Tree) (s : Inference) (ls rs : List TermId) where
   -- one more pair
   module _ (y z : Inference) (i : ℕ) (p : i < length ls) (q : i < length rs) where
     pub plain-next : kinds_of y ≡ kinds_of s → (a u b : Unified) → AreKeptPlain T s y ls rs a →
-        IsDecidedWherePlain T y z (get_or ls i (record { 0 = 0 })) (get_or rs i (record { 0 = 0 })) u → (a ≢ Undecided → u ≢ Undecided → b ≢ Undecided) →
+        IsDecidedWherePlain T y z (sides (get_or ls i (record { 0 = 0 })) (get_or rs i (record { 0 = 0 }))) u → (a ≢ Undecided → u ≢ Undecided → b ≢ Undecided) →
         AreKeptPlain T s z ls rs b
     unfolding IsDecidedWherePlain KeepsPlain ArePlain
     plain-next k a u b before here after e =
@@ -125,8 +125,8 @@ module _ (T : List Tree) (s : Inference) (ls rs : List TermId) where
         (old.1 (get_or ls i (record { 0 = 0 })) (get_or rs i (record { 0 = 0 })) (plain-at (resolved T s) (record { 0 = 0 }) (kinds_of s) ls rs i e p q))) in
         (after old.0 new.0, plain-through T s y z k old.1 new.2)
 
-    pub identified-next : (a u b : Unified) → AreIdentified T s y ls rs a →
-        IsIdentified T y z (get_or ls i (record { 0 = 0 })) (get_or rs i (record { 0 = 0 })) u → (a ≡ Yes → u ≡ Yes → b ≡ Yes) → AreIdentified T s z ls rs b
+    pub identified-next : (a u b : Unified) → AreIdentified T s y (sides ls rs) a →
+        IsIdentified T y z (sides (get_or ls i (record { 0 = 0 })) (get_or rs i (record { 0 = 0 }))) u → (a ≡ Yes → u ≡ Yes → b ≡ Yes) → AreIdentified T s z (sides ls rs) b
     unfolding AreIdentified IsIdentified
     identified-next a u b before here after e =
         let old : (a ≡ Yes) × (y ≡ s) = before e in

@@ -18,7 +18,7 @@ use Rattle.goal_terms.specs.declared.term_nodes.TermId.{TermId}
 use Rattle.goal_infer.specs.Inference.{Inference}
 use Rattle.goal_infer.specs.Replacement.{number_of, replaced, replaced_row}
 use Rattle.goal_infer.specs.Resolution.{term_at, binding_at, resolution, resolved, IsSolved}
-use Rattle.goal_infer.specs.Unification.{kinds_of, is_alias, is_open, IsHead, HaveOneHead, IsDefinite, both_definite, are_plain, rows_are_plain, ArePlain, KeepsPlain, IsDecision, IsDecided, IsDecidedWherePlain}
+use Rattle.goal_infer.specs.Unification.{kinds_of, sides, is_alias, is_open, IsHead, HaveOneHead, IsDefinite, both_definite, are_plain, rows_are_plain, ArePlain, KeepsPlain, IsDecision, IsDecided, IsDecidedWherePlain}
 use Rattle.goal_infer.specs.declared.undo.InferVariable.{InferVariable}
 use Rattle.goal_infer.specs.declared.unify.Unified.{Unified}
 use Rattle.goal_infer.specs.declared.unify.Unified.TheVariants.{Undecided}
@@ -136,7 +136,7 @@ plain-kept T s z e l r p = subst (λ y. ArePlain (kinds_of s) T y l r) (sym e) p
 pub decision-same : (T : List Tree) (s z : Inference) (u : Unified) → z ≡ s → u ≢ Undecided → IsDecision T s z u
 decision-same T s z u e differ = (differ, keeps-same T s z e, plain-kept T s z e)
 
-pub plain-decided : (T : List Tree) (s z : Inference) (l r : TermId) (u : Unified) → z ≡ s → u ≢ Undecided → IsDecidedWherePlain T s z l r u
+pub plain-decided : (T : List Tree) (s z : Inference) (l r : TermId) (u : Unified) → z ≡ s → u ≢ Undecided → IsDecidedWherePlain T s z (sides l r) u
 unfolding IsDecidedWherePlain
 plain-decided T s z l r u e differ p = decision-same T s z u e differ
 
@@ -196,14 +196,14 @@ alias-apart T s l r e f g =
     (λ p. alias-top (resolution T s) (tree_at T l) p f) (λ p. alias-top (resolution T s) (tree_at T r) p g)
 
 pub plain-alias : (T : List Tree) (s : Inference) (l r : TermId) → is_alias (node_of (tree_at T l)) || is_alias (node_of (tree_at T r)) ≡ true →
-    resolved T s l ≢ resolved T s r → (u : Unified) → IsDecidedWherePlain T s s l r u
+    resolved T s l ≢ resolved T s r → (u : Unified) → IsDecidedWherePlain T s s (sides l r) u
 unfolding IsDecidedWherePlain ArePlain IsDecided IsDefinite
 plain-alias T s l r e differ u p =
     let both : (some_node (is_open (kinds_of s)) (resolved T s l) ≡ false) × (some_node (is_open (kinds_of s)) (resolved T s r) ≡ false) =
     apart (kinds_of s) (resolved T s l) (resolved T s r) (alias-apart T s l r e) p differ in alias-undecided T s l r e u both.0 both.1
 
 -- definite terms are decided as plain ones
-pub definite-decided : (T : List Tree) (s z : Inference) (l r : TermId) (u : Unified) → IsDecidedWherePlain T s z l r u → IsDecided T s z l r u
+pub definite-decided : (T : List Tree) (s z : Inference) (l r : TermId) (u : Unified) → IsDecidedWherePlain T s z (sides l r) u → IsDecided T s z (sides l r) u
 unfolding IsDecided IsDecidedWherePlain ArePlain IsDefinite
 definite-decided T s z l r u h dl dr = h (definite-plain (kinds_of s) (resolved T s l) (resolved T s r) dl dr)
 
@@ -214,7 +214,7 @@ unfolding ArePlain
 plain-given T s a b c d e f p = ap (λ t. are_plain (kinds_of s) t (resolved T s b)) e ∙ ap (are_plain (kinds_of s) (resolved T s c)) f ∙ p
 
 pub decided-given : (T : List Tree) (s z : Inference) (a b c d : TermId) → resolved T s a ≡ resolved T s c → resolved T s b ≡ resolved T s d → (u : Unified) →
-    IsDecidedWherePlain T s z a b u → IsDecidedWherePlain T s z c d u
+    IsDecidedWherePlain T s z (sides a b) u → IsDecidedWherePlain T s z (sides c d) u
 unfolding IsDecidedWherePlain
 decided-given T s z a b c d e f u h p = h (plain-given T s a b c d e f p)
 
@@ -249,9 +249,9 @@ plain-part T s x l r one ls rs lp rp i f g p =
 
 -- one more pair
 pub plain-more : (T : List Tree) (s x y z : Inference) (l r l' r' : TermId) (ls rs : List TermId) → IsWalked T s l r l' r' ls rs → HaveOneHead T s x l' r' →
-    kinds_of y ≡ kinds_of s → (i : ℕ) → i < length ls → i < length rs → (a u b : Unified) → IsDecidedWherePlain T s y l r a →
-    IsDecidedWherePlain T y z (get_or ls i (record { 0 = 0 })) (get_or rs i (record { 0 = 0 })) u → (a ≢ Undecided → u ≢ Undecided → b ≢ Undecided) →
-    IsDecidedWherePlain T s z l r b
+    kinds_of y ≡ kinds_of s → (i : ℕ) → i < length ls → i < length rs → (a u b : Unified) → IsDecidedWherePlain T s y (sides l r) a →
+    IsDecidedWherePlain T y z (sides (get_or ls i (record { 0 = 0 })) (get_or rs i (record { 0 = 0 }))) u → (a ≢ Undecided → u ≢ Undecided → b ≢ Undecided) →
+    IsDecidedWherePlain T s z (sides l r) b
 unfolding IsDecidedWherePlain KeepsPlain
 plain-more T s x y z l r l' r' ls rs w one k i f g a u b before here after p =
     let old : IsDecision T s y a = before p in

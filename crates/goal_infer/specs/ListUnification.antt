@@ -9,7 +9,7 @@ use Rattle.goal_terms.specs.declared.term_nodes.TermId.{TermId}
 use Rattle.goal_infer.specs.Inference.{Inference}
 use Rattle.goal_infer.specs.Replacement.{replaced}
 use Rattle.goal_infer.specs.Resolution.{term_at, resolved}
-use Rattle.goal_infer.specs.Unification.{are_plain, Clash, kinds_of}
+use Rattle.goal_infer.specs.Unification.{Sides, are_plain, Clash, kinds_of}
 use Rattle.goal_infer.specs.declared.unify.Unified.{Unified}
 use Rattle.goal_infer.specs.declared.unify.Unified.TheVariants.{Yes, Undecided, No}
 
@@ -42,8 +42,8 @@ unfoldable pub AreDecidedWherePlain : List Tree → Inference → List TermId �
 AreDecidedWherePlain T before ls rs u = lists_are_plain (kinds_of before) (all_resolved T before ls) (all_resolved T before rs) ≡ true → u ≢ Undecided
 
 -- where two lists are identical already, the answer says so, and nothing happened
-unfoldable pub AreIdentified : List Tree → Inference → Inference → List TermId → List TermId → Unified → Type 0
-AreIdentified T before after ls rs u = all_resolved T before ls ≡ all_resolved T before rs → (u ≡ Yes) × (after ≡ before)
+unfoldable pub AreIdentified : List Tree → Inference → Inference → Sides (List TermId) → Unified → Type 0
+AreIdentified T before after e u = all_resolved T before e.left ≡ all_resolved T before e.right → (u ≡ Yes) × (after ≡ before)
 
 -- where the answer is no, two lists without variables clash
 unfoldable pub AreClashing : List Tree → Inference → List TermId → List TermId → Unified → Type 0

@@ -36,6 +36,14 @@ IsOther T v id = term_at T id ≢ variable v
 abbrev pub Becomes : List Tree → Variable → TermId → (Variable → Tree) → Type 0
 Becomes T v id ρ = ρ v ≡ replaced ρ (term_at T id)
 
+-- the two sides of an equation
+pub record Sides (A : Type 0) : Type 0 where
+  pub left : A
+  pub right : A
+
+abbrev pub sides : {A : Type 0} → A → A → Sides A
+sides l r = record { left = l; right = r }
+
 -- what an answer says: which replacements that agree with the state before do what is asked for
 unfoldable pub IsUnified : List Tree → Inference → Inference → ((Variable → Tree) → Type 0) → Unified → Type 0
 IsUnified T before after Asked Yes = (ρ : Variable → Tree) → Agrees T after ρ ↔ (Agrees T before ρ × Asked ρ)
@@ -125,13 +133,13 @@ abbrev pub IsDecision : List Tree → Inference → Inference → Unified → Ty
 IsDecision T before after u = (u ≢ Undecided) × KeepsDefinite T before after × KeepsPlain T before after
 
 -- the answer for two definite terms is a decision
-unfoldable pub IsDecided : List Tree → Inference → Inference → TermId → TermId → Unified → Type 0
-IsDecided T before after l r u =
-    IsDefinite (kinds_of before) (resolved T before l) → IsDefinite (kinds_of before) (resolved T before r) → IsDecision T before after u
+unfoldable pub IsDecided : List Tree → Inference → Inference → Sides TermId → Unified → Type 0
+IsDecided T before after e u =
+    IsDefinite (kinds_of before) (resolved T before e.left) → IsDefinite (kinds_of before) (resolved T before e.right) → IsDecision T before after u
 
 -- the answer for two plain terms is a decision
-unfoldable pub IsDecidedWherePlain : List Tree → Inference → Inference → TermId → TermId → Unified → Type 0
-IsDecidedWherePlain T before after l r u = ArePlain (kinds_of before) T before l r → IsDecision T before after u
+unfoldable pub IsDecidedWherePlain : List Tree → Inference → Inference → Sides TermId → Unified → Type 0
+IsDecidedWherePlain T before after e u = ArePlain (kinds_of before) T before e.left e.right → IsDecision T before after u
 
 -- the answer for a variable that was made and a definite term is a decision
 abbrev pub BindingDecides : List Tree → Inference → Inference → Variable → TermId → Unified → Type 0
@@ -139,16 +147,16 @@ BindingDecides T before after v id u = IsDefinite (kinds_of before) (resolved T 
 
 -- so it is with an answer from their tops
 abbrev pub TopsDecide : List Tree → Inference → Inference → TermId → TermId → Option Unified → Type 0
-TopsDecide T before after l r (Some u) = IsDecidedWherePlain T before after l r u
+TopsDecide T before after l r (Some u) = IsDecidedWherePlain T before after (sides l r) u
 TopsDecide T before after l r None = Unit {0}
 
 -- where two terms are identical already, the answer says so, and nothing happened
-unfoldable pub IsIdentified : List Tree → Inference → Inference → TermId → TermId → Unified → Type 0
-IsIdentified T before after l r u = resolved T before l ≡ resolved T before r → (u ≡ Yes) × (after ≡ before)
+unfoldable pub IsIdentified : List Tree → Inference → Inference → Sides TermId → Unified → Type 0
+IsIdentified T before after e u = resolved T before e.left ≡ resolved T before e.right → (u ≡ Yes) × (after ≡ before)
 
 -- so it is with an answer from their tops
 abbrev pub TopsIdentify : List Tree → Inference → Inference → TermId → TermId → Option Unified → Type 0
-TopsIdentify T before after l r (Some u) = IsIdentified T before after l r u
+TopsIdentify T before after l r (Some u) = IsIdentified T before after (sides l r) u
 TopsIdentify T before after l r None = Unit {0}
 
 -- a term that holds no variable

@@ -7,7 +7,7 @@ ghost use Rattle.goal_infer.specs.Resolution.{binding_at, binding_of, IsSolved};
 ghost use Rattle.goal_infer.specs.Unification.{IsOther, Becomes, MakesSame, IsUnified, Advances};
 ghost use Rattle.goal_infer.specs.Unification.{is_made_in, taker, is_alias, TopsSay, TopsDecide};
 ghost use Rattle.goal_infer.specs.Unification.{BindingDecides, IsDecided, IsDecidedWherePlain};
-ghost use Rattle.goal_infer.specs.Unification.{TopsIdentify, IsIdentified};
+ghost use Rattle.goal_infer.specs.Unification.{sides, TopsIdentify, IsIdentified};
 ghost use Rattle.goal_infer.specs.Unification.{TopsClash, IsClashing, IsUntouched};
 
 use crate::occurs::{Occurrence, occurs};
@@ -194,10 +194,10 @@ pub fn unify(
     ensures advances { Advances table.now state.old state.new }
     ensures answer { IfOk result
         (λ u. IsUnified table.now state.old state.new (MakesSame table.now left right) u) }
-    ensures decided { IfOk result (λ u. IsDecided table.now state.old state.new left right u) }
+    ensures decided { IfOk result (λ u. IsDecided table.now state.old state.new (sides left right) u) }
     ensures plain { IfOk result
-        (λ u. IsDecidedWherePlain table.now state.old state.new left right u) }
-    ensures identified { IfOk result (λ u. IsIdentified table.now state.old state.new left right u) }
+        (λ u. IsDecidedWherePlain table.now state.old state.new (sides left right) u) }
+    ensures identified { IfOk result (λ u. IsIdentified table.now state.old state.new (sides left right) u) }
     ensures clash { IfOk result (λ u. IsClashing table.now state.old left right u) }
     ensures closed { IsUntouched table.now state.old state.new left right }
 {

@@ -3,7 +3,7 @@ ghost use Rattle.std.specs.Prelude.{◌≡◌, ◌<◌, length, IfOk};
 ghost use Rattle.goal_terms.specs.TableMeaning.{AreBelow};
 ghost use Rattle.goal_infer.specs.Resolution.{IsSolved};
 ghost use Rattle.goal_infer.specs.ListUnification.{MakesAllSame, AreDecidedWherePlain, AreIdentified, AreClashing, AreUntouched};
-ghost use Rattle.goal_infer.specs.Unification.{Advances, IsUnified};
+ghost use Rattle.goal_infer.specs.Unification.{sides, Advances, IsUnified};
 
 use crate::state::InferState;
 use crate::unify::{Unified, unify};
@@ -37,7 +37,7 @@ pub fn unify_all(
     ensures advances { Advances table.now state.old state.new }
     ensures answer { IfOk result (λ u. IsUnified table.now state.old state.new (MakesAllSame table.now left.now right.now) u) }
     ensures plain { IfOk result (λ u. AreDecidedWherePlain table.now state.old left.now right.now u) }
-    ensures identified { IfOk result (λ u. AreIdentified table.now state.old state.new left.now right.now u) }
+    ensures identified { IfOk result (λ u. AreIdentified table.now state.old state.new (sides left.now right.now) u) }
     ensures clash { IfOk result (λ u. AreClashing table.now state.old left.now right.now u) }
     ensures closed { AreUntouched table.now state.old state.new left.now right.now }
 {

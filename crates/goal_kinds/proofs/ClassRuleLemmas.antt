@@ -23,7 +23,7 @@ use Rattle.goal_lists.specs.Candidates.{rest}
 use Rattle.goal_lists.specs.Premises.{TraitTree}
 use Rattle.goal_kinds.specs.declared.rules.Rule.{Rule}
 use Rattle.goal_kinds.specs.KindWords.{words_for}
-use Rattle.goal_kinds.specs.Collecting.{Kind, Speaks, Lacks, AreCollected, CollectsBounds, CollectsEnvironment, CollectsFor, fault_in, has_kind_fault, rules_of_class}
+use Rattle.goal_kinds.specs.Collecting.{Kind, goal_in, Speaks, Lacks, AreCollected, CollectsBounds, CollectsEnvironment, CollectsFor, fault_in, has_kind_fault, rules_of_class}
 use Rattle.goal_kinds.specs.declared.assembly.class_rules.ClassRules.{ClassRules}
 
 -- one more of the elements
@@ -79,14 +79,14 @@ pub collects-for : {P : Type 0} (K : Kind P) (t : Tables) (g : Goal P) (m : Typi
     ((q : TraitTree) (s : Ty) → c ≡ class.Misc → K.words.asked g.predicate t ≡ Some q → K.words.self_type g.predicate ≡ Some s →
     ((r : ImplRow) → r.trait_id ≡ q.def_id → K.words.is_impl_for g.predicate t r) →
     AreCollected (Speaks (words_for K.words t g m)) (Lacks (words_for K.words t g m)) rs (rest (setting_of t m g.param_env.items) q.def_id (erased (tree_of_ty s)))) →
-    CollectsFor K t g m c rs
+    CollectsFor K (goal_in t g m) c rs
 collects-for K t g m class.ParamEnv rs f env bounds others = env refl (accepted-clauses K.has_fault t g f)
 collects-for K t g m class.AliasBound rs f env bounds others = λ q s asked of. bounds q s refl asked of
 collects-for K t g m class.Misc rs f env bounds others = λ q s asked of own. others q s refl asked of own
 
 -- the rules of all classes are collected
-pub each-class : {P : Type 0} (K : Kind P) (t : Tables) (h : Goal P) (m : TypingMode) (w : ClassRules) → CollectsFor K t h m class.ParamEnv w.environment.items →
-    CollectsFor K t h m class.AliasBound w.bounds.items → CollectsFor K t h m class.Misc w.rest.items → (c : TraitGoalProvenVia) → CollectsFor K t h m c (rules_of_class w c)
+pub each-class : {P : Type 0} (K : Kind P) (t : Tables) (h : Goal P) (m : TypingMode) (w : ClassRules) → CollectsFor K (goal_in t h m) class.ParamEnv w.environment.items →
+    CollectsFor K (goal_in t h m) class.AliasBound w.bounds.items → CollectsFor K (goal_in t h m) class.Misc w.rest.items → (c : TraitGoalProvenVia) → CollectsFor K (goal_in t h m) c (rules_of_class w c)
 each-class K t h m w first second third class.ParamEnv = first
 each-class K t h m w first second third class.AliasBound = second
 each-class K t h m w first second third class.Misc = third

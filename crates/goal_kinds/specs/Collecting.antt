@@ -216,11 +216,27 @@ CollectsRest W self IsOwn rs =
     (q : TraitTree) (s : Ty) → W.asked ≡ Some q → self ≡ Some s → ((r : ImplRow) → r.trait_id ≡ q.def_id → IsOwn r) →
     AreCollected (Speaks W) (Lacks W) rs (rest W.setting q.def_id (erased (tree_of_ty s)))
 
+-- a goal over tables, in a typing mode
+pub record GoalIn (P : Type 0) : Type 0 where
+  pub tables : Tables
+  pub goal : Goal P
+  pub mode : TypingMode
+
+abbrev pub goal_in : {P : Type 0} → Tables → Goal P → TypingMode → GoalIn P
+goal_in t g m = record { tables = t; goal = g; mode = m }
+
+-- what a kind of goals says of it, and the candidates that it adds to its bounds
+abbrev pub words_of : {P : Type 0} → Kind P → GoalIn P → GoalWords
+words_of K q = words_for K.words q.tables q.goal q.mode
+
+abbrev pub additional_of : {P : Type 0} → Kind P → GoalIn P → AliasTerm → List Candidate
+additional_of K q = K.words.additional q.goal.predicate (setting_of q.tables q.mode q.goal.param_env.items)
+
 -- the rules of a class are collected for a goal
-abbrev pub CollectsFor : {P : Type 0} → Kind P → Tables → Goal P → TypingMode → TraitGoalProvenVia → List Rule → Type 0
-CollectsFor K t g m class.ParamEnv rs = CollectsEnvironment (words_for K.words t g m) rs
-CollectsFor K t g m class.AliasBound rs = CollectsClassOfBounds (words_for K.words t g m) (K.words.self_type g.predicate) (K.words.additional g.predicate (setting_of t m g.param_env.items)) rs
-CollectsFor K t g m class.Misc rs = CollectsRest (words_for K.words t g m) (K.words.self_type g.predicate) (K.words.is_impl_for g.predicate t) rs
+abbrev pub CollectsFor : {P : Type 0} → Kind P → GoalIn P → TraitGoalProvenVia → List Rule → Type 0
+CollectsFor K q class.ParamEnv rs = CollectsEnvironment (words_of K q) rs
+CollectsFor K q class.AliasBound rs = CollectsClassOfBounds (words_of K q) (K.words.self_type q.goal.predicate) (additional_of K q) rs
+CollectsFor K q class.Misc rs = CollectsRest (words_of K q) (K.words.self_type q.goal.predicate) (K.words.is_impl_for q.goal.predicate q.tables) rs
 
 -- whether an id, a number of arguments or a kind is wrong in a goal
 abbrev pub fault_in : {P : Type 0} → (P → Tables → TermFault → Bool) → Tables → Goal P → TermFault → Bool
@@ -245,3 +261,11 @@ abbrev pub classes_behind : TraitGoalProvenVia → List TraitGoalProvenVia
 classes_behind class.ParamEnv = class.AliasBound ∷ []
 classes_behind class.AliasBound = class.AliasBound ∷ []
 classes_behind class.Misc = class.AliasBound ∷ class.Misc ∷ []
+
+-- the rules of the first group of a goal's candidates are collected: those of the clauses of its environment
+abbrev pub CollectsFirst : {P : Type 0} → Kind P → GoalIn P → List Rule → Type 0
+CollectsFirst K q rs = CollectsAll (CollectsFor K q) (class.ParamEnv ∷ []) rs
+
+-- those of the group after it
+abbrev pub CollectsLater : {P : Type 0} → Kind P → GoalIn P → TraitGoalProvenVia → List Rule → Type 0
+CollectsLater K q c rs = CollectsAll (CollectsFor K q) (classes_behind c) rs

@@ -1,5 +1,5 @@
 -- Words on what the laws say.
-use Rattle.std.specs.Prelude.{◌≡◌, ℕ, false, true, List, [], map, take, Some, Vec}
+use Rattle.std.specs.Prelude.{◌≡◌, ◌≤◌, ℕ, false, true, List, [], map, take, Some, Vec}
 use Rattle.std.specs.Global.{Global}
 use Rattle.goal_terms.specs.Erased.{erased}
 use Rattle.goal_terms.specs.NodeTests.{some_node, is_any_infer}
@@ -15,6 +15,7 @@ use Rattle.goal_terms.specs.declared.heads.Variable.{Variable}
 use Rattle.goal_terms.specs.declared.ids.ImplId.{ImplId}
 use Rattle.goal_terms.specs.declared.ids.TraitId.{TraitId}
 use Rattle.goal_terms.specs.declared.modes.TypingMode.{TypingMode}
+use Rattle.goal_terms.specs.declared.predicates.BoundConstness.{BoundConstness}
 use Rattle.goal_terms.specs.declared.predicates.Clause.{Clause}
 use Rattle.goal_terms.specs.declared.predicates.ClauseKind.{ClauseKind}
 use Rattle.goal_terms.specs.declared.terms.AliasTerm.{AliasTerm}
@@ -27,24 +28,42 @@ use Rattle.goal_tables.specs.Predicates.{some_in_env}
 use Rattle.goal_tables.specs.Rows.{impl_of}
 use Rattle.goal_tables.specs.declared.rows.ImplRow.{ImplRow}
 use Rattle.goal_tables.specs.declared.rows.Tables.{Tables}
-use Rattle.goal_lists.specs.Answers.{Question, Answer, IsAnswer, setting_of}
+use Rattle.goal_lists.specs.Answers.{Question, Answer, IsAnswer, decides, setting_of}
 use Rattle.goal_kinds.specs.CandidateRules.{HasNoKindFault, said_by}
 use Rattle.goal_lists.specs.Candidates.{Candidate}
+use Rattle.goal_lists.specs.ConstGoals.{ConstCandidateRefuted}
 use Rattle.goal_lists.specs.FastReject.{lists_may_unify, heads_agree}
 use Rattle.goal_lists.specs.Fitting.{may_fit}
 use Rattle.goal_lists.specs.Headers.{Fits, Clashes}
-use Rattle.goal_lists.specs.ImplTerms.{Projection, ImplTermRefuted}
+use Rattle.goal_lists.specs.ImplTerms.{Projection, ImplTermRefuted, trait_args}
 use Rattle.goal_lists.specs.KindedTerms.{kinds_of_terms, IsKinded, IsAcceptedRef, NoKindFault, NoKindFaultInEnv}
 use Rattle.goal_lists.specs.Laws.{IsAmong, HaveSameImpls, ReadsNoMode}
 use Rattle.goal_lists.specs.Level.{Level}
 use Rattle.goal_lists.specs.Levels.{level}
 use Rattle.goal_kinds.specs.ProjectionKind.{ProjectionCandidateRefuted, may_match_term}
+use Rattle.goal_lists.specs.Projections.{TermRefuted}
 use Rattle.goal_lists.specs.Replacement.{with_values, with_arguments, AreOfTheirKinds, AliasesKeepKinds}
 use Rattle.goal_kinds.specs.RuleWords.{projection_in}
 use Rattle.goal_lists.specs.Settings.{Setting, is_headline}
 use Rattle.goal_lists.specs.Words.{Each, Pairs}
 use Rattle.goal_lists.specs.declared.fast_reject.Parameters.{Parameters}
 use Rattle.goal_lists.specs.declared.fast_reject.Parameters.TheVariants.{Rigid, Inferred}
+
+-- what is so at a height is so at a greater one
+abbrev pub HeightKeeps : ℕ → ℕ → (ℕ → Type 0) → Type 0
+HeightKeeps n m P = n ≤ m → P n → P m
+
+-- answers of two levels that decide a question are the same
+abbrev pub AnswersAgree : Level → Level → Question → Type 0
+AnswersAgree L M q = (a b : Answer) → decides a ≡ true → decides b ≡ true → IsAnswer L q a → IsAnswer M q b → a ≡ b
+
+-- a trait goal that holds through two classes, at two levels, holds through one
+abbrev pub ClassesAgree : Level → Level → TraitGoalProvenVia → TraitGoalProvenVia → Type 0
+ClassesAgree L M c d = (i : TraitId) (ts : List Tree) → L.through c i ts → M.through d i ts → c ≡ d
+
+-- a header fits arguments under one substitution at most, whatever the two levels
+abbrev pub FitsUnderOne : Level → Level → List ParamKind → List Tree → List Tree → Type 0
+FitsUnderOne L M params hs gs = (s z : List Tree) → Fits L params hs gs s → Fits M params hs gs z → s ≡ z
 
 -- a header that fits some arguments at one level doesn't clash with them at another
 abbrev pub NoFitClashes : Level → Level → List ParamKind → List Tree → Type 0
@@ -53,6 +72,10 @@ NoFitClashes L M params hs = (gs s : List Tree) → Fits L params hs gs s → Cl
 -- a trait goal holds through some class
 abbrev pub HoldsThroughSome : Level → TraitId → List Tree → Type 0
 HoldsThroughSome L i ts = (v : TraitGoalProvenVia) × L.through v i ts
+
+-- where a trait holds as a const trait, its plain goal holds
+abbrev pub ConstImpliesPlain : Level → BoundConstness → TraitId → List Tree → Type 0
+ConstImpliesPlain L c i ts = L.const_holds c i ts → HoldsThroughSome L i ts
 
 -- what is asked over tables in a mode with an environment
 abbrev pub over : Tables → TypingMode → List PredicateTree → Setting
@@ -106,6 +129,18 @@ RejectionIsFinal L values ts us = lists_may_unify Rigid ts us ≡ false → Apar
 abbrev pub RejectionIsFinalUnder : Level → (Variable → Tree) → List Tree → List Tree → List Tree → Type 0
 RejectionIsFinalUnder L values args ts us = lists_may_unify Inferred ts us ≡ false → ApartUnder L values args ts us
 
+-- two lists of which some heads differ are apart
+abbrev pub OtherHeadsAreFinal : Level → (Variable → Tree) → List Tree → List Tree → Type 0
+OtherHeadsAreFinal L values ts us = heads_agree Rigid ts us ≡ false → Apart L values ts us
+
+-- also with arguments for inferred parameters
+abbrev pub OtherHeadsAreFinalUnder : Level → (Variable → Tree) → List Tree → List Tree → List Tree → Type 0
+OtherHeadsAreFinalUnder L values args ts us = heads_agree Inferred ts us ≡ false → ApartUnder L values args ts us
+
+-- a header of which some heads differ from those of given arguments clashes with them
+abbrev pub OtherHeadsClash : Level → List ParamKind → List Tree → List Tree → Type 0
+OtherHeadsClash L params gs hs = heads_agree Inferred gs hs ≡ false → Clashes L params (map erased hs) (map erased gs)
+
 -- a claim, if no alias has a term of another kind, and the term in place of each variable is of its kind
 abbrev pub IfKindsStay : Setting → (Variable → Tree) → Type 0 → Type 0
 IfKindsStay S values A = AliasesKeepKinds S → AreOfTheirKinds values → A
@@ -118,6 +153,14 @@ IsUnfit args x = may_fit args x ≡ false
 abbrev pub RefutesUnfit : List Tree → (Candidate → Type 0) → Type 0
 RefutesUnfit args Refuted = (x : Candidate) → IsUnfit args x → Refuted x
 
+-- so it is of a trait as a const trait
+abbrev pub UnfitConstRefuted : Setting → Level → BoundConstness → TraitId → List Tree → Type 0
+UnfitConstRefuted S L c i args = RefutesUnfit args (ConstCandidateRefuted S L c i (map erased args))
+
+-- and of the term of a projection whose trait has the arguments
+abbrev pub UnfitTermRefuted : Setting → Level → Projection → List Tree → Type 0
+UnfitTermRefuted S L p args = (x : Candidate) → map erased args ≡ trait_args p → IsUnfit args x → TermRefuted S L p x
+
 -- two lists may become the same just where their heads agree
 abbrev pub HeadsDecide : Parameters → List Tree → List Tree → Type 0
 HeadsDecide p ts us = lists_may_unify p ts us ≡ heads_agree p ts us
@@ -129,6 +172,10 @@ HaveSameKinds ts us = kinds_of_terms ts ≡ kinds_of_terms us
 -- in each term of a list the constructors take parts of given kinds
 abbrev pub AreKinded : (Head → List ParamKind) → List Tree → Type 0
 AreKinded kinds ts = Each (IsKinded kinds) ts
+
+-- a claim, if in the terms of two lists, which are of the same kinds, they do
+abbrev pub IfKinded : (Head → List ParamKind) → List Tree → List Tree → Type 0 → Type 0
+IfKinded kinds ts us A = AreKinded kinds ts → AreKinded kinds us → HaveSameKinds ts us → A
 
 -- for all pairs of arguments of a trait that the checks accept
 abbrev pub ForAccepted : Tables → TraitId → List ParamKind → List ParamKind → (List Tree → List Tree → Type 0) → Type 0

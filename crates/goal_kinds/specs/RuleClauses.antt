@@ -6,6 +6,7 @@ use Rattle.goal_terms.specs.Tree.{Tree}
 use Rattle.goal_terms.specs.TreeOf.{tree_of_alias, tree_of_term}
 use Rattle.goal_terms.specs.declared.answers.Certainty.{Certainty}
 use Rattle.goal_terms.specs.declared.ids.ImplId.{ImplId}
+use Rattle.goal_terms.specs.declared.ids.OpaqueId.{OpaqueId}
 use Rattle.goal_terms.specs.declared.modes.TypingMode.{TypingMode}
 use Rattle.goal_terms.specs.declared.modes.TypingMode.TheVariants as mode
 use Rattle.goal_terms.specs.declared.predicates.Clause.{Clause}
@@ -14,6 +15,7 @@ use Rattle.goal_terms.specs.declared.predicates.NormalizesTo.{NormalizesTo}
 use Rattle.goal_terms.specs.declared.predicates.ProjectionPredicate.{ProjectionPredicate}
 use Rattle.goal_terms.specs.declared.predicates.TraitRef.{TraitRef}
 use Rattle.goal_terms.specs.declared.terms.AliasTerm.{AliasTerm}
+use Rattle.goal_terms.specs.declared.terms.AliasTermKind.TheVariants.{OpaqueTy}
 use Rattle.goal_tables.specs.Rows.{impl_of}
 use Rattle.goal_tables.specs.declared.rows.ImplRow.{ImplRow}
 use Rattle.goal_lists.specs.AliasLists.{alias_list}
@@ -37,7 +39,11 @@ use Rattle.goal_lists.specs.declared.lists.ListSetting.{ListSetting}
 use Rattle.goal_lists.specs.declared.lists.FirstUse.{FirstUse}
 use Rattle.goal_kinds.specs.declared.rules.Rule.{Rule}
 
--- a rule stands for the list that a setting with any environment has, with nothing decided behind it by a certainty
+-- a rule stands for the list that a setting with any environment has
+abbrev pub IsListedAs : ListSetting → Result Rule Fault → (Setting → Option (List Entry)) → Type 0
+IsListedAs S result f = (env : List Clause) → IfOk result (λ r. IsListed S.rows.now r (f (setting_at S env)))
+
+-- so it does with nothing decided behind it by a certainty
 abbrev pub IsListedThen : ListSetting → Certainty → Result Rule Fault → (Setting → Option (List Entry)) → Type 0
 IsListedThen S c result f = (env : List Clause) → IfOk result (λ r. IsListed S.rows.now r (list_then c (f (setting_at S env))))
 
@@ -82,6 +88,10 @@ GivesNot S n u = λ r. RuleGives S (level S n) r u → ⊥
 -- a mode is that of coherence
 abbrev pub IsCoherence : TypingMode → Type 0
 IsCoherence m = m ≡ mode.Coherence
+
+-- a goal asks for the term of an opaque type
+abbrev pub AsksOpaque : NormalizesTo → OpaqueId → Type 0
+AsksOpaque p i = p.alias.kind ≡ OpaqueTy i
 
 -- a rule has the one entry that a goal's term is the hidden type of the opaque type that its alias is
 abbrev pub DefinesAsked : NormalizesTo → FirstUse → Rule → Type 0

@@ -18,7 +18,7 @@ ghost use Rattle.goal_tables.specs.declared.rows.ImplRow.{ImplRow};
 ghost use Rattle.goal_tables.specs.declared.rows.Tables.{Tables};
 ghost use Rattle.goal_lists.specs.Answers.{Question, Answer, IsAnswer, decides};
 ghost use Rattle.goal_lists.specs.Headers.{Fits, Clashes};
-ghost use Rattle.goal_kinds.specs.LawWords.{NoFitClashes, HoldsThroughSome, OrderSaysNothing, HeadlinesAgree, AliasesStayClosed, AliasesKeepSorts};
+ghost use Rattle.goal_kinds.specs.LawWords.{HeightKeeps, AnswersAgree, ClassesAgree, FitsUnderOne, NoFitClashes, ConstImpliesPlain, OrderSaysNothing, HeadlinesAgree, AliasesStayClosed, AliasesKeepSorts};
 ghost use Rattle.goal_lists.specs.Levels.{level};
 ghost use Rattle.goal_lists.specs.Settings.{Setting};
 
@@ -33,21 +33,21 @@ pub mod worked_examples;
 /// trait goal, equal and unequal terms, headers that fit or clash.
 pub fn more_height_keeps_all()
     ensures answers { (S : Setting) (n m : ℕ) (q : Question) (a : Answer) → n ≤ m → decides a ≡ true → IsAnswer (level S n) q a → IsAnswer (level S m) q a }
-    ensures classes { (S : Setting) (n m : ℕ) (c : TraitGoalProvenVia) (i : TraitId) (ts : List Tree) → n ≤ m → (level S n).through c i ts → (level S m).through c i ts }
-    ensures equal_terms { (S : Setting) (n m : ℕ) (t u : Tree) → n ≤ m → (level S n).equal t u → (level S m).equal t u }
-    ensures unequal_terms { (S : Setting) (n m : ℕ) (t u : Tree) → n ≤ m → (level S n).unequal t u → (level S m).unequal t u }
-    ensures fits { (S : Setting) (n m : ℕ) (params : List ParamKind) (hs gs s : List Tree) → n ≤ m → Fits (level S n) params hs gs s → Fits (level S m) params hs gs s }
-    ensures clashes { (S : Setting) (n m : ℕ) (params : List ParamKind) (hs gs : List Tree) → n ≤ m → Clashes (level S n) params hs gs → Clashes (level S m) params hs gs }
+    ensures classes { (S : Setting) (n m : ℕ) (c : TraitGoalProvenVia) (i : TraitId) (ts : List Tree) → HeightKeeps n m (λ k. (level S k).through c i ts) }
+    ensures equal_terms { (S : Setting) (n m : ℕ) (t u : Tree) → HeightKeeps n m (λ k. (level S k).equal t u) }
+    ensures unequal_terms { (S : Setting) (n m : ℕ) (t u : Tree) → HeightKeeps n m (λ k. (level S k).unequal t u) }
+    ensures fits { (S : Setting) (n m : ℕ) (params : List ParamKind) (hs gs s : List Tree) → HeightKeeps n m (λ k. Fits (level S k) params hs gs s) }
+    ensures clashes { (S : Setting) (n m : ℕ) (params : List ParamKind) (hs gs : List Tree) → HeightKeeps n m (λ k. Clashes (level S k) params hs gs) }
 {}
 
 /// No two proofs disagree, of any heights: a goal that holds is not refuted, an alias has one term, a
 /// trait goal holds through one class, no terms are equal and unequal, and a header, which has no
 /// lifetimes, fits under one substitution at most, and not if it clashes.
 pub fn no_two_proofs_disagree()
-    ensures answers { (S : Setting) (n m : ℕ) (q : Question) (a b : Answer) → decides a ≡ true → decides b ≡ true → IsAnswer (level S n) q a → IsAnswer (level S m) q b → a ≡ b }
-    ensures classes { (S : Setting) (n m : ℕ) (c d : TraitGoalProvenVia) (i : TraitId) (ts : List Tree) → (level S n).through c i ts → (level S m).through d i ts → c ≡ d }
+    ensures answers { (S : Setting) (n m : ℕ) (q : Question) → AnswersAgree (level S n) (level S m) q }
+    ensures classes { (S : Setting) (n m : ℕ) (c d : TraitGoalProvenVia) → ClassesAgree (level S n) (level S m) c d }
     ensures terms { (S : Setting) (n m : ℕ) (t u : Tree) → (level S n).equal t u → (level S m).unequal t u → ⊥ }
-    ensures substitutions { (S : Setting) (n m : ℕ) (params : List ParamKind) (hs gs s z : List Tree) → Fits (level S n) params hs gs s → Fits (level S m) params hs gs z → s ≡ z }
+    ensures substitutions { (S : Setting) (n m : ℕ) (params : List ParamKind) (hs gs : List Tree) → FitsUnderOne (level S n) (level S m) params hs gs }
     ensures headers { (S : Setting) (n m : ℕ) (params : List ParamKind) (ts : List Tree) → NoFitClashes (level S n) (level S m) params (map erased ts) }
 {}
 
@@ -58,7 +58,7 @@ pub fn const_is_stronger()
 
 /// Where a trait holds as a const trait, its plain goal holds.
 pub fn const_implies_plain()
-    ensures plain_goal_holds { (S : Setting) (n : ℕ) (c : BoundConstness) (i : TraitId) (ts : List Tree) → (level S n).const_holds c i ts → HoldsThroughSome (level S n) i ts }
+    ensures plain_goal_holds { (S : Setting) (n : ℕ) (c : BoundConstness) (i : TraitId) (ts : List Tree) → ConstImpliesPlain (level S n) c i ts }
 {}
 
 /// Accepted tables whose impls stand in another order give the same answers.

@@ -9,8 +9,8 @@ use Rattle.goal_terms.specs.declared.predicates.Clause.{Clause}
 use Rattle.goal_tables.specs.declared.rows.ConstBounds.{ConstBounds}
 use Rattle.goal_tables.specs.declared.rows.ImplRow.{ImplRow}
 use Rattle.goal_tables.specs.declared.rows.Tables.{Tables}
-use Rattle.goal_lists.specs.Answers.{setting_of}
-use Rattle.goal_lists.specs.Candidates.{Candidate, by_impl, bounds_under, const_bounds_under}
+use Rattle.goal_lists.specs.Answers.{setting_of, environment_of}
+use Rattle.goal_lists.specs.Candidates.{Candidate, assumption, by_impl, bounds_under, const_bounds_under}
 use Rattle.goal_lists.specs.Fitting.{trees_at, fitting, About, near, class_fitting}
 use Rattle.goal_lists.specs.Interned.{erased_at, candidate_at}
 use Rattle.goal_lists.specs.Settings.{Setting}
@@ -44,6 +44,10 @@ about T s = record { trait_id = s.trait_id; item = s.item; args = trees_at T s.a
 -- those of a list that may be about what is sought
 abbrev pub near_for : List Tree → Sought → List Candidate → List Candidate
 near_for T s xs = filter (near (about T s)) xs
+
+-- the clauses of an environment among them
+abbrev pub environment_near : List Tree → Sought → List Clause → List Candidate
+environment_near T s env = near_for T s (map assumption (environment_of env))
 
 -- those of a class that are looked at
 abbrev pub class_for : List Tree → Sought → Setting → TraitGoalProvenVia → List Candidate

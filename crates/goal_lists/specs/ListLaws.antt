@@ -1,16 +1,19 @@
 -- What it means that a list says what its candidate, or its alias, does by the derivation rules, and that a list of the erased mode stands for a headline mode.
-use Rattle.std.specs.Prelude.{◌≡◌, ◌↔◌, ℕ, true, List, [], Some, None, suc}
+use Rattle.std.specs.Prelude.{◌≡◌, ◌↔◌, ℕ, true, List, [], Option, Some, None, suc}
+use Rattle.std.specs.List.{All}
 use Rattle.goal_terms.specs.Tree.{Tree}
 use Rattle.goal_terms.specs.declared.ids.TraitId.{TraitId}
 use Rattle.goal_terms.specs.declared.modes.TypingMode.{TypingMode}
 use Rattle.goal_terms.specs.declared.predicates.BoundConstness.{BoundConstness}
 use Rattle.goal_terms.specs.declared.terms.AliasTermKind.{AliasTermKind}
+use Rattle.goal_tables.specs.declared.rows.Tables.{Tables}
 use Rattle.goal_lists.specs.Aliases.{AliasGives, AliasRefuted}
 use Rattle.goal_lists.specs.AliasLists.{alias_list}
 use Rattle.goal_lists.specs.Candidates.{Candidate}
+use Rattle.goal_lists.specs.Causes.{IsCaused}
 use Rattle.goal_lists.specs.ConstGoals.{ConstCandidateHolds, ConstCandidateRefuted}
 use Rattle.goal_lists.specs.EffectLists.{effect_list}
-use Rattle.goal_lists.specs.Entries.{ListHolds, ListGives, ListRefuted}
+use Rattle.goal_lists.specs.Entries.{Entry, ListHolds, ListGives, ListRefuted}
 use Rattle.goal_lists.specs.ImplTerms.{Projection}
 use Rattle.goal_lists.specs.Level.{Level}
 use Rattle.goal_lists.specs.Levels.{level}
@@ -28,16 +31,16 @@ TraitListHolds S L i args c = ListHolds L (trait_list S i args c) ↔ CandidateH
 abbrev pub TraitListRefuted : Setting → Level → TraitId → List Tree → Candidate → Type 0
 TraitListRefuted S L i args c = ListRefuted L (trait_list S i args c) ↔ CandidateRefuted S L i args c
 
--- of a candidate for a host effect goal
-abbrev pub EffectListHolds : Setting → Level → BoundConstness → TraitId → List Tree → Candidate → Type 0
-EffectListHolds S L b i args c = ListHolds L (effect_list S b i args c) ↔ ConstCandidateHolds S L b i args c
+-- of each candidate for a host effect goal
+abbrev pub EffectListHolds : Setting → Level → BoundConstness → TraitId → List Tree → Type 0
+EffectListHolds S L b i args = (c : Candidate) → ListHolds L (effect_list S b i args c) ↔ ConstCandidateHolds S L b i args c
 
-abbrev pub EffectListRefuted : Setting → Level → BoundConstness → TraitId → List Tree → Candidate → Type 0
-EffectListRefuted S L b i args c = ListRefuted L (effect_list S b i args c) ↔ ConstCandidateRefuted S L b i args c
+abbrev pub EffectListRefuted : Setting → Level → BoundConstness → TraitId → List Tree → Type 0
+EffectListRefuted S L b i args = (c : Candidate) → ListRefuted L (effect_list S b i args c) ↔ ConstCandidateRefuted S L b i args c
 
--- of a candidate for the term of a projection
-abbrev pub ProjectionListGives : Setting → Level → Projection → Tree → Candidate → Tree → Type 0
-ProjectionListGives S L p itself c t = ListGives L (projection_list S p itself c) t ↔ CandidateGives S L p itself t c
+-- of a candidate for the term of a projection: it gives each term that the candidate gives, and no other
+abbrev pub ProjectionListGives : Setting → Level → Projection → Tree → Candidate → Type 0
+ProjectionListGives S L p itself c = (t : Tree) → ListGives L (projection_list S p itself c) t ↔ CandidateGives S L p itself t c
 
 abbrev pub ProjectionListRefuted : Setting → Level → Projection → Tree → Candidate → Type 0
 ProjectionListRefuted S L p itself c = ListRefuted L (projection_list S p itself c) ↔ TermRefuted S L p c
@@ -60,8 +63,8 @@ EquationListRefuted S n a t = ListRefuted (level S n) (Some (equation_list a t))
 abbrev pub TraitListStands : Setting → TypingMode → TraitId → List Tree → Candidate → Type 0
 TraitListStands S m i args c = is_headline m ≡ true → trait_list (in_mode S m) i args c ≡ trait_list (erased_setting S) i args c
 
-abbrev pub EffectListStands : Setting → TypingMode → BoundConstness → TraitId → List Tree → Candidate → Type 0
-EffectListStands S m b i args c = is_headline m ≡ true → effect_list (in_mode S m) b i args c ≡ effect_list (erased_setting S) b i args c
+abbrev pub EffectListStands : Setting → TypingMode → BoundConstness → TraitId → List Tree → Type 0
+EffectListStands S m b i args = (c : Candidate) → is_headline m ≡ true → effect_list (in_mode S m) b i args c ≡ effect_list (erased_setting S) b i args c
 
 abbrev pub ProjectionListStands : Setting → TypingMode → Projection → Tree → Candidate → Type 0
 ProjectionListStands S m p itself c =
@@ -76,3 +79,7 @@ ProjectionListStandsIn S m p itself c = is_headline m ≡ true → ListStandsIn 
 
 abbrev pub AliasListStandsIn : Setting → TypingMode → AliasTermKind → List Tree → Type 0
 AliasListStandsIn S m k args = is_headline m ≡ true → StandsIn (alias_list (erased_setting S) k args) (alias_list (in_mode S m) k args)
+
+-- each access that a list records has its cause in the tables
+abbrev pub ListIsCaused : Tables → Option (List Entry) → Type 0
+ListIsCaused t l = All (IsCaused t) (list_accesses l)

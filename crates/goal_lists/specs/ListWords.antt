@@ -17,14 +17,18 @@ use Rattle.goal_lists.specs.AliasLists.{entries_of_row, hidden_list, defined_lis
 use Rattle.goal_lists.specs.Builtins.{Listed, term_rule}
 use Rattle.goal_lists.specs.Entries.{Entry, arguments, given_arguments, row_clauses, evaluation}
 use Rattle.goal_lists.specs.ImplTerms.{Projection, trait_args, taken}
-use Rattle.goal_lists.specs.Interned.{erased_at, erased_all, trait_at}
+use Rattle.goal_lists.specs.Candidates.{Candidate}
+use Rattle.goal_lists.specs.Interned.{erased_at, erased_all, trait_at, candidate_at}
 use Rattle.goal_lists.specs.InternedEntries.{entries_at, list_at, setting_at, projection_at}
+use Rattle.goal_lists.specs.OpaqueUses.{first_use_of}
 use Rattle.goal_lists.specs.Premises.{TraitTree}
 use Rattle.goal_lists.specs.ProjectionLists.{standing, default_entries, taken_entries}
 use Rattle.goal_lists.specs.Settings.{Setting}
 use Rattle.goal_lists.specs.TraitLists.{impl_match}
+use Rattle.goal_lists.specs.declared.candidates.interned.InternedCandidate.{InternedCandidate}
 use Rattle.goal_lists.specs.declared.candidates.interned.InternedTrait.{InternedTrait}
 use Rattle.goal_lists.specs.declared.lists.AskedProjection.{AskedProjection}
+use Rattle.goal_lists.specs.declared.lists.FirstUse.{FirstUse}
 use Rattle.goal_lists.specs.declared.lists.InternedEntry.{InternedEntry}
 use Rattle.goal_lists.specs.declared.lists.ListSetting.{ListSetting}
 
@@ -39,6 +43,10 @@ GivesList T S result f = (env : List Clause) → IfOk result (λ o. list_at T o 
 -- what is made of a projection that is asked, and of its alias
 abbrev pub asked_at : {A : Type 0} → List Tree → AskedProjection → (Projection → Tree → A) → A
 asked_at T p f = f (projection_at T p) (erased_at T p.rigid_alias)
+
+-- what is made of arguments and of a candidate
+abbrev pub given_at : {A : Type 0} → List Tree → List TermId → InternedCandidate → (List Tree → Candidate → A) → A
+given_at T ids c f = f (erased_all T ids) (candidate_at T c)
 
 -- what built-in rules say of the item of a projection that is asked
 abbrev pub asked_term_rule : List Tree → Tables → AskedProjection → Listed
@@ -68,6 +76,10 @@ ForAliasAt S id k args P = (T : List Tree) (env : List Clause) → erased_at T i
 -- the entries of an opaque type with its row, whose alias is a term
 abbrev pub opaque_entries : TypingMode → OpaqueRow → OpaqueId → List Tree → Tree → List Entry
 opaque_entries m r i args itself = opaque_list m r (defined_list i args) (hidden_list args r) (standing itself)
+
+-- what the first use of an alias takes as its hidden type, in the mode of a setting
+abbrev pub first_use_in : ListSetting → AliasTermKind → Option FirstUse
+first_use_in S k = first_use_of S.rows.now S.mode.now k
 
 -- unless memory is wanting, a function gives the entries that an opaque type's row has, if there is one
 abbrev pub GivesOfOpaque : {E : Type 0} → List Tree → ListSetting → OpaqueId → Result (Vec InternedEntry Global) E → (OpaqueRow → List Entry) → Type 0

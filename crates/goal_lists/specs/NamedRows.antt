@@ -108,6 +108,10 @@ CandidateIsOf t _ = Unit {0}
 abbrev pub ProjectionIsOf : Tables → AskedProjection → Type 0
 ProjectionIsOf t p = item_of t p.item.now.id ≡ Some p.item.now
 
+-- a claim, if the rows that a candidate and a projection borrow are those of the tables
+abbrev pub IfRowsOf : Tables → InternedCandidate → AskedProjection → Type 0 → Type 0
+IfRowsOf t c p A = CandidateIsOf t c → ProjectionIsOf t p → A
+
 -- so it is with the row of an impl
 abbrev pub ImplIsOf : Tables → ImplRow → Type 0
 ImplIsOf t r = impl_of t r.id ≡ Some r

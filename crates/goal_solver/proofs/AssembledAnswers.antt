@@ -14,7 +14,7 @@ use Rattle.goal_lists.specs.Levels.{level}
 use Rattle.goal_lists.specs.Premises.{TraitTree}
 use Rattle.goal_kinds.specs.declared.faults.Fault.{Fault}
 use Rattle.goal_solver.specs.Answers.{IsOwed, IsMaybe, IsOpen, IsTraitAnswer, AnswersAside, is_closed_alias, expected_variable}
-use Rattle.goal_solver.specs.Assembling.{MergesAsAlias}
+use Rattle.goal_solver.specs.Assembling.{MergesGiven, step}
 use Rattle.goal_solver.specs.Binding.{IsApplicable}
 use Rattle.goal_kinds.specs.Collecting.{Kind}
 use Rattle.goal_solver.specs.OpenAnswers.{MergesThrough}
@@ -77,9 +77,9 @@ not-asked_open env c p a k e h others expected =
     (λ none. let contrary : None ≡ Some k = sym (subst (λ (x : Through). expected_variable x.asked.term ≡ None) same none) ∙ expected in absurd (cc)) h
 
 pub merged-given_closed : {P : Type 0} (K : Kind P) (g : Goal P) (s u : State) (es : List Clause) (c : TraitGoalProvenVia) (p : NormalizesTo) (o : Option NormalizesTo) (r : Result Response Fault) →
-    es ≡ g.param_env.items → Some p ≡ o → (is_closed_alias p.alias es ≡ true) ⊎ (expected_variable p.term ≡ None) → MergesAsAlias K (given_through (Some c) o) g s u r
+    es ≡ g.param_env.items → Some p ≡ o → (is_closed_alias p.alias es ≡ true) ⊎ (expected_variable p.term ≡ None) → MergesGiven K (given_through (Some c) o) g (step s u r)
 merged-given_closed K g s u es c p o r same is h =
-    subst (λ x. MergesAsAlias K (given_through (Some c) x) g s u r) is
+    subst (λ x. MergesGiven K (given_through (Some c) x) g (step s u r)) is
     (λ a k asked others expected.
     absurd (not-asked_open g.param_env.items c p a k asked (subst (λ x. (is_closed_alias p.alias x ≡ true) ⊎ (expected_variable p.term ≡ None)) same h) others expected))
 
@@ -103,9 +103,9 @@ opened-given s u es env c p o r same is others =
     (λ closed. absurd (true≢false (sym closed ∙ subst (λ x. is_closed_alias p.alias x ≡ false) same others)))
 
 pub opened-merges_given : {P : Type 0} (K : Kind P) (g : Goal P) (s u : State) (c : TraitGoalProvenVia) (p : NormalizesTo) (o : Option NormalizesTo) (r : Result Response Fault) → Some p ≡ o →
-    WhenAnswered r (MergesThrough K p c g s r u) → MergesAsAlias K (given_through (Some c) o) g s u r
+    WhenAnswered r (MergesThrough K p c g s r u) → MergesGiven K (given_through (Some c) o) g (step s u r)
 opened-merges_given K g s u c p o r is merges =
-    subst (λ x. MergesAsAlias K (given_through (Some c) x) g s u r) is
+    subst (λ x. MergesGiven K (given_through (Some c) x) g (step s u r)) is
     (λ a k asked others expected. subst (λ (x : Through). WhenAnswered r (MergesThrough K x.asked x.class g s r u)) (some-same (through_of c p) a asked) merges)
 
 pub opened-applies_given : (s u : State) (env : List Clause) (c : TraitGoalProvenVia) (p : NormalizesTo) (o : Option NormalizesTo) (r : Result Response Fault) → Some p ≡ o →
@@ -114,5 +114,5 @@ opened-applies_given s u env c p o r is applies =
     subst (λ x. AppliesGiven s u env (given_through (Some c) x) r) is (record { proven = λ m stands proven ok. applies; variables = λ n others expected. applies })
 
 -- without an alias nothing is merged
-pub missing-merges_given : {P : Type 0} (K : Kind P) (g : Goal P) (s u : State) (c : TraitGoalProvenVia) (o : Option NormalizesTo) (r : Result Response Fault) → None ≡ o → MergesAsAlias K (given_through (Some c) o) g s u r
-missing-merges_given K g s u c o r is = subst (λ x. MergesAsAlias K (given_through (Some c) x) g s u r) is (λ a k asked. absurd (none-some a asked))
+pub missing-merges_given : {P : Type 0} (K : Kind P) (g : Goal P) (s u : State) (c : TraitGoalProvenVia) (o : Option NormalizesTo) (r : Result Response Fault) → None ≡ o → MergesGiven K (given_through (Some c) o) g (step s u r)
+missing-merges_given K g s u c o r is = subst (λ x. MergesGiven K (given_through (Some c) x) g (step s u r)) is (λ a k asked. absurd (none-some a asked))

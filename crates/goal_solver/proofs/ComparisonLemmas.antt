@@ -21,8 +21,7 @@ use Rattle.goal_terms.specs.declared.predicates.Predicate.TheVariants as predica
 use Rattle.goal_terms.specs.declared.term_nodes.TermId.{TermId}
 use Rattle.goal_terms.specs.declared.terms.Term.{Term}
 use Rattle.goal_tables.specs.Faults.{IsChecked}
-use Rattle.goal_tables.specs.Clauses.{lies_in_equation}
-use Rattle.goal_tables.specs.Predicates.{lies_in_predicate, normalization_of, some_in_equation, some_in_predicate}
+use Rattle.goal_tables.specs.Predicates.{normalization_of}
 use Rattle.goal_tables.specs.declared.rows.OpaqueRow.{OpaqueRow}
 use Rattle.goal_tables.specs.declared.rows.Tables.{Tables}
 use Rattle.goal_lists.specs.Answers.{whether, Answer, yes, yes_with, no, maybe, IsAnswer, decides, setting_of}
@@ -38,15 +37,14 @@ use Rattle.goal_kinds.specs.declared.faults.Fault.{Fault}
 use Rattle.goal_solver.specs.AddedGoals.{IsClosedGoal, GoalHolds, GoalRefuted}
 use Rattle.goal_eval.specs.ErasedArgs.{erased_args}
 use Rattle.goal_solver.specs.Answers.{IsOwed, level_over}
-use Rattle.goal_solver.specs.Comparisons.{AreComparable, IsAnswerTo, IsAnswerIn, IsAnswerHere, IsCompared, MayRun, IsClosedQuestion, IsAcceptedIn, IsAcceptedOver, DifferInOrder, answer_of}
-use Rattle.goal_solver.specs.Goals.{IsAcceptedBy, IsAcceptedNormalization, goal_has}
+use Rattle.goal_solver.specs.Comparisons.{AreComparable, IsAnswerTo, IsAnswerIn, IsAnswerHere, IsCompared, MayRun, IsClosedQuestion, IsAcceptedIn, IsAcceptedOver, DifferInOrder, answer_of, over}
+use Rattle.goal_solver.specs.Goals.{IsAcceptedBy, IsAcceptedNormalization, alias_term_words, any_predicate_words, goal_has}
 use Rattle.goal_solver.specs.Promises.{trait_asked, trait_question, equation_asked, const_asked, term_asked}
 use Rattle.goal_solver.specs.State.{State}
 use Rattle.goal_solver.specs.declared.comparison.Comparison.{Comparison}
 use Rattle.goal_solver.specs.declared.comparison.Comparison.TheVariants as comparison
 use Rattle.goal_solver.specs.declared.comparison.RunAnswer.{RunAnswer}
 use Rattle.goal_solver.specs.declared.comparison.RunAnswer.TheVariants as run
-use Rattle.goal_solver.specs.declared.eval.goals.GoalFault.{GoalFault}
 use Rattle.goal_solver.specs.declared.eval.goals.GoalFault.TheVariants as goals
 use Rattle.goal_solver.proofs.ApplicableLemmas.{accepted-sort, alias-is_term}
 use Rattle.goal_solver.proofs.FoundAnswers.{sort-erased}
@@ -109,8 +107,7 @@ pub answer-normalization : (L : Level) (p : Predicate) (q : NormalizesTo) (x : A
 answer-normalization L p q x e h = subst (λ (r : Predicate). IsAnswerTo L r x) (sym (is_normalization p q e)) h
 
 by-fault : (s : State) (q : NormalizesTo) (env : List Clause) →
-    IsAcceptedBy (goal_has (λ (p : Predicate) t f. lies_in_predicate t f p) (λ (p : Predicate) test. some_in_predicate test p) normalization_of s.tables s (predicate.NormalizesTo q) env) → (f : GoalFault) →
-    goal_has (λ (p : NormalizesTo) t f. lies_in_equation t [] f p.alias p.term) (λ (p : NormalizesTo) test. some_in_equation test p.alias p.term) (λ (p : NormalizesTo). Some p) s.tables s q env f ≡ false
+    IsAcceptedBy (goal_has any_predicate_words s.tables s (predicate.NormalizesTo q) env) → IsAcceptedBy (goal_has alias_term_words s.tables s q env)
 by-fault s q env h goals.UnknownItem = h goals.UnknownItem
 by-fault s q env h goals.WrongArgumentCount = h goals.WrongArgumentCount
 by-fault s q env h goals.WrongArgumentKind = h goals.WrongArgumentKind
@@ -122,7 +119,7 @@ by-fault s q env h goals.GoalsPending = h goals.GoalsPending
 accepted-normalization : (s : State) (g : Goal Predicate) (q : NormalizesTo) → normalization_of g.predicate ≡ Some q → IsAcceptedIn s g → IsAcceptedNormalization s q g.param_env.items
 accepted-normalization s g q e h =
     by-fault s q g.param_env.items
-    (subst (λ (r : Predicate). IsAcceptedBy (goal_has (λ (p : Predicate) t f. lies_in_predicate t f p) (λ (p : Predicate) test. some_in_predicate test p) normalization_of s.tables s r g.param_env.items)) (is_normalization g.predicate q e) h)
+    (subst (λ (r : Predicate). IsAcceptedBy (goal_has any_predicate_words s.tables s r g.param_env.items)) (is_normalization g.predicate q e) h)
 
 -- the term that is found of an accepted one is a type or a constant
 pub found-given : (t : Tables) (m : TypingMode) (n : ℕ) (g : Goal Predicate) (q : NormalizesTo) (T : List Tree) (id : TermId) → IsChecked t → IsAcceptedOver t g → normalization_of g.predicate ≡ Some q →
@@ -255,7 +252,7 @@ never-different x y c h agree e =
 ok-same : (c d : Comparison) (r : Result Comparison Fault) → r ≡ Ok c → r ≡ Ok d → c ≡ d
 ok-same c d r e f = cc
 
-pub order-never : (a b : Tables) (m : TypingMode) (g : Goal Predicate) (n k : ℕ) (x y : RunAnswer) (c : Comparison) (r : Result Comparison Fault) → IsChecked a → AreComparable a b m g n k → DifferInOrder a b →
+pub order-never : (a b : Tables) (m : TypingMode) (g : Goal Predicate) (n k : ℕ) (x y : RunAnswer) (c : Comparison) (r : Result Comparison Fault) → IsChecked a → AreComparable (over a n) (over b k) m g → DifferInOrder a b →
     (MayRun a m g n → IsAnswerIn a m g n (answer_of x)) → (MayRun b m g k → IsAnswerIn b m g k (answer_of y)) → IsCompared (answer_of x) (answer_of y) c → r ≡ Ok c → r ≡ Ok comparison.Different → ⊥
 order-never a b m g n k x y c r checked may order first second compared e f =
     never-different (answer_of x) (answer_of y) c compared

@@ -27,7 +27,7 @@ use Rattle.goal_lists.specs.Interned.{AreIn, erased_at, erased_all}
 use Rattle.goal_lists.proofs.UnderLemmas.{are_in-below}
 use Rattle.goal_solver.specs.Accesses.{RecordsCausedFaults}
 use Rattle.goal_solver.specs.Answers.{IsOwed, level_over, IsStopped}
-use Rattle.goal_solver.specs.Equating.{IsEquated, certainty_of}
+use Rattle.goal_solver.specs.Equating.{IsEquated, equation, certainty_of}
 use Rattle.goal_solver.specs.GoingBack.{GoesBack, restored}
 use Rattle.goal_solver.specs.Relating.{IsRelated, ChangesInference, ChangesRecords, AgreesWith, all_replaced, all_bound, AreDefinite, IsEqualAnswer, LeavesOpen, SaysYes, Refuses, IsFaultFor, all_equated, AreIdentical}
 use Rattle.goal_solver.specs.State.{State, IsValid, kinds_of}
@@ -100,7 +100,7 @@ module _ (a z : State) (env : List Clause) (ts us : List Tree) (valid : IsValid 
         let second : Agrees z.terms b.inference ρ ↔ Agrees b.terms b.inference ρ = agrees-kept b.terms z.terms b.inference adds.kept going.solved ρ in
         (λ x. second.0 (first.0 x), λ x. first.1 (second.1 x))
 
-    equated-yes : IsRelated a b env (map erased ts) (map erased us) a.remaining_depth outcome.Holds → IsEquated a z env ts us (Ok certainty.Yes)
+    equated-yes : IsRelated a b env (map erased ts) (map erased us) a.remaining_depth outcome.Holds → IsEquated a z (equation env ts us) (Ok certainty.Yes)
     equated-yes rel = record {
       sound = λ m owed sides. (rel.closed sides m (owed.0, earlier m owed.1)).0;
       decided = λ m owed sides x. absurd x;
@@ -114,7 +114,7 @@ module _ (a z : State) (env : List Clause) (ts us : List Tree) (valid : IsValid 
       same = λ e x. ⊎_elim (λ y. y) (λ y. y) x;
     }
 
-    equated-maybe : IsRelated a b env (map erased ts) (map erased us) a.remaining_depth outcome.Undecided → IsEquated a z env ts us (Ok certainty.Maybe)
+    equated-maybe : IsRelated a b env (map erased ts) (map erased us) a.remaining_depth outcome.Undecided → IsEquated a z (equation env ts us) (Ok certainty.Maybe)
     equated-maybe rel = record {
       sound = λ m owed sides. tt;
       decided = λ m owed sides x. (rel.closed sides m (owed.0, earlier m owed.1)).0;
@@ -128,13 +128,13 @@ module _ (a z : State) (env : List Clause) (ts us : List Tree) (valid : IsValid 
       same = λ e x. let never : outcome.Undecided ≡ outcome.Holds = (rel.same (bound-alike e)).0 in absurd (cc);
     }
 
-    pub equated-related : (o : Outcome) → o ≢ outcome.Refuted → IsRelated a b env (map erased ts) (map erased us) a.remaining_depth o → IsEquated a z env ts us (Ok (certainty_of o))
+    pub equated-related : (o : Outcome) → o ≢ outcome.Refuted → IsRelated a b env (map erased ts) (map erased us) a.remaining_depth o → IsEquated a z (equation env ts us) (Ok (certainty_of o))
     equated-related outcome.Holds n rel = equated-yes rel
     equated-related outcome.Undecided n rel = equated-maybe rel
     equated-related outcome.Refuted n rel = absurd (n refl)
 
   -- lists that were refuted
-  pub equated-refuted : (b : State) → ((m : TypingMode) → IsOwed z m → IsOwed b m) → IsRelated a b env (map erased ts) (map erased us) a.remaining_depth outcome.Refuted → IsEquated a z env ts us (Err fault.NoSolution)
+  pub equated-refuted : (b : State) → ((m : TypingMode) → IsOwed z m → IsOwed b m) → IsRelated a b env (map erased ts) (map erased us) a.remaining_depth outcome.Refuted → IsEquated a z (equation env ts us) (Err fault.NoSolution)
   equated-refuted b earlier rel = record {
     sound = λ m owed sides. (rel.closed sides m (owed.0, earlier m owed.1)).0;
     decided = λ m owed sides x. absurd x;
@@ -150,7 +150,7 @@ module _ (a z : State) (env : List Clause) (ts us : List Tree) (valid : IsValid 
 
   -- an answer that says nothing of the lists
   equated-silent : (r : Result Certainty Fault) → ((m : TypingMode) → IsEqualAnswer (level_over a m env) (map erased ts) (map erased us) r) →
-      (LeavesOpen r → ⊥) → (SaysYes r → ⊥) → (Refuses r → ⊥) → (IsOk r → ⊥) → IsEquated a z env ts us r
+      (LeavesOpen r → ⊥) → (SaysYes r → ⊥) → (Refuses r → ⊥) → (IsOk r → ⊥) → IsEquated a z (equation env ts us) r
   equated-silent r sound leaves says refuses accepts = record {
     sound = λ m owed sides. sound m;
     decided = λ m owed sides x. absurd (leaves x);
@@ -164,14 +164,14 @@ module _ (a z : State) (env : List Clause) (ts us : List Tree) (valid : IsValid 
     same = λ e x. ⊎_elim refuses leaves x;
   }
 
-  pub equated-fault : (f : Fault) → f ≢ fault.NoSolution → IsEquated a z env ts us (Err f)
+  pub equated-fault : (f : Fault) → f ≢ fault.NoSolution → IsEquated a z (equation env ts us) (Err f)
   equated-fault fault.NoSolution n = absurd (n refl)
   equated-fault fault.RerunNonErased n = equated-silent (Err fault.RerunNonErased) (λ m. tt) (λ x. x) (λ x. x) (λ x. x) (no_error fault.RerunNonErased)
   equated-fault fault.OutOfMemory n = equated-silent (Err fault.OutOfMemory) (λ m. tt) (λ x. x) (λ x. x) (λ x. x) (no_error fault.OutOfMemory)
   equated-fault fault.NotForThisKind n = equated-silent (Err fault.NotForThisKind) (λ m. tt) (λ x. x) (λ x. x) (λ x. x) (no_error fault.NotForThisKind)
 
   -- an evaluation that was stopped, whose changes were undone
-  pub equated-stopped : (r : Result Certainty Fault) → IsStopped r → IsEquated a z env ts us r
+  pub equated-stopped : (r : Result Certainty Fault) → IsStopped r → IsEquated a z (equation env ts us) r
   equated-stopped (Ok c) ends = absurd ends
   equated-stopped (Err fault.NoSolution) ends = absurd ends
   equated-stopped (Err fault.RerunNonErased) ends = equated-fault fault.RerunNonErased (λ e. absurd (cc))
@@ -192,7 +192,7 @@ module _ (a : State) (T : List Tree) (kept : Keeps a.terms T) (solved : IsSolved
   definite-kept : (ts : List Tree) → AreDefinite a ts → AreDefinite (record a { terms = T }) ts
   definite-kept ts e = ap (list_any (some_node (is_open (kinds_of a)))) (bound-kept ts) ∙ e
 
-  pub equated-grown : (z : State) (env : List Clause) (ts us : List Tree) (r : Result Certainty Fault) → IsEquated (record a { terms = T }) z env ts us r → IsEquated a z env ts us r
+  pub equated-grown : (z : State) (env : List Clause) (ts us : List Tree) (r : Result Certainty Fault) → IsEquated (record a { terms = T }) z (equation env ts us) r → IsEquated a z (equation env ts us) r
   equated-grown z env ts us r h = record {
     sound = h.sound;
     decided = h.decided;
@@ -244,19 +244,19 @@ unchanged-undone a b y z undone alone = let e = undone-is a b y z undone alone i
 
 -- an evaluation that was stopped
 pub equated-undone : (a b y z : State) (env : List Clause) (ls rs : List TermId) (r : Result Certainty Fault) → IsValid a → GoesBack a b → y ≡ restored a b →
-    z ≡ record y { accesses = z.accesses } → GoesBack y z → IsStopped r → IsEquated a z env (map (tree_at a.terms) ls) (map (tree_at a.terms) rs) r
+    z ≡ record y { accesses = z.accesses } → GoesBack y z → IsStopped r → IsEquated a z (equation env (map (tree_at a.terms) ls) (map (tree_at a.terms) rs)) r
 equated-undone a b y z env ls rs r valid back undone alone further ends =
     equated-stopped a z env (map (tree_at a.terms) ls) (map (tree_at a.terms) rs) valid (back-undone a b y z back undone further) r ends
 
 -- lists that were refuted, or whose equations found no memory
 pub refuted-undone : (a b z : State) (env : List Clause) (ls rs : List TermId) (n : ℕ) (o : Outcome) → IsValid a → GoesBack a b → z ≡ restored a b → n ≡ a.remaining_depth → o ≡ outcome.Refuted →
-    IsRelated a b env (erased_all a.terms ls) (erased_all a.terms rs) n o → IsEquated a z env (map (tree_at a.terms) ls) (map (tree_at a.terms) rs) (Err fault.NoSolution)
+    IsRelated a b env (erased_all a.terms ls) (erased_all a.terms rs) n o → IsEquated a z (equation env (map (tree_at a.terms) ls) (map (tree_at a.terms) rs)) (Err fault.NoSolution)
 refuted-undone a b z env ls rs n o valid back undone depth refuted rel =
     equated-refuted a z env (map (tree_at a.terms) ls) (map (tree_at a.terms) rs) valid (subst (GoesBack a) (sym undone) (goes_back-restored a b back)) b (λ m owed. restored-owed a b z m undone back owed)
     (subst (IsRelated a b env (map erased (map (tree_at a.terms) ls)) (map erased (map (tree_at a.terms) rs)) a.remaining_depth) refuted (related-trees a b env ls rs n a.remaining_depth o depth rel))
 
 pub memory-undone : (a b z : State) (env : List Clause) (ls rs : List TermId) → IsValid a → GoesBack a b → z ≡ restored a b →
-    IsEquated a z env (map (tree_at a.terms) ls) (map (tree_at a.terms) rs) (Err fault.OutOfMemory)
+    IsEquated a z (equation env (map (tree_at a.terms) ls) (map (tree_at a.terms) rs)) (Err fault.OutOfMemory)
 memory-undone a b z env ls rs valid back undone =
     equated-fault a z env (map (tree_at a.terms) ls) (map (tree_at a.terms) rs) valid (subst (GoesBack a) (sym undone) (goes_back-restored a b back)) fault.OutOfMemory (λ e. absurd (cc))
 
@@ -264,7 +264,7 @@ memory-undone a b z env ls rs valid back undone =
 pub related-equated : (a b z : State) (env : List Clause) (ls rs : List TermId) (n : ℕ) (o : Outcome) → IsValid a → IsValid b → AreIn a.terms ls → AreIn a.terms rs → n ≡ a.remaining_depth → o ≢ outcome.Refuted →
     IsRelated a b env (erased_all a.terms ls) (erased_all a.terms rs) n o → GoesBack a b → Keeps b.terms z.terms → AddsRegions b.inference z.inference → GoesBack b z →
     (AreIdentical (map (tree_at b.terms) ls) (map (tree_at b.terms) rs) → z.inference ≡ all_equated (map (tree_at b.terms) ls) (map (tree_at b.terms) rs) b.inference) →
-    IsEquated a z env (map (tree_at a.terms) ls) (map (tree_at a.terms) rs) (Ok (certainty_of o))
+    IsEquated a z (equation env (map (tree_at a.terms) ls) (map (tree_at a.terms) rs)) (Ok (certainty_of o))
 related-equated a b z env ls rs n o valid going first second depth some rel back kept adds further identical =
     let ts : map (tree_at b.terms) ls ≡ map (tree_at a.terms) ls = trees-kept a.terms b.terms back.terms ls (are_in-below a.terms ls first) in
     let us : map (tree_at b.terms) rs ≡ map (tree_at a.terms) rs = trees-kept a.terms b.terms back.terms rs (are_in-below a.terms rs second) in
@@ -276,11 +276,11 @@ related-equated a b z env ls rs n o valid going first second depth some rel back
 
 -- two terms that got their numbers, or two lists of them
 pub equated-interned : (o s z : State) (T : List Tree) (env : List Clause) (xs ys ts us : List Tree) (r : Result Certainty Fault) → o ≡ s → Keeps o.terms T → IsSolved o.terms o.inference → xs ≡ ts → ys ≡ us →
-    IsEquated (record o { terms = T }) z env xs ys r → IsEquated s z env ts us r
+    IsEquated (record o { terms = T }) z (equation env xs ys) r → IsEquated s z (equation env ts us) r
 equated-interned o s z T env xs ys ts us r e kept solved p q h =
-    subst (λ a. IsEquated a z env ts us r) e
+    subst (λ a. IsEquated a z (equation env ts us) r) e
     (equated-grown o T kept solved z env ts us r
-    (subst (λ zs. IsEquated (record o { terms = T }) z env ts zs r) q (subst (λ zs. IsEquated (record o { terms = T }) z env zs ys r) p h)))
+    (subst (λ zs. IsEquated (record o { terms = T }) z (equation env ts zs) r) q (subst (λ zs. IsEquated (record o { terms = T }) z (equation env zs ys) r) p h)))
 
 pub alone-interned : (o s z : State) (T : List Tree) → o ≡ s → ChangesRecords (record o { terms = T }) z → ChangesRecords s z
 alone-interned o s z T e h = subst (λ a. ChangesRecords a z) e h
@@ -310,7 +310,7 @@ pub fault-interned : (o s z : State) (T : List Tree) (r : Result Certainty Fault
 fault-interned o s z T r e h = subst (λ a. IsFaultFor a z r) e (fault-at o z T r h)
 
 -- want of memory says nothing of the lists
-pub equated-unanswered : (a z : State) (env : List Clause) (ts us : List Tree) → ((ρ : Variable → Tree) → AgreesWith z ρ → AgreesWith a ρ) → IsEquated a z env ts us (Err fault.OutOfMemory)
+pub equated-unanswered : (a z : State) (env : List Clause) (ts us : List Tree) → ((ρ : Variable → Tree) → AgreesWith z ρ → AgreesWith a ρ) → IsEquated a z (equation env ts us) (Err fault.OutOfMemory)
 equated-unanswered a z env ts us agreed = record {
   sound = λ m owed closed. tt;
   decided = λ m owed closed h. absurd h;

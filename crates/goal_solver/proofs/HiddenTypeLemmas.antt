@@ -19,7 +19,7 @@ use Rattle.goal_solver.specs.Added.{EntersType}
 use Rattle.goal_solver.specs.GoingBack.{restored, at_depth}
 use Rattle.goal_solver.specs.HiddenTypes.{EntersHidden, NormalizesArg, behind_all, NormalizesAll, NormalizesArgs, RefusesArg, RefusesArgs, bounds_in}
 use Rattle.goal_solver.specs.OpenGoals.{WhenAnswered}
-use Rattle.goal_solver.specs.OpenRuns.{clauses_with, AddsGoals, AddsBounds}
+use Rattle.goal_solver.specs.OpenRuns.{clauses_with, AddsGoals, AddsBounds, hidden_as}
 use Rattle.goal_solver.specs.Promises.{RunsHidden}
 use Rattle.goal_solver.specs.State.{State}
 use Rattle.goal_solver.proofs.BelowLemmas.{said-below}
@@ -61,7 +61,7 @@ normalized-refused env xs i x s z u o l at h k = record {
 
 -- the bounds are added under the arguments and the hidden type
 pub bounds-added : {T : Type 0} (r : Result T Fault) (env : List Clause) (i : OpaqueId) (ts us : List Tree) (v : Tree) (cs : List Clause) (s z : State) → us ≡ ts ++ v ∷ [] → cs ≡ bounds_in s.tables i →
-    OnOk r (AddsGoals source.AliasWellFormed env (clauses_with us cs) s z) → OnOk r (AddsBounds i ts env v s z)
+    OnOk r (AddsGoals source.AliasWellFormed env (clauses_with us cs) s z) → OnOk r (AddsBounds env (hidden_as i ts v) s z)
 bounds-added r env i ts us v cs s z under rows h =
     on_ok-map r
     (λ added. subst (λ ds. AddsGoals source.AliasWellFormed env (clauses_with (ts ++ v ∷ []) ds) s z) rows

@@ -18,7 +18,7 @@ use Rattle.goal_kinds.specs.declared.faults.Fault.{Fault}
 use Rattle.goal_kinds.specs.declared.faults.Fault.TheVariants as fault
 use Rattle.goal_kinds.specs.declared.rules.Rule.{Rule}
 use Rattle.goal_solver.specs.Answers.{IsOwed, level_over}
-use Rattle.goal_kinds.specs.Collecting.{Kind, CollectsFor, has_kind_fault, rules_of_class}
+use Rattle.goal_kinds.specs.Collecting.{Kind, CollectsFor, has_kind_fault, rules_of_class, goal_in}
 use Rattle.goal_solver.specs.GoingBack.{restored}
 use Rattle.goal_solver.specs.HeadForms.{IsClosedForm, IsFormAnswer, IsFormOpen, IsAnswered, bound_term}
 use Rattle.goal_solver.specs.HiddenTypes.{AsksForm}
@@ -126,12 +126,12 @@ classes-mapped C D env (c ∷ cs) s u r f h =
 
 -- the rules of a class that were collected in a mode
 of-class : {P : Type 0} (K : Kind P) (t : Tables) (h : Goal P) (w : ClassRules) (mode m : TypingMode) (c : TraitGoalProvenVia) (rs : List Rule) →
-    ((x : TraitGoalProvenVia) → CollectsFor K t h mode x (rules_of_class w x)) → AreOfClass mode w m c rs → CollectsFor K t h m c rs
-of-class K t h w mode m c rs collected is = subst (λ xs. CollectsFor K t h m c xs) (sym is.1) (subst (λ x. CollectsFor K t h x c (rules_of_class w c)) (sym is.0) (collected c))
+    ((x : TraitGoalProvenVia) → CollectsFor K (goal_in t h mode) x (rules_of_class w x)) → AreOfClass mode w m c rs → CollectsFor K (goal_in t h m) c rs
+of-class K t h w mode m c rs collected is = subst (λ xs. CollectsFor K (goal_in t h m) c xs) (sym is.1) (subst (λ x. CollectsFor K (goal_in t h x) c (rules_of_class w c)) (sym is.0) (collected c))
 
 -- for the goal that is considered in a goal's place
 pub collects-classes : {P : Type 0} (K : Kind P) (g h : Goal P) (s x z : State) (w : ClassRules) (o : Option (Goal P)) → FormsGoal K.words.self_type K.words.is_with_self (has_kind_fault K.has_fault s.tables) g s z o →
-    o ≡ Some h → x ≡ z → z ≡ restored s z → w.param_env.items ≡ h.param_env.items → ((c : TraitGoalProvenVia) → CollectsFor K x.tables h x.typing_mode c (rules_of_class w c)) →
+    o ≡ Some h → x ≡ z → z ≡ restored s z → w.param_env.items ≡ h.param_env.items → ((c : TraitGoalProvenVia) → CollectsFor K (goal_in x.tables h x.typing_mode) c (rules_of_class w c)) →
     CollectsClasses K g s z w
 collects-classes K g h s x z w o forms is same back env collected =
     let f = subst (λ y. FormsGoal K.words.self_type K.words.is_with_self (has_kind_fault K.has_fault s.tables) g s z y) is forms in
@@ -140,7 +140,7 @@ collects-classes K g h s x z w o forms is same back env collected =
       considers = f.0;
       accepted = f.1;
       environment = env;
-      collected = λ c. subst (λ (y : State). CollectsFor K y.tables h y.typing_mode c (rules_of_class w c)) (same ∙ back) (collected c);
+      collected = λ c. subst (λ (y : State). CollectsFor K (goal_in y.tables h y.typing_mode) c (rules_of_class w c)) (same ∙ back) (collected c);
     }
 
 -- which is one that a check accepts
@@ -162,7 +162,7 @@ by-classes K g s z u r o w considers is back by =
       z,
       f.considers,
       f.accepted,
-      classes-mapped (AreOfClass z.typing_mode w) (CollectsFor K s.tables f.considered) f.considered.param_env.items trait_classes z u r
+      classes-mapped (AreOfClass z.typing_mode w) (λ m. CollectsFor K (goal_in s.tables f.considered m)) f.considered.param_env.items trait_classes z u r
           (λ m c rs h. of-class K s.tables f.considered w s.typing_mode m c rs f.collected (h.0 ∙ mode, h.1))
           (subst (λ es. ByClasses (AreOfClass z.typing_mode w) es trait_classes z r u) f.environment b),
     )))) by

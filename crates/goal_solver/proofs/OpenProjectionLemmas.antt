@@ -8,7 +8,6 @@ use Rattle.goal_terms.specs.declared.answers.Certainty as certainties
 use Rattle.goal_terms.specs.declared.answers.Certainty.TheVariants as certainty
 use Rattle.goal_terms.specs.declared.answers.Response.{Response}
 use Rattle.goal_terms.specs.declared.answers.TraitGoalProvenVia.{TraitGoalProvenVia}
-use Rattle.goal_terms.specs.declared.answers.TraitGoalProvenVia.TheVariants as class
 use Rattle.goal_terms.specs.declared.predicates.Clause.{Clause}
 use Rattle.goal_terms.specs.declared.predicates.Goal.{Goal}
 use Rattle.goal_terms.specs.declared.predicates.NormalizesTo.{NormalizesTo}
@@ -26,7 +25,7 @@ use Rattle.goal_kinds.specs.declared.rules.RuleEntry.{RuleEntry}
 use Rattle.goal_infer.specs.Resolution.{IsSolved}
 use Rattle.goal_solver.specs.Binding.{IsApplicable}
 use Rattle.goal_solver.specs.GoingBack.{GoesBack, restored, at_depth}
-use Rattle.goal_kinds.specs.Collecting.{Kind, CollectsFor, has_kind_fault, CollectsAll, classes_behind}
+use Rattle.goal_kinds.specs.Collecting.{Kind, has_kind_fault, goal_in, CollectsFirst, CollectsLater}
 use Rattle.goal_solver.specs.MergedRules.{MergesRules}
 use Rattle.goal_solver.specs.HiddenTypes.{tree_in}
 use Rattle.goal_solver.specs.OpenAnswers.{AnswersTrait, answers_at, less, MergesProjection, MergesThrough}
@@ -165,7 +164,7 @@ rest-refuses env ls s z r m h = (merged.Refuted, z, m, (h, refl))
 -- the rules of the groups of a goal that is considered are collected
 pub collects-groups : {P : Type 0} (K : Kind P) (c : TraitGoalProvenVia) (g h : Goal P) (s x z : State) (w : GroupRules) (o : Option (Goal P)) →
     FormsGoal K.words.self_type K.words.is_with_self (has_kind_fault K.has_fault s.tables) g s z o → o ≡ Some h → x ≡ z → z ≡ restored s z → w.param_env.items ≡ h.param_env.items →
-    CollectsAll (CollectsFor K x.tables h x.typing_mode) (class.ParamEnv ∷ []) w.environment.items → CollectsAll (CollectsFor K x.tables h x.typing_mode) (classes_behind c) w.later.items →
+    CollectsFirst K (goal_in x.tables h x.typing_mode) w.environment.items → CollectsLater K (goal_in x.tables h x.typing_mode) c w.later.items →
     CollectsGroups K c g s z w
 collects-groups K c g h s x z w o forms is same back env first later =
     let f = subst (λ y. FormsGoal K.words.self_type K.words.is_with_self (has_kind_fault K.has_fault s.tables) g s z y) is forms in
@@ -174,8 +173,8 @@ collects-groups K c g h s x z w o forms is same back env first later =
       considers = f.0;
       accepted = f.1;
       environment = env;
-      first = subst (λ (y : State). CollectsAll (CollectsFor K y.tables h y.typing_mode) (class.ParamEnv ∷ []) w.environment.items) (same ∙ back) first;
-      later = subst (λ (y : State). CollectsAll (CollectsFor K y.tables h y.typing_mode) (classes_behind c) w.later.items) (same ∙ back) later;
+      first = subst (λ (y : State). CollectsFirst K (goal_in y.tables h y.typing_mode) w.environment.items) (same ∙ back) first;
+      later = subst (λ (y : State). CollectsLater K (goal_in y.tables h y.typing_mode) c w.later.items) (same ∙ back) later;
     }
 
 -- by its groups, where rules are collected for it

@@ -24,7 +24,7 @@ use Rattle.goal_kinds.specs.declared.rules.RuleEntry.TheVariants as entry
 use Rattle.goal_kinds.specs.declared.rules.RuleTerm.{RuleTerm}
 use Rattle.goal_solver.specs.AddedGoals.{IsClosedGoal, IsRefutedIn, IsGoalAnswer, count_of, AreSplit}
 use Rattle.goal_solver.specs.Answers.{IsOwed}
-use Rattle.goal_solver.specs.Equating.{IsEquated}
+use Rattle.goal_solver.specs.Equating.{IsEquated, equation}
 use Rattle.goal_solver.specs.GoingBack.{BeginsWith, GoesBack, restored, begun}
 use Rattle.goal_solver.specs.OpenRuns.{OpenProgress, open_start, RunsThrough}
 use Rattle.goal_solver.specs.Refusals.{WhenRefused, RefusesGoal, RefusesListed, RefusesOne, RefusesEqual, RefusesPending, RefusesArguments, RefusesTerm, RefusesHidden, StepRefused, StopsAtEntry, StopsSomewhere, IsRefusedOpen}
@@ -50,10 +50,10 @@ refused-map (Ok x) f h = tt
 refused-map (Err e) f h = λ is. f (h is)
 
 -- a refusal of two lists of terms
-pub equal-refused : (s u : State) (env : List Clause) (ts us : List Tree) (r : Result Certainty Fault) → IsEquated s u env ts us r → OnErr r (u ≡ restored s u) → GoesBack s u →
+pub equal-refused : (s u : State) (env : List Clause) (ts us : List Tree) (r : Result Certainty Fault) → IsEquated s u (equation env ts us) r → OnErr r (u ≡ restored s u) → GoesBack s u →
     WhenRefused r (RefusesEqual env ts us s u)
 equal-refused s u env ts us (Ok c) h e b = tt
-equal-refused s u env ts us (Err f) h e b = λ is. record { equated = subst (λ (g : Fault). IsEquated s u env ts us (Err g)) is h; undone = e; back = b }
+equal-refused s u env ts us (Err f) h e b = λ is. record { equated = subst (λ (g : Fault). IsEquated s u (equation env ts us) (Err g)) is h; undone = e; back = b }
 
 -- what is answered where a run is stopped is no refusal
 pub stopped-never : (P : Type 0) (r : Result Certainty Fault) → (SaysYes r ⊎ Refuses r → ⊥) → WhenRefused r P

@@ -21,7 +21,7 @@ use Rattle.goal_terms.specs.declared.answers.VarKind.{VarKind}
 use Rattle.goal_infer.specs.Replacement.{replaced, number_of, kind_of_variable}
 use Rattle.goal_infer.specs.Resolution.{resolution, resolved, term_at, binding_of, binding_in, Agrees, IsSolved}
 use Rattle.goal_infer.specs.Undo.{unbound_at, unbound}
-use Rattle.goal_infer.specs.Unification.{IsUnified, Clash, RowsClash, are_plain, rows_are_plain, both_definite, is_open}
+use Rattle.goal_infer.specs.Unification.{sides, IsUnified, Clash, RowsClash, are_plain, rows_are_plain, both_definite, is_open}
 use Rattle.goal_infer.proofs.ReplacementLemmas.{replaced-twice, replaced-pointwise}
 use Rattle.goal_infer.specs.declared.undo.InferVariable.{InferVariable}
 use Rattle.goal_infer.specs.declared.unify.Unified.{Unified}
@@ -255,7 +255,7 @@ pub record Unifies (a b : State) (ls rs : List TermId) (u : Unified) : Type 0 wh
   pub solved : IsSolved a.terms b.inference
   pub answer : IsUnified a.terms a.inference b.inference (MakesAllSame a.terms ls rs) u
   pub plain : AreDecidedWherePlain a.terms a.inference ls rs u
-  pub identified : AreIdentified a.terms a.inference b.inference ls rs u
+  pub identified : AreIdentified a.terms a.inference b.inference (sides ls rs) u
   pub clash : AreClashing a.terms a.inference ls rs u
   pub closed : AreUntouched a.terms a.inference b.inference ls rs
 

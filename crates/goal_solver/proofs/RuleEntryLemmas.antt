@@ -24,7 +24,7 @@ use Rattle.goal_terms.specs.declared.answers.OpaqueAccess.{OpaqueAccess}
 use Rattle.goal_terms.specs.declared.predicates.BoundConstness.{BoundConstness}
 use Rattle.goal_terms.specs.declared.predicates.Clause.{Clause}
 use Rattle.goal_terms.specs.declared.predicates.TraitRef.{TraitRef}
-use Rattle.goal_eval.specs.Lists.{named_at, progress_at, RunIn, Leads, RunsOn, run_asking, reached_asking}
+use Rattle.goal_eval.specs.Lists.{named_at, progress_at, RunIn, Leads, RunsOn, run_state, run_asking, reached_asking}
 use Rattle.goal_solver.specs.RunRules.{asked_by, asked_of, IsAskedOnce, asked_as, asked_and, asked_next, to_record, RuleRunsOn}
 use Rattle.goal_eval.specs.declared.eval.lists.progress.ListRun.{ListRun}
 use Rattle.goal_eval.specs.declared.eval.lists.progress.Reached.{Reached}
@@ -38,7 +38,7 @@ use Rattle.goal_eval.proofs.ListRunLemmas.{progress_same-grown, asking-leads, ac
 
 -- an entry whose rows are there, as the engine runs it
 pub found-runs : (t : Tables) (L : Level) (T U V : List Tree) → Keeps T U → (r s : ListRun) → RunIn T r → (e : RuleEntry) (x : InternedEntry) (q : Result Reached Stop) →
-    Some (entry_at U x) ≡ entry_of t e → IfOk q (RunsOn L U r x V s) → IfOk q (RuleRunsOn t L T r e V s)
+    Some (entry_at U x) ≡ entry_of t e → IfOk q (RunsOn L (run_state U r) x (run_state V s)) → IfOk q (RuleRunsOn t L T r e V s)
 found-runs t L T U V k r s i e x (Ok q) is h = λ rest all.
     subst (λ o. Leads L (progress_at T r) (before (names_arguments e) o rest) rest all (progress_at V s) q) is
     (subst (λ p. Leads L p (entry_at U x ∷ rest) rest all (progress_at V s) q) (progress_same-grown T U k r i) (h rest all))

@@ -33,7 +33,7 @@ use Rattle.goal_lists.specs.Words.{Pairs}
 use Rattle.goal_kinds.specs.declared.faults.Fault.{Fault}
 use Rattle.goal_eval.specs.ErasedArgs.{erased_args}
 use Rattle.goal_solver.specs.Answers.{IsOwed, level_over}
-use Rattle.goal_solver.specs.Equating.{IsEquated}
+use Rattle.goal_solver.specs.Equating.{IsEquated, equation}
 use Rattle.goal_solver.specs.Relating.{AgreesWith, Identifies, all_replaced, SaysYes, Refuses}
 use Rattle.goal_solver.specs.State.{State, kinds_of}
 use Rattle.goal_solver.specs.TranslatedArgs.{taken_by, certainty_in, IsTranslatedBy, fresh_for, with_fresh, IsMadeEqual, IsEqualUnder}
@@ -62,12 +62,12 @@ module _ (a b z : State) (env : List Clause) (q : ImplRow) (r : TraitRef) (ls rs
   header-erased : erased_args rs ≡ map (under (fresh_for a q)) (header_of q)
   header-erased = ap (map erased) header-trees ∙ header-instance (fresh_for a q) (trees_of q.trait_args.items)
 
-  pub made-equal : (k : Certainty) (v : Vec GenericArg Global) → v.items ≡ args → IsEquated b z env (trees_of ls) (trees_of rs) (Ok k) → IsMadeEqual a z env q (trees_of r.args.items) [] (Ok (v, k))
+  pub made-equal : (k : Certainty) (v : Vec GenericArg Global) → v.items ≡ args → IsEquated b z (equation env (trees_of ls) (trees_of rs)) (Ok k) → IsMadeEqual a z env q (trees_of r.args.items) [] (Ok (v, k))
   made-equal k v e h = (
     ap trees_of e ∙ fresh ∙ sym (append-nil (fresh_for a q)),
-    subst (λ (s : State). IsEquated s z env (trees_of r.args.items) (map (instance (fresh_for a q)) (trees_of q.trait_args.items)) (Ok k)) made
-        (subst (λ ts. IsEquated b z env (trees_of r.args.items) ts (Ok k)) header-trees
-        (subst (λ (xs : List GenericArg). IsEquated b z env (trees_of xs) (trees_of rs) (Ok k)) left h)),
+    subst (λ (s : State). IsEquated s z (equation env (trees_of r.args.items) (map (instance (fresh_for a q)) (trees_of q.trait_args.items))) (Ok k)) made
+        (subst (λ ts. IsEquated b z (equation env (trees_of r.args.items) ts) (Ok k)) header-trees
+        (subst (λ (xs : List GenericArg). IsEquated b z (equation env (trees_of xs) (trees_of rs)) (Ok k)) left h)),
   )
 
   pub never-made : (x : Result Certainty Fault) → (Refuses x → (ρ : Variable → Tree) → OfKinds ρ → AgreesWith b ρ → Identifies ρ (erased_args ls) (erased_args rs) → ⊥) →

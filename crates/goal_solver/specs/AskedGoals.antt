@@ -1,8 +1,7 @@
 -- Goals of each kind that are answered by their candidates, and how these are merged.
-use Rattle.std.specs.Prelude.{◌≡◌, false, List, [], ◌∷◌, Option, Some, None, Result, Ok, Err}
+use Rattle.std.specs.Prelude.{◌≡◌, false, List, Option, Some, None, Result, Ok, Err}
 use Rattle.goal_terms.specs.declared.answers.Response.{Response}
 use Rattle.goal_terms.specs.declared.answers.TraitGoalProvenVia.{TraitGoalProvenVia}
-use Rattle.goal_terms.specs.declared.answers.TraitGoalProvenVia.TheVariants as class
 use Rattle.goal_terms.specs.declared.modes.TypingMode.{TypingMode}
 use Rattle.goal_terms.specs.declared.predicates.Clause.{Clause}
 use Rattle.goal_terms.specs.declared.predicates.Goal.{Goal}
@@ -12,7 +11,7 @@ use Rattle.goal_terms.specs.declared.terms.Term.{Term}
 use Rattle.goal_tables.specs.declared.rows.Tables.{Tables}
 use Rattle.goal_kinds.specs.declared.faults.Fault.{Fault}
 use Rattle.goal_kinds.specs.declared.assembly.group_rules.GroupRules.{GroupRules}
-use Rattle.goal_kinds.specs.Collecting.{CollectsAll, CollectsFor, Kind, classes_behind, has_kind_fault, rules_of_class, trait_kind}
+use Rattle.goal_kinds.specs.Collecting.{CollectsFor, Kind, has_kind_fault, rules_of_class, trait_kind, goal_in, CollectsFirst, CollectsLater}
 use Rattle.goal_solver.specs.GoingBack.{restored}
 use Rattle.goal_solver.specs.OpenAnswers.{MergesOpened}
 use Rattle.goal_solver.specs.OpenGoals.{AreOfClass, AsksOpenSelf, ByClasses, ByFormedClasses, FormedBy, IsSelfAlias, PassesSelf, TakesSelf, WhenAnswered, trait_classes}
@@ -51,13 +50,13 @@ formed_by (by_terms c p) K g = ByFormedGroups K p c g
 abbrev pub AreGroupsFor : {P : Type 0} → Kind P → Tables → TypingMode → TraitGoalProvenVia → Goal P → GroupRules → Type 0
 AreGroupsFor K t m c h w =
     (w.param_env.items ≡ h.param_env.items)
-    × CollectsAll (CollectsFor K t h m) (class.ParamEnv ∷ []) w.environment.items
-    × CollectsAll (CollectsFor K t h m) (classes_behind c) w.later.items
+    × CollectsFirst K (goal_in t h m) w.environment.items
+    × CollectsLater K (goal_in t h m) c w.later.items
 
 -- some are those that a goal's candidates are merged by
 abbrev pub AreRulesFor : {P : Type 0} → Kind P → Tables → TypingMode → MergedAs → Goal P → FormedRules → Type 0
 AreRulesFor K t m by_classes h (formed.Classes w) =
-    (w.param_env.items ≡ h.param_env.items) × ((c : TraitGoalProvenVia) → CollectsFor K t h m c (rules_of_class w c))
+    (w.param_env.items ≡ h.param_env.items) × ((c : TraitGoalProvenVia) → CollectsFor K (goal_in t h m) c (rules_of_class w c))
 AreRulesFor K t m (by_groups c) h (formed.Groups w) = AreGroupsFor K t m c h w
 AreRulesFor K t m (by_terms c p) h (formed.Projection d q w) = (d ≡ c) × (q.now ≡ p) × AreGroupsFor K t m c h w
 AreRulesFor K t m b h w = ⊥

@@ -1,5 +1,5 @@
 -- What two runs of one goal come to.
-use Rattle.std.specs.Prelude.{◌≡◌, ◌≢◌, ◌≤◌, ℕ, true, List}
+use Rattle.std.specs.Prelude.{◌≡◌, ◌≢◌, ◌≤◌, ℕ, true, List, Result, IfOk}
 use Rattle.goal_terms.specs.Erased.{erased}
 use Rattle.goal_terms.specs.TreeOf.{tree_of_term}
 use Rattle.goal_terms.specs.declared.modes.TypingMode.{TypingMode}
@@ -7,16 +7,16 @@ use Rattle.goal_terms.specs.declared.predicates.Clause.{Clause}
 use Rattle.goal_terms.specs.declared.predicates.Goal.{Goal}
 use Rattle.goal_terms.specs.declared.predicates.Predicate.{Predicate}
 use Rattle.goal_terms.specs.declared.predicates.Predicate.TheVariants as predicate
-use Rattle.goal_tables.specs.Predicates.{lies_in_predicate, some_in_predicate, normalization_of}
 use Rattle.goal_tables.specs.declared.rows.Tables.{Tables}
 use Rattle.goal_lists.specs.Answers.{whether, Answer, yes, yes_with, no, maybe, IsAnswer, decides, setting_of}
 use Rattle.goal_lists.specs.Laws.{HaveSameImpls}
 use Rattle.goal_lists.specs.Level.{Level}
 use Rattle.goal_lists.specs.Levels.{level}
 use Rattle.goal_lists.specs.Settings.{is_headline}
+use Rattle.goal_kinds.specs.declared.faults.Fault.{Fault}
 use Rattle.goal_solver.specs.AddedGoals.{IsClosedGoal}
 use Rattle.goal_solver.specs.Answers.{is_closed_alias, level_over}
-use Rattle.goal_solver.specs.Goals.{IsAcceptedBy, goal_has}
+use Rattle.goal_solver.specs.Goals.{IsAcceptedBy, any_predicate_words, has_in_goal}
 use Rattle.goal_solver.specs.Promises.{trait_asked, trait_question, equation_asked, const_asked, term_asked}
 use Rattle.goal_solver.specs.State.{State}
 use Rattle.goal_solver.specs.declared.comparison.Comparison.{Comparison}
@@ -53,9 +53,17 @@ IsCompared x y comparison.Same = x ≡ y
 IsCompared x y comparison.OneUndecided = decides x ≢ decides y
 IsCompared x y comparison.Different = (decides x ≡ true) × (decides y ≡ true) × (x ≢ y)
 
--- what a goal comes to over two tables: an answer is right over each, and the two are compared
-abbrev pub IsComparison : Tables → Tables → TypingMode → Goal Predicate → ℕ → ℕ → Comparison → Type 0
-IsComparison a b m g n k c = (x y : Answer) × IsAnswerIn a m g n x × IsAnswerIn b m g k y × IsCompared x y c
+-- over which tables a goal is run, and to which depth
+pub record RunOver : Type 0 where
+  pub tables : Tables
+  pub depth : ℕ
+
+abbrev pub over : Tables → ℕ → RunOver
+over t n = record { tables = t; depth = n }
+
+-- what two runs of a goal come to: an answer is right over the tables of each, and the two are compared
+abbrev pub IsComparison : RunOver → RunOver → TypingMode → Goal Predicate → Comparison → Type 0
+IsComparison a b m g c = (x y : Answer) × IsAnswerIn a.tables m g a.depth x × IsAnswerIn b.tables m g b.depth y × IsCompared x y c
 
 -- no inference variable stands in a goal, but for the one that takes an alias's term
 abbrev pub IsClosedQuestion : Predicate → List Clause → Type 0
@@ -67,8 +75,7 @@ IsClosedQuestion predicate.Ambiguous env = IsClosedGoal predicate.Ambiguous env
 
 -- the check accepts a goal, in some context over the tables
 abbrev pub IsAcceptedIn : State → Goal Predicate → Type 0
-IsAcceptedIn s g =
-    IsAcceptedBy (goal_has (λ (p : Predicate) t f. lies_in_predicate t f p) (λ (p : Predicate) test. some_in_predicate test p) normalization_of s.tables s g.predicate g.param_env.items)
+IsAcceptedIn s g = IsAcceptedBy (has_in_goal any_predicate_words s.tables s g)
 
 abbrev pub IsAcceptedOver : Tables → Goal Predicate → Type 0
 IsAcceptedOver t g = (s : State) × (s.tables ≡ t) × IsAcceptedIn s g
@@ -80,9 +87,13 @@ pub record MayRun (t : Tables) (m : TypingMode) (g : Goal Predicate) (n : ℕ) :
   pub accepted : IsAcceptedOver t g
   pub depth : n ≤ 128
 
--- so it may over two
-abbrev pub AreComparable : Tables → Tables → TypingMode → Goal Predicate → ℕ → ℕ → Type 0
-AreComparable a b m g n k = MayRun a m g n × MayRun b m g k
+-- so it may in each of two runs
+abbrev pub AreComparable : RunOver → RunOver → TypingMode → Goal Predicate → Type 0
+AreComparable a b m g = MayRun a.tables m g a.depth × MayRun b.tables m g b.depth
+
+-- what is answered of two such runs is what they come to
+abbrev pub ComparesExactly : RunOver → RunOver → TypingMode → Goal Predicate → Result Comparison Fault → Type 0
+ComparesExactly a b m g r = AreComparable a b m g → IfOk r (IsComparison a b m g)
 
 -- tables that differ in the order of their impls alone
 abbrev pub DifferInOrder : Tables → Tables → Type 0

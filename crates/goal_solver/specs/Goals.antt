@@ -1,12 +1,14 @@
 -- The faults of goals, each with a fact of its own.
 use Rattle.goal_terms.specs.declared.predicates.Goal.{Goal}
-use Rattle.std.specs.Prelude.{◌≡◌, ◌<◌, ℕ, Bool, true, false, ◌||◌, List, [], Option, Some, None}
+use Rattle.std.specs.Prelude.{◌≡◌, ◌<◌, ℕ, Bool, true, false, ◌||◌, List, [], Option, Some, None, if◌then◌else◌}
 use Rattle.goal_terms.specs.declared.heads.Node.{Node}
 use Rattle.goal_terms.specs.declared.predicates.Clause.{Clause}
 use Rattle.goal_terms.specs.NodeTests.{is_unmade}
 use Rattle.goal_terms.specs.declared.predicates.NormalizesTo.{NormalizesTo}
+use Rattle.goal_terms.specs.declared.predicates.Predicate.{Predicate}
 use Rattle.goal_tables.specs.Clauses.{lies_in_equation}
-use Rattle.goal_tables.specs.Predicates.{lies_in_env, some_in_env, some_in_equation}
+use Rattle.goal_tables.specs.Flaws.{is_flawed}
+use Rattle.goal_tables.specs.Predicates.{lies_in_env, lies_in_predicate, normalization_of, some_in_env, some_in_equation, some_in_predicate}
 use Rattle.goal_tables.specs.declared.rows.Tables.{Tables}
 use Rattle.goal_tables.specs.declared.sites.TermFault.{TermFault}
 use Rattle.goal_tables.specs.declared.sites.TermFault.TheVariants as lies
@@ -31,21 +33,54 @@ abbrev pub wants_taken : State → Option NormalizesTo → List Clause → Bool
 wants_taken s None env = false
 wants_taken s (Some q) env = lacks_free_term s q env
 
--- whether a fault applies to a goal in a context, by what its predicate says of faults in it, of nodes in it and of the term that it asks for
-abbrev pub goal_has : {P : Type 0} → (P → Tables → TermFault → Bool) → (P → (Node → Bool) → Bool) → (P → Option NormalizesTo) →
-    Tables → State → P → List Clause → GoalFault → Bool
-goal_has faulty passing asked t s p env UnknownItem = faulty p t lies.UnknownItem || lies_in_env t lies.UnknownItem env
-goal_has faulty passing asked t s p env WrongArgumentCount = faulty p t lies.WrongArgumentCount || lies_in_env t lies.WrongArgumentCount env
-goal_has faulty passing asked t s p env WrongArgumentKind = faulty p t lies.WrongArgumentKind || lies_in_env t lies.WrongArgumentKind env
-goal_has faulty passing asked t s p env UnknownVariable = passing p (is_unmade (kinds_of s)) || some_in_env (is_unmade (kinds_of s)) env
-goal_has faulty passing asked t s p env ExpectedTermNotFree = wants_taken s (asked p) env
-goal_has faulty passing asked t s p env NeverConst = faulty p t lies.NeverConst || lies_in_env t lies.NeverConst env
-goal_has faulty passing asked t s p env GoalsPending = has_goals s
+-- what the type of a goal's predicate says of it: of faults in it, of nodes in it, and of the term that it asks for
+pub record PredicateWords (P : Type 0) : Type 0 where
+  pub has_fault : P → Tables → TermFault → Bool
+  pub has_passing : P → (Node → Bool) → Bool
+  pub normalization : P → Option NormalizesTo
+
+-- these words, of the members that a type of predicates has
+abbrev pub words_of : {P : Type 0} → (P → Tables → TermFault → Bool) → (P → (Node → Bool) → Bool) → (P → Option NormalizesTo) → PredicateWords P
+words_of faulty passing asked = record { has_fault = faulty; has_passing = passing; normalization = asked }
+
+-- those of goals of an alias's term
+abbrev pub alias_term_words : PredicateWords NormalizesTo
+alias_term_words = words_of (λ p t f. lies_in_equation t [] f p.alias p.term) (λ p test. some_in_equation test p.alias p.term) (λ p. Some p)
+
+-- those of goals of any predicate
+abbrev pub any_predicate_words : PredicateWords Predicate
+any_predicate_words = words_of (λ p t f. lies_in_predicate t f p) (λ p test. some_in_predicate test p) normalization_of
+
+-- whether a fault of terms lies in a goal's predicate or in its environment
+abbrev pub fault_lies_in : {P : Type 0} → PredicateWords P → Tables → P → List Clause → TermFault → Bool
+fault_lies_in W t p env f = W.has_fault p t f || lies_in_env t f env
+
+-- whether something in a goal passes a test
+abbrev pub some_passes_in : {P : Type 0} → PredicateWords P → (Node → Bool) → P → List Clause → Bool
+some_passes_in W test p env = W.has_passing p test || some_in_env test env
+
+-- whether a fault applies to a goal in a context
+abbrev pub goal_has : {P : Type 0} → PredicateWords P → Tables → State → P → List Clause → GoalFault → Bool
+goal_has W t s p env UnknownItem = fault_lies_in W t p env lies.UnknownItem
+goal_has W t s p env WrongArgumentCount = fault_lies_in W t p env lies.WrongArgumentCount
+goal_has W t s p env WrongArgumentKind = fault_lies_in W t p env lies.WrongArgumentKind
+goal_has W t s p env UnknownVariable = some_passes_in W (is_unmade (kinds_of s)) p env
+goal_has W t s p env ExpectedTermNotFree = wants_taken s (W.normalization p) env
+goal_has W t s p env NeverConst = fault_lies_in W t p env lies.NeverConst
+goal_has W t s p env GoalsPending = has_goals s
 
 -- so it is asked of a goal with its environment
-abbrev pub has_in_goal : {P : Type 0} → (P → Tables → TermFault → Bool) → (P → (Node → Bool) → Bool) → (P → Option NormalizesTo) →
-    Tables → State → Goal P → GoalFault → Bool
-has_in_goal faulty passing asked t s g = goal_has faulty passing asked t s g.predicate g.param_env.items
+abbrev pub has_in_goal : {P : Type 0} → PredicateWords P → Tables → State → Goal P → GoalFault → Bool
+has_in_goal W t s g = goal_has W t s g.predicate g.param_env.items
+
+-- whether one of the first four faults applies
+abbrev pub is_flawed_goal : {P : Type 0} → PredicateWords P → Tables → State → Goal P → Bool
+is_flawed_goal W t s g =
+    is_flawed (fault_lies_in W t g.predicate g.param_env.items) (some_passes_in W (is_unmade (kinds_of s)) g.predicate g.param_env.items)
+
+-- the first of the first four faults, by which faults of terms lie in a goal, where one of the four applies
+abbrev pub flaw_of : (TermFault → Bool) → GoalFault
+flaw_of lies_in = if lies_in lies.UnknownItem then UnknownItem else (if lies_in lies.WrongArgumentCount then WrongArgumentCount else (if lies_in lies.WrongArgumentKind then WrongArgumentKind else UnknownVariable))
 
 -- no fault applies
 abbrev pub IsAcceptedBy : (GoalFault → Bool) → Type 0
@@ -57,5 +92,4 @@ IsSmallestOf has f = (has f ≡ true) × ((g : GoalFault) → number_of g < numb
 
 -- a goal of an alias's term is one that the check accepts
 abbrev pub IsAcceptedNormalization : State → NormalizesTo → List Clause → Type 0
-IsAcceptedNormalization s q env =
-    IsAcceptedBy (goal_has (λ (p : NormalizesTo) t f. lies_in_equation t [] f p.alias p.term) (λ (p : NormalizesTo) test. some_in_equation test p.alias p.term) (λ (p : NormalizesTo). Some p) s.tables s q env)
+IsAcceptedNormalization s q env = IsAcceptedBy (goal_has alias_term_words s.tables s q env)

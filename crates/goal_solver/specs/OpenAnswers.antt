@@ -1,5 +1,5 @@
 -- How goals with inference variables are answered where a self type is an alias with some: the goal of its term is answered in the same way, at one less of the depth.
-use Rattle.std.specs.Prelude.{◌≡◌, ℕ, zero, suc, List, Option, Result}
+use Rattle.std.specs.Prelude.{◌≡◌, true, ℕ, zero, suc, List, Option, Result}
 use Rattle.goal_terms.specs.declared.answers.Response.{Response}
 use Rattle.goal_terms.specs.declared.answers.TraitGoalProvenVia.{TraitGoalProvenVia}
 use Rattle.goal_terms.specs.declared.modes.TypingMode.{TypingMode}
@@ -8,13 +8,15 @@ use Rattle.goal_terms.specs.declared.predicates.Goal.{Goal}
 use Rattle.goal_terms.specs.declared.predicates.NormalizesTo.{NormalizesTo}
 use Rattle.goal_terms.specs.declared.predicates.TraitPredicate.{TraitPredicate}
 use Rattle.goal_terms.specs.declared.terms.AliasTerm.{AliasTerm}
+use Rattle.goal_terms.specs.declared.terms.Term.{Term}
 use Rattle.goal_terms.specs.declared.terms.Ty.{Ty}
 use Rattle.goal_kinds.specs.declared.faults.Fault.{Fault}
 use Rattle.goal_eval.specs.ErasedArgs.{erased_args}
 use Rattle.goal_solver.specs.Answers.{IsOwed, level_over, AreClosed, IsTraitAnswer, IsOpen, IsMaybe}
 use Rattle.goal_kinds.specs.Collecting.{Kind}
 use Rattle.goal_solver.specs.GoingBack.{restored, at_depth}
-use Rattle.goal_solver.specs.OpenForms.{Answering, with_taking}
+use Rattle.goal_solver.specs.HeadForms.{bound_term, is_open_form}
+use Rattle.goal_solver.specs.OpenForms.{Answering, OpensForm, with_taking}
 use Rattle.goal_solver.specs.OpenGoals.{AsksOpenSelf, FormedBy, InTrialWith, MergesGoalWith, MergesOpenedWith, MergesTraitWith, WhenAnswered}
 use Rattle.goal_solver.specs.OpenProjections.{MergesProjectionWith, MergesThroughWith}
 use Rattle.goal_solver.specs.State.{State}
@@ -43,6 +45,10 @@ answers_at n = answers_by (merges_at n)
 -- the goal of the term of an alias with inference variables, which a fresh variable takes, is answered as `compute_normalizes_to_goal` does it
 abbrev pub answers_term : Answering
 answers_term g s r u = answers_at s.remaining_depth g s r u
+
+-- the head form of a term that is an alias with inference variables, or that is asked for in an environment with one: the goal of the alias's term is answered so
+abbrev pub OpensTerm : List Clause → Term → State → Result (Option Term) Fault → State → Type 0
+OpensTerm env e s r z = is_open_form (bound_term s e) env ≡ true → OpensForm answers_term env (bound_term s e) s r z
 
 -- the goal of a projection's term is answered, and so is one through a class
 abbrev pub MergesProjection : Goal NormalizesTo → State → Result Response Fault → State → Type 0

@@ -20,7 +20,7 @@ use Rattle.goal_kinds.specs.declared.faults.Fault.{Fault}
 use Rattle.goal_kinds.specs.declared.faults.Fault.TheVariants as fault
 use Rattle.goal_solver.specs.Binding.{Applies}
 use Rattle.goal_solver.specs.GoingBack.{restored}
-use Rattle.goal_solver.specs.HeadForms.{bound_term, is_open_form}
+use Rattle.goal_solver.specs.HeadForms.{bound_term}
 use Rattle.goal_solver.specs.State.{State, kinds_of}
 use Rattle.goal_solver.specs.TranslatedArgs.{IsSameEnvironment}
 use Rattle.goal_solver.specs.Variables.{with_variables}
@@ -96,10 +96,6 @@ OpensFrom Answers env t s (Err f) z = Unit {0}
 -- so it is in a context that may have more terms and records
 abbrev pub OpensForm : Answering → List Clause → Tree → State → Result (Option Term) Fault → State → Type 0
 OpensForm Answers env t s r z = (b : State) × (b ≡ restored s b) × OpensFrom Answers env t b r z
-
--- so it is for a term, if it is such an alias
-abbrev pub OpensTerm : Answering → List Clause → Term → State → Result (Option Term) Fault → State → Type 0
-OpensTerm Answers env e s r z = is_open_form (bound_term s e) env ≡ true → OpensForm Answers env (bound_term s e) s r z
 
 -- whether there is a head form
 abbrev pub gives_form : Result (Option Term) Fault → Bool

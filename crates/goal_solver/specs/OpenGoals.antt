@@ -21,7 +21,7 @@ use Rattle.goal_tables.specs.declared.rows.Tables.{Tables}
 use Rattle.goal_kinds.specs.declared.faults.Fault.{Fault}
 use Rattle.goal_kinds.specs.declared.faults.Fault.TheVariants as fault
 use Rattle.goal_kinds.specs.declared.rules.Rule.{Rule}
-use Rattle.goal_kinds.specs.Collecting.{has_kind_fault, rules_of_class, Kind, trait_kind, CollectsFor}
+use Rattle.goal_kinds.specs.Collecting.{has_kind_fault, rules_of_class, Kind, trait_kind, CollectsFor, goal_in}
 use Rattle.goal_solver.specs.Answers.{IsMaybe}
 use Rattle.goal_solver.specs.Binding.{Applies, bound_term}
 use Rattle.goal_solver.specs.GoingBack.{begun, restored}
@@ -126,7 +126,7 @@ pub record CollectsClasses {P : Type 0} (K : Kind P) (g : Goal P) (s z : State) 
   pub considers : Considers K.words.self_type K.words.is_with_self g considered s z
   pub accepted : has_kind_fault K.has_fault s.tables considered ≡ false
   pub environment : w.param_env.items ≡ considered.param_env.items
-  pub collected : (c : TraitGoalProvenVia) → CollectsFor K s.tables considered s.typing_mode c (rules_of_class w c)
+  pub collected : (c : TraitGoalProvenVia) → CollectsFor K (goal_in s.tables considered s.typing_mode) c (rules_of_class w c)
 
 -- there are none where no goal is considered
 abbrev pub ConsidersRules : {P : Type 0} → Kind P → Goal P → State → Option ClassRules → State → Type 0
@@ -168,7 +168,7 @@ pub record ClassesForSelf {P : Type 0} (K : Kind P) (t : Tables) (m : TypingMode
   pub takes : TakesSelf K.words.is_with_self g considered a
   pub accepted : has_kind_fault K.has_fault t considered ≡ false
   pub environment : w.param_env.items ≡ considered.param_env.items
-  pub collected : (c : TraitGoalProvenVia) → CollectsFor K t considered m c (rules_of_class w c)
+  pub collected : (c : TraitGoalProvenVia) → CollectsFor K (goal_in t considered m) c (rules_of_class w c)
 
 -- beside what came before it in a trial a response is applied, and all that came is listed
 pub record IsBeside (s : State) (q r : Response) (u : State) : Type 0 where
@@ -234,7 +234,7 @@ MergesGoalWith {P} Answers K g s r u =
     × (z : State)
     × Considers K.words.self_type K.words.is_with_self g h s z
     × (has_kind_fault K.has_fault s.tables h ≡ false)
-    × ByClasses (CollectsFor K s.tables h) h.param_env.items trait_classes z r u)
+    × ByClasses (λ m. CollectsFor K (goal_in s.tables h m)) h.param_env.items trait_classes z r u)
     ⊎ ((z : State) × (z ≡ restored s z) × MergesOpenedWith Answers K.words.self_type (ByFormedClasses K g) g z r u)
 
 -- so a trait goal is

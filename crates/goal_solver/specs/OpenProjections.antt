@@ -37,7 +37,7 @@ use Rattle.goal_kinds.specs.declared.rules.RuleEntry.TheVariants as entry
 use Rattle.goal_kinds.specs.KindWords.{alias_words}
 use Rattle.goal_kinds.specs.declared.rules.RuleTerm.TheVariants as given
 use Rattle.goal_eval.specs.ErasedArgs.{erased_args}
-use Rattle.goal_kinds.specs.Collecting.{CollectsAll, classes_behind, Kind, kind_of, CollectsFor, has_kind_fault}
+use Rattle.goal_kinds.specs.Collecting.{Kind, kind_of, has_kind_fault, goal_in, CollectsFirst, CollectsLater}
 use Rattle.goal_solver.specs.Answers.{IsOwed, level_over, AreClosed, IsTraitAnswer, IsOpen, IsMaybe}
 use Rattle.goal_solver.specs.GoingBack.{restored, at_depth}
 use Rattle.goal_solver.specs.MergedRules.{MergesRules}
@@ -182,8 +182,8 @@ pub record CollectsGroups {P : Type 0} (K : Kind P) (c : TraitGoalProvenVia) (g 
   pub considers : Considers K.words.self_type K.words.is_with_self g considered s z
   pub accepted : has_kind_fault K.has_fault s.tables considered ≡ false
   pub environment : w.param_env.items ≡ considered.param_env.items
-  pub first : CollectsAll (CollectsFor K s.tables considered s.typing_mode) (class.ParamEnv ∷ []) w.environment.items
-  pub later : CollectsAll (CollectsFor K s.tables considered s.typing_mode) (classes_behind c) w.later.items
+  pub first : CollectsFirst K (goal_in s.tables considered s.typing_mode) w.environment.items
+  pub later : CollectsLater K (goal_in s.tables considered s.typing_mode) c w.later.items
 
 -- there are none where no goal is considered
 abbrev pub ConsidersGroups : {P : Type 0} → Kind P → TraitGoalProvenVia → Goal P → State → Option GroupRules → State → Type 0
@@ -196,8 +196,8 @@ pub record GroupsForSelf {P : Type 0} (K : Kind P) (t : Tables) (m : TypingMode)
   pub takes : TakesSelf K.words.is_with_self g considered a
   pub accepted : has_kind_fault K.has_fault t considered ≡ false
   pub environment : w.param_env.items ≡ considered.param_env.items
-  pub first : CollectsAll (CollectsFor K t considered m) (class.ParamEnv ∷ []) w.environment.items
-  pub later : CollectsAll (CollectsFor K t considered m) (classes_behind c) w.later.items
+  pub first : CollectsFirst K (goal_in t considered m) w.environment.items
+  pub later : CollectsLater K (goal_in t considered m) c w.later.items
 
 -- by its groups, for what is answered for the head form of its self type; a refused form refuses, and without candidates there is no answer
 abbrev pub ByFormedGroups : {P : Type 0} → Kind P → NormalizesTo → TraitGoalProvenVia → Goal P → Result (Option Term) Fault → State → Result (Option Response) Fault → State → Type 0

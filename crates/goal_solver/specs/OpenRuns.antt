@@ -51,7 +51,7 @@ use Rattle.goal_solver.specs.Added.{has_goals, with_goals, RecordsAccess, Record
 use Rattle.goal_solver.specs.AddedGoals.{IsAnswerable, IsGoalAnswer, AllPendingTake, ArePendingAnswerable, ArePendingClosed, ArePendingUndecided, IsPendingAnswer, ChangesTaken}
 use Rattle.goal_solver.specs.Answers.{IsOwed}
 use Rattle.goal_solver.specs.Binding.{AddsNormalization, StandsForAlias, StandsForNoAlias}
-use Rattle.goal_solver.specs.Equating.{IsEquated}
+use Rattle.goal_solver.specs.Equating.{IsEquated, equation}
 use Rattle.goal_solver.specs.GoingBack.{GoesBack, restored, begun, at_depth}
 use Rattle.goal_solver.specs.HiddenTypes.{NormalizesArgs, EntersHidden, bounds_in, checked_in}
 use Rattle.goal_solver.specs.OpenForms.{is_sure}
@@ -96,7 +96,7 @@ after_naming p ts c = record { named = p.named ++ ts ∷ []; certainty = both_ce
 
 -- two lists of terms are made equal, as `eq_args` does it
 pub record Equates (env : List Clause) (ts us : List Tree) (old new : State) (c : Certainty) : Type 0 where
-  pub equated : IsEquated old new env ts us (Ok c)
+  pub equated : IsEquated old new (equation env ts us) (Ok c)
   pub alone : ChangesRecords old new
   pub back : GoesBack old new
 
@@ -306,15 +306,24 @@ abbrev pub MeetsHidden : List Clause → Tree → FirstUse → OpaqueTypeKey →
 MeetsHidden env v f k (Some earlier) s c u = Equates env (v ∷ []) (tree_of_ty earlier ∷ []) s u c
 MeetsHidden env v f k None s c u = TakesFirst env v f (checked_in s.tables k.def_id) (trees_of k.args.items) s c u
 
--- the bounds of an opaque type are added as goals, with a type in its place
-abbrev pub AddsBounds : OpaqueId → List Tree → List Clause → Tree → State → State → Type 0
-AddsBounds i ts env v old new = AddsGoals source.AliasWellFormed env (clauses_with (ts ++ v ∷ []) (bounds_in old.tables i)) old new
+-- an opaque type under arguments, and its hidden type
+pub record HiddenType : Type 0 where
+  pub opaque : OpaqueId
+  pub args : List Tree
+  pub hidden : Tree
+
+abbrev pub hidden_as : OpaqueId → List Tree → Tree → HiddenType
+hidden_as i ts v = record { opaque = i; args = ts; hidden = v }
+
+-- the bounds of an opaque type are added as goals, with the hidden type in its place
+abbrev pub AddsBounds : List Clause → HiddenType → State → State → Type 0
+AddsBounds env h old new = AddsGoals source.AliasWellFormed env (clauses_with (h.args ++ h.hidden ∷ []) (bounds_in old.tables h.opaque)) old new
 
 -- an expected type is the hidden type of an opaque type under its normalized arguments: it is entered and made equal to what else is known of it, and the bounds are added
 abbrev pub DefinesUnder : List Clause → Tree → OpaqueTypeKey → FirstUse → Option (List Tree) → State → Certainty → State → Type 0
 DefinesUnder env v k f None s c u = StaysUndecided s c u
 DefinesUnder env v k f (Some ts) s c u =
-    (earlier : Option Ty) × (y : State) × (z : State) × EntersHidden k.def_id ts v s y earlier × MeetsHidden env v f k earlier y c z × AddsBounds k.def_id ts env v z u
+    (earlier : Option Ty) × (y : State) × (z : State) × EntersHidden k.def_id ts v s y earlier × MeetsHidden env v f k earlier y c z × AddsBounds env (hidden_as k.def_id ts v) z u
 
 -- its arguments are normalized first; where one is undecided nothing is entered, and a constant is no hidden type
 abbrev pub Defines : List Clause → Term → OpaqueTypeKey → FirstUse → State → Certainty → State → Type 0

@@ -31,7 +31,7 @@ use Rattle.goal_kinds.specs.declared.rules.RuleTerm.{RuleTerm}
 use Rattle.goal_kinds.specs.declared.rules.RuleTerm.TheVariants as term
 use Rattle.goal_solver.specs.AddedGoals.{IsClosedGoal, IsRefutedIn, IsPending, count_of}
 use Rattle.goal_solver.specs.Answers.{IsOwed}
-use Rattle.goal_solver.specs.Equating.{IsEquated}
+use Rattle.goal_solver.specs.Equating.{IsEquated, equation}
 use Rattle.goal_solver.specs.GoingBack.{GoesBack, restored, begun, at_depth}
 use Rattle.goal_solver.specs.HiddenTypes.{NormalizesArgs, RefusesArgs, EntersHidden, checked_in}
 use Rattle.goal_solver.specs.OpenHeaders.{IsFollowed, StopsOpening}
@@ -46,7 +46,7 @@ WhenRefused r P = IfErr r (λ f. f ≡ fault.NoSolution → P)
 
 -- two lists of terms are refused to be equal, as `eq_args` does it: all that it says of a refusal is so, and nothing is bound
 pub record RefusesEqual (env : List Clause) (ts us : List Tree) (old new : State) : Type 0 where
-  pub equated : IsEquated old new env ts us (Err fault.NoSolution)
+  pub equated : IsEquated old new (equation env ts us) (Err fault.NoSolution)
   pub undone : new ≡ restored old new
   pub back : GoesBack old new
 

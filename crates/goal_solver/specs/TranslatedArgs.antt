@@ -39,7 +39,7 @@ use Rattle.goal_kinds.specs.declared.faults.Fault.TheVariants as fault
 use Rattle.goal_solver.specs.Added.{with_goals}
 use Rattle.goal_eval.specs.ErasedArgs.{erased_args}
 use Rattle.goal_solver.specs.Answers.{IsOwed, IsOwedBeyond, level_over}
-use Rattle.goal_solver.specs.Equating.{IsEquated}
+use Rattle.goal_solver.specs.Equating.{IsEquated, equation}
 use Rattle.goal_solver.specs.Relating.{AgreesWith, Identifies, SaysYes, Refuses, LeavesOpen, all_bound, all_replaced}
 use Rattle.goal_solver.specs.State.{State, kinds_of}
 use Rattle.goal_eval.specs.declared.eval.outcomes.HeaderMatch.{HeaderMatch}
@@ -56,6 +56,10 @@ taken_by s i (container.Impl j) = if j.0 == i.0 then from_impl else from_other (
 -- the arguments of a goal's alias that come after its trait's
 abbrev pub own_after : TraitRef → Goal NormalizesTo → List Tree
 own_after r g = drop (length r.args.items) (trees_of g.predicate.alias.args.items)
+
+-- the arguments of an impl in place of the trait's
+abbrev pub rebased : List GenericArg → TraitRef → Goal NormalizesTo → List Tree
+rebased args r g = trees_of args ++ own_after r g
 
 -- the arguments of a trait reference with the bindings of a context followed, lifetimes aside
 abbrev pub bound_ref : State → TraitRef → List Tree
@@ -75,9 +79,13 @@ abbrev pub AnswersJust : List Tree → Certainty → Result (Vec GenericArg Glob
 AnswersJust ts c (Ok r) = (trees_of r.0.items ≡ ts) × (r.1 ≡ c)
 AnswersJust ts c (Err f) = f ≡ fault.OutOfMemory
 
--- so they are, and nothing changes
-abbrev pub Takes : State → State → List Tree → Certainty → Result (Vec GenericArg Global × Certainty) Fault → Type 0
-Takes old new ts c r = AnswersJust ts c r × (new ≡ old)
+-- just these are answered with `Yes`, and nothing changes
+abbrev pub Takes : State → State → List Tree → Result (Vec GenericArg Global × Certainty) Fault → Type 0
+Takes old new ts r = AnswersJust ts certainty.Yes r × (new ≡ old)
+
+-- just the item's own are answered, with `Maybe`, and nothing changes
+abbrev pub TakesOwn : State → State → TraitRef → Goal NormalizesTo → Result (Vec GenericArg Global × Certainty) Fault → Type 0
+TakesOwn old new r g answer = AnswersJust (own_after r g) certainty.Maybe answer × (new ≡ old)
 
 -- the arguments of a goal's alias
 abbrev pub args_asked : Goal NormalizesTo → List Tree
@@ -130,7 +138,7 @@ BindsNothing old new q own args = (new.inference ≡ old.inference) ⊎ IsFresh 
 abbrev pub IsMadeEqual : State → State → List Clause → ImplRow → List Tree → List Tree → Result (Vec GenericArg Global × Certainty) Fault → Type 0
 IsMadeEqual old new env q ts own (Ok r) =
     (trees_of r.0.items ≡ fresh_for old q ++ own)
-    × IsEquated (with_fresh q old) new env ts (map (instance (fresh_for old q)) (trees_of q.trait_args.items)) (Ok r.1)
+    × IsEquated (with_fresh q old) new (equation env ts (map (instance (fresh_for old q)) (trees_of q.trait_args.items))) (Ok r.1)
 IsMadeEqual old new env q ts own (Err f) = Unit {0}
 
 -- a predicate asks this
@@ -275,6 +283,6 @@ pub record Translates (old new : State) (o : OtherAsked) (r : Result (Vec Generi
   pub variables : (IsClosedFor old o → ⊥) → MakesEqual old new o r
   pub added : IfOk r (λ x. IsAdded old new o.row o.environment o.own (trees_of x.0.items))
 
--- the arguments are those of another impl that has a row
-abbrev pub TranslatesOther : State → State → Taken → TraitRef → Goal NormalizesTo → Result (Vec GenericArg Global × Certainty) Fault → Type 0
-TranslatesOther old new taken r g answer = (q : ImplRow) → taken ≡ from_other (Some q) → Translates old new (asked_of r g q) answer
+-- this is said of the other impl whose arguments are taken, if it has a row
+abbrev pub IfOther : Taken → (ImplRow → Type 0) → Type 0
+IfOther taken P = (q : ImplRow) → taken ≡ from_other (Some q) → P q

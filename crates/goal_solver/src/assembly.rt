@@ -2,7 +2,7 @@
 ghost use Rattle.std.specs.Prelude.{◌≡◌, suc, length, Some, None, IfOk, IsOkUnless};
 ghost use Rattle.goal_lists.specs.Answers.{maybe};
 ghost use Rattle.goal_solver.specs.Answers.{IsQuiet, IsQuietAside, IsFaultOf};
-ghost use Rattle.goal_solver.specs.Assembling.{AnswersAsTrait, MergesAsTrait, AnswersAsHost, MergesAsHost, AnswersAsAlias, MergesAsAlias};
+ghost use Rattle.goal_solver.specs.Assembling.{AnswersAsTrait, MergesAsTrait, AnswersAsHost, MergesAsHost, AnswersAsAlias, MergesAsAlias, MergesGiven, AppliesAssembled, goal_via, step};
 ghost use Rattle.goal_solver.specs.Binding.{IsApplicable};
 ghost use Rattle.goal_kinds.specs.Collecting.{kind_of};
 ghost use Rattle.goal_solver.specs.GoingBack.{GoesBack, restored};
@@ -10,7 +10,7 @@ ghost use Rattle.goal_solver.specs.HostGoals.{AnswersHostGiven, host_with};
 ghost use Rattle.goal_solver.specs.OpenAnswers.{MergesGoal};
 ghost use Rattle.goal_solver.specs.OpenGoals.{WhenAnswered};
 ghost use Rattle.goal_solver.specs.OpenHostGoals.{MergesConst};
-ghost use Rattle.goal_solver.specs.Promises.{AnswersGiven, AnswersTraitAbove, AppliesGiven, IsClosedGoal, IsUndecidedResponse, asked_through, given_through};
+ghost use Rattle.goal_solver.specs.Promises.{AnswersGiven, AnswersTraitAbove, AppliesGiven, IsClosedGoal, IsUndecidedResponse, given_through};
 ghost use Rattle.goal_solver.specs.State.{kinds_of};
 
 pub(crate) mod asked_goals;
@@ -50,13 +50,13 @@ impl EvalCtxt<'_> {
         proven_via: Option<TraitGoalProvenVia>,
         goal: &Goal<G>,
     ) -> Result<Response, Fault>
-        ensures trait_goals { AnswersAsTrait G.words G.has_passing goal.now self.old self.new result }
-        ensures merged { MergesAsTrait (kind_of G.words G.has_fault) G.has_passing goal.now self.old self.new result }
-        ensures host_effects { AnswersAsHost G.words G.has_passing proven_via goal.now self.old self.new result }
-        ensures merged_host { MergesAsHost (kind_of G.words G.has_fault) G.has_passing proven_via goal.now self.old self.new result }
-        ensures given { AnswersAsAlias G.words (asked_through G.words.merging proven_via (G.normalization goal.now.predicate)) goal.now self.old self.new result }
-        ensures merged_through { MergesAsAlias (kind_of G.words G.has_fault) (asked_through G.words.merging proven_via (G.normalization goal.now.predicate)) goal.now self.old self.new result }
-        ensures applies { AppliesGiven self.old self.new goal.now.param_env.items (asked_through G.words.merging proven_via (G.normalization goal.now.predicate)) result }
+        ensures trait_goals { AnswersAsTrait G.words G.has_passing goal.now (step self.old self.new result) }
+        ensures merged { MergesAsTrait (kind_of G.words G.has_fault) G.has_passing goal.now (step self.old self.new result) }
+        ensures host_effects { AnswersAsHost G.words G.has_passing (goal_via goal.now proven_via) (step self.old self.new result) }
+        ensures merged_host { MergesAsHost (kind_of G.words G.has_fault) G.has_passing (goal_via goal.now proven_via) (step self.old self.new result) }
+        ensures given { AnswersAsAlias G.words G.normalization (goal_via goal.now proven_via) (step self.old self.new result) }
+        ensures merged_through { MergesAsAlias (kind_of G.words G.has_fault) G.normalization (goal_via goal.now proven_via) (step self.old self.new result) }
+        ensures applies { AppliesAssembled G.words G.normalization (goal_via goal.now proven_via) (step self.old self.new result) }
         ensures unchanged { self.new ≡ restored self.old self.new }
         ensures goes_back { GoesBack self.old self.new }
         ensures fault { IsFaultOf self.old self.new result }
@@ -132,7 +132,7 @@ impl EvalCtxt<'_> {
         goal: &Goal<G>,
     ) -> Result<Response, Fault>
         ensures given { AnswersGiven self.old self.new goal.now.param_env.items (given_through (Some class) (G.normalization goal.now.predicate)) result }
-        ensures merged_through { MergesAsAlias (kind_of G.words G.has_fault) (given_through (Some class) (G.normalization goal.now.predicate)) goal.now self.old self.new result }
+        ensures merged_through { MergesGiven (kind_of G.words G.has_fault) (given_through (Some class) (G.normalization goal.now.predicate)) goal.now (step self.old self.new result) }
         ensures applies { AppliesGiven self.old self.new goal.now.param_env.items (given_through (Some class) (G.normalization goal.now.predicate)) result }
         ensures unchanged { self.new ≡ restored self.old self.new }
         ensures goes_back { GoesBack self.old self.new }

@@ -6,7 +6,7 @@ ghost use Rattle.goal_tables.specs.Predicates.{normalization_of};
 ghost use Rattle.goal_lists.specs.Answers.{decides, yes_with};
 ghost use Rattle.goal_lists.specs.Interned.{erased_at};
 ghost use Rattle.goal_lists.specs.Settings.{is_headline};
-ghost use Rattle.goal_solver.specs.Comparisons.{AreComparable, DifferInOrder, IsAcceptedOver, IsAnswerHere, IsAnswerIn, IsCompared, IsComparison, MayRun, answer_of, WhereAsked};
+ghost use Rattle.goal_solver.specs.Comparisons.{AreComparable, ComparesExactly, DifferInOrder, IsAcceptedOver, IsAnswerHere, IsAnswerIn, IsCompared, MayRun, answer_of, over, WhereAsked};
 
 use crate::context::{EvalCtxt, GREATEST_LIMIT};
 use crate::faults::Fault;
@@ -56,8 +56,8 @@ pub fn compare_runs(
     limit_a: u32,
     limit_b: u32,
 ) -> Result<Comparison, Fault>
-    ensures exact { AreComparable a.now b.now mode.now goal.now limit_a limit_b → IfOk result (IsComparison a.now b.now mode.now goal.now limit_a limit_b) }
-    ensures order { AreComparable a.now b.now mode.now goal.now limit_a limit_b → DifferInOrder a.now b.now → result ≢ Ok Comparison.Different }
+    ensures exact { ComparesExactly (over a.now limit_a) (over b.now limit_b) mode.now goal.now result }
+    ensures order { AreComparable (over a.now limit_a) (over b.now limit_b) mode.now goal.now → DifferInOrder a.now b.now → result ≢ Ok Comparison.Different }
     ensures only_memory { is_headline mode.now ≡ true → IsOkUnless result Fault.OutOfMemory }
 {
     let one = run(a, mode, goal, limit_a)?;

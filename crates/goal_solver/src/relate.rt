@@ -1,10 +1,9 @@
 //! Equating terms in a context.
-ghost use Rattle.std.specs.Prelude.{◌≡◌, ◌∷◌, [], map, OnErr};
-ghost use Rattle.goal_terms.specs.TableMeaning.{tree_at};
+ghost use Rattle.std.specs.Prelude.{◌≡◌, ◌∷◌, [], OnErr};
 ghost use Rattle.goal_terms.specs.TreeOf.{tree_of_term, trees_of};
 ghost use Rattle.goal_lists.specs.Interned.{AreIn};
 ghost use Rattle.goal_solver.specs.Accesses.{RecordsCausedFaults};
-ghost use Rattle.goal_solver.specs.Equating.{IsEquated, certainty_of};
+ghost use Rattle.goal_solver.specs.Equating.{IsEquated, equation, equation_at, certainty_of};
 ghost use Rattle.goal_solver.specs.GoingBack.{GoesBack, restored};
 ghost use Rattle.goal_solver.specs.Relating.{ChangesRecords};
 ghost use Rattle.goal_solver.specs.Relating.{IsFaultFor};
@@ -44,7 +43,7 @@ impl EvalCtxt<'_> {
         left: &Term,
         right: &Term,
     ) -> Result<Certainty, Fault>
-        ensures equated { IsEquated self.old self.new environment.now (tree_of_term left.now ∷ []) (tree_of_term right.now ∷ []) result }
+        ensures equated { IsEquated self.old self.new (equation environment.now (tree_of_term left.now ∷ []) (tree_of_term right.now ∷ [])) result }
         ensures alone { ChangesRecords self.old self.new }
         ensures unchanged { OnErr result (self.new ≡ restored self.old self.new) }
         ensures faults { RecordsCausedFaults self.old self.new }
@@ -67,7 +66,7 @@ impl EvalCtxt<'_> {
         left: &[GenericArg],
         right: &[GenericArg],
     ) -> Result<Certainty, Fault>
-        ensures equated { IsEquated self.old self.new environment.now (trees_of left.now) (trees_of right.now) result }
+        ensures equated { IsEquated self.old self.new (equation environment.now (trees_of left.now) (trees_of right.now)) result }
         ensures alone { ChangesRecords self.old self.new }
         ensures unchanged { OnErr result (self.new ≡ restored self.old self.new) }
         ensures faults { RecordsCausedFaults self.old self.new }
@@ -94,7 +93,7 @@ impl EvalCtxt<'_> {
     ) -> Result<Certainty, Fault>
         requires first { AreIn self.old.terms left.now }
         requires second { AreIn self.old.terms right.now }
-        ensures equated { IsEquated self.old self.new environment.now (map (tree_at self.old.terms) left.now) (map (tree_at self.old.terms) right.now) result }
+        ensures equated { IsEquated self.old self.new (equation_at self.old.terms environment.now left.now right.now) result }
         ensures alone { ChangesRecords self.old self.new }
         ensures unchanged { OnErr result (self.new ≡ restored self.old self.new) }
         ensures faults { RecordsCausedFaults self.old self.new }

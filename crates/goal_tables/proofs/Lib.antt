@@ -1,4 +1,5 @@
 pub mod FaultLemmas
+pub mod FlawLemmas
 pub mod IndexLemmas
 pub mod KeyLemmas
 pub mod KindLemmas

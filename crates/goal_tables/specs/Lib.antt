@@ -1,6 +1,7 @@
 pub mod Clauses
 pub mod Faults
 pub mod FixedParams
+pub mod Flaws
 pub mod ImplFaults
 pub mod ImplsByHead
 pub mod Indexed

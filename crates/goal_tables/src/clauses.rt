@@ -16,7 +16,7 @@ use goal_terms::view::{Parts, TermRef};
 
 /// Whether an alias and a term are of different kinds, where that is the fault that is looked for.
 #[tactic(auto, unfolding(crate::specs::Clauses::kinds_differ))]
-fn kinds_differ(fault: TermFault, alias: &AliasTerm, term: &Term) -> bool
+pub(crate) fn kinds_differ(fault: TermFault, alias: &AliasTerm, term: &Term) -> bool
     ensures { result ≡ kinds_differ fault alias.now term.now }
 {
     match fault {
@@ -42,7 +42,7 @@ impl IndexedTables {
 
     /// Whether a trait has no row, or is given other arguments than its parameters.
     #[tactic(auto, unfolding(crate::specs::Clauses::own_fault))]
-    fn own_fault(&self, fault: TermFault, id: TraitId, args: &[GenericArg]) -> bool
+    pub(crate) fn own_fault(&self, fault: TermFault, id: TraitId, args: &[GenericArg]) -> bool
         ensures { result ≡ own_fault self.now fault id args.now }
     {
         match fault {

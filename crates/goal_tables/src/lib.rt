@@ -5,6 +5,7 @@ pub mod checked;
 pub mod clauses;
 pub mod faults;
 pub mod fixed_params;
+pub mod flaws;
 pub mod impl_faults;
 pub mod impl_lists;
 pub mod impls_by_head;

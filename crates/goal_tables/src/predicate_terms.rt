@@ -1,8 +1,10 @@
 //! The terms of predicates and of environments, as the checks of goals go over them.
 ghost use Rattle.std.specs.Prelude.{◌≡◌, [], Bool, Option, option_copied};
 ghost use Rattle.goal_terms.specs.NodeTests.{passes};
+ghost use Rattle.goal_tables.specs.Flaws.{is_flawed as flawed};
 ghost use Rattle.goal_terms.specs.declared.heads.Node.{Node as node};
 ghost use Rattle.goal_terms.specs.declared.predicates.NormalizesTo.{NormalizesTo as normalizes};
+ghost use Rattle.goal_tables.specs.Clauses.{lies_in_clause_kind};
 ghost use Rattle.goal_tables.specs.Predicates.{lies_in_env as in_env, some_in_args as some_args, some_in_equation as some_equation, some_in_clause_kind as some_clause_kind, some_in_env as some_env};
 ghost use Rattle.goal_tables.specs.declared.rows.Tables.{Tables as tables};
 ghost use Rattle.goal_tables.specs.declared.sites.TermFault.{TermFault as term_fault};
@@ -37,6 +39,15 @@ pub trait PredicateTerms {
     fn some_passes(&self, test: NodeTest<'_>) -> bool
         ensures { result ≡ has_passing self.now (passes test.entry) };
 
+    /// Whether an id, a number of arguments or a kind is wrong in the predicate, or something in it passes a test. Its
+    /// terms are walked once.
+    fn is_flawed(&self, rows: &IndexedTables, test: NodeTest<'_>) -> bool
+        ensures { result ≡ flawed (has_fault self.now rows.now) (has_passing self.now (passes test.entry)) };
+
+    /// Whether the predicate says something const of a trait that doesn't allow it. No term is walked.
+    fn is_never_const(&self, rows: &IndexedTables) -> bool
+        ensures { result ≡ has_fault self.now rows.now TermFault.NeverConst };
+
     /// The goal of an alias's term, if the predicate is one.
     fn normalizes_to(&self) -> Option<&NormalizesTo>
         ensures { option_copied result ≡ normalization self.now };
@@ -59,6 +70,16 @@ impl PredicateTerms for TraitPredicate {
 
     fn some_passes(&self, test: NodeTest<'_>) -> bool {
         some_in_args(test, &self.trait_ref.args)
+    }
+
+    #[tactic(auto, unfolding(crate::specs::Flaws::flaw_lies_in_trait_ref))]
+    fn is_flawed(&self, rows: &IndexedTables, test: NodeTest<'_>) -> bool {
+        rows.flaw_lies_in_trait_ref(test, &self.trait_ref)
+    }
+
+    #[tactic(auto, using(crate::proofs::FlawLemmas::telling))]
+    fn is_never_const(&self, rows: &IndexedTables) -> bool {
+        false
     }
 
     fn normalizes_to(&self) -> Option<&NormalizesTo> {
@@ -85,6 +106,15 @@ impl PredicateTerms for HostEffectPredicate {
         some_in_args(test, &self.trait_ref.args)
     }
 
+    fn is_flawed(&self, rows: &IndexedTables, test: NodeTest<'_>) -> bool {
+        rows.flaw_lies_in_trait_ref(test, &self.trait_ref)
+    }
+
+    #[tactic(auto, using(crate::proofs::FlawLemmas::telling))]
+    fn is_never_const(&self, rows: &IndexedTables) -> bool {
+        rows.denies_const(self.trait_ref.def_id)
+    }
+
     fn normalizes_to(&self) -> Option<&NormalizesTo> {
         None
     }
@@ -109,6 +139,16 @@ impl PredicateTerms for ProjectionPredicate {
         some_in_equation(test, &self.projection_term, &self.term)
     }
 
+    #[tactic(auto, unfolding(crate::specs::Flaws::flaw_lies_in_equation))]
+    fn is_flawed(&self, rows: &IndexedTables, test: NodeTest<'_>) -> bool {
+        rows.flaw_lies_in_equation(test, &self.projection_term, &self.term)
+    }
+
+    #[tactic(auto, using(crate::proofs::FlawLemmas::telling))]
+    fn is_never_const(&self, rows: &IndexedTables) -> bool {
+        false
+    }
+
     fn normalizes_to(&self) -> Option<&NormalizesTo> {
         None
     }
@@ -131,6 +171,16 @@ impl PredicateTerms for NormalizesTo {
 
     fn some_passes(&self, test: NodeTest<'_>) -> bool {
         some_in_equation(test, &self.alias, &self.term)
+    }
+
+    #[tactic(auto, unfolding(crate::specs::Flaws::flaw_lies_in_equation))]
+    fn is_flawed(&self, rows: &IndexedTables, test: NodeTest<'_>) -> bool {
+        rows.flaw_lies_in_equation(test, &self.alias, &self.term)
+    }
+
+    #[tactic(auto, using(crate::proofs::FlawLemmas::telling))]
+    fn is_never_const(&self, rows: &IndexedTables) -> bool {
+        false
     }
 
     fn normalizes_to(&self) -> Option<&NormalizesTo> {
@@ -169,6 +219,26 @@ impl PredicateTerms for Predicate {
         }
     }
 
+    fn is_flawed(&self, rows: &IndexedTables, test: NodeTest<'_>) -> bool {
+        match self {
+            Predicate::Trait(predicate) => predicate.is_flawed(rows, test),
+            Predicate::Projection(predicate) => predicate.is_flawed(rows, test),
+            Predicate::HostEffect(predicate) => predicate.is_flawed(rows, test),
+            Predicate::NormalizesTo(predicate) => predicate.is_flawed(rows, test),
+            Predicate::Ambiguous => false,
+        }
+    }
+
+    fn is_never_const(&self, rows: &IndexedTables) -> bool {
+        match self {
+            Predicate::Trait(predicate) => predicate.is_never_const(rows),
+            Predicate::Projection(predicate) => predicate.is_never_const(rows),
+            Predicate::HostEffect(predicate) => predicate.is_never_const(rows),
+            Predicate::NormalizesTo(predicate) => predicate.is_never_const(rows),
+            Predicate::Ambiguous => false,
+        }
+    }
+
     fn normalizes_to(&self) -> Option<&NormalizesTo> {
         match self {
             Predicate::NormalizesTo(predicate) => Some(predicate),
@@ -185,6 +255,25 @@ pub fn lies_in_env(rows: &IndexedTables, fault: TermFault, env: &[Clause]) -> bo
     ensures { result ≡ in_env rows.now fault env.now }
 {
     rows.lies_in_clauses(Params::of(&[]), fault, env)
+}
+
+/// Whether a clause says something const of a trait that doesn't allow it.
+#[tactic(auto, unfolding(crate::specs::Clauses::lies_in_clause_kind))]
+fn is_never_const(rows: &IndexedTables, kind: &ClauseKind) -> bool
+    ensures { result ≡ lies_in_clause_kind rows.now [] TermFault.NeverConst kind.now }
+{
+    match kind {
+        ClauseKind::Trait(predicate) => predicate.is_never_const(rows),
+        ClauseKind::Projection(predicate) => predicate.is_never_const(rows),
+        ClauseKind::HostEffect(predicate) => predicate.is_never_const(rows),
+    }
+}
+
+/// Whether an environment says something const of a trait that doesn't allow it. No term is walked.
+pub fn some_never_const(rows: &IndexedTables, env: &[Clause]) -> bool
+    ensures { result ≡ in_env rows.now TermFault.NeverConst env.now }
+{
+    env.iter().any(|clause| is_never_const(rows, &clause.kind))
 }
 
 fn some_in_args(test: NodeTest<'_>, args: &[GenericArg]) -> bool

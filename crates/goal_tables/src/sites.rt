@@ -103,7 +103,7 @@ impl IndexedTables {
 
     /// Whether a node names what no row has.
     #[tactic(auto, unfolding(crate::specs::Sites::is_unknown))]
-    fn is_unknown(&self, node: Node) -> bool
+    pub(crate) fn is_unknown(&self, node: Node) -> bool
         ensures { result ≡ is_unknown self.now node }
     {
         match node {
@@ -161,7 +161,7 @@ impl IndexedTables {
 
     /// Whether an alias stands at a wrong place, or is of another kind than its item.
     #[tactic(auto, unfolding(crate::specs::Sites::is_misplaced))]
-    fn is_misplaced(&self, node: Node) -> bool
+    pub(crate) fn is_misplaced(&self, node: Node) -> bool
         ensures { result ≡ is_misplaced self.now node }
     {
         match node {

@@ -1,5 +1,5 @@
 -- The variable that an accepted goal expects its term for may be given a type without inference variables.
-use Rattle.std.proofs.Common.{◌≡◌, ℕ, Bool, true, false, ◌||◌, not, List, [], Option, Some, None, refl, sym, ap, ◌∙◌, subst}
+use Rattle.std.proofs.Common.{◌≡◌, ℕ, Bool, true, false, ◌||◌, not, List, Option, Some, None, refl, sym, ap, ◌∙◌, subst}
 use Rattle.std.specs.Prelude.{IsTrue, is_some, ◌&&◌}
 use Rattle.goal_terms.specs.Closed.{is_closed}
 use Rattle.goal_terms.specs.Erased.{erased}
@@ -15,7 +15,6 @@ use Rattle.goal_terms.specs.declared.predicates.Clause.{Clause}
 use Rattle.goal_terms.specs.declared.predicates.NormalizesTo.{NormalizesTo}
 use Rattle.goal_terms.specs.declared.terms.AliasTerm.{AliasTerm}
 use Rattle.goal_terms.specs.declared.terms.InferTy.TheVariants as infer
-use Rattle.goal_tables.specs.Clauses.{lies_in_equation}
 use Rattle.goal_tables.specs.Predicates.{some_in_env, some_in_equation}
 use Rattle.goal_tables.specs.declared.rows.Tables.{Tables}
 use Rattle.goal_infer.specs.Occurrence.{place_of, place_in_row, joined, within_alias}
@@ -26,7 +25,7 @@ use Rattle.goal_infer.specs.declared.occurs.Occurrence.TheVariants.{Nowhere}
 use Rattle.goal_infer.proofs.DecisionLemmas.{either-false}
 use Rattle.goal_solver.specs.Binding.{IsFreeFor, OfVariable, bound_term}
 use Rattle.goal_solver.specs.FreeVariables.{general_variable, reaches, is_bound, stands_in_storage, is_taken, lacks_free_variable}
-use Rattle.goal_solver.specs.Goals.{goal_has, IsAcceptedBy}
+use Rattle.goal_solver.specs.Goals.{alias_term_words, goal_has, IsAcceptedBy}
 use Rattle.goal_solver.specs.State.{State, kinds_of}
 use Rattle.goal_solver.specs.declared.eval.goals.GoalFault.TheVariants.{UnknownVariable, ExpectedTermNotFree}
 use Rattle.goal_solver.proofs.FoundAnswers.{sort-erased}
@@ -34,8 +33,7 @@ use Rattle.goal_solver.proofs.SettledLemmas.{closed-erased, replaced-closed}
 
 -- a goal of an alias's term is one that the check accepts
 abbrev pub IsAccepted : Tables → State → NormalizesTo → List Clause → Type 0
-IsAccepted t s q env =
-    IsAcceptedBy (goal_has (λ (p : NormalizesTo) x f. lies_in_equation x [] f p.alias p.term) (λ (p : NormalizesTo) test. some_in_equation test p.alias p.term) (λ (p : NormalizesTo). Some p) t s q env)
+IsAccepted t s q env = IsAcceptedBy (goal_has alias_term_words t s q env)
 
 -- the expected term is a variable for any type, which isn't taken
 record IsWanted (s : State) (a : AliasTerm) (env : List Clause) (t : Tree) : Type 0 where

@@ -1215,7 +1215,7 @@ assembly::candidates::consider_candidate-returns-clause-says t c m s =
 pub assembly::specialized::impl_outcome-returns-clause-says : goal.assembly::specialized::impl_outcome-returns-clause-says
 assembly::specialized::impl_outcome-returns-clause-says t c m s =
     impl-says (setting_in c.args.setting.now m) (level_in c.args.setting.now m c.args.depth) c.run_list.new.terms (erased_all c.args.terms.now c.args.args.now) c.args.row.now
-    c.in_ok-found.found c.held.result c.held.ensures
+    c.in_ok-found.found c.shows.result c.shows.ensures
     (c.in_ok-found.ensures.says m s (trait_list (setting_in c.args.setting.now m) c.args.row.now.trait_id (erased_all c.args.terms.now c.args.args.now) (by_impl c.args.row.now)) (c.in_ok-list.ensures.list m s))
 
 pub assembly::specialized::more_special_outcome-returns-in-Impl-clause-says : goal.assembly::specialized::more_special_outcome-returns-in-Impl-clause-says

@@ -1,17 +1,17 @@
 //! Impls that are more special than another: whether this is passed over, or decides where it holds.
-ghost use Rattle.std.specs.Prelude.{IfErr, IfOk};
+ghost use Rattle.std.specs.Prelude.{◌≡◌, IfErr, IfOk};
 ghost use Rattle.goal_terms.specs.TableMeaning.{Keeps};
 ghost use Rattle.goal_lists.specs.Causes.{IsCausedList};
 ghost use Rattle.goal_lists.specs.Candidates.{by_impl};
 ghost use Rattle.goal_lists.specs.Interned.{AreIn, erased_all, candidate_at};
 ghost use Rattle.goal_lists.specs.InternedEntries.{ListIn};
-ghost use Rattle.goal_eval.specs.Lists.{GoesBy};
+ghost use Rattle.goal_eval.specs.Lists.{GoesBy, list_held};
 ghost use Rattle.goal_eval.specs.Outcomes.{ForEachMode, ForEachSetting};
 ghost use Rattle.goal_eval.specs.SpecialImpls.{IsOfRows, IsOwnRow, SaysMoreSpecial, SaysImpl, list_of_impl};
 ghost use Rattle.goal_eval.specs.Effects.{AreSound, IsStop};
 
 use crate::eval::effects::Effects;
-use crate::eval::lists::run_list;
+use crate::eval::lists::{ListOutcome, run_list};
 use crate::eval::outcomes::{Setting, Stop};
 use goal_lists::candidates::interned::InternedCandidate;
 use goal_lists::lists::InternedEntry;
@@ -101,7 +101,14 @@ fn impl_outcome(
 {
     let list = impl_list(&*setting, terms, args, &*row)?;
     let found = run_list(setting, terms, effects, &list, depth)?;
-    Ok(found.held())
+    Ok(shows(found))
+}
+
+/// Whether an impl holds, by what its list comes to. That it may be passed over itself is not asked.
+fn shows(list: ListOutcome) -> Outcome
+    ensures { result ≡ list_held list }
+{
+    list.held()
 }
 
 /// The list of an impl for arguments of its trait, or none where its rule is refused. Want of memory or of

@@ -2,7 +2,7 @@
 ghost use Rattle.std.specs.Prelude.{IfErr, ◌≢◌, IfOk};
 ghost use Rattle.goal_terms.specs.TableMeaning.{Keeps};
 ghost use Rattle.goal_lists.specs.Interned.{AreIn, erased_all};
-ghost use Rattle.goal_eval.specs.AskedTraits.{AskedIn, SaysGroups};
+ghost use Rattle.goal_eval.specs.AskedTraits.{AskedIn, SaysGroups, asked_via};
 ghost use Rattle.goal_eval.specs.Outcomes.{ForEachMode, SaysConst};
 ghost use Rattle.goal_eval.specs.Effects.{AreSound, IsStop};
 
@@ -131,7 +131,7 @@ pub fn groups_outcome(
     ensures effects { AreSound setting.now terms.new effects.new }
     ensures kept { Keeps terms.old terms.new }
     ensures stops { IfErr result (IsStop setting.now) }
-    ensures says { ForEachMode setting.now depth (λ S L. IfOk result (SaysGroups S L terms.old asked.now class)) }
+    ensures says { ForEachMode setting.now depth (λ S L. IfOk result (SaysGroups S L terms.old (asked_via asked.now class))) }
 {
     let environment = TraitGoalProvenVia::ParamEnv;
     let first = class_outcome(setting, terms, effects, asked, environment, depth)?;

@@ -73,7 +73,7 @@ impl<A: Copy> Answered<A> {
 
     /// What a goal comes to at a depth, if that is known.
     pub fn get(&self, goal: TermId, depth: u32, undecided: A) -> Option<A>
-        ensures { IfSome result (λ o. IsKeptAt self.now.entries goal.0 depth undecided o) }
+        ensures { IfSome result (λ o. IsKeptAt (get ◌==◌ self.now.entries goal.0) depth undecided o) }
     {
         match self.entries.get(&goal.0) {
             Some(entry) => entry.at(depth, undecided),
@@ -155,7 +155,7 @@ impl EvaluationCache {
         goal: TermId,
         depth: u32,
     ) -> Option<Outcome>
-        ensures { IfSome result (λ o. IsKeptAt (consts_of self.now constness).entries goal.0 depth outcomes.Undecided o) }
+        ensures { IfSome result (λ o. IsKeptAt (get ◌==◌ (consts_of self.now constness).entries goal.0) depth outcomes.Undecided o) }
     {
         match constness {
             BoundConstness::Const => self.consts.get(goal, depth, Outcome::Undecided),

@@ -1,5 +1,6 @@
 //! What an evaluation does with lifetimes; its other effects stay as they are.
-ghost use Rattle.std.specs.Prelude.{◌<◌, IfOk, IfSome, length};
+ghost use Rattle.std.specs.Prelude.{◌<◌, ◌==◌, IfOk, IfSome, length};
+ghost use Rattle.indexmap.specs.IndexMap.{get};
 ghost use Rattle.goal_terms.specs.TableMeaning.{AreBelow};
 ghost use Rattle.goal_eval.specs.CacheEntries.{IsKeptAt};
 ghost use Rattle.goal_eval.specs.Effects.{KeepsButRegions};
@@ -145,7 +146,7 @@ impl Effects {
         goal: TermId,
         depth: u32,
     ) -> Result<Option<TraitOutcome>, OutOfMemory>
-        ensures known { IfOk result (λ o. IfSome o (λ x. IsKeptAt self.old.cache.traits.entries goal.0 depth trait_outcomes.Undecided x)) }
+        ensures known { IfOk result (λ o. IfSome o (λ x. IsKeptAt (get ◌==◌ self.old.cache.traits.entries goal.0) depth trait_outcomes.Undecided x)) }
         ensures aside { KeepsButRegions self.old self.new }
     {
         let undecided = TraitOutcome::Undecided;
@@ -165,7 +166,7 @@ impl Effects {
         goal: TermId,
         depth: u32,
     ) -> Result<Option<Outcome>, OutOfMemory>
-        ensures known { IfOk result (λ o. IfSome o (λ x. IsKeptAt (consts_of self.old.cache constness).entries goal.0 depth outcomes.Undecided x)) }
+        ensures known { IfOk result (λ o. IfSome o (λ x. IsKeptAt (get ◌==◌ (consts_of self.old.cache constness).entries goal.0) depth outcomes.Undecided x)) }
         ensures aside { KeepsButRegions self.old self.new }
     {
         let Some(known) = self.cache.const_outcome(constness, goal, depth) else {
@@ -183,7 +184,7 @@ impl Effects {
         alias: TermId,
         depth: u32,
     ) -> Result<Option<Found>, OutOfMemory>
-        ensures known { IfOk result (λ o. IfSome o (λ x. IsKeptAt self.old.cache.aliases.entries alias.0 depth founds.Undecided x)) }
+        ensures known { IfOk result (λ o. IfSome o (λ x. IsKeptAt (get ◌==◌ self.old.cache.aliases.entries alias.0) depth founds.Undecided x)) }
         ensures aside { KeepsButRegions self.old self.new }
     {
         let Some(known) = self.cache.aliases.get(alias, depth, Found::Undecided) else {

@@ -7,7 +7,7 @@ ghost use Rattle.goal_lists.specs.Interned.{IsIn, AreIn, CandidateIn, erased_all
 ghost use Rattle.goal_eval.specs.Outcomes.{Says, FoundIn, ProjectionIn, ForEachMode};
 ghost use Rattle.goal_eval.specs.ProjectionParts.{HaveHeadForms, SomeUnformed};
 ghost use Rattle.goal_eval.specs.SpecialImpls.{IsOfRows, if_decided};
-ghost use Rattle.goal_eval.specs.ProjectionTerms.{SaysBothGroups, SaysGroup, SaysItem, SaysLaterGroup, SaysOwnFormed, SaysProjection, SaysProven, SaysReplaced, second_at};
+ghost use Rattle.goal_eval.specs.ProjectionTerms.{SaysBothGroups, SaysGroup, SaysItem, SaysLaterGroup, SaysOwnFormed, SaysProjection, SaysProven, SaysReplaced, given_at, second_at};
 ghost use Rattle.goal_eval.specs.Effects.{AreSound, IsStop};
 
 use crate::assembly::merging::merge_terms;
@@ -154,7 +154,7 @@ pub fn term_proven_via(
     ensures kept { Keeps terms.old terms.new }
     ensures within { IfOk result (FoundIn terms.new) }
     ensures stops { IfErr result (IsStop setting.now) }
-    ensures says { ForEachMode setting.now depth (λ S L. IfOk result (SaysProven S L terms.old given.now terms.new)) }
+    ensures says { ForEachMode setting.now depth (λ S L. IfOk result (SaysProven S L (given_at terms.old given.now) terms.new)) }
 {
     let args = given.args;
     if args.is_empty() {

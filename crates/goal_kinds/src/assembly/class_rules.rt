@@ -1,7 +1,7 @@
 //! The rules of a goal's candidates, by their classes.
 ghost use Rattle.std.specs.Prelude.{◌≡◌, false, IfOk, IsOkUnless};
 ghost use Rattle.goal_terms.specs.declared.answers.TraitGoalProvenVia.{TraitGoalProvenVia as of_class};
-ghost use Rattle.goal_kinds.specs.Collecting.{kind_of, CollectsFor};
+ghost use Rattle.goal_kinds.specs.Collecting.{kind_of, goal_in, CollectsFor};
 ghost use Rattle.goal_kinds.specs.Collecting.{has_kind_fault, rules_of_class};
 
 use crate::assembly::collecting::class_rules;
@@ -53,7 +53,7 @@ pub fn rules_by_class<G: GoalKind + Drop>(
     goal: Goal<G>,
 ) -> Result<ClassRules, Fault>
     requires accepted { has_kind_fault G.has_fault tables.now goal ≡ false }
-    ensures collected { IfOk result (λ w. (c : of_class) → CollectsFor (kind_of G.words G.has_fault) tables.now goal mode.now c (rules_of_class w c)) }
+    ensures collected { IfOk result (λ w. (c : of_class) → CollectsFor (kind_of G.words G.has_fault) (goal_in tables.now goal mode.now) c (rules_of_class w c)) }
     ensures environment { IfOk result (λ w. w.param_env.items ≡ goal.param_env.items) }
     ensures only_memory { IsOkUnless result Fault.OutOfMemory }
 {

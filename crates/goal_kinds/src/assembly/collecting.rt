@@ -12,7 +12,7 @@ ghost use Rattle.goal_lists.specs.Fitting.{first_constructor};
 ghost use Rattle.goal_lists.specs.Premises.{predicate_under};
 ghost use Rattle.goal_kinds.specs.KindWords.{words_for, AnswersWhere, HasList};
 ghost use Rattle.goal_kinds.specs.Collecting.{is_later_named, is_any_named, args_and_itself, clauses_of_item, clauses_of_opaque, kind_of};
-ghost use Rattle.goal_kinds.specs.Collecting.{AddsFor, AddsClause, AddsImpl, CollectsClauses, CollectsImpls, CollectsAt, CollectsOthers, CollectsObjects, CollectsDeclared, CollectsAlias, CollectsSelf, CollectsFor, KeepTermsFor};
+ghost use Rattle.goal_kinds.specs.Collecting.{AddsFor, AddsClause, AddsImpl, CollectsClauses, CollectsImpls, CollectsAt, CollectsOthers, CollectsObjects, CollectsDeclared, CollectsAlias, CollectsSelf, goal_in, CollectsFor, KeepTermsFor};
 ghost use Rattle.goal_kinds.specs.Collecting.{has_kind_fault};
 
 use crate::faults::Fault;
@@ -548,7 +548,7 @@ pub fn class_rules<G: GoalKind>(
     class: TraitGoalProvenVia,
 ) -> Result<Vec<Rule>, Fault>
     requires accepted { has_kind_fault G.has_fault tables.now goal.now ≡ false }
-    ensures collected { IfOk result (λ rs. CollectsFor (kind_of G.words G.has_fault) tables.now goal.now mode.now class rs.items) }
+    ensures collected { IfOk result (λ rs. CollectsFor (kind_of G.words G.has_fault) (goal_in tables.now goal.now mode.now) class rs.items) }
     ensures only_memory { IsOkUnless result Fault.OutOfMemory }
 {
     let mut found = Vec::new(*goal.param_env.allocator());

@@ -1,8 +1,8 @@
 //! The rules of a goal's candidates whose plain goal holds through a class, by their groups.
-ghost use Rattle.std.specs.Prelude.{◌≡◌, ◌∷◌, [], false, IfOk, IsOkUnless};
-ghost use Rattle.goal_kinds.specs.Collecting.{kind_of, CollectsFor};
+ghost use Rattle.std.specs.Prelude.{◌≡◌, false, IfOk, IsOkUnless};
+ghost use Rattle.goal_kinds.specs.Collecting.{kind_of, goal_in, CollectsFor};
 ghost use Rattle.goal_kinds.specs.Collecting.{has_kind_fault};
-ghost use Rattle.goal_kinds.specs.Collecting.{CollectsAll, classes_behind};
+ghost use Rattle.goal_kinds.specs.Collecting.{CollectsAll, CollectsFirst, CollectsLater};
 
 use crate::assembly::collecting::{class_rules, push_rules};
 use crate::faults::Fault;
@@ -39,8 +39,8 @@ pub fn rules_by_group<G: GoalKind + Drop>(
     goal: Goal<G>,
 ) -> Result<GroupRules, Fault>
     requires accepted { has_kind_fault G.has_fault tables.now goal ≡ false }
-    ensures first { IfOk result (λ w. CollectsAll (CollectsFor (kind_of G.words G.has_fault) tables.now goal mode.now) (TraitGoalProvenVia.ParamEnv ∷ []) w.environment.items) }
-    ensures later { IfOk result (λ w. CollectsAll (CollectsFor (kind_of G.words G.has_fault) tables.now goal mode.now) (classes_behind class) w.later.items) }
+    ensures first { IfOk result (λ w. CollectsFirst (kind_of G.words G.has_fault) (goal_in tables.now goal mode.now) w.environment.items) }
+    ensures later { IfOk result (λ w. CollectsLater (kind_of G.words G.has_fault) (goal_in tables.now goal mode.now) class w.later.items) }
     ensures environment { IfOk result (λ w. w.param_env.items ≡ goal.param_env.items) }
     ensures only_memory { IsOkUnless result Fault.OutOfMemory }
 {
@@ -61,7 +61,7 @@ fn later_rules<G: GoalKind>(
     goal: &Goal<G>,
 ) -> Result<Vec<Rule>, Fault>
     requires accepted { has_kind_fault G.has_fault tables.now goal.now ≡ false }
-    ensures collected { IfOk result (λ rs. CollectsAll (CollectsFor (kind_of G.words G.has_fault) tables.now goal.now mode.now) (classes_behind class) rs.items) }
+    ensures collected { IfOk result (λ rs. CollectsLater (kind_of G.words G.has_fault) (goal_in tables.now goal.now mode.now) class rs.items) }
     ensures only_memory { IsOkUnless result Fault.OutOfMemory }
 {
     let classes = [TraitGoalProvenVia::AliasBound, TraitGoalProvenVia::Misc];
@@ -91,7 +91,7 @@ fn rules_of<G: GoalKind>(
     classes: &[TraitGoalProvenVia],
 ) -> Result<Vec<Rule>, Fault>
     requires accepted { has_kind_fault G.has_fault tables.now goal.now ≡ false }
-    ensures collected { IfOk result (λ rs. CollectsAll (CollectsFor (kind_of G.words G.has_fault) tables.now goal.now mode.now) classes.now rs.items) }
+    ensures collected { IfOk result (λ rs. CollectsAll (CollectsFor (kind_of G.words G.has_fault) (goal_in tables.now goal.now mode.now)) classes.now rs.items) }
     ensures only_memory { IsOkUnless result Fault.OutOfMemory }
 {
     let mut found = Vec::new(*goal.param_env.allocator());

@@ -16,9 +16,9 @@ ghost use Rattle.goal_lists.specs.Entries.{Entry, ListHolds, ListGives, ListRefu
 ghost use Rattle.goal_lists.specs.ImplTerms.{Projection};
 ghost use Rattle.goal_lists.specs.Levels.{level};
 ghost use Rattle.goal_lists.specs.ListLaws.{TraitListHolds, TraitListRefuted, EffectListHolds, EffectListRefuted, ProjectionListGives, ProjectionListRefuted};
-ghost use Rattle.goal_lists.specs.ListLaws.{AliasListGives, AliasListRefuted, EquationListHolds, EquationListRefuted};
+ghost use Rattle.goal_lists.specs.ListLaws.{AliasListGives, AliasListRefuted, EquationListHolds, EquationListRefuted, ListIsCaused};
 ghost use Rattle.goal_lists.specs.ListLaws.{TraitListStands, EffectListStands, ProjectionListStands, AliasListStands, ProjectionListStandsIn, AliasListStandsIn};
-ghost use Rattle.goal_lists.specs.ListModes.{accesses_in, list_accesses};
+ghost use Rattle.goal_lists.specs.ListModes.{accesses_in};
 ghost use Rattle.goal_lists.specs.ProjectionLists.{projection_list};
 ghost use Rattle.goal_lists.specs.Settings.{Setting};
 ghost use Rattle.goal_lists.specs.TraitLists.{trait_list};
@@ -31,14 +31,14 @@ pub fn trait_lists_say_what_candidates_do()
 
 /// The list of a candidate for a host effect goal holds, and is refuted, where the candidate is.
 pub fn effect_lists_say_what_candidates_do()
-    ensures holds { (S : Setting) (n : ℕ) (b : BoundConstness) (i : TraitId) (ts : List Tree) (c : Candidate) → EffectListHolds S (level S n) b i ts c }
-    ensures refuted { (S : Setting) (n : ℕ) (b : BoundConstness) (i : TraitId) (ts : List Tree) (c : Candidate) → EffectListRefuted S (level S n) b i ts c }
+    ensures holds { (S : Setting) (n : ℕ) (b : BoundConstness) (i : TraitId) (ts : List Tree) → EffectListHolds S (level S n) b i ts }
+    ensures refuted { (S : Setting) (n : ℕ) (b : BoundConstness) (i : TraitId) (ts : List Tree) → EffectListRefuted S (level S n) b i ts }
 {}
 
 /// The list of a candidate for the term of a projection gives the terms that the candidate gives, and is
 /// refuted where it gives none.
 pub fn projection_lists_say_what_candidates_do()
-    ensures gives { (S : Setting) (n : ℕ) (p : Projection) (itself : Tree) (c : Candidate) (t : Tree) → ProjectionListGives S (level S n) p itself c t }
+    ensures gives { (S : Setting) (n : ℕ) (p : Projection) (itself : Tree) (c : Candidate) → ProjectionListGives S (level S n) p itself c }
     ensures refuted { (S : Setting) (n : ℕ) (p : Projection) (itself : Tree) (c : Candidate) → ProjectionListRefuted S (level S n) p itself c }
 {}
 
@@ -59,7 +59,7 @@ pub fn equation_lists_say_what_goals_do()
 /// goals and of host effect goals never record one. One that does is the same up to its first access.
 pub fn erased_lists_stand_for_headline_modes()
     ensures traits { (S : Setting) (m : TypingMode) (i : TraitId) (ts : List Tree) (c : Candidate) → TraitListStands S m i ts c }
-    ensures effects { (S : Setting) (m : TypingMode) (b : BoundConstness) (i : TraitId) (ts : List Tree) (c : Candidate) → EffectListStands S m b i ts c }
+    ensures effects { (S : Setting) (m : TypingMode) (b : BoundConstness) (i : TraitId) (ts : List Tree) → EffectListStands S m b i ts }
     ensures projections { (S : Setting) (m : TypingMode) (p : Projection) (itself : Tree) (c : Candidate) → ProjectionListStands S m p itself c }
     ensures aliases { (S : Setting) (m : TypingMode) (k : AliasTermKind) (ts : List Tree) → AliasListStands S m k ts }
     ensures projections_before { (S : Setting) (m : TypingMode) (p : Projection) (itself : Tree) (c : Candidate) → ProjectionListStandsIn S m p itself c }
@@ -69,9 +69,9 @@ pub fn erased_lists_stand_for_headline_modes()
 /// Each access that a list records has its cause in the tables: a local opaque type, a remote one, or a
 /// source that is a default.
 pub fn accesses_have_causes()
-    ensures traits { (S : Setting) (i : TraitId) (ts : List Tree) (c : Candidate) → All (IsCaused S.tables) (list_accesses (trait_list S i ts c)) }
-    ensures effects { (S : Setting) (b : BoundConstness) (i : TraitId) (ts : List Tree) (c : Candidate) → All (IsCaused S.tables) (list_accesses (effect_list S b i ts c)) }
-    ensures projections { (S : Setting) (p : Projection) (itself : Tree) (c : Candidate) → All (IsCaused S.tables) (list_accesses (projection_list S p itself c)) }
+    ensures traits { (S : Setting) (i : TraitId) (ts : List Tree) (c : Candidate) → ListIsCaused S.tables (trait_list S i ts c) }
+    ensures effects { (S : Setting) (b : BoundConstness) (i : TraitId) (ts : List Tree) (c : Candidate) → ListIsCaused S.tables (effect_list S b i ts c) }
+    ensures projections { (S : Setting) (p : Projection) (itself : Tree) (c : Candidate) → ListIsCaused S.tables (projection_list S p itself c) }
     ensures aliases { (S : Setting) (k : AliasTermKind) (ts : List Tree) → All (IsCaused S.tables) (accesses_in (alias_list S k ts)) }
 {}
 

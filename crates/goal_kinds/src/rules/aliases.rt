@@ -7,13 +7,12 @@ ghost use Rattle.goal_terms.specs.declared.answers.BuiltinImplSource.TheVariants
 ghost use Rattle.goal_terms.specs.declared.answers.CandidateSource.TheVariants.{BuiltinImpl as built_in};
 ghost use Rattle.goal_terms.specs.declared.ids.OpaqueId.{OpaqueId};
 ghost use Rattle.goal_terms.specs.declared.predicates.Clause.{Clause as clause};
-ghost use Rattle.goal_terms.specs.declared.terms.AliasTermKind.TheVariants.{OpaqueTy};
 ghost use Rattle.goal_lists.specs.AliasLists.{alias_list};
 ghost use Rattle.goal_lists.specs.Answers.{setting_of};
 ghost use Rattle.goal_lists.specs.InternedEntries.{EntriesIn, entries_at, setting_at};
 ghost use Rattle.goal_lists.specs.NamedRows.{NamesItsRows, Defines};
 ghost use Rattle.goal_lists.specs.Projections.{projected_item};
-ghost use Rattle.goal_kinds.specs.RuleClauses.{asked_alias_list, MeansAlias, GivesNot, IsCoherence, DefinesAsked};
+ghost use Rattle.goal_kinds.specs.RuleClauses.{asked_alias_list, MeansAlias, GivesNot, IsCoherence, AsksOpaque, DefinesAsked};
 ghost use Rattle.goal_kinds.specs.RuleLists.{IsListed};
 ghost use Rattle.goal_lists.specs.RowWords.{given};
 ghost use Rattle.goal_kinds.specs.RuleModes.{IsRuleIn, accesses_of};
@@ -56,14 +55,14 @@ pub fn alias_rule(
     mode: &TypingMode,
     goal: &Goal<NormalizesTo>,
 ) -> Result<Rule, Fault>
-    ensures list { (env : List clause) → IfOk result (λ rule. IsListed tables.now rule (asked_alias_list goal.now.predicate.alias (setting_of tables.now mode.now env))) }
-    ensures says { (S : Setting) (n : ℕ) → S.tables ≡ tables.now → IfOk result (λ rule. IsRuleIn mode.now rule S.mode → MeansAlias S n goal.now.predicate.alias rule) }
-    ensures records { IfOk result (λ rule. accesses_of rule.entries.items ≡ accesses_for tables.now mode.now goal.now.predicate.alias.kind) }
-    ensures undecided { (S : Setting) (n : ℕ) (i : OpaqueId) (u : Tree) → IsCoherence mode.now → goal.now.predicate.alias.kind ≡ OpaqueTy i → IfOk result (GivesNot S n u) }
-    ensures expected { IfOk result (λ rule. TermsAreFor (λ t. t ≡ tree_of_term goal.now.predicate.term) rule.entries.items) }
+    ensures list { (env : List clause) → IfOk result (λ r. IsListed tables.now r (asked_alias_list goal.now.predicate.alias (setting_of tables.now mode.now env))) }
+    ensures says { (S : Setting) (n : ℕ) → S.tables ≡ tables.now → IfOk result (λ r. IsRuleIn mode.now r S.mode → MeansAlias S n goal.now.predicate.alias r) }
+    ensures records { IfOk result (λ r. accesses_of r.entries.items ≡ accesses_for tables.now mode.now goal.now.predicate.alias.kind) }
+    ensures undecided { (S : Setting) (n : ℕ) (i : OpaqueId) (u : Tree) → IsCoherence mode.now → AsksOpaque goal.now.predicate i → IfOk result (GivesNot S n u) }
+    ensures expected { IfOk result (λ r. TermsAreFor (λ t. t ≡ tree_of_term goal.now.predicate.term) r.entries.items) }
     ensures defines { (f : FirstUse) → first_use_of tables.now mode.now goal.now.predicate.alias.kind ≡ Some f → IfOk result (DefinesAsked goal.now.predicate f) }
-    ensures source { IfOk result (λ rule. rule.source ≡ built_in Misc) }
-    ensures kinds { IfOk result (λ rule. projected_item goal.now.predicate.alias.kind ≡ None) }
+    ensures source { IfOk result (λ r. r.source ≡ built_in Misc) }
+    ensures kinds { IfOk result (λ r. projected_item goal.now.predicate.alias.kind ≡ None) }
     ensures faults { IfErr result (λ f. f ≡ (if is_some (projected_item goal.now.predicate.alias.kind) then Fault.NotForThisKind else Fault.OutOfMemory)) }
 {
     let asked = &goal.predicate;

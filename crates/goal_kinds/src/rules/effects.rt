@@ -8,10 +8,8 @@ ghost use Rattle.goal_kinds.specs.CandidateRules.{only_given, said_by};
 ghost use Rattle.goal_lists.specs.Candidates.{built_in, error};
 ghost use Rattle.goal_kinds.specs.EffectKind.{asked_effect_list, is_implied_for, is_of_effect, may_match_effect, refuses_effect_impl};
 ghost use Rattle.goal_lists.specs.Interned.{CandidateIn, candidate_at};
-ghost use Rattle.goal_lists.specs.InternedEntries.{setting_at};
 ghost use Rattle.goal_lists.specs.NamedRows.{CandidateIsOf};
-ghost use Rattle.goal_kinds.specs.RuleClauses.{IsListedThen, IsImplListedThen, IsRefusedAs, AreImpliedIn, AreForOneMore, bounds_in};
-ghost use Rattle.goal_kinds.specs.RuleLists.{IsListed};
+ghost use Rattle.goal_kinds.specs.RuleClauses.{IsListedAs, IsListedThen, IsImplListedThen, IsRefusedAs, AreImpliedIn, AreForOneMore, bounds_in};
 ghost use Rattle.goal_kinds.specs.RuleWords.{TermsAreFor};
 
 use crate::faults::Fault;
@@ -159,7 +157,7 @@ pub fn const_built_in_rule(
     asked: &HostEffectPredicate,
 ) -> Result<Rule, Fault>
     ensures source { IfOk result (λ r. r.source ≡ CandidateSource.BuiltinImpl BuiltinImplSource.Misc) }
-    ensures listed { (env : List clause) → IfOk result (λ r. IsListed setting.entry.rows.now r (asked_effect_list asked.now (setting_at setting.entry env) built_in)) }
+    ensures listed { IsListedAs setting.entry result (λ S. asked_effect_list asked.now S built_in) }
     ensures refused { IsRefusedAs setting.entry result (λ S. asked_effect_list asked.now S built_in) }
     ensures expected { IfOk result (λ r. TermsAreFor (λ t. ⊥) r.entries.items) }
 {
@@ -182,7 +180,7 @@ pub fn const_error_rule(
     asked: &HostEffectPredicate,
 ) -> Result<Rule, Fault>
     ensures source { IfOk result (λ r. r.source ≡ CandidateSource.BuiltinImpl BuiltinImplSource.Misc) }
-    ensures listed { (env : List clause) → IfOk result (λ r. IsListed setting.entry.rows.now r (asked_effect_list asked.now (setting_at setting.entry env) error)) }
+    ensures listed { IsListedAs setting.entry result (λ S. asked_effect_list asked.now S error) }
     ensures refused { IsRefusedAs setting.entry result (λ S. asked_effect_list asked.now S error) }
     ensures expected { IfOk result (λ r. TermsAreFor (λ t. ⊥) r.entries.items) }
 {

@@ -1,17 +1,16 @@
 //! The rules of candidates for the terms of projections, and of projection goals.
-ghost use Rattle.std.specs.Prelude.{◌≡◌, ◌↔◌, ℕ, suc, List, Err, true, false, IfOk, IsOkUnless};
+ghost use Rattle.std.specs.Prelude.{◌≡◌, ◌↔◌, ℕ, suc, Err, true, false, IfOk, IsOkUnless};
 ghost use Rattle.goal_terms.specs.TreeOf.{tree_of_term};
-ghost use Rattle.goal_terms.specs.declared.predicates.Clause.{Clause as clause};
 ghost use Rattle.goal_tables.specs.declared.rows.Tables.{Tables};
 ghost use Rattle.goal_kinds.specs.CandidateRules.{only_given, said_by};
 ghost use Rattle.goal_lists.specs.Candidates.{built_in};
 ghost use Rattle.goal_lists.specs.Interned.{CandidateIn, candidate_at};
-ghost use Rattle.goal_lists.specs.InternedEntries.{ListIn, setting_at};
+ghost use Rattle.goal_lists.specs.InternedEntries.{ListIn};
 ghost use Rattle.goal_lists.specs.Levels.{level};
 ghost use Rattle.goal_lists.specs.ListWords.{GivesList};
 ghost use Rattle.goal_lists.specs.NamedRows.{CandidateIsOf, CandidateIsSorted, ListNamesItsRows};
 ghost use Rattle.goal_kinds.specs.ProjectionKind.{asked_projection_list, may_match_term};
-ghost use Rattle.goal_kinds.specs.RuleClauses.{IsListedThen, IsImplListedThen, IsRefusedAs, asked_equation_list, EquationHolds, EquationRefuted, refuses_asked_term};
+ghost use Rattle.goal_kinds.specs.RuleClauses.{IsListedAs, IsListedThen, IsImplListedThen, IsRefusedAs, asked_equation_list, EquationHolds, EquationRefuted, refuses_asked_term};
 ghost use Rattle.goal_kinds.specs.RuleLists.{IsListed};
 ghost use Rattle.goal_kinds.specs.Rules.{RuleHolds, RuleRefuted};
 ghost use Rattle.goal_kinds.specs.RuleWords.{TermsAreFor};
@@ -192,7 +191,7 @@ pub fn impl_term_rule(
 /// rule names is refused.
 pub fn built_in_term_rule(setting: ListSetting<'_, '_>, asked: &NormalizesTo) -> Result<Rule, Fault>
     ensures source { IfOk result (λ r. r.source ≡ CandidateSource.BuiltinImpl BuiltinImplSource.Misc) }
-    ensures listed { (env : List clause) → IfOk result (λ r. IsListed setting.entry.rows.now r (asked_projection_list asked.now.alias (setting_at setting.entry env) built_in)) }
+    ensures listed { IsListedAs setting.entry result (λ S. asked_projection_list asked.now.alias S built_in) }
     ensures refused { IsRefusedAs setting.entry result (λ S. asked_projection_list asked.now.alias S built_in) }
     ensures expected { IfOk result (λ r. TermsAreFor (λ t. t ≡ tree_of_term asked.now.term) r.entries.items) }
 {

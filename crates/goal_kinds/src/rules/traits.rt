@@ -1,16 +1,13 @@
 //! The rules of candidates for trait goals.
-ghost use Rattle.std.specs.Prelude.{◌≡◌, List, Err, true, false, IfOk, IsOkUnless};
-ghost use Rattle.goal_terms.specs.declared.predicates.Clause.{Clause as clause};
+ghost use Rattle.std.specs.Prelude.{◌≡◌, Err, true, false, IfOk, IsOkUnless};
 ghost use Rattle.goal_tables.specs.Rows.{impl_of};
 ghost use Rattle.goal_lists.specs.Settings.{is_coherence};
 ghost use Rattle.goal_lists.specs.TraitGoals.{only_bars};
 ghost use Rattle.goal_kinds.specs.CandidateRules.{is_of_trait, may_match, only_given, refuses_impl, said_by};
 ghost use Rattle.goal_lists.specs.Candidates.{built_in, error};
 ghost use Rattle.goal_lists.specs.Interned.{CandidateIn, candidate_at};
-ghost use Rattle.goal_lists.specs.InternedEntries.{setting_at};
 ghost use Rattle.goal_lists.specs.NamedRows.{CandidateIsOf};
-ghost use Rattle.goal_kinds.specs.RuleClauses.{IsListedThen, IsImplListedThen, IsRefusedAs, asked_trait_list};
-ghost use Rattle.goal_kinds.specs.RuleLists.{IsListed};
+ghost use Rattle.goal_kinds.specs.RuleClauses.{IsListedAs, IsListedThen, IsImplListedThen, IsRefusedAs, asked_trait_list};
 ghost use Rattle.goal_kinds.specs.RuleWords.{TermsAreFor};
 ghost use Rattle.goal_lists.specs.RowWords.{given};
 
@@ -150,7 +147,7 @@ pub fn impl_rule(
 /// rule names is refused.
 pub fn built_in_rule(setting: ListSetting<'_, '_>, asked: &TraitRef) -> Result<Rule, Fault>
     ensures source { IfOk result (λ r. r.source ≡ CandidateSource.BuiltinImpl BuiltinImplSource.Misc) }
-    ensures listed { (env : List clause) → IfOk result (λ r. IsListed setting.entry.rows.now r (asked_trait_list asked.now (setting_at setting.entry env) built_in)) }
+    ensures listed { IsListedAs setting.entry result (λ S. asked_trait_list asked.now S built_in) }
     ensures refused { IsRefusedAs setting.entry result (λ S. asked_trait_list asked.now S built_in) }
     ensures expected { IfOk result (λ r. TermsAreFor (λ t. ⊥) r.entries.items) }
 {
@@ -170,7 +167,7 @@ pub fn built_in_rule(setting: ListSetting<'_, '_>, asked: &TraitRef) -> Result<R
 /// The rule of an error in a trait goal: it asks for nothing. A goal without an error is refused.
 pub fn error_rule(setting: ListSetting<'_, '_>, asked: &TraitRef) -> Result<Rule, Fault>
     ensures source { IfOk result (λ r. r.source ≡ CandidateSource.BuiltinImpl BuiltinImplSource.Misc) }
-    ensures listed { (env : List clause) → IfOk result (λ r. IsListed setting.entry.rows.now r (asked_trait_list asked.now (setting_at setting.entry env) error)) }
+    ensures listed { IsListedAs setting.entry result (λ S. asked_trait_list asked.now S error) }
     ensures refused { IsRefusedAs setting.entry result (λ S. asked_trait_list asked.now S error) }
     ensures expected { IfOk result (λ r. TermsAreFor (λ t. ⊥) r.entries.items) }
 {

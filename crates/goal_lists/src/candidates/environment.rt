@@ -5,8 +5,8 @@ ghost use Rattle.goal_terms.specs.Erased.{erased};
 ghost use Rattle.goal_terms.specs.PredicateTrees.{tree_of_kind};
 ghost use Rattle.goal_terms.specs.TableMeaning.{Keeps};
 ghost use Rattle.goal_terms.specs.TreeOf.{trees_of};
-ghost use Rattle.goal_lists.specs.Answers.{erased_predicate, environment_of};
-ghost use Rattle.goal_lists.specs.CandidateWords.{AddsCandidates, near_for};
+ghost use Rattle.goal_lists.specs.Answers.{erased_predicate};
+ghost use Rattle.goal_lists.specs.CandidateWords.{AddsCandidates, near_for, environment_near};
 ghost use Rattle.goal_lists.specs.Candidates.{assumption};
 ghost use Rattle.goal_lists.specs.Interned.{AreIn, PredicateIn, CandidateIn, erased_all, predicate_at};
 
@@ -96,7 +96,7 @@ pub fn push_environment<'t>(
     requires within { All (CandidateIn terms.old) found.old.items }
     ensures kept { Keeps terms.old terms.new }
     ensures within { IfOk result (λ _. All (CandidateIn terms.new) found.new.items) }
-    ensures pushed { IfOk result (λ _. AddsCandidates terms.old terms.new found.old found.new (near_for terms.old sought.now (map assumption (environment_of environment.now)))) }
+    ensures pushed { IfOk result (λ _. AddsCandidates terms.old terms.new found.old found.new (environment_near terms.old sought.now environment.now)) }
 {
     for i in 0..environment.len() {
         push_clause(terms, found, &environment[i].kind, sought)?;

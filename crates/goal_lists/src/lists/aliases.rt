@@ -10,7 +10,7 @@ ghost use Rattle.goal_tables.specs.declared.rows.Tables.{Tables};
 ghost use Rattle.goal_lists.specs.AliasLists.{row_value, entries_of_row, free_list, inherent_list, inherent_alias_list, hidden_list, defined_list, opaque_alias_list, alias_list};
 ghost use Rattle.goal_lists.specs.Interned.{IsIn, AreIn, erased_at, erased_all};
 ghost use Rattle.goal_lists.specs.InternedEntries.{EntryIn, EntriesIn, entry_at, entries_at};
-ghost use Rattle.goal_lists.specs.ListWords.{GivesEntries, ForAliasAt, opaque_entries, GivesOfOpaque};
+ghost use Rattle.goal_lists.specs.ListWords.{GivesEntries, ForAliasAt, opaque_entries, GivesOfOpaque, first_use_in};
 ghost use Rattle.goal_lists.specs.NamedRows.{NamesItsRows, IsDefined, DefinesKind};
 ghost use Rattle.goal_lists.specs.ProjectionLists.{equation_list};
 ghost use Rattle.goal_lists.specs.OpaqueUses.{first_use, first_use_of};
@@ -226,7 +226,7 @@ pub fn alias_list<'t>(
     ensures within { (T : List Tree) → AreIn T args.now → IsIn T rigid_alias → IfOk result (λ es. EntriesIn T es.items) }
     ensures entries { ForAliasAt setting.entry rigid_alias kind args.now (λ T S ts. IfOk result (λ es. entries_at T es.items ≡ alias_list S kind ts)) }
     ensures named { IfOk result (λ es. All (NamesItsRows setting.entry.rows.now) es.items) }
-    ensures defined { (f : FirstUse) → first_use_of setting.entry.rows.now setting.entry.mode.now kind ≡ Some f → IfOk result (λ es. DefinesKind kind args.now f es.items) }
+    ensures defined { (f : FirstUse) → first_use_in setting.entry kind ≡ Some f → IfOk result (λ es. DefinesKind kind args.now f es.items) }
 {
     match kind {
         AliasTermKind::InherentTy(id) => inherent_alias_list(setting, alloc, id, args),

@@ -8,9 +8,9 @@ ghost use Rattle.goal_tables.specs.declared.rows.Tables.{Tables};
 ghost use Rattle.goal_lists.specs.Builtins.{lang_of_trait};
 ghost use Rattle.goal_lists.specs.ConstGoals.{satisfies};
 ghost use Rattle.goal_lists.specs.EffectLists.{effect_assumption_list, implied_list, effect_impl_list, source_of_lang, source_of_const_rule, const_rule_entries, effect_rule_list, effect_list};
-ghost use Rattle.goal_lists.specs.Interned.{AreIn, PredicateIn, TraitIn, ConstRuleIn, CandidateIn, erased_all, predicate_at, trait_at, const_rule_at, candidate_at};
+ghost use Rattle.goal_lists.specs.Interned.{AreIn, PredicateIn, TraitIn, ConstRuleIn, CandidateIn, erased_all, predicate_at, trait_at, const_rule_at};
 ghost use Rattle.goal_lists.specs.InternedEntries.{EntriesIn, ListIn, entries_at, list_at};
-ghost use Rattle.goal_lists.specs.ListWords.{GivesList, traits_at};
+ghost use Rattle.goal_lists.specs.ListWords.{GivesList, given_at, traits_at};
 ghost use Rattle.goal_lists.specs.NamedRows.{CandidateIsOf, ListNamesItsRows, NamesItsRows};
 
 use crate::builtin::consts::const_rule;
@@ -205,7 +205,7 @@ pub fn effect_list<'t>(
     requires candidate { CandidateIn terms.old candidate.now }
     ensures kept { Keeps terms.old terms.new }
     ensures within { IfOk result (ListIn terms.new) }
-    ensures list { GivesList terms.new setting.entry result (λ S. effect_list S constness trait_id (erased_all terms.old args.now) (candidate_at terms.old candidate.now)) }
+    ensures list { GivesList terms.new setting.entry result (λ S. given_at terms.old args.now candidate.now (effect_list S constness trait_id)) }
     ensures named { (t : Tables) → CandidateIsOf t candidate.now → IfOk result (ListNamesItsRows t) }
 {
     let alloc = terms.allocator();

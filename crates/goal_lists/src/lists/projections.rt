@@ -7,7 +7,7 @@ ghost use Rattle.goal_lists.specs.ImplTerms.{error_term, taken};
 ghost use Rattle.goal_lists.specs.Interned.{IsIn, PredicateIn, CandidateIn, ListedIn, erased_at, predicate_at, candidate_at, listed_at};
 ghost use Rattle.goal_lists.specs.InternedEntries.{EntryIn, EntriesIn, ListIn, entry_at, entries_at, list_at, projection_at, ProjectionIn};
 ghost use Rattle.goal_lists.specs.ListWords.{GivesEntries, GivesList, asked_at, asked_term_rule, asked_impl_entries, default_of, definition_taken};
-ghost use Rattle.goal_lists.specs.NamedRows.{CandidateIsOf, ListNamesItsRows, NamesItsRows, ProjectionIsOf, ImplIsOf, DefinitionIsOf, EntriesNameRows};
+ghost use Rattle.goal_lists.specs.NamedRows.{IfRowsOf, ListNamesItsRows, NamesItsRows, ProjectionIsOf, ImplIsOf, DefinitionIsOf, EntriesNameRows};
 ghost use Rattle.goal_lists.specs.ProjectionLists.{definition_value, other_impl_entries, taken_entries, rigid_entries, standing, missing_entries, value_entries, definition_entries, source_entries, said_entries, projection_impl_list, projection_assumption_list, equation_clause_list, listed_list, projection_list};
 ghost use Rattle.goal_tables.specs.Rows.{definition_of};
 ghost use Rattle.goal_tables.specs.declared.rows.Tables.{Tables};
@@ -456,7 +456,7 @@ pub fn projection_list<'t>(
     ensures kept { Keeps terms.old terms.new }
     ensures within { IfOk result (ListIn terms.new) }
     ensures list { GivesList terms.new setting.entry result (λ S. asked_at terms.old asked.now (projection_list S) (candidate_at terms.old candidate.now)) }
-    ensures named { CandidateIsOf setting.entry.rows.now candidate.now → ProjectionIsOf setting.entry.rows.now asked.now → IfOk result (ListNamesItsRows setting.entry.rows.now) }
+    ensures named { IfRowsOf setting.entry.rows.now candidate.now asked.now (IfOk result (ListNamesItsRows setting.entry.rows.now)) }
 {
     match candidate {
         InternedCandidate::Assumption(clause) => assumption_list(terms, asked, clause),

@@ -7,7 +7,7 @@ ghost use Rattle.goal_solver.specs.Accesses.{RecordsCausedFaults};
 ghost use Rattle.goal_solver.specs.Added.{EntersType, IsEarlierType};
 ghost use Rattle.goal_solver.specs.GoingBack.{GoesBack, restored};
 ghost use Rattle.goal_solver.specs.HiddenTypes.{bounds_in};
-ghost use Rattle.goal_solver.specs.OpenRuns.{AddsBounds};
+ghost use Rattle.goal_solver.specs.OpenRuns.{AddsBounds, hidden_as};
 ghost use Rattle.goal_solver.specs.Stored.{HasOneTypeAKey, IsSameKey};
 
 use crate::context::EvalCtxt;
@@ -56,7 +56,7 @@ impl EvalCtxt<'_> {
         environment: &[Clause],
         hidden: &Ty,
     ) -> Result<(), Fault>
-        ensures added { OnOk result (AddsBounds id (trees_of args.now) environment.now (tree_of_ty hidden.now) self.old self.new) }
+        ensures added { OnOk result (AddsBounds environment.now (hidden_as id (trees_of args.now) (tree_of_ty hidden.now)) self.old self.new) }
         ensures unchanged { OnErr result (self.new ≡ restored self.old self.new) }
         ensures faults { RecordsCausedFaults self.old self.new }
         ensures goes_back { GoesBack self.old self.new }
@@ -79,7 +79,7 @@ impl EvalCtxt<'_> {
         environment: &[Clause],
         hidden: &Ty,
     ) -> Result<(), Fault>
-        ensures added { OnOk result (AddsBounds id (trees_of args.now) environment.now (tree_of_ty hidden.now) self.old self.new) }
+        ensures added { OnOk result (AddsBounds environment.now (hidden_as id (trees_of args.now) (tree_of_ty hidden.now)) self.old self.new) }
         ensures faults { RecordsCausedFaults self.old self.new }
         ensures goes_back { GoesBack self.old self.new }
         ensures only_memory { IsOkUnless result Fault.OutOfMemory }

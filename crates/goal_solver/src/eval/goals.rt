@@ -1,13 +1,11 @@
 //! The check of goals.
 ghost use Rattle.std.specs.Prelude.{◌≡◌, ◌||◌, OnOk, IfErr};
-ghost use Rattle.goal_terms.specs.NodeTests.{is_unmade};
-ghost use Rattle.goal_tables.specs.Predicates.{lies_in_env as in_env, some_in_env as some_env};
-ghost use Rattle.goal_solver.specs.State.{kinds_of};
-ghost use Rattle.goal_solver.specs.Goals.{has_in_goal, IsAcceptedBy, IsSmallestOf, wants_taken};
+ghost use Rattle.goal_tables.specs.Predicates.{lies_in_env as in_env};
+ghost use Rattle.goal_solver.specs.Goals.{has_in_goal, fault_lies_in, flaw_of, is_flawed_goal, words_of, IsAcceptedBy, IsSmallestOf, wants_taken};
 
 use crate::context::EvalCtxt;
 use goal_tables::checked::CheckedTables;
-use goal_tables::predicate_terms::{PredicateTerms, lies_in_env, some_in_env};
+use goal_tables::predicate_terms::{PredicateTerms, lies_in_env, some_never_const};
 use goal_tables::sites::TermFault;
 use goal_terms::node_tests::NodeTest;
 use goal_terms::predicates::Goal;
@@ -47,31 +45,51 @@ pub fn check_goal<P: PredicateTerms>(
     context: &EvalCtxt<'_>,
     goal: &Goal<P>,
 ) -> Result<(), GoalFault>
-    ensures accepted { OnOk result (IsAcceptedBy (has_in_goal P.has_fault P.has_passing P.normalization tables.now context.now goal.now)) }
-    ensures refused { IfErr result (IsSmallestOf (has_in_goal P.has_fault P.has_passing P.normalization tables.now context.now goal.now)) }
+    ensures accepted { OnOk result (IsAcceptedBy (has_in_goal (words_of P.has_fault P.has_passing P.normalization) tables.now context.now goal.now)) }
+    ensures refused { IfErr result (IsSmallestOf (has_in_goal (words_of P.has_fault P.has_passing P.normalization) tables.now context.now goal.now)) }
 {
-    if lies_in_goal(tables, TermFault::UnknownItem, goal) {
-        return Err(GoalFault::UnknownItem);
-    }
-    if lies_in_goal(tables, TermFault::WrongArgumentCount, goal) {
-        return Err(GoalFault::WrongArgumentCount);
-    }
-    if lies_in_goal(tables, TermFault::WrongArgumentKind, goal) {
-        return Err(GoalFault::WrongArgumentKind);
-    }
-    if has_unmade_variable(context, goal) {
-        return Err(GoalFault::UnknownVariable);
+    if is_flawed(tables, context, goal) {
+        return Err(first_flaw(tables, goal));
     }
     if lacks_free_term(context, goal) {
         return Err(GoalFault::ExpectedTermNotFree);
     }
-    if lies_in_goal(tables, TermFault::NeverConst, goal) {
+    if is_never_const(tables, goal) {
         return Err(GoalFault::NeverConst);
     }
     if context.has_goals() {
         return Err(GoalFault::GoalsPending);
     }
     Ok(())
+}
+
+/// Whether one of the first four faults applies. The goal's terms are walked once.
+fn is_flawed<P: PredicateTerms>(
+    tables: &CheckedTables,
+    context: &EvalCtxt<'_>,
+    goal: &Goal<P>,
+) -> bool
+    ensures { result ≡ is_flawed_goal (words_of P.has_fault P.has_passing P.normalization) tables.now context.now goal.now }
+{
+    let test = NodeTest::Unmade(context.variables());
+    goal.predicate.is_flawed(tables.rows(), test)
+        || tables.rows().flaw_lies_in_env(test, &goal.param_env)
+}
+
+/// The first fault of a goal to which one of the first four applies. The goal's terms are walked for each fault alone.
+fn first_flaw<P: PredicateTerms>(tables: &CheckedTables, goal: &Goal<P>) -> GoalFault
+    ensures { result ≡ flaw_of (fault_lies_in (words_of P.has_fault P.has_passing P.normalization) tables.now goal.now.predicate goal.now.param_env.items) }
+{
+    if lies_in_goal(tables, TermFault::UnknownItem, goal) {
+        return GoalFault::UnknownItem;
+    }
+    if lies_in_goal(tables, TermFault::WrongArgumentCount, goal) {
+        return GoalFault::WrongArgumentCount;
+    }
+    if lies_in_goal(tables, TermFault::WrongArgumentKind, goal) {
+        return GoalFault::WrongArgumentKind;
+    }
+    GoalFault::UnknownVariable
 }
 
 pub(crate) fn lies_in_goal<P: PredicateTerms>(
@@ -85,11 +103,10 @@ pub(crate) fn lies_in_goal<P: PredicateTerms>(
         || lies_in_env(tables.rows(), fault, &goal.param_env)
 }
 
-fn has_unmade_variable<P: PredicateTerms>(context: &EvalCtxt<'_>, goal: &Goal<P>) -> bool
-    ensures { result ≡ (P.has_passing goal.now.predicate (is_unmade (kinds_of context.now)) || some_env (is_unmade (kinds_of context.now)) goal.now.param_env.items) }
+fn is_never_const<P: PredicateTerms>(tables: &CheckedTables, goal: &Goal<P>) -> bool
+    ensures { result ≡ (P.has_fault goal.now.predicate tables.now TermFault.NeverConst || in_env tables.now TermFault.NeverConst goal.now.param_env.items) }
 {
-    let test = NodeTest::Unmade(context.variables());
-    goal.predicate.some_passes(test) || some_in_env(test, &goal.param_env)
+    goal.predicate.is_never_const(tables.rows()) || some_never_const(tables.rows(), &goal.param_env)
 }
 
 fn lacks_free_term<P: PredicateTerms>(context: &EvalCtxt<'_>, goal: &Goal<P>) -> bool

@@ -12,8 +12,8 @@ ghost use Rattle.goal_solver.specs.Accesses.{RecordsCausedFaults};
 ghost use Rattle.goal_solver.specs.Answers.{IsOwed, level_over};
 ghost use Rattle.goal_solver.specs.GoingBack.{GoesBack, restored};
 ghost use Rattle.goal_solver.specs.HeadForms.{bound_term, IsClosedForm, IsFormAnswer, IsAnswered, IsFormFound, IsFoundItself, LeavesFormOpen, AnswersForm, is_open_form, IsLeftOpen, IsLeftUndecided, IsUnfoundFor, SaysForm};
-ghost use Rattle.goal_solver.specs.OpenAnswers.{answers_term};
-ghost use Rattle.goal_solver.specs.OpenForms.{OpensTerm, gives_form};
+ghost use Rattle.goal_solver.specs.OpenAnswers.{OpensTerm};
+ghost use Rattle.goal_solver.specs.OpenForms.{gives_form};
 ghost use Rattle.goal_solver.specs.OpenHeaders.{IsFoundForm, LacksConstructor};
 ghost use Rattle.goal_eval.specs.Outcomes.{FoundIn};
 ghost use Rattle.goal_solver.specs.Refusals.{WhenRefused};
@@ -100,7 +100,7 @@ impl EvalCtxt<'_> {
         ensures decided { (m : modes) → IsOwed self.new m → LeavesFormOpen self.old m environment.now term.now result }
         ensures itself { is_alias (node_of (bound_term self.old term.now)) ≡ false → IfOk result (IsAnswered (bound_term self.old term.now)) }
         ensures only_memory { is_alias (node_of (bound_term self.old term.now)) ≡ false → IfErr result (λ f. f ≡ Fault.OutOfMemory) }
-        ensures opens { OpensTerm answers_term environment.now term.now self.old result self.new }
+        ensures opens { OpensTerm environment.now term.now self.old result self.new }
         ensures kept { is_open_form (bound_term self.old term.now) environment.now ≡ false → self.new ≡ restored self.old self.new }
         ensures unchanged { gives_form result ≡ false → self.new ≡ restored self.old self.new }
         ensures faults { RecordsCausedFaults self.old self.new }

@@ -21,7 +21,7 @@ ghost use Rattle.goal_solver.specs.GoingBack.{GoesBack, restored};
 ghost use Rattle.goal_eval.specs.Outcomes.{MatchIn};
 ghost use Rattle.goal_solver.specs.Relating.{AgreesWith, LeavesOpen, ChangesRecords, IsFaultFor, all_bound};
 ghost use Rattle.goal_solver.specs.State.{kinds_of};
-ghost use Rattle.goal_solver.specs.TranslatedArgs.{taken_by, own_after, certainty_in, AnswersJust, IsTranslation, IsHeaderOpen, IsFresh, BindsNothing, IsMadeEqual, IsAdded, AddsClauses, MakesVariables, ChangesGoals, MatchCounts, Takes, args_asked, TranslatesOther, asked_of, asked_for, ReadsSoundly, LeavesHeaderOpen, MakesFresh, BindsNone, EquatesHeader, IsHeaderEqual, IsNeverEqual, AddsItsGoals, FreshIfUnknown, EqualsWhereYes, NeverEquals, SaysHeader};
+ghost use Rattle.goal_solver.specs.TranslatedArgs.{taken_by, own_after, certainty_in, AnswersJust, IsTranslation, IsHeaderOpen, IsFresh, BindsNothing, IsMadeEqual, IsAdded, AddsClauses, MakesVariables, ChangesGoals, MatchCounts, Takes, TakesOwn, IfOther, Translates, args_asked, rebased, asked_of, asked_for, ReadsSoundly, LeavesHeaderOpen, MakesFresh, BindsNone, EquatesHeader, IsHeaderEqual, IsNeverEqual, AddsItsGoals, FreshIfUnknown, EqualsWhereYes, NeverEquals, SaysHeader};
 ghost use Rattle.goal_solver.specs.Variables.{fresh_args};
 ghost use Rattle.goal_solver.specs.Promises.{WhereOwed, WhereOwedBeyond};
 
@@ -124,10 +124,10 @@ impl EvalCtxt<'_> {
         impl_trait_ref: &TraitRef,
         container: Container,
     ) -> Result<(Vec<GenericArg>, Certainty), Fault>
-        ensures in_trait { taken_by self.old impl_id container ≡ from_projection → Takes self.old self.new (args_asked goal.now) Certainty.Yes result }
-        ensures in_impl { taken_by self.old impl_id container ≡ from_impl → Takes self.old self.new (trees_of impl_args.now ++ own_after impl_trait_ref.now goal.now) Certainty.Yes result }
-        ensures nowhere { taken_by self.old impl_id container ≡ from_other None → Takes self.old self.new (own_after impl_trait_ref.now goal.now) Certainty.Maybe result }
-        ensures other { TranslatesOther self.old self.new (taken_by self.old impl_id container) impl_trait_ref.now goal.now result }
+        ensures in_trait { taken_by self.old impl_id container ≡ from_projection → Takes self.old self.new (args_asked goal.now) result }
+        ensures in_impl { taken_by self.old impl_id container ≡ from_impl → Takes self.old self.new (rebased impl_args.now impl_trait_ref.now goal.now) result }
+        ensures nowhere { taken_by self.old impl_id container ≡ from_other None → TakesOwn self.old self.new impl_trait_ref.now goal.now result }
+        ensures other { IfOther (taken_by self.old impl_id container) (λ q. Translates self.old self.new (asked_of impl_trait_ref.now goal.now q) result) }
         ensures agreed { (ρ : Variable → Tree) → AgreesWith self.new ρ → AgreesWith self.old ρ }
         ensures alone { ChangesGoals self.old self.new }
         ensures unchanged { OnErr result (self.new ≡ restored self.old self.new) }

@@ -4,7 +4,7 @@ ghost use Rattle.goal_terms.specs.TableMeaning.{Keeps};
 ghost use Rattle.goal_terms.specs.Tree.{Tree};
 ghost use Rattle.goal_terms.specs.declared.heads.Variable.{Variable};
 ghost use Rattle.goal_infer.specs.ListUnification.{MakesAllSame, AreDecidedWherePlain, AreIdentified, AreClashing, AreUntouched};
-ghost use Rattle.goal_infer.specs.Unification.{Advances, IsUnified};
+ghost use Rattle.goal_infer.specs.Unification.{sides, Advances, IsUnified};
 ghost use Rattle.goal_lists.specs.Interned.{AreIn, erased_all};
 ghost use Rattle.goal_lists.specs.Settings.{is_headline};
 ghost use Rattle.goal_solver.specs.Accesses.{RecordsCausedFaults};
@@ -120,7 +120,7 @@ impl EvalCtxt<'_> {
         ensures advances { Advances self.old.terms self.old.inference self.new.inference }
         ensures answer { IfOk result (λ u. IsUnified self.old.terms self.old.inference self.new.inference (MakesAllSame self.old.terms left.now right.now) u) }
         ensures plain { IfOk result (λ u. AreDecidedWherePlain self.old.terms self.old.inference left.now right.now u) }
-        ensures identified { IfOk result (λ u. AreIdentified self.old.terms self.old.inference self.new.inference left.now right.now u) }
+        ensures identified { IfOk result (λ u. AreIdentified self.old.terms self.old.inference self.new.inference (sides left.now right.now) u) }
         ensures clash { IfOk result (λ u. AreClashing self.old.terms self.old.inference left.now right.now u) }
         ensures closed { AreUntouched self.old.terms self.old.inference self.new.inference left.now right.now }
     {

@@ -9,7 +9,7 @@ ghost use Rattle.goal_lists.specs.Interned.{AreIn, erased_all};
 ghost use Rattle.goal_lists.specs.InternedEntries.{value_tree, arguments_at, ArgumentsIn, term_at, TermIn, entry_at, EntryIn};
 ghost use Rattle.goal_lists.specs.ListModes.{IsAccess};
 ghost use Rattle.goal_lists.specs.Settings.{is_headline as is_of_headline};
-ghost use Rattle.goal_eval.specs.Lists.{AtEachLevel, NamedIn, named_at, RunIn, RunsOn, SaysNamed, SaysHeader, SaysTerm, SaysRow, numbered_at, chosen_term};
+ghost use Rattle.goal_eval.specs.Lists.{AtEachLevel, NamedIn, named_at, RunIn, RunsOn, WhereStopping, run_state, SaysNamed, SaysHeader, SaysTerm, SaysRow, numbered_at, chosen_term};
 ghost use Rattle.goal_eval.specs.Outcomes.{FoundIn, MatchIn};
 ghost use Rattle.goal_eval.specs.Effects.{AreSound, IsStop};
 
@@ -61,8 +61,8 @@ pub fn run_entry(
     ensures kept { Keeps terms.old terms.new }
     ensures within { IfOk result (λ _. RunIn terms.new run.new) }
     ensures stops { IfErr result (IsStop setting.now) }
-    ensures reads { setting.now.on_access ≡ OnAccess.Stop → is_of_headline setting.now.typing_mode.now ≡ false → IfOk result (λ _. IsAccess (entry_at terms.old entry.now) → ⊥) }
-    ensures says { AtEachLevel setting.now depth (λ L. IfOk result (RunsOn L terms.old run.old entry.now terms.new run.new)) }
+    ensures reads { WhereStopping setting.now (IfOk result (λ _. IsAccess (entry_at terms.old entry.now) → ⊥)) }
+    ensures says { AtEachLevel setting.now depth (λ L. IfOk result (RunsOn L (run_state terms.old run.old) entry.now (run_state terms.new run.new))) }
 {
     match entry {
         InternedEntry::Arguments(arguments) => {

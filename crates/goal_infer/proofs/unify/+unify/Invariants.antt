@@ -1,5 +1,5 @@
 use Rattle.std.proofs.Common.{◌≢◌}
-use Rattle.goal_infer.specs.Unification.{IsUnified, IsDecidedWherePlain, IsIdentified, IsUntouched, Advances}
+use Rattle.goal_infer.specs.Unification.{sides, IsUnified, IsDecidedWherePlain, IsIdentified, IsUntouched, Advances}
 use Rattle.goal_infer.specs.declared.unify.Unified.TheVariants.{No}
 use Rattle.goal_infer.proofs.PairLemmas.{SameBelow}
 use Rattle.goal_infer.proofs.unify.+unify.Given as goal
@@ -13,7 +13,7 @@ invariant-loop-i l = record {
   advances : Advances l.table l.fn.state l.state;
   said : IsUnified l.table l.fn.state l.state (SameBelow l.table l.parts l.others l.i) l.answer;
   going : l.answer ≢ No;
-  plain : IsDecidedWherePlain l.table l.fn.state l.state l.fn.left l.fn.right l.answer;
-  identified : IsIdentified l.table l.fn.state l.state l.fn.left l.fn.right l.answer;
+  plain : IsDecidedWherePlain l.table l.fn.state l.state (sides l.fn.left l.fn.right) l.answer;
+  identified : IsIdentified l.table l.fn.state l.state (sides l.fn.left l.fn.right) l.answer;
   closed : IsUntouched l.table l.fn.state l.state l.fn.left l.fn.right;
 }

@@ -4,7 +4,7 @@ use Rattle.goal_terms.specs.TreeOf.{tree_of_ty}
 use Rattle.goal_kinds.specs.CandidateRules.{seen_trait}
 use Rattle.goal_lists.specs.Candidates.{environment, rest}
 use Rattle.goal_kinds.specs.KindWords.{words_for}
-use Rattle.goal_kinds.specs.Collecting.{kind_of, Speaks, Lacks, AreCollected, CollectsBounds, CollectsFor}
+use Rattle.goal_kinds.specs.Collecting.{kind_of, goal_in, Speaks, Lacks, AreCollected, CollectsBounds, CollectsFor}
 use Rattle.goal_kinds.proofs.CollectingLemmas.{collects-from_none}
 use Rattle.goal_kinds.proofs.CollectedTermLemmas.{some-same, classes-differ, bounds-collected}
 use Rattle.goal_kinds.proofs.ClassRuleLemmas.{accepted-clauses, collects-for, no-kind-fault}
@@ -23,7 +23,7 @@ push_rest_rules-requires g c = record {
 pub returns-in-ParamEnv-clause-collected : goal.returns-in-ParamEnv-clause-collected
 returns-in-ParamEnv-clause-collected g c =
     let W = words_for g.G.GoalKind.words c.args.tables.now c.args.goal.now c.args.mode.now in
-    subst (λ k. CollectsFor (kind_of g.G.GoalKind.words g.G.PredicateTerms.has_fault) c.args.tables.now c.args.goal.now c.args.mode.now k c.push_environment_rules.new.found.items) (sym c.in-ParamEnv.is)
+    subst (λ k. CollectsFor (kind_of g.G.GoalKind.words g.G.PredicateTerms.has_fault) (goal_in c.args.tables.now c.args.goal.now c.args.mode.now) k c.push_environment_rules.new.found.items) (sym c.in-ParamEnv.is)
     (collects-from_none (Speaks W) (λ x. W.refuted 0 x) (environment W.setting) c.new-found.result.items c.push_environment_rules.new.found.items c.new-found.ensures.items
     (c.in_ok-push_environment_rules.ensures.collected (accepted-clauses g.G.PredicateTerms.has_fault c.args.tables.now c.args.goal.now c.requires.accepted)))
 

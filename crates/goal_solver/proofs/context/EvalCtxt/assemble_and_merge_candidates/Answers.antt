@@ -1,5 +1,6 @@
 use Rattle.std.proofs.Common.{◌≡◌, None, Some, sym, ◌∙◌, subst}
 use Rattle.std.specs.Prelude.{Ok}
+use Rattle.goal_terms.specs.declared.answers.TraitGoalProvenVia.{TraitGoalProvenVia}
 use Rattle.goal_kinds.specs.declared.goal_kind.MergeRule.{MergeRule}
 use Rattle.goal_kinds.specs.Collecting.{kind_of}
 use Rattle.goal_solver.specs.OpenGoals.{WhenAnswered}
@@ -36,6 +37,9 @@ pub returns-in-TraitGoals-clause-merged_host : goal.returns-in-TraitGoals-clause
 returns-in-TraitGoals-clause-merged_host g c = λ class is. absurd (trait_not_host g.G.GoalKind.words.merging (sym c.merge_rule.ensures ∙ c.in-TraitGoals.is) is)
 
 -- host effect goals without a class
+no-class : (c : TraitGoalProvenVia) → None ≡ Some c → ⊥
+no-class c e = absurd (cc)
+
 pub returns-in-None-clause-goes_back : goal.returns-in-None-clause-goes_back
 returns-in-None-clause-goes_back g c = goes_back-same c.args.self.now
 
@@ -45,7 +49,7 @@ returns-in-None-clause-host_effects g c = λ is closed.
     (g.G.GoalKind.words.asked c.args.goal.now.predicate c.args.self.now.tables) (Ok c.undecided.result) c.in-None.is c.undecided.ensures.nothing
 
 pub returns-in-None-clause-merged_host : goal.returns-in-None-clause-merged_host
-returns-in-None-clause-merged_host g c = λ class is via. let none : None ≡ Some class = sym c.in-None.is ∙ via in absurd (cc)
+returns-in-None-clause-merged_host g c = λ class is via. absurd (no-class class (sym c.in-None.is ∙ via))
 
 pub returns-in-None-clause-given : goal.returns-in-None-clause-given
 returns-in-None-clause-given g c = λ is. absurd (host_not_projections g.G.GoalKind.words.merging (sym c.merge_rule.ensures ∙ c.in-HostEffectGoals.is) is)

@@ -2,7 +2,7 @@ use Rattle.std.proofs.Common.{rules, ◌≡◌, [], ◌∷◌, refl, ap}
 use Rattle.goal_terms.specs.TableMeaning.{tree_at}
 use Rattle.goal_terms.specs.Tree.{Tree}
 use Rattle.goal_terms.specs.TreeOf.{tree_of_term}
-use Rattle.goal_solver.specs.Equating.{IsEquated}
+use Rattle.goal_solver.specs.Equating.{IsEquated, equation}
 use Rattle.goal_solver.proofs.GoingBackLemmas.{goes_back-interned, solved-grown}
 use Rattle.goal_solver.proofs.EquatedLemmas.{agreed-interned, equated-unanswered, equated-interned, alone-interned, unchanged-interned, back-interned, fault-interned, faults-interned}
 use Rattle.goal_solver.proofs.context.EvalCtxt.eq.Goals as goal
@@ -40,7 +40,7 @@ pub returns : goal.returns
 returns c =
     let first : tree_at c.intern_pair.new.terms c.in-Ok.first ≡ tree_of_term c.args.left.now = search rules in
     let second : tree_at c.intern_pair.new.terms c.in-Ok.second ≡ tree_of_term c.args.right.now = search rules in
-    let all : IsEquated c.args.self.now c.equate.new.self c.args.environment.now (tree_of_term c.args.left.now ∷ []) (tree_of_term c.args.right.now ∷ []) c.equate.result =
+    let all : IsEquated c.args.self.now c.equate.new.self (equation c.args.environment.now (tree_of_term c.args.left.now ∷ []) (tree_of_term c.args.right.now ∷ [])) c.equate.result =
     equated-interned _ c.args.self.now c.equate.new.self c.intern_pair.new.terms c.args.environment.now _ _ (tree_of_term c.args.left.now ∷ []) (tree_of_term c.args.right.now ∷ []) c.equate.result
     c.self.view_is c.intern_pair.ensures.kept c.self.invariant.5 (ap (λ (t : Tree). t ∷ []) first) (ap (λ (t : Tree). t ∷ []) second) c.equate.ensures.equated in
     record {

@@ -3,7 +3,7 @@ use Rattle.goal_terms.specs.TableMeaning.{tree_at, Keeps}
 use Rattle.goal_terms.specs.TreeOf.{trees_of}
 use Rattle.goal_terms.proofs.InternLemmas.{keeps-chain}
 use Rattle.goal_lists.proofs.UnderLemmas.{are_in-below}
-use Rattle.goal_solver.specs.Equating.{IsEquated}
+use Rattle.goal_solver.specs.Equating.{IsEquated, equation}
 use Rattle.goal_solver.proofs.GoingBackLemmas.{goes_back-interned, solved-grown, solved-grown_twice}
 use Rattle.goal_solver.proofs.EquatedLemmas.{trees-kept, agreed-interned, equated-unanswered, equated-interned, alone-interned, unchanged-interned, back-interned, fault-interned, faults-interned}
 use Rattle.goal_solver.proofs.context.EvalCtxt.eq_args.Goals as goal
@@ -64,7 +64,7 @@ returns c =
     ∙ c.in-Ok.ensures.exact in
     let second : map (tree_at c.intern_args-2.new.terms) c.deref-2.result.now ≡ trees_of c.args.right.now =
     ap (map (tree_at c.intern_args-2.new.terms)) c.deref-2.ensures.value ∙ c.in-Ok-intern_args.ensures.exact in
-    let all : IsEquated c.args.self.now c.equate.new.self c.args.environment.now (trees_of c.args.left.now) (trees_of c.args.right.now) c.equate.result =
+    let all : IsEquated c.args.self.now c.equate.new.self (equation c.args.environment.now (trees_of c.args.left.now) (trees_of c.args.right.now)) c.equate.result =
     equated-interned _ c.args.self.now c.equate.new.self c.intern_args-2.new.terms c.args.environment.now _ _ (trees_of c.args.left.now) (trees_of c.args.right.now) c.equate.result
     c.self.view_is kept c.self.invariant.5 first second c.equate.ensures.equated in
     record {

@@ -1,7 +1,7 @@
 use Rattle.std.proofs.Common.{◌≡◌, false, map, Result, Ok, Err, refl, sym, ◌∙◌, subst}
 use Rattle.std.specs.Result.{OnOk, is_err}
 use Rattle.goal_terms.specs.TableMeaning.{tree_at}
-use Rattle.goal_solver.specs.Equating.{IsEquated}
+use Rattle.goal_solver.specs.Equating.{IsEquated, equation}
 use Rattle.goal_solver.specs.GoingBack.{GoesBack}
 use Rattle.goal_solver.proofs.EquatedLemmas.{equated-undone, refuted-undone, memory-undone, alone-undone, alone-through, unchanged-undone, related-equated}
 use Rattle.goal_solver.proofs.GoingBackLemmas.{goes_back-restored, goes_back-through}
@@ -72,7 +72,7 @@ when-ok (Err x) e h = absurd (cc)
 
 pub returns-clause-equated : goal.returns-clause-equated
 returns-clause-equated c =
-    subst (λ k. IsEquated c.args.self.now c.equate_lifetimes.new.self c.args.environment.now (map (tree_at c.args.self.now.terms) c.args.left.now) (map (tree_at c.args.self.now.terms) c.args.right.now) (Ok k))
+    subst (λ k. IsEquated c.args.self.now c.equate_lifetimes.new.self (equation c.args.environment.now (map (tree_at c.args.self.now.terms) c.args.left.now) (map (tree_at c.args.self.now.terms) c.args.right.now)) (Ok k))
     (sym c.certainty_of.ensures)
     (related-equated c.args.self.now c.relate_all.new.self c.equate_lifetimes.new.self c.args.environment.now c.args.left.now c.args.right.now c.remaining_depth-depth.result c.in-Ok.outcome
     c.holds_together.ensures c.holds_together-2.ensures c.requires.first c.requires.second c.remaining_depth-depth.ensures
