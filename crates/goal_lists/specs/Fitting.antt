@@ -61,11 +61,12 @@ alias_may_fit q args (variable v) = false
 abbrev pub trait_may_fit : About → TraitId → List Tree → Bool
 trait_may_fit a j bs = is_trait j a.trait_id && heads_agree Rigid a.args bs
 
--- whether a clause may be about what is looked for: it is of that trait or that item, and no head of its arguments is another one
+-- what is asked of a trait, or of an item if one is looked for
 abbrev pub about_item : Option ItemId → Bool → (ItemId → Bool) → Bool
 about_item None b f = b
 about_item (Some q) b f = f q
 
+-- whether a clause may be about what is looked for: it is of that trait or that item, and no head of its arguments is another one
 abbrev pub clause_may_fit : About → PredicateTree → Bool
 clause_may_fit a (holds j bs) = about_item a.item (trait_may_fit a j bs) (λ q. false)
 clause_may_fit a (holds_const c j bs) = about_item a.item (trait_may_fit a j bs) (λ q. false)
