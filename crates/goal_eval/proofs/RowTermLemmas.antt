@@ -12,7 +12,6 @@ use Rattle.goal_terms.specs.declared.sorts.Sort.TheVariants as sorts
 use Rattle.goal_terms.specs.declared.terms.Term.{Term}
 use Rattle.goal_terms.proofs.SortLemmas.{ty_sort, term_sort}
 use Rattle.goal_terms.proofs.TreeLemmas.{tree_of_arg-Ty}
-use Rattle.goal_lists.specs.Headers.{under}
 use Rattle.goal_eval.specs.Outcomes.{header_terms}
 
 -- a type as the one argument of a header

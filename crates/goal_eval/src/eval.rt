@@ -13,4 +13,5 @@ pub mod outcomes;
 pub mod premises;
 pub mod region_constraints;
 pub mod region_effects;
+pub(crate) mod row_values;
 pub mod self_types;

@@ -53,7 +53,7 @@ sort-taken (variables.Ty (infer.IntVar i)) n h = type-sort (sort_of n) (integer-
 sort-taken (variables.Ty (infer.FloatVar i)) n h = type-sort (sort_of n) (floating-type n h)
 sort-taken (variables.Const i) n h = const-sort (sort_of n) h
 
-sort-forgotten : (t : Tree) → sort_of (node_of (erased t)) ≡ sort_of (node_of t)
+pub sort-forgotten : (t : Tree) → sort_of (node_of (erased t)) ≡ sort_of (node_of t)
 unfolding erased
 sort-forgotten (node h ts) = sort-erased h
 sort-forgotten (alias k ts) = refl
@@ -93,7 +93,7 @@ unfolding erased
 row-erased [] = refl
 row-erased (u ∷ us) = ap (more (erased u)) (row-erased us)
 
-erased-with : (n : Node) (us : List Tree) → erased (tree_with n us) ≡ tree_with (compared_node Forgotten n) (map erased us)
+pub erased-with : (n : Node) (us : List Tree) → erased (tree_with n us) ≡ tree_with (compared_node Forgotten n) (map erased us)
 unfolding erased
 erased-with (nodes.Head h) us = ap (node (erased_head h)) (row-erased us)
 erased-with (nodes.Alias k) us = ap (alias k) (row-erased us)
@@ -236,13 +236,13 @@ lower-followed T U s keeps solved id top part k within same l e =
     omega (arith, part-lower T s t k l, ap height here, ap height whole)
 
 -- numbers keep their trees
-numbers-kept : (U V : List Tree) → Keeps U V → (ids : List TermId) → AreBelow (length U) ids → map (tree_at V) ids ≡ map (tree_at U) ids
+pub numbers-kept : (U V : List Tree) → Keeps U V → (ids : List TermId) → AreBelow (length U) ids → map (tree_at V) ids ≡ map (tree_at U) ids
 numbers-kept U V keeps [] below = refl
 numbers-kept U V keeps (id ∷ ids) below =
     ap (λ t. t ∷ map (tree_at V) ids) (keeps.same id (All-head (λ i. i.0 < length U) id ids below))
     ∙ ap (λ ts. tree_at U id ∷ ts) (numbers-kept U V keeps ids (All-tail (λ i. i.0 < length U) id ids below))
 
-map-push : (f : TermId → Tree) (ids : List TermId) (id : TermId) → map f (ids ++ id ∷ []) ≡ map f ids ++ f id ∷ []
+pub map-push : (f : TermId → Tree) (ids : List TermId) (id : TermId) → map f (ids ++ id ∷ []) ≡ map f ids ++ f id ∷ []
 map-push f [] id = refl
 map-push f (x ∷ ids) id = ap (λ us. f x ∷ us) (map-push f ids id)
 

@@ -21,3 +21,4 @@ pub mod FollowLemmas
 pub mod RegionStateLemmas
 pub mod RegionEquationLemmas
 pub mod RenumberingLemmas
+pub mod FreshLifetimeLemmas

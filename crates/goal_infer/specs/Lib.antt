@@ -9,3 +9,4 @@ pub mod Binding
 pub mod Following
 pub mod RegionEquations
 pub mod Renumbering
+pub mod FreshLifetimes

@@ -4,6 +4,7 @@
 
 pub mod bindings;
 pub mod followed;
+pub mod fresh_lifetimes;
 pub mod laws;
 pub mod occurs;
 pub mod region_equations;

@@ -13,7 +13,6 @@ use Rattle.goal_eval.specs.Outcomes.{setting_in, level_in, SaysWhich, SaysThroug
 use Rattle.goal_terms.proofs.InternLemmas.{keeps-chain, keeps-refl}
 use Rattle.std.proofs.Common.{◌-◌, arith, ap, map, subst, sym, ◌+◌, ◌∙◌, refl, ◌∷◌, ◌++◌, length, rules, get_or, ◌<◌, ◌≡◌, ⊎_elim, Some}
 use Rattle.std.proofs.lemmas.List.Elements.{All-push, All-nil, All-get_or, All-same, All-take}
-use Rattle.goal_terms.specs.Sorts.{IsArgument}
 use Rattle.goal_terms.specs.TreeOf.{trees_of}
 use Rattle.goal_terms.specs.TableMeaning.{tree_at, Keeps}
 use Rattle.goal_terms.specs.View.{tree_of_ref}
@@ -58,7 +57,7 @@ use Rattle.goal_eval.proofs.ListAnswerLemmas.{none-says, list-says, caused-at, r
 use Rattle.goal_eval.proofs.ListRunLemmas.{end-in, asking-leads, giving-leads, giving-in, naming-leads, naming-in, terms-ask, clause-asks, row-asks, conditions-ask, access-asks, fault-asks, evaluation-asks, ambiguous-asks, undecided-asks, refused-asks, hidden-asks}
 use Rattle.std.specs.Prelude.{IfOk, IfSome, slice_get, Ok, ◌||◌}
 use Rattle.std.proofs.lemmas.Result.{IfOk-weaker}
-use Rattle.goal_eval.proofs.ListEntryLemmas.{given-named, header-named, other-unnamed, other-named, followed-unnamed, followed-named, row-unnamed, row-found, standing-found, head_form-found, value-unnamed, value-found, value-argument, chosen-found, followed-in, pairs-says}
+use Rattle.goal_eval.proofs.ListEntryLemmas.{given-named, header-named, other-unnamed, other-named, followed-unnamed, followed-named, row-unnamed, row-found, standing-found, head_form-found, value-unnamed, value-found, chosen-found, followed-in, pairs-says}
 use Rattle.goal_eval.specs.AskedTraits.{candidate_list, SaysListed}
 use Rattle.goal_eval.proofs.AskedTraitLemmas.{asked-says, asked-out, asked-beside, impl-says, asked_in-grown, asked-start, asked-more, asked-shown, asked-end, asked-listed, plain-class, groups-first, groups-second}
 use Rattle.goal_eval.proofs.HostEffectLemmas.{SaysHost, plain-decides, host-unformed, host-formed}
@@ -1181,7 +1180,7 @@ pub eval::lists::entries::term_found-returns-in-Some-clause-says : goal.eval::li
 eval::lists::entries::term_found-returns-in-Some-clause-says t c = λ m s.
     value-found (level_in c.args.setting.now m c.args.depth) (named_at c.args.terms.now c.args.named.now) c.head_form_under.new.terms (term_at c.args.terms.now c.args.term.now)
     (value_tree c.in-ValueUnder.value) c.in-ValueUnder.number (ap (term_at c.args.terms.now) c.in-ValueUnder.is) (erased_all c.args.terms.now c.in-Some.args.now)
-    (tree_of_ref c.value_view-value.result) c.head_form_under.result (c.in-Some.ensures.numbered c.args.terms.now) c.value_view-value.ensures (c.head_form_under.ensures.says m s)
+    (value_tree c.in-ValueUnder.value) c.head_form_under.result (c.in-Some.ensures.numbered c.args.terms.now) refl (c.head_form_under.ensures.says m s)
 
 pub eval::lists::entries::term_found-returns-in_ok-outcome-in-ChosenBy-clause-says : goal.eval::lists::entries::term_found-returns-in_ok-outcome-in-ChosenBy-clause-says
 eval::lists::entries::term_found-returns-in_ok-outcome-in-ChosenBy-clause-says t c = λ m s.
@@ -1509,7 +1508,7 @@ eval::lists::run_entries-run_entry-requires t c = (
 pub eval::lists::entries::term_found-head_form_under-requires : goal.eval::lists::entries::term_found-head_form_under-requires
 eval::lists::entries::term_found-head_form_under-requires t c = (
   omega arith,
-  (search (rules, caching), ((c.in-Some.ensures.within c.args.terms.now c.requires.named), (subst IsArgument (sym c.value_view-value.ensures) (value-argument c.in-ValueUnder.value)))),
+  (search (rules, caching), c.in-Some.ensures.within c.args.terms.now c.requires.named),
 )
 
 pub assembly::candidates::class_outcome-candidates_outcome-requires : goal.assembly::candidates::class_outcome-candidates_outcome-requires

@@ -1,8 +1,14 @@
 //! What an evaluation lists of lifetimes, as far as it has come.
+ghost use Rattle.std.specs.Prelude.{◌≡◌, ◌<◌, IfOk, length};
+ghost use Rattle.goal_terms.specs.Erased.{erased};
+ghost use Rattle.goal_terms.specs.TableMeaning.{tree_at, Keeps};
+
 use crate::eval::region_constraints::RegionConstraints;
+use goal_infer::fresh_lifetimes::with_fresh_lifetimes;
 use goal_terms::answers::VarKind;
 use goal_terms::predicates::BoundConstness;
 use goal_terms::term_nodes::{OutOfMemory, TermId};
+use goal_terms::term_table::TermTable;
 use goal_terms::terms::Region;
 use indexmap::IndexMap;
 use std::alloc::Global;
@@ -102,6 +108,31 @@ impl ListedRegions {
         }
         self.pass_over();
         Ok(Region::Erased)
+    }
+
+    /// The number of a term with a fresh region variable for each erased lifetime in it, or its own where none is
+    /// listed.
+    pub(crate) fn with_fresh_lifetimes(
+        &mut self,
+        terms: &mut TermTable,
+        id: TermId,
+    ) -> Result<TermId, OutOfMemory>
+        requires { id.0 < length terms.old }
+        ensures kept { Keeps terms.old terms.new }
+        ensures within { IfOk result (λ r. r.0 < length terms.new) }
+        ensures same { IfOk result (λ r. erased (tree_at terms.new r) ≡ erased (tree_at terms.old id)) }
+    {
+        let mut next = self.next;
+        let fresh = with_fresh_lifetimes(terms, &mut next, id)?;
+        if next == self.next {
+            return Ok(id);
+        }
+        if !self.lists {
+            self.pass_over();
+            return Ok(id);
+        }
+        self.next = next;
+        Ok(fresh)
     }
 
     /// Lists that two lifetimes are equal. One isn't equated with itself.

@@ -1,7 +1,8 @@
 //! What an evaluation does with lifetimes; its other effects stay as they are.
-ghost use Rattle.std.specs.Prelude.{◌<◌, ◌==◌, IfOk, IfSome, length};
+ghost use Rattle.std.specs.Prelude.{◌≡◌, ◌<◌, ◌==◌, IfOk, IfSome, length};
 ghost use Rattle.indexmap.specs.IndexMap.{get};
-ghost use Rattle.goal_terms.specs.TableMeaning.{AreBelow};
+ghost use Rattle.goal_terms.specs.Erased.{erased};
+ghost use Rattle.goal_terms.specs.TableMeaning.{AreBelow, tree_at, Keeps};
 ghost use Rattle.goal_eval.specs.CacheEntries.{IsKeptAt};
 ghost use Rattle.goal_eval.specs.Effects.{KeepsButRegions};
 ghost use Rattle.goal_eval.specs.EvaluationCache.{consts_of};
@@ -69,6 +70,21 @@ impl Effects {
         ensures aside { KeepsButRegions self.old self.new }
     {
         self.regions.own_lifetime()
+    }
+
+    /// The number of a term with a fresh region variable for each erased lifetime in it. Only memory is refused.
+    pub(crate) fn with_fresh_lifetimes(
+        &mut self,
+        terms: &mut TermTable,
+        id: TermId,
+    ) -> Result<TermId, OutOfMemory>
+        requires { id.0 < length terms.old }
+        ensures aside { KeepsButRegions self.old self.new }
+        ensures kept { Keeps terms.old terms.new }
+        ensures within { IfOk result (λ r. r.0 < length terms.new) }
+        ensures same { IfOk result (λ r. erased (tree_at terms.new r) ≡ erased (tree_at terms.old id)) }
+    {
+        self.regions.with_fresh_lifetimes(terms, id)
     }
 
     /// Takes back what was listed since a list began, unless the list holds.

@@ -3,10 +3,9 @@ ghost use Rattle.std.specs.Prelude.{◌≡◌, true, false, List, IfErr, IfOk, I
 ghost use Rattle.std.specs.Option.{ForSome, option_copied};
 ghost use Rattle.goal_terms.specs.TableMeaning.{Keeps};
 ghost use Rattle.goal_terms.specs.Tree.{Tree};
-ghost use Rattle.goal_terms.specs.View.{tree_of_ref};
 ghost use Rattle.goal_lists.specs.Causes.{IsCaused, IsCausedEntry};
 ghost use Rattle.goal_lists.specs.Interned.{AreIn, erased_all};
-ghost use Rattle.goal_lists.specs.InternedEntries.{value_tree, arguments_at, ArgumentsIn, term_at, TermIn, entry_at, EntryIn};
+ghost use Rattle.goal_lists.specs.InternedEntries.{arguments_at, ArgumentsIn, term_at, TermIn, entry_at, EntryIn};
 ghost use Rattle.goal_lists.specs.ListModes.{IsAccess};
 ghost use Rattle.goal_lists.specs.Settings.{is_headline as is_of_headline};
 ghost use Rattle.goal_eval.specs.Lists.{AtEachLevel, NamedIn, named_at, RunIn, RunsOn, WhereStopping, run_state, SaysNamed, SaysHeader, SaysTerm, SaysRow, numbered_at, chosen_term};
@@ -21,20 +20,18 @@ use crate::eval::lists::progress::{ListRun, Reached};
 use crate::eval::mode_tests::is_headline;
 use crate::eval::outcomes::{Found, HeaderMatch, OnAccess, Setting, Stop};
 use crate::eval::premises::{clauses_outcome, conditions_outcome, predicate_outcome};
+use crate::eval::row_values::ValueOfRow;
 use crate::relate::equality::compare_lists;
 use crate::relate::header_args::instances;
 use crate::relate::headers::{AskedHeader, match_header};
 use goal_lists::candidates::premises::traits_under;
 use goal_lists::lists::parts::copied;
-use goal_lists::lists::{
-    HeaderTerms, InternedArguments, InternedEntry, InternedTerm, RowHeader, RowValueTerm,
-};
+use goal_lists::lists::{HeaderTerms, InternedArguments, InternedEntry, InternedTerm, RowHeader};
 use goal_lists::outcomes::Outcome;
 use goal_terms::answers::{DelayedFault, OpaqueAccess};
 use goal_terms::predicates::{BoundConstness, Clause, TraitRef};
 use goal_terms::term_nodes::TermId;
 use goal_terms::term_table::TermTable;
-use goal_terms::view::TermRef;
 
 /// What a row asks for under arguments: its clauses, or its const conditions with a constness.
 #[derive(Clone, Copy)]
@@ -286,27 +283,20 @@ fn term_found(
     match term {
         InternedTerm::AsItStands(id) => Ok(Found::Is(*id)),
         InternedTerm::HeadFormOf(id) => head_form(setting, terms, effects, *id, depth),
-        InternedTerm::ValueUnder(_, value, number) => {
+        InternedTerm::ValueUnder(row, value, number) => {
             let Some(args) = named_args(named, *number) else {
                 return Ok(Found::Undecided);
             };
-            let value = value_view(value);
-            head_form_under(setting, terms, effects, value, args, depth)
+            let of = ValueOfRow {
+                row: *row,
+                value: *value,
+            };
+            head_form_under(setting, terms, effects, of, args, depth)
         }
         InternedTerm::ChosenBy(predicate, first, second) => {
             let outcome = predicate_outcome(setting, terms, effects, predicate, depth)?;
             Ok(chosen(outcome, *first, *second))
         }
-    }
-}
-
-/// A row's value, to be read under arguments.
-fn value_view<'t>(value: &RowValueTerm<'t>) -> TermRef<'t>
-    ensures { tree_of_ref result ≡ value_tree value.now }
-{
-    match value {
-        RowValueTerm::Term(term) => term.view(),
-        RowValueTerm::Ty(ty) => TermRef::Ty(ty),
     }
 }
 
