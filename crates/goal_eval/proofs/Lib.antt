@@ -26,6 +26,7 @@ pub mod HeaderOutcomeLemmas
 pub mod HeaderMatchLemmas
 pub mod ListRunLemmas
 pub mod ListEntryLemmas
+pub mod OpaqueTypeLemmas
 pub mod ListAnswerLemmas
 pub mod SpecialImplLemmas
 pub mod CandidateRowLemmas

@@ -8,15 +8,20 @@ use Rattle.goal_terms.specs.PredicateTrees.{PredicateTree}
 use Rattle.goal_terms.specs.Sorts.{IsArgument}
 use Rattle.goal_terms.specs.Tree.{Tree}
 use Rattle.goal_terms.specs.declared.answers.ParamKind.{ParamKind}
+use Rattle.goal_terms.specs.declared.ids.OpaqueId.{OpaqueId}
+use Rattle.goal_terms.specs.declared.predicates.Clause.{Clause}
 use Rattle.goal_terms.specs.declared.term_nodes.TermId.{TermId}
-use Rattle.goal_lists.specs.Entries.{Arguments, given_arguments, of_header, of_other_header, followed_by, ExpectedTerm, as_it_stands, head_form_of, value_under, chosen_by, Named, NamedKnown, NamesNothing, TermIs, NoTerm}
+use Rattle.goal_lists.specs.Entries.{Arguments, given_arguments, of_header, of_other_header, followed_by, ExpectedTerm, as_it_stands, head_form_of, value_under, chosen_by, Named, NamedKnown, NamesNothing, TermIs, NoTerm, hidden_type}
 use Rattle.goal_lists.specs.Headers.{under, AllKnown, Fits, Clashes}
+use Rattle.goal_lists.specs.HiddenTypes.{HiddenGives, HiddenRefuted}
 use Rattle.goal_lists.specs.Interned.{IsIn, AreIn, erased_at, erased_all}
 use Rattle.goal_lists.specs.InternedEntries.{value_tree}
 use Rattle.goal_lists.specs.Laws.{IsConsistent}
 use Rattle.goal_lists.specs.Level.{Level, HasHeadForm, HeadFormRefuted}
 use Rattle.goal_lists.specs.Premises.{Premise, ClauseHolds, ClauseRefuted, PremisesHold, PremisesRefuted}
 use Rattle.goal_lists.specs.Words.{OfRow, Pairs, SomePair}
+use Rattle.goal_lists.specs.declared.lists.FirstUse.{FirstUse}
+use Rattle.goal_lists.specs.declared.lists.FirstUse.TheVariants as first
 use Rattle.goal_lists.specs.declared.lists.RowValueTerm.{RowValueTerm}
 use Rattle.goal_lists.specs.declared.lists.RowValueTerm.TheVariants as value
 use Rattle.goal_lists.proofs.SubstitutionLemmas.{one_substitution}
@@ -190,6 +195,24 @@ module _ (L : Level) (named : List (List Tree)) (T : List Tree) (e : ExpectedTer
       Says (ClauseHolds L p) (ClauseRefuted L p) o → SaysTerm L named e T f
   chosen-found p t v a b o f is first second made h =
       subst (λ d. SaysTerm L named d T f) (sym is) (subst (SaysTerm L named (chosen_by p t v) T) (sym made) (chosen-as p t v a b first second o h))
+
+  -- an opaque type that is being defined
+  hidden-as : (i : OpaqueId) (args : List Tree) (u : FirstUse) (t : Tree) (bs : List Clause) (f : Found) →
+      SaysWhich (HiddenGives L u args t bs) (HiddenRefuted L u args t bs) T f → SaysTerm L named (hidden_type i args u t bs) T f
+  unfolding TermIs NoTerm
+  hidden-as i args u t bs (found.Is id) h = h
+  hidden-as i args u t bs found.Refuted h = h
+  hidden-as i args u t bs found.Undecided h = h
+
+  pub checked-found : (i : OpaqueId) (args : List Tree) (t : Tree) (bs : List Clause) (r : Result Found Stop) → e ≡ hidden_type i args first.TypeChecked t bs →
+      IfOk r (SaysWhich (HiddenGives L first.TypeChecked args t bs) (HiddenRefuted L first.TypeChecked args t bs) T) → IfOk r (SaysTerm L named e T)
+  checked-found i args t bs (Ok f) is h = subst (λ d. SaysTerm L named d T f) (sym is) (hidden-as i args first.TypeChecked t bs f h)
+  checked-found i args t bs (Err x) is h = tt
+
+  pub unknown-found : (i : OpaqueId) (args : List Tree) (t : Tree) (bs : List Clause) → e ≡ hidden_type i args first.Expected t bs → SaysTerm L named e T found.Undecided
+  unfolding HiddenGives HiddenRefuted
+  unknown-found i args t bs is =
+      subst (λ d. SaysTerm L named d T found.Undecided) (sym is) (hidden-as i args first.Expected t bs found.Undecided ((λ u k. k), (λ k. k)))
 
 -- what a row asks for, under arguments that were named or not
 pub row-unnamed : (L : Level) (w : RowPremises) (o : Option (List Tree)) → o ≡ None → SaysRow L w o outcome.Undecided

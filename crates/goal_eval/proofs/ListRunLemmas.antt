@@ -16,9 +16,7 @@ use Rattle.goal_terms.specs.declared.predicates.BoundConstness.{BoundConstness}
 use Rattle.goal_terms.specs.declared.predicates.Clause.{Clause}
 use Rattle.goal_terms.specs.declared.predicates.TraitRef.{TraitRef}
 use Rattle.goal_terms.specs.declared.term_nodes.TermId.{TermId}
-use Rattle.goal_terms.specs.declared.ids.OpaqueId.{OpaqueId}
-use Rattle.goal_lists.specs.declared.lists.FirstUse.{FirstUse}
-use Rattle.goal_lists.specs.Entries.{Arguments, given_arguments, of_header, of_other_header, followed_by, ExpectedTerm, Entry, arguments, equal_terms, clause, row_clauses, row_conditions, expected, access, delayed_fault, evaluation, hidden_type, ambiguous, undecided, refused, OfNumbered, Named, NamedKnown, NamesNothing, TermIs, NoTerm, EntriesHold, EntriesRefuted, ListHolds, ListGives, ListRefuted, ListHoldsWith, ExpectsNone, AsksNoTerm}
+use Rattle.goal_lists.specs.Entries.{Arguments, given_arguments, of_header, of_other_header, followed_by, ExpectedTerm, Entry, arguments, equal_terms, clause, row_clauses, row_conditions, expected, access, delayed_fault, evaluation, ambiguous, undecided, refused, OfNumbered, Named, NamedKnown, NamesNothing, TermIs, NoTerm, EntriesHold, EntriesRefuted, ListHolds, ListGives, ListRefuted, ListHoldsWith, ExpectsNone, AsksNoTerm}
 use Rattle.goal_lists.specs.Headers.{under, no_lifetime}
 use Rattle.goal_lists.specs.Interned.{IsIn, AreIn, erased_at, erased_all}
 use Rattle.goal_lists.specs.Laws.{IsConsistent}
@@ -259,17 +257,6 @@ module _ (L : Level) (named : List (List Tree)) where
     apart = λ h x. x;
   }
 
-  pub hidden-asks : (i : OpaqueId) (ts : List Tree) (f : FirstUse) → Asks L named (hidden_type i ts f) ⊥ ⊥
-  unfolding EntriesHold EntriesRefuted
-  hidden-asks i ts f = record {
-    part = λ t rest h. absurd h;
-    whole = λ t rest h x. absurd h;
-    refuted_part = λ rest h. inr h;
-    refuted_whole = λ rest h. ⊎_elim (λ x. absurd x) (λ x. x) h;
-    silent = λ h. absurd h;
-    apart = λ h x. x;
-  }
-
   pub undecided-asks : Asks L named undecided ⊥ ⊥
   unfolding EntriesHold EntriesRefuted
   undecided-asks = record {
@@ -501,7 +488,6 @@ asked-gives L P named (expected e ∷ es) asks h = h
 asked-gives L P named (access a ∷ es) asks h = asked-gives L P named es (λ x. asks (tt, x)) h
 asked-gives L P named (delayed_fault f ∷ es) asks h = asked-gives L P named es (λ x. asks (tt, x)) h
 asked-gives L P named (evaluation ∷ es) asks h = asked-gives L P named es (λ x. asks (tt, x)) h
-asked-gives L P named (hidden_type i ts f ∷ es) asks h = absurd h
 asked-gives L P named (ambiguous ∷ es) asks h = h
 asked-gives L P named (undecided ∷ es) asks h = h
 asked-gives L P named (refused ∷ es) asks h = h

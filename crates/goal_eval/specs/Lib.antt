@@ -1,6 +1,7 @@
 pub mod ErasedArgs
 pub mod Entering
 pub mod Outcomes
+pub mod OpaqueTypes
 pub mod CacheEntries
 pub mod EvaluationCache
 pub mod Effects

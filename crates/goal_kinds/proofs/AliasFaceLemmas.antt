@@ -20,6 +20,8 @@ use Rattle.goal_tables.specs.Rows.{free_of, inherent_of, inherent_impl_of, opaqu
 use Rattle.goal_tables.specs.declared.rows.InherentRow.{InherentRow}
 use Rattle.goal_tables.specs.declared.rows.OpaqueRow.{OpaqueRow}
 use Rattle.goal_tables.specs.declared.rows.Tables.{Tables}
+use Rattle.goal_lists.specs.declared.lists.InternedTerm.TheVariants as terms
+use Rattle.goal_lists.specs.declared.lists.InternedTerm.{InternedTerm}
 use Rattle.goal_lists.specs.Aliases.{AliasGives, AliasRefuted}
 use Rattle.goal_lists.specs.AliasLists.{row_value, entries_of_row, free_list, inherent_alias_list, opaque_list, opaque_alias_list, alias_list}
 use Rattle.goal_lists.specs.Answers.{setting_of}
@@ -28,10 +30,10 @@ use Rattle.goal_lists.specs.InternedEntries.{setting_at}
 use Rattle.goal_lists.specs.Level.{Level}
 use Rattle.goal_lists.specs.Levels.{level}
 use Rattle.goal_lists.specs.ListModes.{access_in, accesses_in, in_mode, erased_setting}
-use Rattle.goal_lists.specs.NamedRows.{Defines}
+use Rattle.goal_lists.specs.NamedRows.{Defines, IsHiddenType}
 use Rattle.goal_kinds.specs.RebuiltKeys.{KeepsKey, KeepsKeys}
 use Rattle.goal_lists.specs.Projections.{projected_item}
-use Rattle.goal_kinds.specs.RuleLists.{arguments_of, expected_of, entry_of, list_of_rule, list_then, IsListed}
+use Rattle.goal_kinds.specs.RuleLists.{arguments_of, expected_of, entry_of, list_of_rule, list_then, IsListed, hidden_of}
 use Rattle.goal_kinds.specs.RuleModes.{access_of, accesses_of, IsRuleIn}
 use Rattle.goal_lists.specs.OpaqueUses.{access_to, first_use_of, accesses_for_opaque, accesses_for}
 use Rattle.goal_kinds.specs.RuleWords.{RuleMeans, TermsAreFor, IsHiddenEntry, DefinesHidden}
@@ -87,7 +89,7 @@ access-here t (entry.RowConditions c i n) x e = mapped-access (conditions_in t i
 access-here t (entry.Term v u) x e = mapped-access (expected_of t u) expected x (λ y. refl) e
 access-here t (entry.Equation ts us) x e = some-access _ x e
 access-here t (entry.Clause g k) x e = some-access _ x e
-access-here t (entry.HiddenType v k f) x e = some-access _ x e
+access-here t (entry.HiddenType v k f) x e = mapped-access (hidden_of t k f) expected x (λ y. refl) e
 access-here t (entry.Access a) x e = some-access _ x e
 access-here t (entry.DelayedFault f) x e = some-access _ x e
 access-here t entry.Evaluation x e = some-access _ x e
@@ -125,16 +127,16 @@ which-accesses : (b : Bool) (es fs : List Entry) → accesses_in es ≡ [] → a
 which-accesses true es fs h k = h
 which-accesses false es fs h k = k
 
-opaque-accesses : (m : TypingMode) (o : Option OpaqueRow) (defined : FirstUse → List Entry) (revealed : OpaqueRow → List Entry) (itself : List Entry) →
-    ((f : FirstUse) → accesses_in (defined f) ≡ []) → ((r : OpaqueRow) → accesses_in (revealed r) ≡ []) → accesses_in itself ≡ [] →
-    accesses_in (entries_of_row o (λ r. opaque_list m r defined (revealed r) itself)) ≡ accesses_for_opaque m o
+opaque-accesses : (m : TypingMode) (o : Option OpaqueRow) (defined : OpaqueRow → FirstUse → List Entry) (revealed : OpaqueRow → List Entry) (itself : List Entry) →
+    ((r : OpaqueRow) (f : FirstUse) → accesses_in (defined r f) ≡ []) → ((r : OpaqueRow) → accesses_in (revealed r) ≡ []) → accesses_in itself ≡ [] →
+    accesses_in (entries_of_row o (λ r. opaque_list m r (defined r) (revealed r) itself)) ≡ accesses_for_opaque m o
 unfolding entries_of_row opaque_list accesses_in
 opaque-accesses mode.Coherence None defined revealed itself d h k = refl
 opaque-accesses mode.Coherence (Some r) defined revealed itself d h k = refl
 opaque-accesses (mode.Analysis ids) None defined revealed itself d h k = refl
-opaque-accesses (mode.Analysis ids) (Some r) defined revealed itself d h k = which-accesses (among ids.items r) _ _ (d _) k
+opaque-accesses (mode.Analysis ids) (Some r) defined revealed itself d h k = which-accesses (among ids.items r) _ _ (d r _) k
 opaque-accesses (mode.Borrowck ids) None defined revealed itself d h k = refl
-opaque-accesses (mode.Borrowck ids) (Some r) defined revealed itself d h k = which-accesses (among ids.items r) _ _ (d _) k
+opaque-accesses (mode.Borrowck ids) (Some r) defined revealed itself d h k = which-accesses (among ids.items r) _ _ (d r _) k
 opaque-accesses (mode.PostBorrowckAnalysis ids) None defined revealed itself d h k = refl
 opaque-accesses (mode.PostBorrowckAnalysis ids) (Some r) defined revealed itself d h k = which-accesses (among ids.items r) _ _ (h r) k
 opaque-accesses mode.PostAnalysis None defined revealed itself d h k = refl
@@ -146,7 +148,7 @@ alias-accesses : (S : Setting) (k : AliasTermKind) (args : List Tree) → access
 unfolding alias_list accesses_in
 alias-accesses S (InherentTy i) args = inherent-accesses S (inherent_of S.tables i) args
 alias-accesses S (InherentConst i) args = inherent-accesses S (inherent_of S.tables i) args
-alias-accesses S (OpaqueTy i) args = opaque-accesses S.mode (opaque_of S.tables i) _ _ _ (λ f. refl) (λ r. refl) refl
+alias-accesses S (OpaqueTy i) args = opaque-accesses S.mode (opaque_of S.tables i) _ _ _ (λ r f. refl) (λ r. refl) refl
 alias-accesses S (FreeTy i) args = row-accesses (free_of S.tables i) _ (λ r. ap (λ xs. xs ++ []) (value-access r.value 0))
 alias-accesses S (FreeConst i) args = row-accesses (free_of S.tables i) _ (λ r. ap (λ xs. xs ++ []) (value-access r.value 0))
 alias-accesses S (UnevaluatedConst n) args = refl
@@ -228,7 +230,7 @@ stuck-here t (entry.RowConditions c i n) x e h S L Said rs k = mapped-stuck (con
 stuck-here t (entry.Term v u) x e h S L Said rs k = mapped-stuck (expected_of t u) expected x (λ y z. z) e h
 stuck-here t (entry.Equation ts us) x e h S L Said rs k = some-stuck _ x e h
 stuck-here t (entry.Clause g c) x e h S L Said rs k = some-stuck _ x e h
-stuck-here t (entry.HiddenType v c f) x e h S L Said rs k = some-stuck _ x e h
+stuck-here t (entry.HiddenType v c f) x e h S L Said rs k = mapped-stuck (hidden_of t c f) expected x (λ y z. z) e h
 stuck-here t (entry.Access a) x e h S L Said rs k = some-stuck _ x e h
 stuck-here t (entry.DelayedFault f) x e h S L Said rs k = some-stuck _ x e h
 stuck-here t entry.Evaluation x e h S L Said rs k = some-stuck _ x e h
@@ -258,28 +260,28 @@ alias_rule-coherent t m env k i args r coherence kind listed S L u h =
     S L (λ v. v ≡ u) h.0
 
 -- the only entry of a list that defines an opaque type keeps its key
-hidden-one : (T : List Tree) (w : Tree) (i : OpaqueId) (v : Vec TermId Global) (f : FirstUse) (ts : List Tree) (made : List RuleEntry) →
-    AllZip (KeepsKey T) (entries.HiddenType i v f ∷ []) made → TermsAreFor (λ t. t ≡ w) made → map (tree_at T) v.items ≡ ts → IsHiddenEntry w i ts f made
+hidden-one : (T : List Tree) (w : Tree) (i : OpaqueId) (ids : List TermId) (f : FirstUse) (ts : List Tree) (x : InternedTerm) (made : List RuleEntry) → IsHiddenType i ids f x →
+    AllZip (KeepsKey T) (entries.Expected x ∷ []) made → TermsAreFor (λ t. t ≡ w) made → map (tree_at T) ids ≡ ts → IsHiddenEntry w i ts f made
 unfolding TermsAreFor
-hidden-one T w i v f ts [] h k e = absurd h
-hidden-one T w i v f ts (entry.HiddenType x key g ∷ []) h k e = record {
+hidden-one T w i ids f ts x [] is h k e = absurd h
+hidden-one T w i ids f ts x (y ∷ z ∷ zs) is h k e = absurd h.1
+hidden-one T w i ids f ts (terms.HiddenType j v g r) (entry.HiddenType x key q ∷ []) is h k e = record {
   expected = x;
   key = key;
-  is = ap (λ y. entry.HiddenType x key y ∷ []) h.0.1;
+  is = ap (λ y. entry.HiddenType x key y ∷ []) (h.0.1 ∙ is.2);
   same_term = k.0;
-  same_type = h.0.0;
-  same_args = h.0.2 ∙ e;
+  same_type = h.0.0 ∙ is.0;
+  same_args = h.0.2 ∙ ap (map (tree_at T)) is.1 ∙ e;
 }
-hidden-one T w i v f ts (entry.HiddenType x key g ∷ y ∷ ys) h k e = absurd h.1
-hidden-one T w i v f ts (y ∷ ys) h k e = absurd h.0
+hidden-one T w i ids f ts (terms.HiddenType j v g r) (y ∷ []) is h k e = absurd h.0
+hidden-one T w i ids f ts x (y ∷ []) is h k e = absurd is
 
 pub alias_rule-defines : (T : List Tree) (a : AliasTerm) (w : Tree) (f : FirstUse) (list : Vec InternedEntry Global) (es : List RuleEntry) → Defines T a f list.items →
     KeepsKeys T certainty.Yes (Some list) es → TermsAreFor (λ t. t ≡ w) es → DefinesHidden w a f es
-alias_rule-defines T a w f list es (ids, same, (i, kind, (v, numbers, only))) (made, is, zip) all =
+alias_rule-defines T a w f list es (ids, same, (i, kind, (x, hidden, only))) (made, is, zip) all =
     let whole : es ≡ made = is ∙ append-nil made in (
       i,
       kind,
       subst (IsHiddenEntry w i (trees_of a.args.items) f) (sym whole)
-          (hidden-one T w i v f (trees_of a.args.items) made (subst (λ xs. AllZip (KeepsKey T) xs made) only zip) (subst (TermsAreFor (λ t. t ≡ w)) whole all)
-          (ap (map (tree_at T)) numbers ∙ same)),
+          (hidden-one T w i ids f (trees_of a.args.items) x made hidden (subst (λ xs. AllZip (KeepsKey T) xs made) only zip) (subst (TermsAreFor (λ t. t ≡ w)) whole all) same),
     )

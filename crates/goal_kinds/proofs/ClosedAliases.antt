@@ -15,13 +15,14 @@ use Rattle.goal_tables.specs.declared.rows.InherentRow.{InherentRow}
 use Rattle.goal_tables.specs.declared.rows.OpaqueRow.{OpaqueRow}
 use Rattle.goal_lists.specs.Aliases.{ValueGives, FreeGives, self_header, InherentGives, InherentAliasGives, OpaqueGives, AliasGives}
 use Rattle.goal_lists.specs.Headers.{under, Fits}
+use Rattle.goal_lists.specs.HiddenTypes.{HiddenGives}
 use Rattle.goal_lists.specs.Level.{Level}
-use Rattle.goal_lists.specs.Settings.{Setting, leaves_open, reveals}
+use Rattle.goal_lists.specs.Settings.{Setting, leaves_open, takes_checked, reveals}
 use Rattle.goal_lists.specs.Words.{Each, OfRow}
 use Rattle.goal_kinds.proofs.ClosedCandidates.{IsClosedSetting}
 use Rattle.goal_kinds.proofs.ClosedHeaders.{KeepsClosed, either-out, closed-head_form, closed-all_known}
 use Rattle.goal_kinds.proofs.ClosedProjections.{closed-projection_gives}
-use Rattle.goal_kinds.proofs.ClosedRows.{HoldsClosedTerm, closed-hidden, closed-free, closed-inherent}
+use Rattle.goal_kinds.proofs.ClosedRows.{HoldsClosedTerm, closed-typeck_hidden, closed-hidden, closed-free, closed-inherent}
 use Rattle.goal_kinds.proofs.ClosedTerms.{IsClosedTree, AreClosedTrees, closed-alias, closed-append, closed-under}
 
 -- a row's value
@@ -75,17 +76,22 @@ closed-inherent_alias w S s i [] all u g = absurd g
 closed-inherent_alias w S s i (self ∷ own) all u g =
     closed-inherent_item w S self all.0 own all.1 u (inherent_of S.tables i) (λ r e. closed-inherent S.tables s.checked i r e) g
 
--- an opaque type
+-- an opaque type, of which neither the type that type checking found nor the hidden type holds an inference variable
+abbrev HidesClosed : OpaqueRow → Type 0
+HidesClosed r = IsClosedTree (tree_of_ty r.typeck_hidden) × IsClosedTree (tree_of_ty r.hidden)
+
 closed-opaque_gives : {L : Level} → KeepsClosed L → (S : Setting) (i : OpaqueId) (args : List Tree) → AreClosedTrees args →
-    (u : Tree) (r : OpaqueRow) → IsClosedTree (tree_of_ty r.hidden) → OpaqueGives S L i args u r → IsClosedTree u
-unfolding OpaqueGives
+    (u : Tree) (r : OpaqueRow) → HidesClosed r → OpaqueGives S L i args u r → IsClosedTree u
+unfolding OpaqueGives HiddenGives
 closed-opaque_gives w S i args all u r e g =
     either-out (leaves_open S.mode r) (λ h. absurd h)
-    (either-out (reveals S.mode r) (closed-head_form w (under args (tree_of_ty r.hidden)) u (closed-under args all (tree_of_ty r.hidden) e))
-    (λ h. ap (some_node is_any_infer) h ∙ closed-alias (OpaqueTy i) args all)) g
+    (either-out (takes_checked S.mode r)
+    (λ h. closed-head_form w (under args (tree_of_ty r.typeck_hidden)) u (closed-under args all (tree_of_ty r.typeck_hidden) e.0) h.2)
+    (either-out (reveals S.mode r) (closed-head_form w (under args (tree_of_ty r.hidden)) u (closed-under args all (tree_of_ty r.hidden) e.1))
+    (λ h. ap (some_node is_any_infer) h ∙ closed-alias (OpaqueTy i) args all))) g
 
 closed-opaque_row : {L : Level} → KeepsClosed L → (S : Setting) (i : OpaqueId) (args : List Tree) → AreClosedTrees args →
-    (u : Tree) (o : Option OpaqueRow) → ((r : OpaqueRow) → o ≡ Some r → IsClosedTree (tree_of_ty r.hidden)) → OfRow o (OpaqueGives S L i args u) → IsClosedTree u
+    (u : Tree) (o : Option OpaqueRow) → ((r : OpaqueRow) → o ≡ Some r → HidesClosed r) → OfRow o (OpaqueGives S L i args u) → IsClosedTree u
 unfolding OfRow
 closed-opaque_row w S i args all u None each g = absurd g
 closed-opaque_row w S i args all u (Some r) each g = closed-opaque_gives w S i args all u r (each r refl) g
@@ -98,7 +104,7 @@ closed-alias_gives w S s (ProjectionTy i) args u all g = closed-projection_gives
 closed-alias_gives w S s (ProjectionConst i) args u all g = closed-projection_gives w S s (ProjectionConst i) i args all u g
 closed-alias_gives w S s (InherentTy i) args u all g = closed-inherent_alias w S s i args all u g
 closed-alias_gives w S s (InherentConst i) args u all g = closed-inherent_alias w S s i args all u g
-closed-alias_gives w S s (OpaqueTy i) args u all g = closed-opaque_row w S i args all u (opaque_of S.tables i) (λ r e. closed-hidden S.tables s.checked i r e) g
+closed-alias_gives w S s (OpaqueTy i) args u all g = closed-opaque_row w S i args all u (opaque_of S.tables i) (λ r e. (closed-typeck_hidden S.tables s.checked i r e, closed-hidden S.tables s.checked i r e)) g
 closed-alias_gives w S s (FreeTy i) args u all g = closed-free_row w args all u (free_of S.tables i) (λ r e. closed-free S.tables s.checked i r e) g
 closed-alias_gives w S s (FreeConst i) args u all g = closed-free_row w args all u (free_of S.tables i) (λ r e. closed-free S.tables s.checked i r e) g
 closed-alias_gives w S s (UnevaluatedConst n) args u all g = absurd g

@@ -58,7 +58,11 @@ mutual
       let each : (lies_in t ps InferInTable u ≡ false) × (lies_in_row t ps InferInTable us ≡ false) = both_fail (lies_in t ps InferInTable u) (lies_in_row t ps InferInTable us) e in
       closed-more u us (closed-accepted t ps u each.0) (closed-accepted_row t ps us each.1)
 
--- the hidden type of an opaque type
+-- the type that type checking found for an opaque type
+pub closed-typeck_hidden : (t : Tables) → IsChecked t → (i : OpaqueId) (r : OpaqueRow) → opaque_of t i ≡ Some r → IsClosedTree (tree_of_ty r.typeck_hidden)
+closed-typeck_hidden t ok i r e = closed-accepted t r.params.items (tree_of_ty r.typeck_hidden) (opaque_parts_fail t ok InferInTable i r e).1
+
+-- and its hidden type
 pub closed-hidden : (t : Tables) → IsChecked t → (i : OpaqueId) (r : OpaqueRow) → opaque_of t i ≡ Some r → IsClosedTree (tree_of_ty r.hidden)
 closed-hidden t ok i r e = closed-accepted t r.params.items (tree_of_ty r.hidden) (opaque_parts_fail t ok InferInTable i r e).0
 

@@ -23,7 +23,6 @@ use Rattle.goal_lists.proofs.PlaceLists.{places-length, place-within, at-place}
 use Rattle.goal_lists.proofs.FoundImplLemmas.{impl-found}
 use Rattle.goal_kinds.specs.Collecting.{Adds, AreCollected, Collects, CollectsAll}
 use Rattle.goal_terms.specs.declared.answers.TraitGoalProvenVia.{TraitGoalProvenVia}
-use Rattle.goal_terms.specs.declared.answers.TraitGoalProvenVia.TheVariants as class
 use Rattle.goal_kinds.proofs.ClassRuleLemmas.{take-more}
 
 -- a rule for one more candidate

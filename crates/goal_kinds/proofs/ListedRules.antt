@@ -11,7 +11,7 @@ use Rattle.goal_tables.specs.Rows.{impl_of, inherent_impl_of}
 use Rattle.goal_tables.specs.declared.rows.ImplRow.{ImplRow}
 use Rattle.goal_tables.specs.declared.rows.Tables.{Tables}
 use Rattle.goal_kinds.specs.CandidateRules.{after, only_given, RuleSays, GivesAs, RefutedAs, IsRefusal, IsNamedAnswer}
-use Rattle.goal_lists.specs.Entries.{of_header, of_other_header, followed_by, Entry, arguments, equal_terms, clause, row_clauses, row_conditions, expected, access, delayed_fault, evaluation, hidden_type, ambiguous, undecided, refused, EntriesHold, EntriesRefuted, ListHolds, ListGives, ListRefuted}
+use Rattle.goal_lists.specs.Entries.{of_header, of_other_header, followed_by, Entry, arguments, equal_terms, clause, row_clauses, row_conditions, expected, access, delayed_fault, evaluation, ambiguous, undecided, refused, EntriesHold, EntriesRefuted, ListHolds, ListGives, ListRefuted}
 use Rattle.goal_lists.specs.Level.{Level}
 use Rattle.goal_lists.specs.Levels.{level}
 use Rattle.goal_kinds.specs.RuleLists.{entry_of, list_of_rule, entries_then, list_then, IsListed}
@@ -50,7 +50,6 @@ module _ (L : Level) where
   undecided-holds Said Unsaid named (access a ∷ es) h = undecided-holds Said Unsaid named es h
   undecided-holds Said Unsaid named (delayed_fault f ∷ es) h = undecided-holds Said Unsaid named es h
   undecided-holds Said Unsaid named (evaluation ∷ es) h = undecided-holds Said Unsaid named es h
-  undecided-holds Said Unsaid named (hidden_type i args first ∷ es) h = h
   undecided-holds Said Unsaid named (ambiguous ∷ es) h = h
   undecided-holds Said Unsaid named (undecided ∷ es) h = h
   undecided-holds Said Unsaid named (refused ∷ es) h = h
@@ -73,7 +72,6 @@ module _ (L : Level) where
   undecided-refuted named (access a ∷ es) = undecided-refuted named es
   undecided-refuted named (delayed_fault f ∷ es) = undecided-refuted named es
   undecided-refuted named (evaluation ∷ es) = undecided-refuted named es
-  undecided-refuted named (hidden_type i args first ∷ es) = undecided-refuted named es
   undecided-refuted named (ambiguous ∷ es) = undecided-refuted named es
   undecided-refuted named (undecided ∷ es) = undecided-refuted named es
   undecided-refuted named (refused ∷ es) = iff-same

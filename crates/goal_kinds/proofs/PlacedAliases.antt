@@ -20,14 +20,15 @@ use Rattle.goal_tables.specs.declared.rows.OpaqueRow.{OpaqueRow}
 use Rattle.goal_tables.specs.declared.rows.Tables.{Tables}
 use Rattle.goal_lists.specs.Aliases.{ValueGives, FreeGives, self_header, InherentGives, InherentAliasGives, OpaqueGives, AliasGives}
 use Rattle.goal_lists.specs.Headers.{under, Fits}
+use Rattle.goal_lists.specs.HiddenTypes.{HiddenGives}
 use Rattle.goal_lists.specs.Level.{Level}
-use Rattle.goal_lists.specs.Settings.{Setting, leaves_open, reveals}
+use Rattle.goal_lists.specs.Settings.{Setting, leaves_open, takes_checked, reveals}
 use Rattle.goal_lists.specs.Words.{Each, OfRow}
 use Rattle.goal_kinds.proofs.ClosedHeaders.{either-out}
 use Rattle.goal_kinds.proofs.PlacedCandidates.{IsPlacedSetting, kind-of_row}
 use Rattle.goal_kinds.proofs.PlacedHeaders.{KeepsPlaced, placed-head_form_as, placed-all_known}
 use Rattle.goal_kinds.proofs.PlacedProjections.{placed-projection_gives}
-use Rattle.goal_kinds.proofs.PlacedRows.{HoldsPlacedTerm, sort-by_value, placed-free, placed-inherent, placed-self, placed-hidden}
+use Rattle.goal_kinds.proofs.PlacedRows.{HoldsPlacedTerm, sort-by_value, placed-free, placed-inherent, placed-self, placed-typeck_hidden, placed-hidden}
 use Rattle.goal_kinds.proofs.PlacedTerms.{sort_of_value, AliasIsPlaced, IsPlacedAs, IsPlacedArgument, ArePlaced, argument-alias, placed-alias, placed-append, placed-under_as}
 
 -- a row's value
@@ -90,18 +91,23 @@ placed-inherent_alias S s w k i kinds [] all u g = absurd g
 placed-inherent_alias S s w k i kinds (self ∷ own) all u g =
     placed-inherent_item S s w k self all.0 own all.1 u (inherent_of S.tables i) (λ r e. (placed-inherent S.tables s.checked i r e, kinds r e)) g
 
--- an opaque type
+-- an opaque type, of which both the type that type checking found and the hidden type are placed
+abbrev HidesPlaced : Tables → OpaqueRow → Type 0
+HidesPlaced t r = IsPlacedAs t sorts.Ty (tree_of_ty r.typeck_hidden) × IsPlacedAs t sorts.Ty (tree_of_ty r.hidden)
+
 placed-opaque_gives : (S : Setting) → {L : Level} → KeepsPlaced S.tables L → (i : OpaqueId) → AliasIsPlaced S.tables (OpaqueTy i) → (args : List Tree) → ArePlaced S.tables args →
-    (u : Tree) (r : OpaqueRow) → IsPlacedAs S.tables sorts.Ty (tree_of_ty r.hidden) → OpaqueGives S L i args u r → IsPlacedAs S.tables sorts.Ty u
-unfolding OpaqueGives
+    (u : Tree) (r : OpaqueRow) → HidesPlaced S.tables r → OpaqueGives S L i args u r → IsPlacedAs S.tables sorts.Ty u
+unfolding OpaqueGives HiddenGives
 placed-opaque_gives S w i own args all u r e g =
     either-out (leaves_open S.mode r) (λ h. absurd h)
+    (either-out (takes_checked S.mode r)
+    (λ h. placed-head_form_as S.tables w sorts.Ty (under args (tree_of_ty r.typeck_hidden)) u (placed-under_as S.tables args all sorts.Ty (tree_of_ty r.typeck_hidden) e.0) h.2)
     (either-out (reveals S.mode r)
-    (λ h. placed-head_form_as S.tables w sorts.Ty (under args (tree_of_ty r.hidden)) u (placed-under_as S.tables args all sorts.Ty (tree_of_ty r.hidden) e) h)
-    (λ h. subst (IsPlacedAs S.tables sorts.Ty) (sym h) (refl, placed-alias S.tables (OpaqueTy i) args own all))) g
+    (λ h. placed-head_form_as S.tables w sorts.Ty (under args (tree_of_ty r.hidden)) u (placed-under_as S.tables args all sorts.Ty (tree_of_ty r.hidden) e.1) h)
+    (λ h. subst (IsPlacedAs S.tables sorts.Ty) (sym h) (refl, placed-alias S.tables (OpaqueTy i) args own all)))) g
 
 placed-opaque_row : (S : Setting) → {L : Level} → KeepsPlaced S.tables L → (i : OpaqueId) → AliasIsPlaced S.tables (OpaqueTy i) → (args : List Tree) → ArePlaced S.tables args →
-    (u : Tree) (o : Option OpaqueRow) → ((r : OpaqueRow) → o ≡ Some r → IsPlacedAs S.tables sorts.Ty (tree_of_ty r.hidden)) → OfRow o (OpaqueGives S L i args u) →
+    (u : Tree) (o : Option OpaqueRow) → ((r : OpaqueRow) → o ≡ Some r → HidesPlaced S.tables r) → OfRow o (OpaqueGives S L i args u) →
     IsPlacedAs S.tables sorts.Ty u
 unfolding OfRow
 placed-opaque_row S w i own args all u None each g = absurd g
@@ -118,7 +124,7 @@ placed-alias_gives S s w (InherentTy i) args u own all g =
 placed-alias_gives S s w (InherentConst i) args u own all g =
     placed-inherent_alias S s w (InherentConst i) i (λ r e. kind-of_row (λ q. q.is_const) (inherent_of S.tables i) r (kind_of_alias (InherentConst i)) e own) args all u g
 placed-alias_gives S s w (OpaqueTy i) args u own all g =
-    placed-opaque_row S w i own args all u (opaque_of S.tables i) (λ r e. placed-hidden S.tables s.checked i r e) g
+    placed-opaque_row S w i own args all u (opaque_of S.tables i) (λ r e. (placed-typeck_hidden S.tables s.checked i r e, placed-hidden S.tables s.checked i r e)) g
 placed-alias_gives S s w (FreeTy i) args u own all g =
     placed-free_row S.tables w (FreeTy i) args all u (free_of S.tables i)
     (λ r e. (placed-free S.tables s.checked i r e, kind-of_row (λ q. q.is_const) (free_of S.tables i) r (kind_of_alias (FreeTy i)) e own)) g

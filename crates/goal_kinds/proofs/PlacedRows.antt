@@ -244,6 +244,9 @@ placed-self t ok i r e = (
 )
 
 -- the hidden type of an opaque type
+pub placed-typeck_hidden : (t : Tables) → IsChecked t → (i : OpaqueId) (r : OpaqueRow) → opaque_of t i ≡ Some r → IsPlacedAs t sorts.Ty (tree_of_ty r.typeck_hidden)
+placed-typeck_hidden t ok i r e = placed-ty t ok r.params.items r.typeck_hidden (λ f. (opaque_parts_fail t ok f i r e).1)
+
 pub placed-hidden : (t : Tables) → IsChecked t → (i : OpaqueId) (r : OpaqueRow) → opaque_of t i ≡ Some r → IsPlacedAs t sorts.Ty (tree_of_ty r.hidden)
 placed-hidden t ok i r e = placed-ty t ok r.params.items r.hidden (λ f. (opaque_parts_fail t ok f i r e).0)
 

@@ -8,10 +8,12 @@ use Rattle.goal_terms.specs.Tree.{Tree}
 use Rattle.goal_terms.specs.TreeOf.{trees_of, tree_of_ty, tree_of_term}
 use Rattle.goal_terms.specs.declared.ids.ImplId.{ImplId}
 use Rattle.goal_terms.specs.declared.predicates.BoundConstness.{BoundConstness}
-use Rattle.goal_tables.specs.Rows.{impl_of, inherent_impl_of}
+use Rattle.goal_tables.specs.Rows.{impl_of, inherent_impl_of, opaque_of}
 use Rattle.goal_tables.specs.declared.rows.ImplRow.{ImplRow}
 use Rattle.goal_tables.specs.declared.rows.InherentImplRow.{InherentImplRow}
 use Rattle.goal_tables.specs.declared.rows.Tables.{Tables}
+use Rattle.goal_terms.specs.declared.answers.OpaqueTypeKey.{OpaqueTypeKey}
+use Rattle.goal_lists.specs.declared.lists.FirstUse.{FirstUse}
 use Rattle.goal_lists.specs.Answers.{erased_predicate}
 use Rattle.goal_lists.specs.Aliases.{self_header}
 use Rattle.goal_lists.specs.Headers.{under, AllKnown, Fits, Clashes}
@@ -20,7 +22,7 @@ use Rattle.goal_lists.specs.Laws.{IsWithin, IsConsistent}
 use Rattle.goal_lists.specs.Level.{Level}
 use Rattle.goal_lists.specs.Levels.{level}
 use Rattle.goal_lists.specs.Premises.{clauses_under, traits_under, conditions_as}
-use Rattle.goal_kinds.specs.Rules.{MatchedHeader, header_in, Names, NamesKnown, NamesNothing, RowClausesHold, RowClausesRefuted, RowConditionsHold, RowConditionsRefuted, TermIs, TermIsNone, EntriesHold, EntriesRefuted, has_term, RuleHolds, RuleGives, RuleRefuted}
+use Rattle.goal_kinds.specs.Rules.{MatchedHeader, header_in, Names, NamesKnown, NamesNothing, RowClausesHold, RowClausesRefuted, RowConditionsHold, RowConditionsRefuted, TermIs, TermIsNone, EntriesHold, EntriesRefuted, has_term, RuleHolds, RuleGives, RuleRefuted, HiddenIs, HiddenIsNone}
 use Rattle.goal_lists.specs.RowWords.{given, clauses_in, conditions_in, value_in}
 use Rattle.goal_lists.specs.Settings.{Setting}
 use Rattle.goal_lists.specs.TraitGoals.{header_of}
@@ -39,6 +41,7 @@ use Rattle.goal_lists.proofs.CandidateLemmas.{no_pair_unequal}
 use Rattle.goal_lists.proofs.ConsistentLemmas.{each_level_is_consistent}
 use Rattle.goal_lists.proofs.ContraryWords.{OfRow-twice}
 use Rattle.goal_lists.proofs.EqualLemmas.{one_head_form, no_head_form_refuted}
+use Rattle.goal_lists.proofs.HiddenLemmas.{within-hidden_gives, within-hidden_refuted, one_hidden_term, no_hidden_refuted}
 use Rattle.goal_lists.proofs.PremiseLemmas.{no_clause_refuted, no_premises_refuted}
 use Rattle.goal_lists.proofs.SubstitutionLemmas.{one_substitution, no_fit_and_clash}
 use Rattle.goal_lists.proofs.WithinHeaders.{within-fits, within-clashes, within-all_known}
@@ -61,7 +64,7 @@ entries_hold-said S L P Q f named (entry.Term v e ∷ es) h = ((h.0.0, h.0.1, f 
 entries_hold-said S L P Q f named (entry.Access a ∷ es) h = entries_hold-said S L P Q f named es h
 entries_hold-said S L P Q f named (entry.DelayedFault a ∷ es) h = entries_hold-said S L P Q f named es h
 entries_hold-said S L P Q f named (entry.Evaluation ∷ es) h = entries_hold-said S L P Q f named es h
-entries_hold-said S L P Q f named (entry.HiddenType v key first ∷ es) h = h
+entries_hold-said S L P Q f named (entry.HiddenType v key first ∷ es) h = ((h.0.0, h.0.1, f h.0.0 h.0.2), entries_hold-said S L P Q f named es h.1)
 entries_hold-said S L P Q f named (entry.Ambiguous ∷ es) h = h
 entries_hold-said S L P Q f named (entry.Undecided ∷ es) h = h
 entries_hold-said S L P Q f named (entry.Refused ∷ es) h = h
@@ -137,6 +140,15 @@ within-term_is_none w S named (term.Value v n) h =
     of_row-map (value_in S.tables v) (λ e. of_row-map (slice_get named n) (λ s. within-head_form_refuted w (under s e))) h
 within-term_is_none w S named (term.ChosenBy k a b) h = h
 
+-- what an opaque type that is being defined stands for
+within-hidden_is : {L M : Level} → IsWithin L M → (S : Setting) (k : OpaqueTypeKey) (f : FirstUse) (u : Tree) → HiddenIs S L k f u → HiddenIs S M k f u
+unfolding HiddenIs
+within-hidden_is w S k f u h = of_row-map (opaque_of S.tables k.def_id) (λ r. within-hidden_gives w f (given k.args) (tree_of_ty r.typeck_hidden) r.bounds.items u) h
+
+within-hidden_is_none : {L M : Level} → IsWithin L M → (S : Setting) (k : OpaqueTypeKey) (f : FirstUse) → HiddenIsNone S L k f → HiddenIsNone S M k f
+unfolding HiddenIsNone
+within-hidden_is_none w S k f h = of_row-map (opaque_of S.tables k.def_id) (λ r. within-hidden_refuted w f (given k.args) (tree_of_ty r.typeck_hidden) r.bounds.items) h
+
 -- entries that all hold
 pub within-entries_hold : {L M : Level} → IsWithin L M → (S : Setting) (Said : Tree → Type 0) (named : List (List Tree)) (es : List RuleEntry) →
     EntriesHold S L Said named es → EntriesHold S M Said named es
@@ -155,7 +167,8 @@ within-entries_hold w S Said named (entry.Term v e ∷ es) h =
 within-entries_hold w S Said named (entry.Access a ∷ es) h = within-entries_hold w S Said named es h
 within-entries_hold w S Said named (entry.DelayedFault f ∷ es) h = within-entries_hold w S Said named es h
 within-entries_hold w S Said named (entry.Evaluation ∷ es) h = within-entries_hold w S Said named es h
-within-entries_hold w S Said named (entry.HiddenType v key first ∷ es) h = h
+within-entries_hold w S Said named (entry.HiddenType v key first ∷ es) h =
+    ((h.0.0, within-hidden_is w S key first h.0.0 h.0.1, h.0.2), within-entries_hold w S Said named es h.1)
 within-entries_hold w S Said named (entry.Ambiguous ∷ es) h = h
 within-entries_hold w S Said named (entry.Undecided ∷ es) h = h
 within-entries_hold w S Said named (entry.Refused ∷ es) h = h
@@ -179,7 +192,7 @@ within-entries_refuted w S named (entry.Term v e ∷ es) h = sum-map (within-ter
 within-entries_refuted w S named (entry.Access a ∷ es) h = within-entries_refuted w S named es h
 within-entries_refuted w S named (entry.DelayedFault f ∷ es) h = within-entries_refuted w S named es h
 within-entries_refuted w S named (entry.Evaluation ∷ es) h = within-entries_refuted w S named es h
-within-entries_refuted w S named (entry.HiddenType v key first ∷ es) h = within-entries_refuted w S named es h
+within-entries_refuted w S named (entry.HiddenType v key first ∷ es) h = sum-map (within-hidden_is_none w S key first) (within-entries_refuted w S named es) h
 within-entries_refuted w S named (entry.Ambiguous ∷ es) h = within-entries_refuted w S named es h
 within-entries_refuted w S named (entry.Undecided ∷ es) h = within-entries_refuted w S named es h
 within-entries_refuted w S named (entry.Refused ∷ es) h = h
@@ -287,6 +300,17 @@ one_term_is S L c named (term.ChosenBy p a b) t u h k =
     ⊎_elim (λ x. ⊎_elim (λ y. x.1 ∙ sym y.1) (λ y. absurd (no_clause_refuted L c q x.0 y.0)) k)
     (λ x. ⊎_elim (λ y. absurd (no_clause_refuted L c q y.0 x.0)) (λ y. x.1 ∙ sym y.1) k) h
 
+-- and what an opaque type that is being defined stands for
+no_hidden_none : (S : Setting) (L : Level) → IsConsistent L → (k : OpaqueTypeKey) (f : FirstUse) (u : Tree) → HiddenIs S L k f u → HiddenIsNone S L k f → ⊥
+unfolding HiddenIs HiddenIsNone
+no_hidden_none S L c k f u h x =
+    OfRow-twice _ _ (λ r d e. no_hidden_refuted L c f (given k.args) (tree_of_ty r.typeck_hidden) r.bounds.items u d e) (opaque_of S.tables k.def_id) h x
+
+one_hidden_is : (S : Setting) (L : Level) → IsConsistent L → (k : OpaqueTypeKey) (f : FirstUse) (t u : Tree) → HiddenIs S L k f t → HiddenIs S L k f u → t ≡ u
+unfolding HiddenIs
+one_hidden_is S L c k f t u h x =
+    OfRow-twice _ _ (λ r d e. one_hidden_term L c f (given k.args) (tree_of_ty r.typeck_hidden) r.bounds.items t u d e) (opaque_of S.tables k.def_id) h x
+
 -- entries that hold are not refuted
 no_entries_refuted : (S : Setting) (L : Level) → IsConsistent L → (Said : Tree → Type 0) (named : List (List Tree)) (es : List RuleEntry) →
     EntriesHold S L Said named es → EntriesRefuted S L named es → ⊥
@@ -309,7 +333,8 @@ no_entries_refuted S L c Said named (entry.Term v e ∷ es) h k =
 no_entries_refuted S L c Said named (entry.Access a ∷ es) h k = no_entries_refuted S L c Said named es h k
 no_entries_refuted S L c Said named (entry.DelayedFault f ∷ es) h k = no_entries_refuted S L c Said named es h k
 no_entries_refuted S L c Said named (entry.Evaluation ∷ es) h k = no_entries_refuted S L c Said named es h k
-no_entries_refuted S L c Said named (entry.HiddenType v key first ∷ es) h k = h
+no_entries_refuted S L c Said named (entry.HiddenType v key first ∷ es) h k =
+    ⊎_elim (λ x. no_hidden_none S L c key first h.0.0 h.0.1 x) (λ x. no_entries_refuted S L c Said named es h.1 x) k
 no_entries_refuted S L c Said named (entry.Ambiguous ∷ es) h k = h
 no_entries_refuted S L c Said named (entry.Undecided ∷ es) h k = h
 no_entries_refuted S L c Said named (entry.Refused ∷ es) h k = h
@@ -330,7 +355,7 @@ one_said S L c t u named (entry.Term v x ∷ es) e h k = sym h.0.2 ∙ one_term_
 one_said S L c t u named (entry.Access a ∷ es) e h k = one_said S L c t u named es e h k
 one_said S L c t u named (entry.DelayedFault f ∷ es) e h k = one_said S L c t u named es e h k
 one_said S L c t u named (entry.Evaluation ∷ es) e h k = one_said S L c t u named es e h k
-one_said S L c t u named (entry.HiddenType v key first ∷ es) e h k = absurd h
+one_said S L c t u named (entry.HiddenType v key first ∷ es) e h k = sym h.0.2 ∙ one_hidden_is S L c key first h.0.0 k.0.0 h.0.1 k.0.1 ∙ k.0.2
 one_said S L c t u named (entry.Ambiguous ∷ es) e h k = absurd h
 one_said S L c t u named (entry.Undecided ∷ es) e h k = absurd h
 one_said S L c t u named (entry.Refused ∷ es) e h k = absurd h

@@ -9,18 +9,20 @@ use Rattle.goal_terms.specs.declared.answers.ParamKind.{ParamKind}
 use Rattle.goal_terms.specs.declared.predicates.BoundConstness.{BoundConstness}
 use Rattle.goal_terms.specs.declared.predicates.Clause.{Clause}
 use Rattle.goal_terms.specs.declared.predicates.TraitRef.{TraitRef}
-use Rattle.goal_tables.specs.Rows.{impl_of, inherent_impl_of}
+use Rattle.goal_tables.specs.Rows.{impl_of, inherent_impl_of, opaque_of}
 use Rattle.goal_tables.specs.declared.rows.ImplRow.{ImplRow}
+use Rattle.goal_terms.specs.declared.answers.OpaqueTypeKey.{OpaqueTypeKey}
+use Rattle.goal_lists.specs.declared.lists.FirstUse.{FirstUse}
 use Rattle.goal_lists.specs.Aliases.{self_header}
 use Rattle.goal_lists.specs.Entries as list
-use Rattle.goal_lists.specs.Entries.{Arguments, of_header, of_other_header, ExpectedTerm, Entry, arguments, row_clauses, row_conditions, expected, value_under, OfNumbered, Named, NamedKnown, NoTerm, ListHolds, ListGives, ListRefuted}
+use Rattle.goal_lists.specs.Entries.{Arguments, of_header, of_other_header, ExpectedTerm, Entry, arguments, row_clauses, row_conditions, expected, value_under, OfNumbered, Named, NamedKnown, NoTerm, ListHolds, ListGives, ListRefuted, hidden_type}
 use Rattle.goal_lists.specs.Headers.{AllKnown, Fits, Clashes}
 use Rattle.goal_lists.specs.Level.{Level}
 use Rattle.goal_lists.specs.Premises.{PremisesHold, PremisesRefuted, clauses_under, traits_under, conditions_as}
 use Rattle.goal_kinds.specs.Rules as rule
-use Rattle.goal_kinds.specs.Rules.{header_in, Names, NamesKnown, TermIsNone, has_term, RuleHolds, RuleGives, RuleRefuted}
+use Rattle.goal_kinds.specs.Rules.{header_in, Names, NamesKnown, TermIsNone, has_term, RuleHolds, RuleGives, RuleRefuted, HiddenIs, HiddenIsNone}
 use Rattle.goal_lists.specs.RowWords.{given, clauses_in, conditions_in, value_in, header_arguments, other_arguments}
-use Rattle.goal_kinds.specs.RuleLists.{arguments_of, expected_of, before, entries_of, RuleListHolds, RuleListGives, RuleListRefuted}
+use Rattle.goal_kinds.specs.RuleLists.{arguments_of, expected_of, before, entries_of, RuleListHolds, RuleListGives, RuleListRefuted, hidden_of}
 use Rattle.goal_lists.specs.Settings.{Setting}
 use Rattle.goal_lists.specs.TraitGoals.{header_of}
 use Rattle.goal_lists.specs.Words.{OfRow, Either}
@@ -129,6 +131,17 @@ module _ (S : Setting) (L : Level) where
   no_term-same named (term.Value v n) = mapped-row (value_in S.tables v) (λ e. value_under e n) (λ x. NoTerm L named x)
   no_term-same named (term.ChosenBy k a b) = iff-same
 
+  -- what an opaque type that is being defined stands for, or that there is nothing
+  hidden-same : (named : List (List Tree)) (k : OpaqueTypeKey) (f : FirstUse) (u : Tree) → OfRow (hidden_of S.tables k f) (λ x. list.TermIs L named x u) ↔ HiddenIs S L k f u
+  unfolding OfRow list.TermIs HiddenIs
+  hidden-same named k f u =
+      mapped-row (opaque_of S.tables k.def_id) (λ r. hidden_type k.def_id (given k.args) f (tree_of_ty r.typeck_hidden) r.bounds.items) (λ x. list.TermIs L named x u)
+
+  no_hidden-same : (named : List (List Tree)) (k : OpaqueTypeKey) (f : FirstUse) → OfRow (hidden_of S.tables k f) (λ x. NoTerm L named x) ↔ HiddenIsNone S L k f
+  unfolding OfRow NoTerm HiddenIsNone
+  no_hidden-same named k f =
+      mapped-row (opaque_of S.tables k.def_id) (λ r. hidden_type k.def_id (given k.args) f (tree_of_ty r.typeck_hidden) r.bounds.items) (λ x. NoTerm L named x)
+
   -- an entry that names arguments, if their row is there
   arguments-hold : (Said : Tree → Type 0) (Unsaid : Type 0) (named : List (List Tree)) (o : Option Arguments) (es : List Entry) →
       list.EntriesHold L Said Unsaid named (before true (option_map arguments o) es)
@@ -214,7 +227,12 @@ module _ (S : Setting) (L : Level) where
   entries-hold Said Unsaid named (entry.Access a ∷ es) = entries-hold Said Unsaid named es
   entries-hold Said Unsaid named (entry.DelayedFault f ∷ es) = entries-hold Said Unsaid named es
   entries-hold Said Unsaid named (entry.Evaluation ∷ es) = entries-hold Said Unsaid named es
-  entries-hold Said Unsaid named (entry.HiddenType v key first ∷ es) = (λ h. absurd h, λ h. h.0)
+  entries-hold Said Unsaid named (entry.HiddenType v key f ∷ es) =
+      let rest = entries-hold Said (Unit {0}) named es in
+      iff-chain (term-holds Said Unsaid named (hidden_of S.tables key f) (entries_of S.tables es)) (
+        λ h. (((h.0.0, (hidden-same named key f h.0.0).0 h.0.1, h.0.2), (rest.0 h.1).0), tt),
+        λ h. ((h.0.0.0, (hidden-same named key f h.0.0.0).1 h.0.0.1, h.0.0.2), rest.1 (h.0.1, asked-by_none (has_term es))),
+      )
   entries-hold Said Unsaid named (entry.Ambiguous ∷ es) = (λ h. absurd h, λ h. h.0)
   entries-hold Said Unsaid named (entry.Undecided ∷ es) = (λ h. absurd h, λ h. h.0)
   entries-hold Said Unsaid named (entry.Refused ∷ es) = (λ h. absurd h, λ h. h.0)
@@ -240,7 +258,8 @@ module _ (S : Setting) (L : Level) where
   entries-refuted named (entry.Access a ∷ es) = entries-refuted named es
   entries-refuted named (entry.DelayedFault f ∷ es) = entries-refuted named es
   entries-refuted named (entry.Evaluation ∷ es) = entries-refuted named es
-  entries-refuted named (entry.HiddenType v key first ∷ es) = entries-refuted named es
+  entries-refuted named (entry.HiddenType v key f ∷ es) =
+      iff-chain (term-refuted named (hidden_of S.tables key f) (entries_of S.tables es)) (iff-either (no_hidden-same named key f) (entries-refuted named es))
   entries-refuted named (entry.Ambiguous ∷ es) = entries-refuted named es
   entries-refuted named (entry.Undecided ∷ es) = entries-refuted named es
   entries-refuted named (entry.Refused ∷ es) = iff-same

@@ -37,7 +37,6 @@ use Rattle.goal_lists.specs.Premises.{TraitTree}
 use Rattle.goal_kinds.specs.RuleWords.{TermsAreFor}
 use Rattle.goal_kinds.specs.Rules.{RuleRefuted}
 use Rattle.goal_kinds.specs.declared.rules.Rule.{Rule}
-use Rattle.goal_terms.specs.declared.terms.Term.TheVariants as term
 use Rattle.goal_tables.specs.Predicates.{lies_in_env}
 use Rattle.goal_tables.specs.declared.sites.TermFault.TheVariants.{UnknownItem, WrongArgumentCount, WrongArgumentKind}
 use Rattle.goal_kinds.specs.declared.assembly.class_rules.ClassRules.{ClassRules}

@@ -9,14 +9,20 @@ use Rattle.goal_terms.specs.declared.answers.Certainty.{Certainty}
 use Rattle.goal_kinds.specs.CandidateRules.{after}
 use Rattle.goal_kinds.specs.declared.rules.RuleEntry.{RuleEntry}
 use Rattle.goal_kinds.specs.declared.rules.RuleEntry.TheVariants as entry
+use Rattle.goal_lists.specs.declared.lists.InternedTerm.{InternedTerm}
+use Rattle.goal_lists.specs.declared.lists.InternedTerm.TheVariants as terms
 use Rattle.goal_lists.specs.declared.lists.InternedEntry.{InternedEntry}
 use Rattle.goal_lists.specs.declared.lists.InternedEntry.TheVariants as entries
 
--- an entry for a hidden type is of the type and the arguments of another one over numbers, lifetimes included
-abbrev pub KeepsKey : List Tree → InternedEntry → RuleEntry → Type 0
-KeepsKey T (entries.HiddenType i ids f) (entry.HiddenType v k g) =
+-- an entry for a hidden type is of the type and the arguments of one over numbers, lifetimes included
+abbrev pub KeepsKeyOf : List Tree → InternedTerm → RuleEntry → Type 0
+KeepsKeyOf T (terms.HiddenType i ids f r) (entry.HiddenType v k g) =
     (k.def_id ≡ i) × (g ≡ f) × (trees_of k.args.items ≡ map (tree_at T) ids.items)
-KeepsKey T (entries.HiddenType i ids f) _ = ⊥
+KeepsKeyOf T (terms.HiddenType i ids f r) _ = ⊥
+KeepsKeyOf T _ _ = Unit {0}
+
+abbrev pub KeepsKey : List Tree → InternedEntry → RuleEntry → Type 0
+KeepsKey T (entries.Expected e) x = KeepsKeyOf T e x
 KeepsKey T _ _ = Unit {0}
 
 -- the entries of a list are kept so, one by one, with nothing decided behind them by a certainty

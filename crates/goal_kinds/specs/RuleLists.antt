@@ -4,11 +4,13 @@ use Rattle.std.specs.Option.{option_map}
 use Rattle.goal_terms.specs.Erased.{erased}
 use Rattle.goal_terms.specs.PredicateTrees.{tree_of_kind}
 use Rattle.goal_terms.specs.Tree.{Tree}
-use Rattle.goal_terms.specs.TreeOf.{tree_of_term}
+use Rattle.goal_terms.specs.TreeOf.{tree_of_term, tree_of_ty}
 use Rattle.goal_terms.specs.declared.answers.Certainty.{Certainty}
 use Rattle.goal_terms.specs.declared.answers.Certainty.TheVariants as certainty
-use Rattle.goal_tables.specs.Rows.{impl_of}
+use Rattle.goal_tables.specs.Rows.{impl_of, opaque_of}
 use Rattle.goal_tables.specs.declared.rows.Tables.{Tables}
+use Rattle.goal_terms.specs.declared.answers.OpaqueTypeKey.{OpaqueTypeKey}
+use Rattle.goal_lists.specs.declared.lists.FirstUse.{FirstUse}
 use Rattle.goal_lists.specs.RowWords.{header_arguments, other_arguments, given, clauses_in, conditions_in, value_in}
 use Rattle.goal_lists.specs.Answers.{erased_predicate}
 use Rattle.goal_lists.specs.Entries.{Arguments, given_arguments, followed_by, ExpectedTerm, as_it_stands, head_form_of, value_under, chosen_by, Entry, arguments, equal_terms, clause, row_clauses, row_conditions, expected, hidden_type, access, delayed_fault, evaluation, ambiguous, undecided, refused, ListHolds, ListGives, ListRefuted}
@@ -37,6 +39,10 @@ expected_of t (term.Normalized e) = Some (head_form_of (erased (tree_of_term e))
 expected_of t (term.Value v n) = option_map (λ e. value_under e n) (value_in t v)
 expected_of t (term.ChosenBy k a b) = Some (chosen_by (erased_predicate (tree_of_kind k)) (erased (tree_of_term a)) (erased (tree_of_term b)))
 
+-- what an opaque type that is being defined stands for, if its row is there
+abbrev pub hidden_of : Tables → OpaqueTypeKey → FirstUse → Option ExpectedTerm
+hidden_of t k f = option_map (λ r. hidden_type k.def_id (given k.args) f (tree_of_ty r.typeck_hidden) r.bounds.items) (opaque_of t k.def_id)
+
 -- an entry, if its rows are there; the goal's variable for the expected term says nothing
 abbrev pub entry_of : Tables → RuleEntry → Option Entry
 entry_of t (entry.Arguments a) = option_map arguments (arguments_of t a)
@@ -45,7 +51,7 @@ entry_of t (entry.Clause g k) = Some (clause g (erased_predicate (tree_of_kind k
 entry_of t (entry.RowClauses c n) = option_map (λ cs. row_clauses cs n) (clauses_in t c)
 entry_of t (entry.RowConditions c i n) = option_map (λ rs. row_conditions c rs n) (conditions_in t i)
 entry_of t (entry.Term v e) = option_map expected (expected_of t e)
-entry_of t (entry.HiddenType v k f) = Some (hidden_type k.def_id (given k.args) f)
+entry_of t (entry.HiddenType v k f) = option_map expected (hidden_of t k f)
 entry_of t (entry.Access a) = Some (access a)
 entry_of t (entry.DelayedFault f) = Some (delayed_fault f)
 entry_of t entry.Evaluation = Some evaluation

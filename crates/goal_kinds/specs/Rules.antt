@@ -3,17 +3,18 @@ use Rattle.std.specs.Prelude.{ℕ, ◌≡◌, ◌⊎◌, Bool, true, false, List
 use Rattle.goal_terms.specs.Erased.{erased}
 use Rattle.goal_terms.specs.PredicateTrees.{tree_of_kind}
 use Rattle.goal_terms.specs.Tree.{Tree}
-use Rattle.goal_terms.specs.TreeOf.{tree_of_term}
+use Rattle.goal_terms.specs.TreeOf.{tree_of_term, tree_of_ty}
+use Rattle.goal_terms.specs.declared.answers.OpaqueTypeKey.{OpaqueTypeKey}
 use Rattle.goal_terms.specs.declared.answers.ParamKind.{ParamKind}
 use Rattle.goal_terms.specs.declared.ids.ImplId.{ImplId}
 use Rattle.goal_terms.specs.declared.predicates.BoundConstness.{BoundConstness}
-use Rattle.goal_terms.specs.declared.predicates.Clause.{Clause}
-use Rattle.goal_tables.specs.Rows.{impl_of, inherent_impl_of}
+use Rattle.goal_tables.specs.Rows.{impl_of, inherent_impl_of, opaque_of}
 use Rattle.goal_tables.specs.declared.rows.Tables.{Tables}
 use Rattle.goal_lists.specs.RowWords.{given, clauses_in, conditions_in, value_in}
 use Rattle.goal_lists.specs.Aliases.{self_header}
 use Rattle.goal_lists.specs.Answers.{erased_predicate}
 use Rattle.goal_lists.specs.Headers.{under, AllKnown, Fits, Clashes}
+use Rattle.goal_lists.specs.HiddenTypes.{HiddenGives, HiddenRefuted}
 use Rattle.goal_lists.specs.ImplTerms.{header_under}
 use Rattle.goal_lists.specs.Level.{Level, HasHeadForm, HeadFormRefuted}
 use Rattle.goal_lists.specs.Premises.{ClauseHolds, ClauseRefuted, PremisesHold, PremisesRefuted, clauses_under, traits_under, conditions_as}
@@ -25,10 +26,10 @@ use Rattle.goal_kinds.specs.declared.rules.RuleEntry.{RuleEntry}
 use Rattle.goal_kinds.specs.declared.rules.RuleEntry.TheVariants as entry
 use Rattle.goal_kinds.specs.declared.rules.RuleArguments.{RuleArguments}
 use Rattle.goal_kinds.specs.declared.rules.RuleArguments.TheVariants as arguments
+use Rattle.goal_lists.specs.declared.lists.FirstUse.{FirstUse}
 use Rattle.goal_lists.specs.declared.lists.RuleHeader.{RuleHeader}
 use Rattle.goal_lists.specs.declared.lists.RuleHeader.TheVariants as header
 use Rattle.goal_lists.specs.declared.lists.RowClauses.{RowClauses}
-use Rattle.goal_lists.specs.declared.lists.RowClauses.TheVariants as clauses
 use Rattle.goal_kinds.specs.declared.rules.RuleTerm.{RuleTerm}
 use Rattle.goal_kinds.specs.declared.rules.RuleTerm.TheVariants as term
 
@@ -99,6 +100,13 @@ TermIsNone S L named (term.Normalized e) = HeadFormRefuted L (erased (tree_of_te
 TermIsNone S L named (term.Value v n) = OfRow (value_in S.tables v) (λ e. OfNumber named n (λ s. HeadFormRefuted L (under s e)))
 TermIsNone S L named (term.ChosenBy k a b) = ⊥
 
+-- what an opaque type that is being defined stands for, by its row; that there is nothing
+unfoldable pub HiddenIs : Setting → Level → OpaqueTypeKey → FirstUse → Tree → Type 0
+HiddenIs S L k f u = OfRow (opaque_of S.tables k.def_id) (λ r. HiddenGives L f (given k.args) (tree_of_ty r.typeck_hidden) r.bounds.items u)
+
+unfoldable pub HiddenIsNone : Setting → Level → OpaqueTypeKey → FirstUse → Type 0
+HiddenIsNone S L k f = OfRow (opaque_of S.tables k.def_id) (λ r. HiddenRefuted L f (given k.args) (tree_of_ty r.typeck_hidden) r.bounds.items)
+
 -- all entries hold, and the term of each that has one is as said; the arguments named before them are given
 unfoldable pub EntriesHold : Setting → Level → (Tree → Type 0) → List (List Tree) → List RuleEntry → Type 0
 EntriesHold S L Said named [] = Unit {0}
@@ -108,7 +116,7 @@ EntriesHold S L Said named (entry.Clause g k ∷ es) = ClauseHolds L (erased_pre
 EntriesHold S L Said named (entry.RowClauses c n ∷ es) = RowClausesHold S L named c n × EntriesHold S L Said named es
 EntriesHold S L Said named (entry.RowConditions c i n ∷ es) = RowConditionsHold S L named c i n × EntriesHold S L Said named es
 EntriesHold S L Said named (entry.Term v e ∷ es) = ((u : Tree) × TermIs S L named e u × Said u) × EntriesHold S L Said named es
-EntriesHold S L Said named (entry.HiddenType v k f ∷ es) = ⊥
+EntriesHold S L Said named (entry.HiddenType v k f ∷ es) = ((u : Tree) × HiddenIs S L k f u × Said u) × EntriesHold S L Said named es
 EntriesHold S L Said named (entry.Access a ∷ es) = EntriesHold S L Said named es
 EntriesHold S L Said named (entry.DelayedFault f ∷ es) = EntriesHold S L Said named es
 EntriesHold S L Said named (entry.Evaluation ∷ es) = EntriesHold S L Said named es
@@ -126,7 +134,7 @@ EntriesRefuted S L named (entry.Clause g k ∷ es) = ClauseRefuted L (erased_pre
 EntriesRefuted S L named (entry.RowClauses c n ∷ es) = RowClausesRefuted S L named c n ⊎ EntriesRefuted S L named es
 EntriesRefuted S L named (entry.RowConditions c i n ∷ es) = RowConditionsRefuted S L named c i n ⊎ EntriesRefuted S L named es
 EntriesRefuted S L named (entry.Term v e ∷ es) = TermIsNone S L named e ⊎ EntriesRefuted S L named es
-EntriesRefuted S L named (entry.HiddenType v k f ∷ es) = EntriesRefuted S L named es
+EntriesRefuted S L named (entry.HiddenType v k f ∷ es) = HiddenIsNone S L k f ⊎ EntriesRefuted S L named es
 EntriesRefuted S L named (entry.Access a ∷ es) = EntriesRefuted S L named es
 EntriesRefuted S L named (entry.DelayedFault f ∷ es) = EntriesRefuted S L named es
 EntriesRefuted S L named (entry.Evaluation ∷ es) = EntriesRefuted S L named es

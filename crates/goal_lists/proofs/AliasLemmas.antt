@@ -16,9 +16,11 @@ use Rattle.goal_lists.specs.Headers.{under, Fits}
 use Rattle.goal_lists.specs.Laws.{IsConsistent}
 use Rattle.goal_lists.specs.Level.{Level}
 use Rattle.goal_lists.specs.Premises.{PremisesRefuted, clauses_under}
-use Rattle.goal_lists.specs.Settings.{Setting, leaves_open, reveals}
+use Rattle.goal_lists.specs.Settings.{Setting, leaves_open, takes_checked, reveals}
 use Rattle.goal_lists.proofs.ContraryWords.{OfRow-twice, Either-twice}
 use Rattle.goal_lists.proofs.EqualLemmas.{one_head_form, no_head_form_refuted}
+use Rattle.goal_lists.specs.declared.lists.FirstUse.TheVariants as first
+use Rattle.goal_lists.proofs.HiddenLemmas.{one_hidden_term, no_hidden_refuted}
 use Rattle.goal_lists.proofs.PremiseLemmas.{no_premises_refuted}
 use Rattle.goal_lists.proofs.ProjectionLemmas.{one_projection_term, no_projection_refuted}
 use Rattle.goal_lists.proofs.SubstitutionLemmas.{one_substitution, no_fit_and_clash}
@@ -95,7 +97,9 @@ one_opaque_term : (S : Setting) (L : Level) → IsConsistent L → (i : OpaqueId
 unfolding OpaqueGives
 one_opaque_term S L c i args t u r h k =
     Either-twice _ _ _ _ (λ x y. absurd x)
-    (λ x y. Either-twice _ _ _ _ (λ z w. one_head_form L c.one_term (under args (tree_of_ty r.hidden)) t u z w) (λ z w. z ∙ sym w) (reveals S.mode r) x y)
+    (λ x y. Either-twice _ _ _ _ (λ z w. one_hidden_term L c first.TypeChecked args (tree_of_ty r.typeck_hidden) r.bounds.items t u z w)
+    (λ p q. Either-twice _ _ _ _ (λ z w. one_head_form L c.one_term (under args (tree_of_ty r.hidden)) t u z w) (λ z w. z ∙ sym w) (reveals S.mode r) p q)
+    (takes_checked S.mode r) x y)
     (leaves_open S.mode r) h k
 
 -- then it isn't refuted
@@ -104,7 +108,9 @@ no_opaque_refuted : (S : Setting) (L : Level) → IsConsistent L → (i : Opaque
 unfolding OpaqueGives OpaqueRefuted
 no_opaque_refuted S L c i args u r h k =
     Either-twice _ _ _ _ (λ x y. x)
-    (λ x y. Either-twice _ _ _ _ (λ z w. no_head_form_refuted L c.no_term_refuted (under args (tree_of_ty r.hidden)) u z w) (λ z w. w) (reveals S.mode r) x y)
+    (λ x y. Either-twice _ _ _ _ (λ z w. no_hidden_refuted L c first.TypeChecked args (tree_of_ty r.typeck_hidden) r.bounds.items u z w)
+    (λ p q. Either-twice _ _ _ _ (λ z w. no_head_form_refuted L c.no_term_refuted (under args (tree_of_ty r.hidden)) u z w) (λ z w. w) (reveals S.mode r) p q)
+    (takes_checked S.mode r) x y)
     (leaves_open S.mode r) h k
 
 -- an alias has one term

@@ -1,5 +1,5 @@
 -- The list of each alias that is no projection says what the alias does.
-use Rattle.std.proofs.Common.{◌≡◌, ◌↔◌, ◌⊎◌, ◌&&◌, ℕ, Bool, true, false, List, [], ◌∷◌, ◌++◌, Option, Some, None, if◌then◌else◌, refl}
+use Rattle.std.proofs.Common.{◌≡◌, ◌↔◌, ◌⊎◌, ℕ, Bool, true, false, List, [], ◌∷◌, ◌++◌, Option, Some, None, if◌then◌else◌, refl}
 use Rattle.std.specs.Prelude.{slice_get}
 use Rattle.goal_terms.specs.Tree.{Tree, alias, forest}
 use Rattle.goal_terms.specs.TreeOf.{tree_of_ty, tree_of_term}
@@ -8,6 +8,7 @@ use Rattle.goal_terms.specs.declared.modes.TypingMode.{TypingMode}
 use Rattle.goal_terms.specs.declared.modes.TypingMode.TheVariants as mode
 use Rattle.goal_terms.specs.declared.terms.AliasTermKind.{AliasTermKind}
 use Rattle.goal_terms.specs.declared.terms.AliasTermKind.TheVariants.{ProjectionTy, ProjectionConst, InherentTy, InherentConst, OpaqueTy, FreeTy, FreeConst, UnevaluatedConst}
+use Rattle.goal_terms.specs.declared.predicates.Clause.{Clause}
 use Rattle.goal_terms.specs.declared.terms.Term.{Term}
 use Rattle.goal_tables.specs.Rows.{free_of, inherent_of, inherent_impl_of, opaque_of}
 use Rattle.goal_tables.specs.declared.rows.FreeRow.{FreeRow}
@@ -16,13 +17,14 @@ use Rattle.goal_tables.specs.declared.rows.InherentRow.{InherentRow}
 use Rattle.goal_tables.specs.declared.rows.OpaqueRow.{OpaqueRow}
 use Rattle.goal_lists.specs.Aliases.{AliasGives, AliasRefuted, ValueGives, ValueRefuted, FreeGives, FreeRefuted, InherentGives, InherentRefuted, InherentAliasGives, InherentAliasRefuted, OpaqueGives, OpaqueRefuted}
 use Rattle.goal_lists.specs.AliasLists.{row_value, entries_of_row, free_list, inherent_list, inherent_alias_list, defined_list, hidden_list, opaque_list, opaque_alias_list, alias_list}
-use Rattle.goal_lists.specs.Entries.{ListGives, ListRefuted, Entry, arguments, followed_by, row_clauses, expected, value_under}
+use Rattle.goal_lists.specs.Entries.{ListGives, ListRefuted, Entry, arguments, followed_by, row_clauses, expected, hidden_type, value_under}
+use Rattle.goal_lists.specs.HiddenTypes.{HiddenGives, HiddenRefuted}
 use Rattle.goal_lists.specs.Level.{Level}
 use Rattle.goal_lists.specs.Premises.{PremisesHold, PremisesRefuted, clauses_under}
 use Rattle.goal_lists.specs.ProjectionLists.{standing}
 use Rattle.goal_lists.specs.Projections.{projected_item}
 use Rattle.goal_lists.specs.OpaqueUses.{access_to}
-use Rattle.goal_lists.specs.Settings.{Setting, leaves_open, reveals, among}
+use Rattle.goal_lists.specs.Settings.{Setting, leaves_open, takes_checked, reveals, among}
 use Rattle.goal_lists.specs.Words.{OfRow, Either}
 use Rattle.goal_lists.specs.declared.lists.FirstUse.{FirstUse}
 use Rattle.goal_lists.specs.declared.lists.FirstUse.TheVariants as first
@@ -82,16 +84,22 @@ either-says L true es zs P Q R T f g = f
 either-says L false es zs P Q R T f g = g
 
 -- what a mode makes of an opaque type: its list says nothing where the mode leaves the type open
-by_mode-says : (m : TypingMode) (L : Level) (r : OpaqueRow) (defined : FirstUse → List Entry) (revealed itself : List Entry) (P Q : Tree → Type 0) (R : Type 0) →
-    ((f : FirstUse) → EntriesSay L [] (defined f) (λ u. ⊥) ⊥) → EntriesSay L [] revealed P R → EntriesSay L [] itself Q ⊥ →
-    EntriesSay L [] (opaque_list m r defined revealed itself) (λ u. Either (leaves_open m r) ⊥ (Either (reveals m r) (P u) (Q u))) (Either (leaves_open m r) ⊥ (Either (reveals m r) R ⊥))
+by_mode-says : (m : TypingMode) (L : Level) (r : OpaqueRow) (defined : FirstUse → List Entry) (revealed itself : List Entry) (C P Q : Tree → Type 0) (B R : Type 0) →
+    EntriesSay L [] (defined first.Expected) (λ u. ⊥) ⊥ → EntriesSay L [] (defined first.TypeChecked) C B → EntriesSay L [] revealed P R → EntriesSay L [] itself Q ⊥ →
+    EntriesSay L [] (opaque_list m r defined revealed itself) (λ u. Either (leaves_open m r) ⊥ (Either (takes_checked m r) (C u) (Either (reveals m r) (P u) (Q u))))
+    (Either (leaves_open m r) ⊥ (Either (takes_checked m r) B (Either (reveals m r) R ⊥)))
 unfolding opaque_list Either
-by_mode-says mode.Coherence L r defined revealed itself P Q R d f g = ambiguous-says L []
-by_mode-says (mode.Analysis ids) L r defined revealed itself P Q R d f g = either-says L (among ids.items r) _ _ _ _ _ _ (d first.Expected) g
-by_mode-says (mode.Borrowck ids) L r defined revealed itself P Q R d f g = either-says L (among ids.items r) _ _ _ _ _ _ (d first.TypeChecked) g
-by_mode-says (mode.PostBorrowckAnalysis ids) L r defined revealed itself P Q R d f g = either-says L (among ids.items r) _ _ _ _ _ _ f g
-by_mode-says mode.PostAnalysis L r defined revealed itself P Q R d f g = f
-by_mode-says mode.ErasedNotCoherence L r defined revealed itself P Q R d f g = access-says L [] (access_to r) itself _ _ g
+by_mode-says mode.Coherence L r defined revealed itself C P Q B R d e f g = ambiguous-says L []
+by_mode-says (mode.Analysis ids) L r defined revealed itself C P Q B R d e f g = either-says L (among ids.items r) _ _ _ _ _ _ d g
+by_mode-says (mode.Borrowck ids) L r defined revealed itself C P Q B R d e f g = either-says L (among ids.items r) _ _ _ _ _ _ e g
+by_mode-says (mode.PostBorrowckAnalysis ids) L r defined revealed itself C P Q B R d e f g = either-says L (among ids.items r) _ _ _ _ _ _ f g
+by_mode-says mode.PostAnalysis L r defined revealed itself C P Q B R d e f g = f
+by_mode-says mode.ErasedNotCoherence L r defined revealed itself C P Q B R d e f g = access-says L [] (access_to r) itself _ _ g
+
+-- before type checking a hidden type says nothing
+unknown-says : (L : Level) (i : OpaqueId) (args : List Tree) (t : Tree) (bounds : List Clause) → EntriesSay L [] (expected (hidden_type i args first.Expected t bounds) ∷ []) (λ u. ⊥) ⊥
+unfolding HiddenGives HiddenRefuted
+unknown-says L i args t bounds = let says = hidden_type-says L [] i args first.Expected t bounds in record { gives = says.gives; refuted = says.refuted }
 
 -- an opaque type
 opaque-says : (S : Setting) (L : Level) (i : OpaqueId) (args : List Tree) (r : OpaqueRow) →
@@ -99,7 +107,8 @@ opaque-says : (S : Setting) (L : Level) (i : OpaqueId) (args : List Tree) (r : O
 unfolding OpaqueGives OpaqueRefuted
 opaque-says S L i args r =
     let itself = alias (OpaqueTy i) (forest args) in
-    by_mode-says S.mode L r (defined_list i args) (hidden_list args r) (standing itself) _ _ _ (λ f. hidden_type-says L [] i args f)
+    by_mode-says S.mode L r (defined_list i args r) (hidden_list args r) (standing itself) _ _ _ _ _ (unknown-says L i args (tree_of_ty r.typeck_hidden) r.bounds.items)
+    (hidden_type-says L [] i args first.TypeChecked (tree_of_ty r.typeck_hidden) r.bounds.items)
     (given-says L [] args (expected (value_under (tree_of_ty r.hidden) 0) ∷ []) _ _ (value-says L (args ∷ []) (tree_of_ty r.hidden) 0 args refl))
     (standing-says L [] itself)
 

@@ -43,7 +43,7 @@ use Rattle.goal_lists.specs.Candidates.{Candidate, assumption, implied_bound, by
 use Rattle.goal_lists.specs.Causes.{IsCaused, IsFaultCaused, IsCausedEntry, IsCausedList, is_missing}
 use Rattle.goal_lists.specs.ConstRules.{const_rule}
 use Rattle.goal_lists.specs.EffectLists.{effect_assumption_list, const_rule_entries, source_of_const_rule, effect_list}
-use Rattle.goal_lists.specs.Entries.{Entry, arguments, equal_terms, clause, row_clauses, row_conditions, expected, hidden_type, access, delayed_fault, evaluation, ambiguous, undecided, refused, head_form_of, premise_entry, premise_entries}
+use Rattle.goal_lists.specs.Entries.{Entry, arguments, equal_terms, clause, row_clauses, row_conditions, expected, access, delayed_fault, evaluation, ambiguous, undecided, refused, head_form_of, premise_entry, premise_entries}
 use Rattle.goal_lists.specs.ImplTerms.{Projection, Taken, from_projection, from_impl, from_other, taken}
 use Rattle.goal_lists.specs.InternedEntries.{entry_at, entries_at, list_at}
 use Rattle.goal_lists.specs.Laws.{is_default_source}
@@ -303,9 +303,9 @@ unfolding inherent_alias_list AreCaused
 inherent_alias-caused S o [] = (tt, tt)
 inherent_alias-caused S o (self ∷ own) = of_row-caused S.tables o _ (λ i e. of_row-caused S.tables (inherent_impl_of S.tables i.impl_id) _ (λ q g. inherent-caused S.tables self own i q))
 
-defined-caused : (t : Tables) (i : OpaqueId) (args : List Tree) (f : FirstUse) → AreCaused t (defined_list i args f)
+defined-caused : (t : Tables) (i : OpaqueId) (args : List Tree) (r : OpaqueRow) (f : FirstUse) → AreCaused t (defined_list i args r f)
 unfolding AreCaused
-defined-caused t i args f = (tt, tt)
+defined-caused t i args r f = (tt, tt)
 
 opaque-caused : (t : Tables) (m : TypingMode) (r : OpaqueRow) (d : FirstUse → List Entry) (es fs : List Entry) → IsCaused t (access_to r) → ((f : FirstUse) → AreCaused t (d f)) →
     AreCaused t es → AreCaused t fs → AreCaused t (opaque_list m r d es fs)
@@ -327,7 +327,7 @@ alias_list-caused S (InherentTy i) args = inherent_alias-caused S (inherent_of S
 alias_list-caused S (InherentConst i) args = inherent_alias-caused S (inherent_of S.tables i) args
 alias_list-caused S (OpaqueTy i) args =
     of_row-caused S.tables (opaque_of S.tables i) (opaque_alias_list S i args)
-    (λ r e. opaque-caused S.tables S.mode r _ _ _ (access-caused S.tables i r r.is_local refl e) (defined-caused S.tables i args) (hidden-caused S.tables args r) (standing-caused S.tables (alias (OpaqueTy i) (forest args))))
+    (λ r e. opaque-caused S.tables S.mode r _ _ _ (access-caused S.tables i r r.is_local refl e) (defined-caused S.tables i args r) (hidden-caused S.tables args r) (standing-caused S.tables (alias (OpaqueTy i) (forest args))))
 alias_list-caused S (FreeTy i) args = of_row-caused S.tables (free_of S.tables i) (free_list args) (λ r e. free-caused S.tables args r)
 alias_list-caused S (FreeConst i) args = of_row-caused S.tables (free_of S.tables i) (free_list args) (λ r e. free-caused S.tables args r)
 alias_list-caused S (UnevaluatedConst n) args = (tt, tt)
@@ -343,7 +343,6 @@ entry-caused t T (entries.RowClauses r cs n) h = tt
 entry-caused t T (entries.RowConditions c i rs n) h = tt
 entry-caused t T (entries.Expected e) h = tt
 entry-caused t T (entries.Access a) h = h
-entry-caused t T (entries.HiddenType i ids f) h = tt
 entry-caused t T (entries.DelayedFault f) h = h
 entry-caused t T entries.Evaluation h = tt
 entry-caused t T entries.Ambiguous h = tt
@@ -372,7 +371,6 @@ accesses-caused t (clause g p ∷ es) h = accesses-caused t es h.1
 accesses-caused t (row_clauses cs n ∷ es) h = accesses-caused t es h.1
 accesses-caused t (row_conditions c rs n ∷ es) h = accesses-caused t es h.1
 accesses-caused t (expected e ∷ es) h = accesses-caused t es h.1
-accesses-caused t (hidden_type i ts f ∷ es) h = accesses-caused t es h.1
 accesses-caused t (access a ∷ es) h = All-cons (IsCaused t) a (accesses_in es) h.0 (accesses-caused t es h.1)
 accesses-caused t (delayed_fault f ∷ es) h = accesses-caused t es h.1
 accesses-caused t (evaluation ∷ es) h = accesses-caused t es h.1

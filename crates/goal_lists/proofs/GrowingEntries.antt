@@ -2,6 +2,7 @@
 use Rattle.std.proofs.Common.{◌≡◌, List, ap, ap₂, refl}
 use Rattle.goal_terms.specs.TableMeaning.{Keeps}
 use Rattle.goal_terms.specs.Tree.{Tree}
+use Rattle.goal_terms.specs.TreeOf.{tree_of_ty}
 use Rattle.goal_lists.specs.Entries.{given_arguments, of_header, followed_by, as_it_stands, head_form_of, arguments, equal_terms, clause, expected, hidden_type}
 use Rattle.goal_lists.specs.InternedEntries.{header_trees, arguments_at, ArgumentsIn, term_at, TermIn, entry_at, EntryIn, projection_at, ProjectionIn}
 use Rattle.goal_lists.specs.declared.lists.AskedProjection.{AskedProjection}
@@ -31,12 +32,14 @@ pub term_in-grown : (T U : List Tree) → Keeps T U → (e : InternedTerm) → T
 term_in-grown T U k (terms.AsItStands id) h = in-grown T U k id h
 term_in-grown T U k (terms.HeadFormOf id) h = in-grown T U k id h
 term_in-grown T U k (terms.ValueUnder i v n) h = tt
+term_in-grown T U k (terms.HiddenType i ids f r) h = are_in-grown T U k ids.items h
 term_in-grown T U k (terms.ChosenBy p a b) h = (predicate_in-grown T U k p h.0, in-grown T U k a h.1, in-grown T U k b h.2)
 
 pub term_same-grown : (T U : List Tree) → Keeps T U → (e : InternedTerm) → TermIn T e → term_at U e ≡ term_at T e
 term_same-grown T U k (terms.AsItStands id) h = ap as_it_stands (same-grown T U k id h)
 term_same-grown T U k (terms.HeadFormOf id) h = ap head_form_of (same-grown T U k id h)
 term_same-grown T U k (terms.ValueUnder i v n) h = refl
+term_same-grown T U k (terms.HiddenType i ids f r) h = ap (λ args. hidden_type i args f (tree_of_ty r.now.typeck_hidden) r.now.bounds.items) (all_same-grown T U k ids.items h)
 term_same-grown T U k (terms.ChosenBy p a b) h =
     let first = predicate_same-grown T U k p h.0 in
     let second = same-grown T U k a h.1 in
@@ -54,7 +57,6 @@ entry_in-grown T U k (entries.Expected e) h = term_in-grown T U k e h
 entry_in-grown T U k (entries.Access a) h = tt
 entry_in-grown T U k (entries.DelayedFault f) h = tt
 entry_in-grown T U k entries.Evaluation h = tt
-entry_in-grown T U k (entries.HiddenType i ids first) h = are_in-grown T U k ids.items h
 entry_in-grown T U k entries.Ambiguous h = tt
 entry_in-grown T U k entries.Undecided h = tt
 entry_in-grown T U k entries.Refused h = tt
@@ -69,7 +71,6 @@ entry_same-grown T U k (entries.Expected e) h = ap expected (term_same-grown T U
 entry_same-grown T U k (entries.Access a) h = refl
 entry_same-grown T U k (entries.DelayedFault f) h = refl
 entry_same-grown T U k entries.Evaluation h = refl
-entry_same-grown T U k (entries.HiddenType i ids first) h = ap (λ args. hidden_type i args first) (all_same-grown T U k ids.items h)
 entry_same-grown T U k entries.Ambiguous h = refl
 entry_same-grown T U k entries.Undecided h = refl
 entry_same-grown T U k entries.Refused h = refl

@@ -12,6 +12,7 @@ pub mod TraitGoalLemmas
 pub mod ImplTermLemmas
 pub mod TermCandidateLemmas
 pub mod ProjectionLemmas
+pub mod HiddenLemmas
 pub mod AliasLemmas
 pub mod ConstLemmas
 pub mod ConsistentLemmas

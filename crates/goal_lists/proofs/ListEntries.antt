@@ -11,6 +11,7 @@ use Rattle.goal_terms.specs.declared.ids.OpaqueId.{OpaqueId}
 use Rattle.goal_terms.specs.declared.predicates.Clause.{Clause}
 use Rattle.goal_lists.specs.Entries.{Entry, arguments, given_arguments, of_header, of_other_header, followed_by, equal_terms, row_clauses, ExpectedTerm, expected, as_it_stands, head_form_of, value_under, delayed_fault, evaluation, undecided, OfNumbered, Named, NamedKnown, NamesNothing, TermIs, NoTerm, EntriesHold, EntriesRefuted, ListGives, ListRefuted, premise_entries, access, ambiguous, hidden_type}
 use Rattle.goal_lists.specs.Headers.{under, AllKnown, Fits, Clashes}
+use Rattle.goal_lists.specs.HiddenTypes.{HiddenGives, HiddenRefuted}
 use Rattle.goal_lists.specs.Level.{Level, HasHeadForm, HeadFormRefuted}
 use Rattle.goal_lists.specs.Premises.{Premise, PremisesHold, PremisesRefuted, clauses_under}
 use Rattle.goal_lists.specs.Words.{Pairs, SomePair}
@@ -179,6 +180,11 @@ module _ (L : Level) where
         refuted = iff-chain says.refuted (of_row-there (slice_get named n) s (λ z. HeadFormRefuted L (under z t)) at);
       }
 
+  pub hidden_type-says : (named : List (List Tree)) (i : OpaqueId) (ts : List Tree) (f : FirstUse) (t : Tree) (bs : List Clause) →
+      EntriesSay L named (expected (hidden_type i ts f t bs) ∷ []) (HiddenGives L f ts t bs) (HiddenRefuted L f ts t bs)
+  unfolding TermIs NoTerm
+  hidden_type-says named i ts f t bs = let says = term-says named (hidden_type i ts f t bs) in record { gives = says.gives; refuted = says.refuted }
+
   -- a last entry that decides nothing
   pub undecided-says : (named : List (List Tree)) → EntriesSay L named (undecided ∷ []) (λ u. ⊥) ⊥
   unfolding EntriesHold EntriesRefuted
@@ -187,7 +193,3 @@ module _ (L : Level) where
   pub ambiguous-says : (named : List (List Tree)) → EntriesSay L named (ambiguous ∷ []) (λ u. ⊥) ⊥
   unfolding EntriesHold EntriesRefuted
   ambiguous-says named = record { gives = λ u. iff-same; refuted = iff-same }
-
-  pub hidden_type-says : (named : List (List Tree)) (i : OpaqueId) (ts : List Tree) (f : FirstUse) → EntriesSay L named (hidden_type i ts f ∷ []) (λ u. ⊥) ⊥
-  unfolding EntriesHold EntriesRefuted
-  hidden_type-says named i ts f = record { gives = λ u. iff-same; refuted = iff-same }

@@ -14,6 +14,7 @@ use Rattle.goal_lists.proofs.CandidateLemmas.{no_pair_unequal}
 use Rattle.goal_lists.proofs.ConsistentLemmas.{each_level_is_consistent}
 use Rattle.goal_lists.proofs.ContraryWords.{OfRow-twice}
 use Rattle.goal_lists.proofs.EqualLemmas.{one_head_form, no_head_form_refuted}
+use Rattle.goal_lists.proofs.HiddenLemmas.{within-hidden_gives, within-hidden_refuted, one_hidden_term, no_hidden_refuted}
 use Rattle.goal_lists.proofs.PremiseLemmas.{no_clause_refuted, no_premises_refuted}
 use Rattle.goal_lists.proofs.SubstitutionLemmas.{one_substitution, no_fit_and_clash}
 use Rattle.goal_lists.proofs.WithinHeaders.{within-fits, within-clashes, within-all_known}
@@ -54,6 +55,7 @@ module _ {L M : Level} (w : IsWithin L M) where
   within-term_is named (head_form_of t) u h = within-has_head_form w t u h
   within-term_is named (value_under t n) u h = of_row-map (slice_get named n) (λ s. within-has_head_form w (under s t) u) h
   within-term_is named (chosen_by p t v) u h = sum-map (λ x. (within-clause_holds w p x.0, x.1)) (λ x. (within-clause_refuted w p x.0, x.1)) h
+  within-term_is named (hidden_type i args f t bs) u h = within-hidden_gives w f args t bs u h
 
   within-no_term : (named : List (List Tree)) (e : ExpectedTerm) → NoTerm L named e → NoTerm M named e
   unfolding NoTerm
@@ -61,6 +63,7 @@ module _ {L M : Level} (w : IsWithin L M) where
   within-no_term named (head_form_of t) h = within-head_form_refuted w t h
   within-no_term named (value_under t n) h = of_row-map (slice_get named n) (λ s. within-head_form_refuted w (under s t)) h
   within-no_term named (chosen_by p t v) h = h
+  within-no_term named (hidden_type i args f t bs) h = within-hidden_refuted w f args t bs h
 
   -- entries that all hold
   within-entries_hold : (Said : Tree → Type 0) (Unsaid : Type 0) (named : List (List Tree)) (es : List Entry) →
@@ -79,7 +82,6 @@ module _ {L M : Level} (w : IsWithin L M) where
   within-entries_hold Said Unsaid named (access a ∷ es) h = within-entries_hold Said Unsaid named es h
   within-entries_hold Said Unsaid named (delayed_fault f ∷ es) h = within-entries_hold Said Unsaid named es h
   within-entries_hold Said Unsaid named (evaluation ∷ es) h = within-entries_hold Said Unsaid named es h
-  within-entries_hold Said Unsaid named (hidden_type i args first ∷ es) h = h
   within-entries_hold Said Unsaid named (ambiguous ∷ es) h = h
   within-entries_hold Said Unsaid named (undecided ∷ es) h = h
   within-entries_hold Said Unsaid named (refused ∷ es) h = h
@@ -100,7 +102,6 @@ module _ {L M : Level} (w : IsWithin L M) where
   within-entries_refuted named (access a ∷ es) h = within-entries_refuted named es h
   within-entries_refuted named (delayed_fault f ∷ es) h = within-entries_refuted named es h
   within-entries_refuted named (evaluation ∷ es) h = within-entries_refuted named es h
-  within-entries_refuted named (hidden_type i args first ∷ es) h = within-entries_refuted named es h
   within-entries_refuted named (ambiguous ∷ es) h = within-entries_refuted named es h
   within-entries_refuted named (undecided ∷ es) h = within-entries_refuted named es h
   within-entries_refuted named (refused ∷ es) h = h
@@ -157,12 +158,14 @@ module _ (L : Level) (c : IsConsistent L) where
   no_term_none named (value_under t n) u h k =
       OfRow-twice _ _ (λ s d e. no_head_form_refuted L c.no_term_refuted (under s t) u d e) (slice_get named n) h k
   no_term_none named (chosen_by p t v) u h k = k
+  no_term_none named (hidden_type i args f t bs) u h k = no_hidden_refuted L c f args t bs u h k
 
   pub one_term_is : (named : List (List Tree)) (e : ExpectedTerm) (t u : Tree) → TermIs L named e t → TermIs L named e u → t ≡ u
   unfolding TermIs
   one_term_is named (as_it_stands v) t u h k = h ∙ sym k
   one_term_is named (head_form_of v) t u h k = one_head_form L c.one_term v t u h k
   one_term_is named (value_under v n) t u h k = OfRow-twice _ _ (λ s d e. one_head_form L c.one_term (under s v) t u d e) (slice_get named n) h k
+  one_term_is named (hidden_type i args f v bs) t u h k = one_hidden_term L c f args v bs t u h k
   one_term_is named (chosen_by p v z) t u h k =
       ⊎_elim
       (λ x. ⊎_elim (λ y. x.1 ∙ sym y.1) (λ y. absurd (no_clause_refuted L c p x.0 y.0)) k)
@@ -192,7 +195,6 @@ module _ (L : Level) (c : IsConsistent L) where
   no_entries_refuted Said Unsaid named (access a ∷ es) h k = no_entries_refuted Said Unsaid named es h k
   no_entries_refuted Said Unsaid named (delayed_fault f ∷ es) h k = no_entries_refuted Said Unsaid named es h k
   no_entries_refuted Said Unsaid named (evaluation ∷ es) h k = no_entries_refuted Said Unsaid named es h k
-  no_entries_refuted Said Unsaid named (hidden_type i args first ∷ es) h k = h
   no_entries_refuted Said Unsaid named (ambiguous ∷ es) h k = h
   no_entries_refuted Said Unsaid named (undecided ∷ es) h k = h
   no_entries_refuted Said Unsaid named (refused ∷ es) h k = h
@@ -213,7 +215,6 @@ module _ (L : Level) (c : IsConsistent L) where
   one_said t u named (access a ∷ es) h k = one_said t u named es h k
   one_said t u named (delayed_fault f ∷ es) h k = one_said t u named es h k
   one_said t u named (evaluation ∷ es) h k = one_said t u named es h k
-  one_said t u named (hidden_type i args first ∷ es) h k = absurd h
   one_said t u named (ambiguous ∷ es) h k = absurd h
   one_said t u named (undecided ∷ es) h k = absurd h
   one_said t u named (refused ∷ es) h k = absurd h

@@ -15,7 +15,7 @@ use Rattle.goal_lists.specs.Builtins.{trait_rule}
 use Rattle.goal_lists.specs.Candidates.{Candidate, assumption, implied_bound, by_impl, built_in, error}
 use Rattle.goal_lists.specs.ConstRules.{const_rule}
 use Rattle.goal_lists.specs.EffectLists.{effect_assumption_list, const_rule_entries, source_of_const_rule, effect_list}
-use Rattle.goal_lists.specs.Entries.{Entry, arguments, equal_terms, clause, row_clauses, row_conditions, expected, access, delayed_fault, evaluation, hidden_type, ambiguous, undecided, refused, EntriesHold, ListHolds, ListGives, ListHoldsWith, AsksNoTerm, ListAsksNoTerm, premise_entry, premise_entries}
+use Rattle.goal_lists.specs.Entries.{Entry, arguments, equal_terms, clause, row_clauses, row_conditions, expected, access, delayed_fault, evaluation, ambiguous, undecided, refused, EntriesHold, ListHolds, ListGives, ListHoldsWith, AsksNoTerm, ListAsksNoTerm, premise_entry, premise_entries}
 use Rattle.goal_lists.specs.Level.{Level}
 use Rattle.goal_lists.specs.Premises.{Premise, predicate, equation, ConstRule, conditions_as}
 use Rattle.goal_lists.specs.Settings.{Setting}
@@ -113,7 +113,6 @@ said_as L P Q X named (expected e ∷ es) a h = absurd a.0
 said_as L P Q X named (access x ∷ es) a h = said_as L P Q X named es a.1 h
 said_as L P Q X named (delayed_fault f ∷ es) a h = said_as L P Q X named es a.1 h
 said_as L P Q X named (evaluation ∷ es) a h = said_as L P Q X named es a.1 h
-said_as L P Q X named (hidden_type i args first ∷ es) a h = absurd h
 said_as L P Q X named (ambiguous ∷ es) a h = absurd h
 said_as L P Q X named (undecided ∷ es) a h = absurd h
 said_as L P Q X named (refused ∷ es) a h = absurd h
@@ -131,7 +130,6 @@ unsaid L P named (expected e ∷ es) a h = a.0
 unsaid L P named (access x ∷ es) a h = unsaid L P named es a.1 h
 unsaid L P named (delayed_fault f ∷ es) a h = unsaid L P named es a.1 h
 unsaid L P named (evaluation ∷ es) a h = unsaid L P named es a.1 h
-unsaid L P named (hidden_type i args first ∷ es) a h = h
 unsaid L P named (ambiguous ∷ es) a h = h
 unsaid L P named (undecided ∷ es) a h = h
 unsaid L P named (refused ∷ es) a h = h
@@ -160,7 +158,6 @@ weaker L P Q X Y named (expected e ∷ es) f g h = ((h.0.0, h.0.1, f h.0.0 h.0.2
 weaker L P Q X Y named (access x ∷ es) f g h = weaker L P Q X Y named es f g h
 weaker L P Q X Y named (delayed_fault x ∷ es) f g h = weaker L P Q X Y named es f g h
 weaker L P Q X Y named (evaluation ∷ es) f g h = weaker L P Q X Y named es f g h
-weaker L P Q X Y named (hidden_type i args first ∷ es) f g h = h
 weaker L P Q X Y named (ambiguous ∷ es) f g h = h
 weaker L P Q X Y named (undecided ∷ es) f g h = h
 weaker L P Q X Y named (refused ∷ es) f g h = h

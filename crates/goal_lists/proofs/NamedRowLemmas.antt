@@ -90,7 +90,6 @@ premise-names t T g (entries.Expected u) (equation x y) e = absurd (cc)
 premise-names t T g (entries.Access a) p e = tt
 premise-names t T g (entries.DelayedFault f) p e = tt
 premise-names t T g entries.Evaluation p e = tt
-premise-names t T g (entries.HiddenType i ids first) p e = tt
 premise-names t T g entries.Ambiguous p e = tt
 premise-names t T g entries.Undecided p e = tt
 premise-names t T g entries.Refused p e = tt

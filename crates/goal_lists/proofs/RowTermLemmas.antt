@@ -22,7 +22,6 @@ use Rattle.goal_terms.specs.declared.terms.Ty.{Ty}
 use Rattle.goal_terms.proofs.SortLemmas.{ty_sort}
 use Rattle.goal_terms.proofs.TreeLemmas.{tree_of_sig-record}
 use Rattle.goal_lists.specs.Candidates.{last_of}
-use Rattle.goal_lists.specs.Headers.{under}
 use Rattle.goal_lists.specs.Interned.{erased_at, erased_all, IsIn, AreIn, premise_at}
 use Rattle.goal_lists.specs.Premises.{Premise}
 use Rattle.goal_lists.specs.declared.candidates.interned.InternedPremise.{InternedPremise}

@@ -18,7 +18,9 @@ use Rattle.goal_lists.specs.Headers.{under}
 use Rattle.goal_lists.specs.Laws.{IsWithin, IsAlike, with_impls_and_mode}
 use Rattle.goal_lists.specs.Level.{Level}
 use Rattle.goal_lists.specs.Premises.{clauses_under}
-use Rattle.goal_lists.specs.Settings.{Setting, leaves_open, reveals}
+use Rattle.goal_lists.specs.Settings.{Setting, leaves_open, takes_checked, reveals}
+use Rattle.goal_lists.specs.declared.lists.FirstUse.TheVariants as first
+use Rattle.goal_lists.proofs.HiddenLemmas.{within-hidden_gives, within-hidden_refuted}
 use Rattle.goal_lists.proofs.WithinHeaders.{within-fits, within-clashes, within-all_known}
 use Rattle.goal_lists.proofs.WithinPremises.{within-premises_hold, within-premises_refuted}
 use Rattle.goal_lists.proofs.WithinProjections.{within-projection_gives, within-projection_refuted}
@@ -81,15 +83,17 @@ within-inherent_alias_refuted w S v m o [] g = g
 within-inherent_alias_refuted w S v m o (self ∷ own) g =
     of_row-map o (λ i. of_row-map (inherent_impl_of S.tables i.impl_id) (within-inherent_refuted w self own i)) g
 
--- an opaque type, which both modes leave open or neither, and both reveal or neither
+-- an opaque type, of which both modes say the same
 within-opaque_gives : {L M : Level} {S : Setting} {v : Vec ImplRow Global} {m : TypingMode} → IsWithin L M → IsAlike S v m →
     (i : OpaqueId) (args : List Tree) (u : Tree) (r : OpaqueRow) → opaque_of S.tables i ≡ Some r →
     OpaqueGives S L i args u r → OpaqueGives (with_impls_and_mode S v m) M i args u r
 unfolding OpaqueGives
 within-opaque_gives {S = S} {v} {m} w a i args u r found g =
     either-map_test (leaves_open S.mode r) (leaves_open m r) (a.same_opens i r found) (λ e. e)
+    (either-map_test (takes_checked S.mode r) (takes_checked m r) (a.same_checked i r found)
+    (within-hidden_gives w first.TypeChecked args (tree_of_ty r.typeck_hidden) r.bounds.items u)
     (either-map_test (reveals S.mode r) (reveals m r) (a.same_reveals i r found)
-    (within-has_head_form w (under args (tree_of_ty r.hidden)) u) (λ e. e)) g
+    (within-has_head_form w (under args (tree_of_ty r.hidden)) u) (λ e. e))) g
 
 within-opaque_refuted : {L M : Level} {S : Setting} {v : Vec ImplRow Global} {m : TypingMode} → IsWithin L M → IsAlike S v m →
     (i : OpaqueId) (args : List Tree) (r : OpaqueRow) → opaque_of S.tables i ≡ Some r →
@@ -97,8 +101,10 @@ within-opaque_refuted : {L M : Level} {S : Setting} {v : Vec ImplRow Global} {m 
 unfolding OpaqueRefuted
 within-opaque_refuted {S = S} {v} {m} w a i args r found g =
     either-map_test (leaves_open S.mode r) (leaves_open m r) (a.same_opens i r found) (λ e. e)
+    (either-map_test (takes_checked S.mode r) (takes_checked m r) (a.same_checked i r found)
+    (within-hidden_refuted w first.TypeChecked args (tree_of_ty r.typeck_hidden) r.bounds.items)
     (either-map_test (reveals S.mode r) (reveals m r) (a.same_reveals i r found)
-    (within-head_form_refuted w (under args (tree_of_ty r.hidden))) (λ e. e)) g
+    (within-head_form_refuted w (under args (tree_of_ty r.hidden))) (λ e. e))) g
 
 -- an alias has a term, or none
 pub within-alias_gives : {L M : Level} {S : Setting} {v : Vec ImplRow Global} {m : TypingMode} → IsWithin L M → IsAlike S v m →

@@ -48,8 +48,8 @@ abbrev pub hidden_list : List Tree → OpaqueRow → List Entry
 hidden_list args r = arguments (given_arguments args) ∷ expected (value_under (tree_of_ty r.hidden) 0) ∷ []
 
 -- the hidden type of an opaque type that is being defined
-abbrev pub defined_list : OpaqueId → List Tree → FirstUse → List Entry
-defined_list i args f = hidden_type i args f ∷ []
+abbrev pub defined_list : OpaqueId → List Tree → OpaqueRow → FirstUse → List Entry
+defined_list i args r f = expected (hidden_type i args f (tree_of_ty r.typeck_hidden) r.bounds.items) ∷ []
 
 -- an opaque type, by the typing mode: its hidden type, or itself; ambiguous in coherence, its hidden type's entry where it is being defined, and recorded in the erased mode
 unfoldable pub opaque_list : TypingMode → OpaqueRow → (FirstUse → List Entry) → List Entry → List Entry → List Entry
@@ -61,7 +61,7 @@ opaque_list mode.PostAnalysis r defined revealed itself = revealed
 opaque_list mode.ErasedNotCoherence r defined revealed itself = access (access_to r) ∷ itself
 
 abbrev pub opaque_alias_list : Setting → OpaqueId → List Tree → OpaqueRow → List Entry
-opaque_alias_list S i args r = opaque_list S.mode r (defined_list i args) (hidden_list args r) (standing (alias (OpaqueTy i) (forest args)))
+opaque_alias_list S i args r = opaque_list S.mode r (defined_list i args r) (hidden_list args r) (standing (alias (OpaqueTy i) (forest args)))
 
 -- the list of an alias that is no projection; nothing decides an unevaluated constant
 unfoldable pub alias_list : Setting → AliasTermKind → List Tree → List Entry

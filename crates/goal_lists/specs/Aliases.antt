@@ -13,11 +13,13 @@ use Rattle.goal_tables.specs.declared.rows.InherentImplRow.{InherentImplRow}
 use Rattle.goal_tables.specs.declared.rows.InherentRow.{InherentRow}
 use Rattle.goal_tables.specs.declared.rows.OpaqueRow.{OpaqueRow}
 use Rattle.goal_lists.specs.Headers.{under, AllKnown, Fits, Clashes}
+use Rattle.goal_lists.specs.HiddenTypes.{HiddenGives, HiddenRefuted}
 use Rattle.goal_lists.specs.Level.{Level, HasHeadForm, HeadFormRefuted}
 use Rattle.goal_lists.specs.Premises.{PremisesHold, PremisesRefuted, clauses_under}
 use Rattle.goal_lists.specs.Projections.{ProjectionGives, ProjectionRefuted}
-use Rattle.goal_lists.specs.Settings.{Setting, leaves_open, reveals}
+use Rattle.goal_lists.specs.Settings.{Setting, leaves_open, takes_checked, reveals}
 use Rattle.goal_lists.specs.Words.{OfRow, Either}
+use Rattle.goal_lists.specs.declared.lists.FirstUse.TheVariants as first
 
 -- a row's value under arguments has a head form, or has none; a constant may lack its value
 unfoldable pub ValueGives : Level → List Tree → Option Term → Tree → Type 0
@@ -63,13 +65,23 @@ unfoldable pub InherentAliasRefuted : Setting → Level → Option InherentRow �
 InherentAliasRefuted S L r [] = ⊥
 InherentAliasRefuted S L r (self ∷ own) = OfRow r (λ i. OfRow (inherent_impl_of S.tables i.impl_id) (InherentRefuted L self own i))
 
--- an opaque type: nothing where the mode leaves it open, the head form of its hidden type where the mode reveals that, and else itself
+-- what type checking found for an opaque type, by its row
+abbrev pub CheckedGives : Level → List Tree → Tree → OpaqueRow → Type 0
+CheckedGives L args u r = HiddenGives L first.TypeChecked args (tree_of_ty r.typeck_hidden) r.bounds.items u
+
+abbrev pub CheckedRefuted : Level → List Tree → OpaqueRow → Type 0
+CheckedRefuted L args r = HiddenRefuted L first.TypeChecked args (tree_of_ty r.typeck_hidden) r.bounds.items
+
+-- an opaque type: nothing where the mode leaves it open, what type checking found where the mode takes that, the head form of its hidden type where the mode reveals that, and else itself
 unfoldable pub OpaqueGives : Setting → Level → OpaqueId → List Tree → Tree → OpaqueRow → Type 0
 OpaqueGives S L i args u r =
-    Either (leaves_open S.mode r) ⊥ (Either (reveals S.mode r) (HasHeadForm L (under args (tree_of_ty r.hidden)) u) (u ≡ alias (OpaqueTy i) (forest args)))
+    Either (leaves_open S.mode r) ⊥
+    (Either (takes_checked S.mode r) (CheckedGives L args u r)
+    (Either (reveals S.mode r) (HasHeadForm L (under args (tree_of_ty r.hidden)) u) (u ≡ alias (OpaqueTy i) (forest args))))
 
 unfoldable pub OpaqueRefuted : Setting → Level → List Tree → OpaqueRow → Type 0
-OpaqueRefuted S L args r = Either (leaves_open S.mode r) ⊥ (Either (reveals S.mode r) (HeadFormRefuted L (under args (tree_of_ty r.hidden))) ⊥)
+OpaqueRefuted S L args r =
+    Either (leaves_open S.mode r) ⊥ (Either (takes_checked S.mode r) (CheckedRefuted L args r) (Either (reveals S.mode r) (HeadFormRefuted L (under args (tree_of_ty r.hidden))) ⊥))
 
 -- an alias has a term, by its kind; a constant that would have to be evaluated is undecided
 unfoldable pub AliasGives : Setting → Level → AliasTermKind → List Tree → Tree → Type 0

@@ -12,6 +12,7 @@ use Rattle.goal_terms.specs.declared.predicates.BoundConstness.{BoundConstness}
 use Rattle.goal_terms.specs.declared.predicates.Clause.{Clause}
 use Rattle.goal_terms.specs.declared.predicates.TraitRef.{TraitRef}
 use Rattle.goal_lists.specs.Headers.{under, AllKnown, Fits, Clashes}
+use Rattle.goal_lists.specs.HiddenTypes.{HiddenGives, HiddenRefuted}
 use Rattle.goal_lists.specs.Level.{Level, HasHeadForm, HeadFormRefuted}
 use Rattle.goal_lists.specs.Premises.{Premise, predicate, equation, ClauseHolds, ClauseRefuted, PremisesHold, PremisesRefuted, clauses_under, traits_under, conditions_as}
 use Rattle.goal_lists.specs.Words.{OfRow, Pairs, SomePair}
@@ -38,6 +39,8 @@ pub data ExpectedTerm : Type 0 where
   value_under : Tree → ℕ → ExpectedTerm
   -- the first of two terms where a clause holds, the second where it is refuted
   chosen_by : PredicateTree → Tree → Tree → ExpectedTerm
+  -- the hidden type of an opaque type that is being defined, by its arguments as they are given, with the type that type checking found for it and its bounds, as the row has them
+  hidden_type : OpaqueId → List Tree → FirstUse → Tree → List Clause → ExpectedTerm
 
 -- one thing that a rule asks for, or leaves behind
 pub data Entry : Type 0 where
@@ -53,8 +56,6 @@ pub data Entry : Type 0 where
   row_conditions : BoundConstness → List TraitRef → ℕ → Entry
   -- the goal's expected term
   expected : ExpectedTerm → Entry
-  -- the goal's expected term is the hidden type of an opaque type that is being defined, by its arguments as they are given; its storage decides, which no height knows
-  hidden_type : OpaqueId → List Tree → FirstUse → Entry
   -- an access to an opaque type is recorded
   access : OpaqueAccess → Entry
   -- a delayed fault is recorded
@@ -99,12 +100,14 @@ TermIs L named (as_it_stands t) u = u ≡ t
 TermIs L named (head_form_of t) u = HasHeadForm L t u
 TermIs L named (value_under t n) u = OfNumbered named n (λ s. HasHeadForm L (under s t) u)
 TermIs L named (chosen_by p t v) u = (ClauseHolds L p × (u ≡ t)) ⊎ (ClauseRefuted L p × (u ≡ v))
+TermIs L named (hidden_type i args f t bounds) u = HiddenGives L f args t bounds u
 
 unfoldable pub NoTerm : Level → List (List Tree) → ExpectedTerm → Type 0
 NoTerm L named (as_it_stands t) = ⊥
 NoTerm L named (head_form_of t) = HeadFormRefuted L t
 NoTerm L named (value_under t n) = OfNumbered named n (λ s. HeadFormRefuted L (under s t))
 NoTerm L named (chosen_by p t v) = ⊥
+NoTerm L named (hidden_type i args f t bounds) = HiddenRefuted L f args t bounds
 
 -- all entries hold, with an expected term that is as said; of a list that has none something else must be so
 unfoldable pub EntriesHold : Level → (Tree → Type 0) → Type 0 → List (List Tree) → List Entry → Type 0
@@ -116,7 +119,6 @@ EntriesHold L Said Unsaid named (row_clauses cs n ∷ es) = OfNumbered named n (
 EntriesHold L Said Unsaid named (row_conditions c rs n ∷ es) =
     OfNumbered named n (λ s. PremisesHold L (conditions_as c (traits_under s rs))) × EntriesHold L Said Unsaid named es
 EntriesHold L Said Unsaid named (expected e ∷ es) = ((u : Tree) × TermIs L named e u × Said u) × EntriesHold L Said (Unit {0}) named es
-EntriesHold L Said Unsaid named (hidden_type i ts f ∷ es) = ⊥
 EntriesHold L Said Unsaid named (access a ∷ es) = EntriesHold L Said Unsaid named es
 EntriesHold L Said Unsaid named (delayed_fault f ∷ es) = EntriesHold L Said Unsaid named es
 EntriesHold L Said Unsaid named (evaluation ∷ es) = EntriesHold L Said Unsaid named es
@@ -134,7 +136,6 @@ EntriesRefuted L named (row_clauses cs n ∷ es) = OfNumbered named n (λ s. Pre
 EntriesRefuted L named (row_conditions c rs n ∷ es) =
     OfNumbered named n (λ s. PremisesRefuted L (conditions_as c (traits_under s rs))) ⊎ EntriesRefuted L named es
 EntriesRefuted L named (expected e ∷ es) = NoTerm L named e ⊎ EntriesRefuted L named es
-EntriesRefuted L named (hidden_type i ts f ∷ es) = EntriesRefuted L named es
 EntriesRefuted L named (access a ∷ es) = EntriesRefuted L named es
 EntriesRefuted L named (delayed_fault f ∷ es) = EntriesRefuted L named es
 EntriesRefuted L named (evaluation ∷ es) = EntriesRefuted L named es
@@ -168,7 +169,6 @@ premise_entries g ps = map (premise_entry g) ps
 -- no term is expected by an entry, and by a list
 abbrev pub ExpectsNone : Entry → Type 0
 ExpectsNone (expected e) = ⊥
-ExpectsNone (hidden_type i ts f) = ⊥
 ExpectsNone _ = Unit {0}
 
 unfoldable pub AsksNoTerm : List Entry → Type 0

@@ -53,12 +53,14 @@ term_at T (terms.AsItStands id) = as_it_stands (erased_at T id)
 term_at T (terms.HeadFormOf id) = head_form_of (erased_at T id)
 term_at T (terms.ValueUnder i v n) = value_under (value_tree v) n
 term_at T (terms.ChosenBy p a b) = chosen_by (predicate_at T p) (erased_at T a) (erased_at T b)
+term_at T (terms.HiddenType i ids f r) = hidden_type i (erased_all T ids.items) f (tree_of_ty r.now.typeck_hidden) r.now.bounds.items
 
 abbrev pub TermIn : List Tree → InternedTerm → Type 0
 TermIn T (terms.AsItStands id) = IsIn T id
 TermIn T (terms.HeadFormOf id) = IsIn T id
 TermIn T (terms.ValueUnder i v n) = Unit {0}
 TermIn T (terms.ChosenBy p a b) = PredicateIn T p × IsIn T a × IsIn T b
+TermIn T (terms.HiddenType i ids f r) = AreIn T ids.items
 
 -- an entry
 abbrev pub entry_at : List Tree → InternedEntry → Entry
@@ -68,7 +70,6 @@ entry_at T (entries.Clause g p) = clause g (predicate_at T p)
 entry_at T (entries.RowClauses r cs n) = row_clauses cs.now n
 entry_at T (entries.RowConditions c i rs n) = row_conditions c rs.now n
 entry_at T (entries.Expected e) = expected (term_at T e)
-entry_at T (entries.HiddenType i ids f) = hidden_type i (erased_all T ids.items) f
 entry_at T (entries.Access a) = access a
 entry_at T (entries.DelayedFault f) = delayed_fault f
 entry_at T entries.Evaluation = evaluation
@@ -84,7 +85,6 @@ EntryIn T (entries.Clause g p) = PredicateIn T p
 EntryIn T (entries.RowClauses r cs n) = Unit {0}
 EntryIn T (entries.RowConditions c i rs n) = Unit {0}
 EntryIn T (entries.Expected e) = TermIn T e
-EntryIn T (entries.HiddenType i ids f) = AreIn T ids.items
 EntryIn T (entries.Access a) = Unit {0}
 EntryIn T (entries.DelayedFault f) = Unit {0}
 EntryIn T entries.Evaluation = Unit {0}

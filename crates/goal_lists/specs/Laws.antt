@@ -24,7 +24,7 @@ use Rattle.goal_tables.specs.declared.rows.Tables.{Tables}
 use Rattle.goal_lists.specs.ConstGoals.{satisfies}
 use Rattle.goal_lists.specs.Headers.{under}
 use Rattle.goal_lists.specs.Level.{Level}
-use Rattle.goal_lists.specs.Settings.{Setting, is_coherence, leaves_open, reveals, takes_defaults, hides_defaults}
+use Rattle.goal_lists.specs.Settings.{Setting, is_coherence, leaves_open, takes_checked, reveals, takes_defaults, hides_defaults}
 use Rattle.goal_lists.specs.Words.{Exists, Pairs}
 
 -- all that one level proves, another proves as well
@@ -73,6 +73,7 @@ pub record IsAlike (S : Setting) (v : Vec ImplRow Global) (m : TypingMode) : Typ
   pub same_impl : (i : ImplId) → impl_of (record S.tables { impls = v }) i ≡ impl_of S.tables i
   pub same_coherence : is_coherence m ≡ is_coherence S.mode
   pub same_opens : (i : OpaqueId) (r : OpaqueRow) → opaque_of S.tables i ≡ Some r → leaves_open m r ≡ leaves_open S.mode r
+  pub same_checked : (i : OpaqueId) (r : OpaqueRow) → opaque_of S.tables i ≡ Some r → takes_checked m r ≡ takes_checked S.mode r
   pub same_reveals : (i : OpaqueId) (r : OpaqueRow) → opaque_of S.tables i ≡ Some r → reveals m r ≡ reveals S.mode r
   pub same_defaults :
       (i : ImplId) (j : ItemId) (r : SourceRow) (d : DefId)

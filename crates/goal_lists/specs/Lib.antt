@@ -4,6 +4,7 @@ pub mod Equality
 pub mod Headers
 pub mod Premises
 pub mod Settings
+pub mod HiddenTypes
 pub mod Candidates
 pub mod Builtins
 pub mod ConstRules

@@ -75,7 +75,7 @@ ForAliasAt S id k args P = (T : List Tree) (env : List Clause) → erased_at T i
 
 -- the entries of an opaque type with its row, whose alias is a term
 abbrev pub opaque_entries : TypingMode → OpaqueRow → OpaqueId → List Tree → Tree → List Entry
-opaque_entries m r i args itself = opaque_list m r (defined_list i args) (hidden_list args r) (standing itself)
+opaque_entries m r i args itself = opaque_list m r (defined_list i args r) (hidden_list args r) (standing itself)
 
 -- what the first use of an alias takes as its hidden type, in the mode of a setting
 abbrev pub first_use_in : ListSetting → AliasTermKind → Option FirstUse

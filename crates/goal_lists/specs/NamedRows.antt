@@ -13,7 +13,7 @@ use Rattle.goal_terms.specs.declared.terms.AliasTerm.{AliasTerm}
 use Rattle.goal_terms.specs.declared.terms.AliasTermKind.{AliasTermKind}
 use Rattle.goal_terms.specs.declared.terms.AliasTermKind.TheVariants.{OpaqueTy}
 use Rattle.goal_terms.specs.declared.terms.Term.{Term}
-use Rattle.goal_tables.specs.Rows.{impl_of, item_of, definition_of}
+use Rattle.goal_tables.specs.Rows.{impl_of, item_of, definition_of, opaque_of}
 use Rattle.goal_tables.specs.declared.rows.DefRow.{DefRow}
 use Rattle.goal_tables.specs.declared.rows.ImplRow.{ImplRow}
 use Rattle.goal_tables.specs.declared.rows.Tables.{Tables}
@@ -49,6 +49,7 @@ ArgumentsNameRows t _ = Unit {0}
 -- a value is that of the row with its id
 abbrev pub TermNamesRow : Tables → InternedTerm → Type 0
 TermNamesRow t (terms.ValueUnder i v n) = value_in t i ≡ Some (value_tree v)
+TermNamesRow t (terms.HiddenType i ids f r) = opaque_of t i ≡ Some r.now
 TermNamesRow t _ = Unit {0}
 
 -- what an entry borrows is what the tables have under the id beside it
@@ -124,9 +125,14 @@ DefinitionIsOf t d = definition_of t d.id ≡ Some d
 abbrev pub EntriesNameRows : Tables → Vec InternedEntry Global → Type 0
 EntriesNameRows t = λ es. All (NamesItsRows t) es.items
 
--- the only entry of a list is that of an opaque type that is being defined, by arguments of numbers
+-- an expected term is the hidden type of an opaque type that is being defined, by arguments of numbers
+abbrev pub IsHiddenType : OpaqueId → List TermId → FirstUse → InternedTerm → Type 0
+IsHiddenType i ids f (terms.HiddenType j v g r) = (j ≡ i) × (v.items ≡ ids) × (g ≡ f)
+IsHiddenType i ids f _ = ⊥
+
+-- it is all that a list asks for
 abbrev pub IsDefined : OpaqueId → List TermId → FirstUse → List InternedEntry → Type 0
-IsDefined i ids f es = (v : Vec TermId Global) × (v.items ≡ ids) × (es ≡ entries.HiddenType i v f ∷ [])
+IsDefined i ids f es = (e : InternedTerm) × IsHiddenType i ids f e × (es ≡ entries.Expected e ∷ [])
 
 -- so it is of the opaque type of a kind of alias
 abbrev pub DefinesKind : AliasTermKind → List TermId → FirstUse → List InternedEntry → Type 0

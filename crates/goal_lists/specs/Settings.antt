@@ -42,14 +42,19 @@ is_erased _ = false
 abbrev pub among : List OpaqueId → OpaqueRow → Bool
 among ids r = r.is_local && list_any (λ i. i.0 == r.id.0) ids
 
--- whether a mode leaves open what an opaque type stands for: in coherence, and where it is being defined
+-- whether a mode leaves open what an opaque type stands for: in coherence, and where it is being defined by type checking
 abbrev pub leaves_open : TypingMode → OpaqueRow → Bool
 leaves_open mode.Coherence r = true
 leaves_open (mode.Analysis ids) r = among ids.items r
-leaves_open (mode.Borrowck ids) r = among ids.items r
+leaves_open (mode.Borrowck ids) r = false
 leaves_open (mode.PostBorrowckAnalysis ids) r = false
 leaves_open mode.PostAnalysis r = false
 leaves_open mode.ErasedNotCoherence r = false
+
+-- whether a mode takes for an opaque type what type checking found: where it is being defined after that
+abbrev pub takes_checked : TypingMode → OpaqueRow → Bool
+takes_checked (mode.Borrowck ids) r = among ids.items r
+takes_checked _ r = false
 
 -- whether a mode shows the hidden type of an opaque type
 abbrev pub reveals : TypingMode → OpaqueRow → Bool

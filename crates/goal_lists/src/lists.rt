@@ -10,7 +10,7 @@ pub mod traits;
 
 use crate::candidates::interned::InternedPredicate;
 use goal_tables::lookup::IndexedTables;
-use goal_tables::rows::ItemRow;
+use goal_tables::rows::{ItemRow, OpaqueRow};
 use goal_terms::answers::{DelayedFault, GoalSource, OpaqueAccess, ParamKind};
 use goal_terms::ids::{DefId, FreeId, ImplId, InherentId, InherentImplId, ItemId, OpaqueId};
 use goal_terms::modes::TypingMode;
@@ -126,6 +126,9 @@ pub enum InternedTerm<'t> {
     ValueUnder(RowValue, RowValueTerm<'t>, usize),
     /// The first of two terms where a clause holds, the second where it is refuted.
     ChosenBy(InternedPredicate, TermId, TermId),
+    /// The hidden type of an opaque type that is being defined, by its arguments as they are given, and by its
+    /// row.
+    HiddenType(OpaqueId, Vec<TermId>, FirstUse, &'t OpaqueRow),
 }
 
 impl Drop for InternedTerm<'_> {
@@ -135,6 +138,7 @@ impl Drop for InternedTerm<'_> {
             InternedTerm::HeadFormOf(_) => {}
             InternedTerm::ValueUnder(_, _, _) => {}
             InternedTerm::ChosenBy(_, _, _) => {}
+            InternedTerm::HiddenType(_, _, _, _) => {}
         }
     }
 }
@@ -153,9 +157,6 @@ pub enum InternedEntry<'t> {
     RowConditions(BoundConstness, ImplId, &'t [TraitRef], usize),
     /// The goal's expected term.
     Expected(InternedTerm<'t>),
-    /// The goal's expected term is the hidden type of an opaque type that is being defined, by its
-    /// arguments as they are given.
-    HiddenType(OpaqueId, Vec<TermId>, FirstUse),
     /// An access to an opaque type is recorded.
     Access(OpaqueAccess),
     /// A delayed fault is recorded.
@@ -179,7 +180,6 @@ impl Drop for InternedEntry<'_> {
             InternedEntry::RowClauses(_, _, _) => {}
             InternedEntry::RowConditions(_, _, _, _) => {}
             InternedEntry::Expected(_) => {}
-            InternedEntry::HiddenType(_, _, _) => {}
             InternedEntry::Access(_) => {}
             InternedEntry::DelayedFault(_) => {}
             InternedEntry::Evaluation => {}

@@ -8,7 +8,6 @@ use Rattle.goal_terms.specs.declared.modes.TypingMode.{TypingMode}
 use Rattle.goal_terms.specs.declared.predicates.Goal.{Goal}
 use Rattle.goal_terms.specs.declared.predicates.Predicate.{Predicate}
 use Rattle.goal_terms.specs.declared.predicates.Predicate.TheVariants as predicate
-use Rattle.goal_infer.specs.Inference as inference
 use Rattle.goal_infer.proofs.UndoLemmas.{item-within}
 use Rattle.goal_lists.specs.Answers.{setting_of}
 use Rattle.goal_lists.specs.Levels.{level}

@@ -68,7 +68,7 @@ entry-unsure t env (entry.Clause g k) x s u p q e h step = absurd (cc)
 entry-unsure t env (entry.RowClauses w n) x s u p q e h step = absurd (some-unsure (λ cs. row_clauses cs n) (λ y. refl) _ x e h)
 entry-unsure t env (entry.RowConditions b i n) x s u p q e h step = absurd (some-unsure (λ rs. row_conditions b rs n) (λ y. refl) _ x e h)
 entry-unsure t env (entry.Term v k) x s u p q e h step = absurd (some-unsure expected (λ y. refl) _ x e h)
-entry-unsure t env (entry.HiddenType v k f) x s u p q e h step = absurd (cc)
+entry-unsure t env (entry.HiddenType v k f) x s u p q e h step = absurd (some-unsure expected (λ y. refl) _ x e h)
 entry-unsure t env (entry.Access a) x s u p q e h step = absurd (cc)
 entry-unsure t env (entry.DelayedFault f) x s u p q e h step = absurd (cc)
 

@@ -1,5 +1,5 @@
 -- Aliases that terms stand for, bindings followed.
-use Rattle.std.proofs.Common.{◌≡◌, true, false, Option, Some, None, Result, Ok, Err, refl, sym, ap, ◌∙◌}
+use Rattle.std.proofs.Common.{◌≡◌, false, Option, Some, None, Result, Ok, Err, refl, sym, ap, ◌∙◌}
 use Rattle.std.specs.Prelude.{IfOk, IfSome, is_some}
 use Rattle.std.proofs.lemmas.Bool.{false≢true}
 use Rattle.goal_terms.specs.Erased.{erased}
@@ -12,7 +12,7 @@ use Rattle.goal_terms.specs.declared.heads.Variable.{Variable}
 use Rattle.goal_terms.specs.declared.term_nodes.TermId.{TermId}
 use Rattle.goal_terms.specs.declared.terms.AliasTerm.{AliasTerm}
 use Rattle.goal_infer.specs.Replacement.{replaced}
-use Rattle.goal_infer.specs.Resolution.{Agrees, IsSolved, binding_at, binding_of, resolution, resolved, term_at}
+use Rattle.goal_infer.specs.Resolution.{Agrees, IsSolved, binding_at, binding_of, resolved, term_at}
 use Rattle.goal_kinds.specs.declared.faults.Fault.{Fault}
 use Rattle.goal_eval.specs.Pending.{is_alias}
 use Rattle.goal_solver.specs.Binding.{StandsForAlias, StandsForNoAlias, bound_term}

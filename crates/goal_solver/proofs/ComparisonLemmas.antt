@@ -29,7 +29,7 @@ use Rattle.goal_lists.specs.Interned.{erased_at}
 use Rattle.goal_lists.specs.Laws.{IsAlike, IsWithin}
 use Rattle.goal_lists.specs.Level.{Level}
 use Rattle.goal_lists.specs.Levels.{level}
-use Rattle.goal_lists.specs.Settings.{Setting, is_empty, is_headline, is_coherence, among, leaves_open, reveals, takes_defaults, hides_defaults}
+use Rattle.goal_lists.specs.Settings.{Setting, is_empty, is_headline, is_coherence, among, leaves_open, takes_checked, reveals, takes_defaults, hides_defaults}
 use Rattle.goal_lists.proofs.AlikeSettings.{alike-reordered}
 use Rattle.goal_lists.proofs.AnswerLaws.{answer-same, answers-agree, impls-not_doubled}
 use Rattle.goal_lists.proofs.WithinLevels.{within-alike_level, within-alike_level_back}
@@ -181,17 +181,17 @@ ids-same (x ∷ xs) [] h = absurd h
 ids-same (x ∷ xs) (y ∷ ys) h = ap (λ z. z ∷ ys) h.0 ∙ ap (λ zs. x ∷ zs) (ids-same xs ys h.1)
 
 mode-same : (m k : TypingMode) → is_mode_clone.it m k →
-    (is_headline k ≡ is_headline m) × (is_coherence m ≡ is_coherence k) × ((r : OpaqueRow) → leaves_open m r ≡ leaves_open k r) × ((r : OpaqueRow) → reveals m r ≡ reveals k r)
+    (is_headline k ≡ is_headline m) × (is_coherence m ≡ is_coherence k) × ((r : OpaqueRow) → leaves_open m r ≡ leaves_open k r) × ((r : OpaqueRow) → takes_checked m r ≡ takes_checked k r) × ((r : OpaqueRow) → reveals m r ≡ reveals k r)
     × (takes_defaults m ≡ takes_defaults k) × (hides_defaults m ≡ hides_defaults k)
-mode-same mode.Coherence mode.Coherence r = (refl, refl, λ q. refl, λ q. refl, refl, refl)
+mode-same mode.Coherence mode.Coherence r = (refl, refl, λ q. refl, λ q. refl, λ q. refl, refl, refl)
 mode-same (mode.Analysis xs) (mode.Analysis ys) r =
-    (ap is_empty (ids-same xs.items ys.items r.0), refl, λ q. ap (λ zs. among zs q) (sym (ids-same xs.items ys.items r.0)), λ q. refl, refl, refl)
+    (ap is_empty (ids-same xs.items ys.items r.0), refl, λ q. ap (λ zs. among zs q) (sym (ids-same xs.items ys.items r.0)), λ q. refl, λ q. refl, refl, refl)
 mode-same (mode.Borrowck xs) (mode.Borrowck ys) r =
-    (ap is_empty (ids-same xs.items ys.items r.0), refl, λ q. ap (λ zs. among zs q) (sym (ids-same xs.items ys.items r.0)), λ q. refl, refl, refl)
+    (ap is_empty (ids-same xs.items ys.items r.0), refl, λ q. refl, λ q. ap (λ zs. among zs q) (sym (ids-same xs.items ys.items r.0)), λ q. refl, refl, refl)
 mode-same (mode.PostBorrowckAnalysis xs) (mode.PostBorrowckAnalysis ys) r =
-    (refl, refl, λ q. refl, λ q. ap (λ zs. among zs q) (sym (ids-same xs.items ys.items r.0)), refl, refl)
-mode-same mode.PostAnalysis mode.PostAnalysis r = (refl, refl, λ q. refl, λ q. refl, refl, refl)
-mode-same mode.ErasedNotCoherence mode.ErasedNotCoherence r = (refl, refl, λ q. refl, λ q. refl, refl, refl)
+    (refl, refl, λ q. refl, λ q. refl, λ q. ap (λ zs. among zs q) (sym (ids-same xs.items ys.items r.0)), refl, refl)
+mode-same mode.PostAnalysis mode.PostAnalysis r = (refl, refl, λ q. refl, λ q. refl, λ q. refl, refl, refl)
+mode-same mode.ErasedNotCoherence mode.ErasedNotCoherence r = (refl, refl, λ q. refl, λ q. refl, λ q. refl, refl, refl)
 mode-same m k r = absurd r
 
 pub clone-headline : (m k : TypingMode) → is_mode_clone.it m k → is_headline m ≡ true → is_headline k ≡ true
@@ -206,9 +206,10 @@ clone-answer t m k g n x r h =
       same_impl = λ i. refl;
       same_coherence = same.1;
       same_opens = λ i q e. same.2 q;
-      same_reveals = λ i q e. same.3 q;
-      same_defaults = λ i j q d e f. same.4;
-      same_hidden_defaults = λ i j q d e f. same.5;
+      same_checked = λ i q e. same.3 q;
+      same_reveals = λ i q e. same.4 q;
+      same_defaults = λ i j q d e f. same.5;
+      same_hidden_defaults = λ i j q d e f. same.6;
     } in
     answer_to-same (within-alike_level alike n) (within-alike_level_back alike n) g.predicate x h
 

@@ -1,5 +1,5 @@
 -- Head forms of aliases that hold inference variables.
-use Rattle.std.proofs.Common.{◌≡◌, ◌==◌, ◌<◌, ◌&&◌, ◌||◌, ℕ, zero, suc, Bool, true, false, List, [], ◌∷◌, length, Option, Some, None, Result, Ok, Err, refl, sym, ap, subst, ◌∙◌}
+use Rattle.std.proofs.Common.{inr, ◌≡◌, ◌<◌, ◌&&◌, ◌||◌, ℕ, zero, suc, Bool, true, false, List, [], ◌∷◌, length, Option, Some, None, Result, Ok, Err, refl, sym, ap, subst, ◌∙◌}
 use Rattle.std.proofs.lemmas.Bool.{false≢true}
 use Rattle.std.specs.Prelude.{IfOk, IfErr, IfSome, OnOk}
 use Rattle.goal_terms.specs.Erased.{erased}
@@ -12,6 +12,7 @@ use Rattle.goal_terms.specs.declared.answers.Certainty.TheVariants as certainty
 use Rattle.goal_terms.specs.declared.answers.OpaqueAccess.{OpaqueAccess}
 use Rattle.goal_terms.specs.declared.answers.Response.{Response}
 use Rattle.goal_terms.specs.declared.answers.VarKind.{VarKind}
+use Rattle.goal_terms.specs.declared.modes.TypingMode.{TypingMode}
 use Rattle.goal_terms.specs.declared.predicates.Clause.{Clause}
 use Rattle.goal_terms.specs.declared.predicates.Goal.{Goal}
 use Rattle.goal_terms.specs.declared.predicates.NormalizesTo.{NormalizesTo}
@@ -26,11 +27,11 @@ use Rattle.goal_lists.specs.Interned.{erased_at}
 use Rattle.goal_lists.specs.Level.{Level}
 use Rattle.goal_kinds.specs.declared.faults.Fault.{Fault}
 use Rattle.goal_kinds.specs.declared.faults.Fault.TheVariants as fault
-use Rattle.goal_solver.specs.Binding.{Applies}
+use Rattle.goal_solver.specs.Binding.{AppliesAside}
 use Rattle.goal_solver.specs.GoingBack.{GoesBack, restored, at_depth}
 use Rattle.goal_solver.specs.HeadForms.{bound_term, is_open_form, IsFormAnswer, IsAnswered}
 use Rattle.goal_solver.specs.OpenAnswers.{answers_at, answers_term, less, merges_at, MergesProjection}
-use Rattle.goal_solver.specs.OpenForms.{AppliesSure, IsUnsure, taking, kind_taking, with_taking, AsksTerm, TakesForm, RefusesTerm, OpensFrom, OpensForm, gives_form}
+use Rattle.goal_solver.specs.OpenForms.{AppliesSure, IsUnsure, taking, has_unknown, kind_taking, with_taking, AsksTerm, TakesForm, RefusesTerm, OpensFrom, OpensForm, gives_form}
 use Rattle.goal_solver.specs.OpenGoals.{WhenAnswered}
 use Rattle.goal_solver.specs.OpenProjections.{MergesProjectionWith}
 use Rattle.goal_solver.specs.Relating.{ChangesRecords, IsFaultFor}
@@ -229,18 +230,24 @@ pub left-none : {A : Type 0} (o : Option A) (x : A) → o ≡ Some x → o ≡ N
 left-none o x e f = let d : None ≡ Some x = sym f ∙ e in absurd (cc)
 
 -- a response that is sure is applied
-pub sure-applied : (s z : State) (q : Response) (r : Result Certainty Fault) → q.opaque_entries.items ≡ [] → OnOk r (Applies s z q) → IfOk r (λ c. c ≡ q.certainty) →
-    IfOk r (λ c. c ≡ certainty.Yes → AppliesSure s z q)
-sure-applied s z q (Ok c) none applied same = λ yes. record { sure = sym same ∙ yes; no_type = none; applies = applied }
-sure-applied s z q (Err f) none applied same = tt
+pub when-ok : {A B : Type 0} (r : Result A B) (x : A) (P : Type 0) → r ≡ Ok x → OnOk r P → P
+when-ok r x P e h = subst (λ q. OnOk q P) e h
 
-pub never-left : (q : Response) (r : Result Certainty Fault) → (q.certainty ≡ certainty.Maybe → ⊥) → IfOk r (λ c. c ≡ q.certainty) → IfOk r (λ c. c ≡ certainty.Maybe → IsUnsure q)
-never-left q (Ok c) sure same = λ e. absurd (sure (sym same ∙ e))
-never-left q (Err f) sure same = tt
+sure-is : (c : Certainty) → (c ≡ certainty.Maybe → ⊥) → c ≡ certainty.Yes
+sure-is certainty.Yes sure = refl
+sure-is certainty.Maybe sure = absurd (sure refl)
 
--- a list with elements
-pub some-elements : {A : Type 0} (n : ℕ) (xs : List A) (b : Bool) → n ≡ length xs → b ≡ (n == 0) → b ≡ false → xs ≡ [] → ⊥
-some-elements n xs b l e f none = false≢true (sym f ∙ e ∙ ap (λ k. k == 0) (l ∙ ap length none))
+pub sure-applied : (s z : State) (q : Response) (m : TypingMode) (b : Bool) (r : Result Unit Fault) (u : Unit {0}) → (q.certainty ≡ certainty.Maybe → ⊥) → m ≡ s.typing_mode →
+    b ≡ has_unknown m q.opaque_entries.items → b ≡ false → r ≡ Ok u → OnOk r (AppliesAside s z q) → AppliesSure s z q
+sure-applied s z q m b r u sure same is known ok applied = record {
+  sure = sure-is q.certainty sure;
+  known = ap (λ n. has_unknown n q.opaque_entries.items) (sym same) ∙ sym is ∙ known;
+  applies = when-ok r u (AppliesAside s z q) ok applied;
+}
+
+-- and no other
+pub stays-unsure : (s : State) (q : Response) (m : TypingMode) (b : Bool) → m ≡ s.typing_mode → b ≡ has_unknown m q.opaque_entries.items → b ≡ true → IsUnsure s q
+stays-unsure s q m b same is some = inr (ap (λ n. has_unknown n q.opaque_entries.items) (sym same) ∙ sym is ∙ some)
 
 -- an alias that is open, by its number
 pub open-alias_term : (T : List Tree) (id : TermId) (env : List Clause) (x : Term) (b : Bool) → b ≡ is_open_form (erased_at T id) env → b ≡ true → tree_of_term x ≡ tree_at T id → is_alias (node_of (tree_of_term x)) ≡ true

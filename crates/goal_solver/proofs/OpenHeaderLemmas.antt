@@ -1,5 +1,5 @@
 -- Given terms of headers, opened alias by alias.
-use Rattle.std.proofs.Common.{◌≡◌, ◌⊎◌, ◌<◌, ◌≤◌, ◌∷◌, ℕ, zero, suc, Bool, true, false, List, [], Option, Some, None, map, length, refl, sym, ap, ◌∙◌, subst, inl, inr, arith, true≢false, Ok, Err}
+use Rattle.std.proofs.Common.{◌≡◌, ◌<◌, ◌≤◌, ◌∷◌, ℕ, zero, suc, Bool, true, false, List, [], Option, Some, None, map, length, refl, sym, ap, ◌∙◌, subst, inl, inr, arith, true≢false, Ok, Err}
 use Rattle.std.specs.Prelude.{IfOk, IfSome, IsOkUnless, OnOk, Result, Vec}
 use Rattle.std.specs.Global.{Global}
 use Rattle.std.specs.List.{AllZip}
@@ -7,7 +7,7 @@ use Rattle.std.proofs.lemmas.List.Elements.{All-weaker, All-nil, All-cons, All-h
 use Rattle.goal_terms.specs.Erased.{erased}
 use Rattle.goal_terms.specs.Sorts.{is_argument_sort}
 use Rattle.goal_terms.specs.TableMeaning.{tree_at, AreBelow, Keeps}
-use Rattle.goal_terms.specs.Tree.{Tree, node_of, forest}
+use Rattle.goal_terms.specs.Tree.{Tree, forest}
 use Rattle.goal_terms.specs.TreeOf.{trees_of}
 use Rattle.goal_terms.specs.View.{trees_seen}
 use Rattle.goal_terms.specs.declared.modes.TypingMode.{TypingMode}
@@ -19,10 +19,7 @@ use Rattle.goal_kinds.specs.declared.faults.Fault.TheVariants as fault
 use Rattle.goal_kinds.specs.declared.rules.RuleArguments.{RuleArguments}
 use Rattle.goal_kinds.specs.declared.rules.RuleArguments.TheVariants as arguments
 use Rattle.goal_terms.proofs.UnderLemmas.{trees-same}
-use Rattle.goal_infer.specs.Unification.{is_alias}
-use Rattle.goal_lists.specs.Answers.{setting_of}
 use Rattle.goal_lists.specs.Interned.{IsIn, AreIn}
-use Rattle.goal_lists.specs.Levels.{level}
 use Rattle.goal_solver.specs.Answers.{IsOwed}
 use Rattle.goal_solver.specs.GoingBack.{GoesBack, restored, at_depth}
 use Rattle.goal_solver.specs.HeadForms.{IsClosedForm}

@@ -1,24 +1,19 @@
 -- Trait goals with inference variables that were added: what computing and applying their answers leaves.
 use Rattle.std.proofs.Common.{◌≡◌, ◌<◌, ◌==◌, ℕ, Bool, true, List, [], ◌∷◌, length, take, Option, Some, None, Result, Ok, Err, refl, sym, ap, subst, ◌∙◌, arith}
-use Rattle.std.specs.List.{AllZip}
-use Rattle.std.specs.Prelude.{IfOk, IfSome, OnOk, OnErr}
-use Rattle.std.proofs.lemmas.List.{append-nil}
-use Rattle.goal_terms.specs.declared.answers.Certainty.{Certainty}
+use Rattle.std.specs.Prelude.{IfOk, IfSome}
 use Rattle.goal_terms.specs.declared.answers.OpaqueAccess.{OpaqueAccess}
-use Rattle.goal_terms.specs.declared.answers.OpaqueTypeKey.{OpaqueTypeKey}
 use Rattle.goal_terms.specs.declared.answers.Response.{Response}
 use Rattle.goal_terms.specs.TableMeaning.{Keeps}
 use Rattle.goal_terms.specs.Tree.{Tree}
 use Rattle.goal_terms.specs.declared.term_nodes.TermId.{TermId}
 use Rattle.goal_terms.specs.declared.terms.Term.{Term}
-use Rattle.goal_terms.specs.declared.terms.Ty.{Ty}
 use Rattle.goal_tables.specs.declared.rows.Tables.{Tables}
 use Rattle.goal_lists.specs.Interned.{IsIn}
 use Rattle.goal_lists.proofs.InternedLemmas.{in-grown}
 use Rattle.goal_kinds.specs.declared.faults.Fault.{Fault}
 use Rattle.goal_kinds.specs.declared.faults.Fault.TheVariants as fault
 use Rattle.goal_solver.specs.Accesses.{uncaused, uncaused_faults, RecordsCausedFaults}
-use Rattle.goal_solver.specs.Binding.{Applies, GetValues, IsSameEntry, with_entries, with_equations}
+use Rattle.goal_solver.specs.Binding.{AppliesAside, GetValues, with_equations}
 use Rattle.goal_solver.specs.GoingBack.{BeginsWith, GoesBack, restored}
 use Rattle.goal_solver.specs.Relating.{ChangesInference, ChangesRecords, IsFaultFor}
 use Rattle.goal_solver.specs.State.{State}
@@ -97,31 +92,19 @@ form-grown T U (Ok (Some id)) k h = in-grown T U k id h
 form-grown T U (Ok None) k h = tt
 form-grown T U (Err f) k h = tt
 
--- an answer that is applied changes inference state alone, if it lists no hidden type
+-- values that are given change inference state alone
 given-alone : (s z : State) (ps : List (ℕ × Term)) → GetValues s z ps → ChangesInference s z
 unfolding GetValues
 given-alone s z [] h = h.0
 given-alone s z (p ∷ ps) h = inference-through s h.1 z h.3.alone (given-alone h.1 z ps h.4)
 
-none-entered : (es ls : List (OpaqueTypeKey × Ty)) → ls ≡ [] → AllZip IsSameEntry es ls → es ≡ []
-none-entered [] ls e h = refl
-none-entered (x ∷ es) ls e h = absurd (subst (AllZip IsSameEntry (x ∷ es)) e h)
-
-entered-none : (a z : State) (es : List (OpaqueTypeKey × Ty)) → es ≡ [] → z ≡ with_entries es a → z ≡ a
-entered-none a z es e h = h ∙ ap (λ xs. with_entries xs a) e ∙ ap (λ xs. record a { storage = xs }) (append-nil a.storage)
-
-applied-records : (s z : State) (q : Response) → q.opaque_entries.items ≡ [] → Applies s z q → ChangesRecords s z
-applied-records s z q none h =
+-- an answer that is applied but for its hidden types changes records alone
+pub aside-records : (s z : State) (q : Response) → AppliesAside s z q → ChangesRecords s z
+aside-records s z q h =
     let valued : ChangesInference s h.valued = inference-through s (with_variables q.vars.items s) h.valued refl (given-alone (with_variables q.vars.items s) h.valued q.var_values.items h.values) in
-    let same : z ≡ with_equations q.region_equations.items h.valued =
-    entered-none (with_equations q.region_equations.items h.valued) z h.entered.entered (none-entered h.entered.entered q.opaque_entries.items none h.entered.entries) h.entered.is in
     let all : ChangesInference s z =
-    subst (ChangesInference s) (sym same) (inference-through s h.valued (with_equations q.region_equations.items h.valued) valued refl) in
+    subst (ChangesInference s) (sym h.equated) (inference-through s h.valued (with_equations q.region_equations.items h.valued) valued refl) in
     all ∙ sym (ap (λ (x : State). record s { terms = z.terms; inference = z.inference; accesses = x.accesses; delayed_faults = x.delayed_faults }) all)
-
-pub sure-alone : (s z : State) (q : Response) (r : Result Certainty Fault) → q.opaque_entries.items ≡ [] → OnOk r (Applies s z q) → OnErr r (z ≡ restored s z) → ChangesRecords s z
-sure-alone s z q (Ok c) none applied undone = applied-records s z q none applied
-sure-alone s z q (Err f) none applied undone = restored-records s z undone
 
 -- a list without elements
 none-there : {A : Type 0} (xs : List A) → length xs ≡ 0 → xs ≡ []

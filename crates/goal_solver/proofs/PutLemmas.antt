@@ -1,5 +1,5 @@
 -- Head forms in the place of their aliases, part by part.
-use Rattle.std.proofs.Common.{◌≡◌, ◌⊎◌, ◌<◌, ◌≤◌, ◌+◌, ℕ, zero, suc, Bool, true, false, not, List, [], ◌∷◌, ◌++◌, length, map, take, add-one, Some, refl, sym, ap, ◌∙◌, subst, inl, inr, arith, get_or, true≢false}
+use Rattle.std.proofs.Common.{◌≡◌, ◌<◌, ◌≤◌, ◌+◌, ℕ, zero, suc, Bool, true, false, not, List, [], ◌∷◌, ◌++◌, length, take, add-one, Some, refl, sym, ap, ◌∙◌, subst, inl, inr, arith, get_or, true≢false}
 use Rattle.std.specs.Prelude.{slice_get, is_some}
 use Rattle.std.specs.List.{AllZip}
 use Rattle.std.proofs.lemmas.List.{take_all, length-map, map_push}

@@ -21,7 +21,7 @@ use Rattle.goal_infer.specs.Unification.{is_made_in}
 use Rattle.goal_infer.specs.declared.undo.InferVariable.{InferVariable}
 use Rattle.goal_infer.proofs.KindLemmas.{variable-is, same_var_kind-true}
 use Rattle.goal_infer.proofs.UnifyLemmas.{made-get, made-beyond}
-use Rattle.goal_solver.specs.Binding.{IsFreeFor, BindsTo, CanBeListed, GetValues, IsSameEntry, EntersAll, Applies, with_equations, with_entries}
+use Rattle.goal_solver.specs.Binding.{IsFreeFor, BindsTo, CanBeListed, GetValues, IsSameEntry, EntersAll, Applies, AppliesAside, with_equations, with_entries}
 use Rattle.goal_solver.specs.Relating.{ChangesInference}
 use Rattle.goal_solver.specs.State.{State}
 use Rattle.goal_solver.specs.Stored.{HasOneTypeAKey, IsSameKey}
@@ -182,15 +182,26 @@ pub storage-kept : (s a b z : State) (ks : List VarKind) (ps : List (ℕ × Term
 storage-kept s a b z ks ps es e g h =
     ap (λ (x : State). x.storage) h ∙ ap (λ (x : State). x.storage) (given-alone a b ps g) ∙ ap (λ (x : State). x.storage) e
 
--- all four lists are applied
-pub applies-all : (s a b d z : State) (r : Response) (ks : List VarKind) (ps : List (ℕ × Term)) (es : List (Region × Region)) (fs : List (OpaqueTypeKey × Ty)) →
-    ks ≡ r.vars.items → ps ≡ r.var_values.items → es ≡ r.region_equations.items → fs ≡ r.opaque_entries.items →
-    a ≡ with_variables ks s → GetValues a b ps → d ≡ with_equations es b → EntersAll d z fs → Applies s z r
-applies-all s a b d z r ks ps es fs k p q f e g h n = record {
+-- three lists are applied
+pub applies-aside : (s a b d : State) (r : Response) (ks : List VarKind) (ps : List (ℕ × Term)) (es : List (Region × Region)) → ks ≡ r.vars.items → ps ≡ r.var_values.items → es ≡ r.region_equations.items →
+    a ≡ with_variables ks s → GetValues a b ps → d ≡ with_equations es b → AppliesAside s d r
+applies-aside s a b d r ks ps es k p q e g h = record {
   valued = b;
   values = subst (λ x. GetValues x b r.var_values.items) (e ∙ ap (λ ms. with_variables ms s) k) (subst (GetValues a b) p g);
-  entered = subst (λ x. EntersAll x z r.opaque_entries.items) (h ∙ ap (λ gs. with_equations gs b) q) (subst (EntersAll d z) f n);
+  equated = h ∙ ap (λ gs. with_equations gs b) q;
 }
+
+-- and then the fourth
+pub applies-all : (s d z : State) (r : Response) (fs : List (OpaqueTypeKey × Ty)) → fs ≡ r.opaque_entries.items → AppliesAside s d r → EntersAll d z fs → Applies s z r
+applies-all s d z r fs f aside n = record {
+  valued = aside.valued;
+  values = aside.values;
+  entered = subst (λ x. EntersAll x z r.opaque_entries.items) aside.equated (subst (EntersAll d z) f n);
+}
+
+-- which are entered then
+pub aside-storage : (s d : State) (r : Response) → AppliesAside s d r → d.storage ≡ s.storage
+aside-storage s d r aside = storage-kept s (with_variables r.vars.items s) aside.valued d r.vars.items r.var_values.items r.region_equations.items refl aside.values aside.equated
 
 -- no hidden type that is entered then has one
 pub entries-free : (s z : State) (fs gs : List (OpaqueTypeKey × Ty)) → z.storage ≡ s.storage → fs ≡ gs → HasOneTypeAKey (s.storage ++ gs) → HasOneTypeAKey (z.storage ++ fs)

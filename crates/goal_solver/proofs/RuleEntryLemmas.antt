@@ -11,7 +11,7 @@ use Rattle.goal_tables.specs.declared.rows.Tables.{Tables}
 use Rattle.goal_lists.specs.Entries.{Arguments, Entry, arguments, row_clauses, row_conditions, expected, access, delayed_fault, undecided, EntriesHold, EntriesRefuted, AsksNoTerm}
 use Rattle.goal_lists.specs.InternedEntries.{entry_at}
 use Rattle.goal_lists.specs.Level.{Level}
-use Rattle.goal_kinds.specs.RuleLists.{arguments_of, expected_of, entry_of, names_arguments, before, entries_of}
+use Rattle.goal_kinds.specs.RuleLists.{arguments_of, expected_of, hidden_of, entry_of, names_arguments, before, entries_of}
 use Rattle.goal_kinds.specs.Rules.{has_term}
 use Rattle.goal_lists.specs.RowWords.{clauses_in, conditions_in}
 use Rattle.goal_lists.specs.Causes.{IsCausedEntry}
@@ -94,7 +94,7 @@ no_access t (entry.RowClauses c k) a n e = not_mapped (λ cs. row_clauses cs k) 
 no_access t (entry.RowConditions b j k) a n e = not_mapped (λ rs. row_conditions b rs k) (access a) (λ y h. absurd (cc)) (conditions_in t j) e
 no_access t (entry.Term v x) a n e = not_mapped expected (access a) (λ y h. absurd (cc)) (expected_of t x) e
 no_access t entry.Evaluation a n e = absurd (cc)
-no_access t (entry.HiddenType v k f) a n e = absurd (cc)
+no_access t (entry.HiddenType v k f) a n e = not_mapped expected (access a) (λ y h. absurd (cc)) (hidden_of t k f) e
 no_access t entry.Ambiguous a n e = absurd (cc)
 no_access t entry.Undecided a n e = absurd (cc)
 no_access t entry.Refused a n e = absurd (cc)
@@ -109,7 +109,7 @@ no_fault t (entry.RowClauses c k) a n e = not_mapped (λ cs. row_clauses cs k) (
 no_fault t (entry.RowConditions b j k) a n e = not_mapped (λ rs. row_conditions b rs k) (delayed_fault a) (λ y h. absurd (cc)) (conditions_in t j) e
 no_fault t (entry.Term v x) a n e = not_mapped expected (delayed_fault a) (λ y h. absurd (cc)) (expected_of t x) e
 no_fault t entry.Evaluation a n e = absurd (cc)
-no_fault t (entry.HiddenType v k f) a n e = absurd (cc)
+no_fault t (entry.HiddenType v k f) a n e = not_mapped expected (delayed_fault a) (λ y h. absurd (cc)) (hidden_of t k f) e
 no_fault t entry.Ambiguous a n e = absurd (cc)
 no_fault t entry.Undecided a n e = absurd (cc)
 no_fault t entry.Refused a n e = absurd (cc)
@@ -124,7 +124,6 @@ run-caused t T e (interned.RowConditions c i rs k) n is = tt
 run-caused t T e (interned.Expected a) n is = tt
 run-caused t T e (interned.DelayedFault f) n is = absurd (no_fault t e f n is)
 run-caused t T e interned.Evaluation n is = tt
-run-caused t T e (interned.HiddenType i ids f) n is = tt
 run-caused t T e interned.Ambiguous n is = tt
 run-caused t T e interned.Undecided n is = tt
 run-caused t T e interned.Refused n is = tt

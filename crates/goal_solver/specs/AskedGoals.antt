@@ -1,5 +1,5 @@
 -- Goals of each kind that are answered by their candidates, and how these are merged.
-use Rattle.std.specs.Prelude.{◌≡◌, false, List, Option, Some, None, Result, Ok, Err}
+use Rattle.std.specs.Prelude.{◌≡◌, false, List, Option, Some, None, Result}
 use Rattle.goal_terms.specs.declared.answers.Response.{Response}
 use Rattle.goal_terms.specs.declared.answers.TraitGoalProvenVia.{TraitGoalProvenVia}
 use Rattle.goal_terms.specs.declared.modes.TypingMode.{TypingMode}

@@ -106,6 +106,12 @@ pub record EntersAll (old new : State) (listed : List (OpaqueTypeKey × Ty)) : T
   pub entries : AllZip IsSameEntry entered listed
   pub is : new ≡ with_entries entered old
 
+-- a response is applied but for its entries: its variables are made, then its values given, and its equations added
+pub record AppliesAside (old new : State) (r : Response) : Type 0 where
+  pub valued : State
+  pub values : GetValues (with_variables r.vars.items old) valued r.var_values.items
+  pub equated : new ≡ with_equations r.region_equations.items valued
+
 -- a response is applied: its variables are made, then its values given, its equations added, and its entries entered
 pub record Applies (old new : State) (r : Response) : Type 0 where
   pub valued : State

@@ -1,24 +1,28 @@
 -- What is answered for the head form of an alias that holds an inference variable, or that is asked for in an environment with one: the alias is normalized to a fresh variable, and the answer is applied.
-use Rattle.std.specs.Prelude.{◌≡◌, ◌⊎◌, ℕ, Bool, true, false, List, [], ◌∷◌, length, Option, Some, None, Result, Ok, Err}
+use Rattle.std.specs.Prelude.{◌≡◌, ◌⊎◌, ◌==◌, ℕ, Bool, true, false, not, List, [], ◌∷◌, length, Option, Some, None, Result, Ok, Err}
 use Rattle.goal_terms.specs.Erased.{erased}
 use Rattle.goal_terms.specs.Tree.{Tree, variable}
 use Rattle.goal_terms.specs.TreeOf.{tree_of_alias, tree_of_term, is_type_kind}
 use Rattle.goal_terms.specs.declared.answers.Certainty.{Certainty}
 use Rattle.goal_terms.specs.declared.answers.Certainty.TheVariants as certainty
+use Rattle.goal_terms.specs.declared.answers.OpaqueTypeKey.{OpaqueTypeKey}
 use Rattle.goal_terms.specs.declared.answers.Response.{Response}
 use Rattle.goal_terms.specs.declared.answers.VarKind.{VarKind}
 use Rattle.goal_terms.specs.declared.answers.VarKind.TheVariants as kind
 use Rattle.goal_terms.specs.declared.heads.Variable.{Variable}
 use Rattle.goal_terms.specs.declared.heads.Variable.TheVariants as variables
+use Rattle.goal_terms.specs.declared.modes.TypingMode.{TypingMode}
+use Rattle.goal_terms.specs.declared.modes.TypingMode.TheVariants as mode
 use Rattle.goal_terms.specs.declared.predicates.Clause.{Clause}
 use Rattle.goal_terms.specs.declared.predicates.Goal.{Goal}
 use Rattle.goal_terms.specs.declared.predicates.NormalizesTo.{NormalizesTo}
 use Rattle.goal_terms.specs.declared.terms.AliasTermKind.{AliasTermKind}
 use Rattle.goal_terms.specs.declared.terms.InferTy.TheVariants as infer
 use Rattle.goal_terms.specs.declared.terms.Term.{Term}
+use Rattle.goal_terms.specs.declared.terms.Ty.{Ty}
 use Rattle.goal_kinds.specs.declared.faults.Fault.{Fault}
 use Rattle.goal_kinds.specs.declared.faults.Fault.TheVariants as fault
-use Rattle.goal_solver.specs.Binding.{Applies}
+use Rattle.goal_solver.specs.Binding.{AppliesAside}
 use Rattle.goal_solver.specs.GoingBack.{restored}
 use Rattle.goal_solver.specs.HeadForms.{bound_term}
 use Rattle.goal_solver.specs.State.{State, kinds_of}
@@ -48,15 +52,20 @@ pub record AsksTerm (env : List Clause) (t : Tree) (s : State) (g : Goal Normali
 abbrev pub Answering : Type 1
 Answering = Goal NormalizesTo → State → Result Response Fault → State → Type 0
 
--- a response that is sure and enters no hidden type is applied
+-- whether hidden types are listed that have to be entered to be known: while bodies are borrow checked none has to
+abbrev pub has_unknown : TypingMode → List (OpaqueTypeKey × Ty) → Bool
+has_unknown (mode.Borrowck ids) es = false
+has_unknown _ es = not (length es == 0)
+
+-- a response that is sure is applied but for its hidden types, where none has to be entered
 pub record AppliesSure (old new : State) (q : Response) : Type 0 where
   pub sure : q.certainty ≡ certainty.Yes
-  pub no_type : q.opaque_entries.items ≡ []
-  pub applies : Applies old new q
+  pub known : has_unknown old.typing_mode q.opaque_entries.items ≡ false
+  pub applies : AppliesAside old new q
 
 -- another isn't
-abbrev pub IsUnsure : Response → Type 0
-IsUnsure q = (q.certainty ≡ certainty.Maybe) ⊎ (q.opaque_entries.items ≡ [] → ⊥)
+abbrev pub IsUnsure : State → Response → Type 0
+IsUnsure s q = (q.certainty ≡ certainty.Maybe) ⊎ (has_unknown s.typing_mode q.opaque_entries.items ≡ true)
 
 -- the head form is what the variable stands for, once the response is applied
 pub record TakesForm (Answers : Answering) (env : List Clause) (t : Tree) (old : State) (u : Term) (new : State) : Type 0 where
@@ -77,7 +86,7 @@ pub record LeavesForm (Answers : Answering) (env : List Clause) (t : Tree) (old 
   pub response : Response
   pub answered : State
   pub answers : Answers asked old (Ok response) answered
-  pub unsure : IsUnsure response
+  pub unsure : IsUnsure answered response
 
 -- there is none, since the goal is refused
 pub record RefusesTerm (Answers : Answering) (env : List Clause) (t : Tree) (old : State) : Type 0 where

@@ -1,13 +1,11 @@
 -- Headers that are matched where inference variables stand: an alias against which a constructor of the header stands gives way to its head form.
-use Rattle.std.specs.Prelude.{◌≡◌, ◌⊎◌, ◌<◌, ℕ, zero, suc, Bool, true, false, not, List, [], ◌∷◌, ◌++◌, map, Option, Some, None, slice_get, is_some, Vec, length, Result, Ok, Err}
+use Rattle.std.specs.Prelude.{◌≡◌, ◌⊎◌, ◌<◌, ℕ, zero, suc, Bool, true, false, not, List, [], ◌∷◌, ◌++◌, map, Option, Some, None, is_some, length, Result, Ok, Err}
 use Rattle.std.proofs.Common.{refl, inl, inr, true≢false, ⊎_elim}
-use Rattle.std.specs.Global.{Global}
-use Rattle.std.specs.List.{AllZip}
 use Rattle.goal_terms.specs.Erased.{erased}
 use Rattle.goal_terms.specs.Sorts.{sort_of}
 use Rattle.goal_terms.specs.TableMeaning.{tree_at}
 use Rattle.goal_terms.specs.Tree.{Tree, Trees, node, alias, variable, none, more, node_of, parts_of, forest}
-use Rattle.goal_terms.specs.TreeOf.{leaf, trees_of, tree_of_ty}
+use Rattle.goal_terms.specs.TreeOf.{leaf}
 use Rattle.goal_terms.specs.View.{tree_of_ref, trees_seen}
 use Rattle.goal_terms.specs.declared.heads.Head.TheVariants as head
 use Rattle.goal_terms.specs.declared.heads.Node.{Node}
@@ -15,8 +13,6 @@ use Rattle.goal_terms.specs.declared.heads.Node.TheVariants as nodes
 use Rattle.goal_terms.specs.declared.modes.TypingMode.{TypingMode}
 use Rattle.goal_terms.specs.declared.predicates.Clause.{Clause}
 use Rattle.goal_terms.specs.declared.term_nodes.TermId.{TermId}
-use Rattle.goal_terms.specs.declared.terms.AliasTermKind.TheVariants as kinds
-use Rattle.goal_terms.specs.declared.terms.GenericArg.{GenericArg}
 use Rattle.goal_terms.specs.declared.view.Parts.{Parts}
 use Rattle.goal_terms.specs.declared.view.TermRef.{TermRef}
 use Rattle.goal_infer.specs.Unification.{is_alias}

@@ -1,3 +1,7 @@
+use Rattle.goal_eval.proofs.OpaqueTypeLemmas.{args-undecided, args-unformed, behind-in, bounds-refuted, bounds-say, checked-says, found_where-in}
+use Rattle.goal_eval.specs.OpaqueTypes.{SaysChecked}
+use Rattle.goal_lists.specs.HiddenTypes.{HaveForms, SomeLacksForm}
+use Rattle.goal_lists.specs.Entries.{hidden_type}
 use Rattle.goal_lists.specs.Level.{HasHeadForm, HeadFormRefuted}
 use Rattle.goal_lists.proofs.InternedLemmas.{are_in-grown, all_same-grown, same-grown, in-grown}
 use Rattle.goal_eval.proofs.TraitOutcomeLemmas.{candidate-in, undecided-refuted, environment-decides, bounds-decide, rest-decides, none-decides, trait-ground, trait-bare, trait-unformed, trait-formless, trait-formed, replaced-in, replaced-formed}
@@ -9,11 +13,11 @@ use Rattle.goal_lists.specs.Joined.{both}
 use Rattle.goal_eval.proofs.EffectLemmas.{sound-met}
 use Rattle.goal_eval.proofs.CacheLemmas.{caching, cache-grown, sound-grown, sound-aside, known-trait, keep-trait, known-const, keep-const, known-alias, known-within, keep-alias, sound-of, sound-parts}
 use Rattle.goal_terms.specs.Erased.{erased}
-use Rattle.goal_eval.specs.Outcomes.{setting_in, level_in, SaysWhich, SaysThrough, FoundIn, Says, projection_at, header_terms}
+use Rattle.goal_eval.specs.Outcomes.{setting_in, level_in, SaysWhich, SaysThrough, FoundIn, Says, projection_at, header_terms, SaysForm, SaysPremises}
 use Rattle.goal_terms.proofs.InternLemmas.{keeps-chain, keeps-refl}
 use Rattle.std.proofs.Common.{◌-◌, arith, ap, map, subst, sym, ◌+◌, ◌∙◌, refl, ◌∷◌, ◌++◌, length, rules, get_or, ◌<◌, ◌≡◌, ⊎_elim, Some}
 use Rattle.std.proofs.lemmas.List.Elements.{All-push, All-nil, All-get_or, All-same, All-take}
-use Rattle.goal_terms.specs.TreeOf.{trees_of}
+use Rattle.goal_terms.specs.TreeOf.{trees_of, tree_of_ty}
 use Rattle.goal_terms.specs.TableMeaning.{tree_at, Keeps}
 use Rattle.goal_terms.specs.View.{tree_of_ref}
 use Rattle.goal_lists.proofs.ConsistentLemmas.{each_level_is_consistent}
@@ -54,10 +58,10 @@ use Rattle.std.specs.Option.{option_copied}
 use Rattle.goal_lists.specs.InternedEntries.{list_at, arguments_at, term_at, entry_at, ArgumentsIn, header_trees, TermIn, value_tree}
 use Rattle.goal_eval.specs.Lists.{IsListFor, LeadsOn, progress_at, SaysRow, numbered_at, premises_of, NamedIn, named_at}
 use Rattle.goal_eval.proofs.ListAnswerLemmas.{none-says, list-says, caused-at, runs-next, runs-refuted, runs-undecided, runs-end, entry-in}
-use Rattle.goal_eval.proofs.ListRunLemmas.{end-in, asking-leads, giving-leads, giving-in, naming-leads, naming-in, terms-ask, clause-asks, row-asks, conditions-ask, access-asks, fault-asks, evaluation-asks, ambiguous-asks, undecided-asks, refused-asks, hidden-asks}
+use Rattle.goal_eval.proofs.ListRunLemmas.{end-in, asking-leads, giving-leads, giving-in, naming-leads, naming-in, terms-ask, clause-asks, row-asks, conditions-ask, access-asks, fault-asks, evaluation-asks, ambiguous-asks, undecided-asks, refused-asks}
 use Rattle.std.specs.Prelude.{IfOk, IfSome, slice_get, Ok, ◌||◌}
 use Rattle.std.proofs.lemmas.Result.{IfOk-weaker}
-use Rattle.goal_eval.proofs.ListEntryLemmas.{given-named, header-named, other-unnamed, other-named, followed-unnamed, followed-named, row-unnamed, row-found, standing-found, head_form-found, value-unnamed, value-found, chosen-found, followed-in, pairs-says}
+use Rattle.goal_eval.proofs.ListEntryLemmas.{given-named, header-named, other-unnamed, other-named, followed-unnamed, followed-named, row-unnamed, row-found, standing-found, head_form-found, value-unnamed, value-found, chosen-found, followed-in, pairs-says, checked-found, unknown-found}
 use Rattle.goal_eval.specs.AskedTraits.{candidate_list, SaysListed}
 use Rattle.goal_eval.proofs.AskedTraitLemmas.{asked-says, asked-out, asked-beside, impl-says, asked_in-grown, asked-start, asked-more, asked-shown, asked-end, asked-listed, plain-class, groups-first, groups-second}
 use Rattle.goal_eval.proofs.HostEffectLemmas.{SaysHost, plain-decides, host-unformed, host-formed}
@@ -1083,11 +1087,6 @@ eval::lists::entries::run_entry-returns-in-Ambiguous-clause-says t c = λ m s.
     (λ is. asking-leads (level_in c.args.setting.now m c.args.depth) c.args.terms.now c.args.terms.now (keeps-refl c.args.terms.now) c.args.run.now c.ask-in-Ambiguous.new.self c.requires.run (entry_at c.args.terms.now c.args.entry.now) _ (ap (entry_at c.args.terms.now) is) _ _ (undecided-asks (level_in c.args.setting.now m c.args.depth) (named_at c.args.terms.now c.args.run.now.named.items)) outcome.Undecided
     ((λ x. x), (λ x. x)) c.ask-in-Ambiguous.ensures.run c.ask-in-Ambiguous.result c.ask-in-Ambiguous.ensures.reached) c.in-Ambiguous.is
 
-pub eval::lists::entries::run_entry-returns-in-HiddenType-clause-says : goal.eval::lists::entries::run_entry-returns-in-HiddenType-clause-says
-eval::lists::entries::run_entry-returns-in-HiddenType-clause-says t c = λ m s.
-    asking-leads (level_in c.args.setting.now m c.args.depth) c.args.terms.now c.args.terms.now (keeps-refl c.args.terms.now) c.args.run.now c.ask-in-HiddenType.new.self c.requires.run (entry_at c.args.terms.now c.args.entry.now) _ (ap (entry_at c.args.terms.now) c.in-HiddenType.is) _ _ (hidden-asks (level_in c.args.setting.now m c.args.depth) (named_at c.args.terms.now c.args.run.now.named.items) _ _ _) outcome.Undecided
-    ((λ x. x), (λ x. x)) c.ask-in-HiddenType.ensures.run c.ask-in-HiddenType.result c.ask-in-HiddenType.ensures.reached
-
 pub eval::lists::entries::arguments_match-returns-in_ok-args-in-Given-clause-says : goal.eval::lists::entries::arguments_match-returns-in_ok-args-in-Given-clause-says
 eval::lists::entries::arguments_match-returns-in_ok-args-in-Given-clause-says t c = λ m s.
     given-named (level_in c.args.setting.now m c.args.depth) (named_at c.args.terms.now c.args.named.now) c.args.terms.now (arguments_at c.args.terms.now c.args.arguments.now)
@@ -1651,3 +1650,76 @@ normalizes_to::projections::item_term-evaluate_trait_goal-requires t c = (
     subst (AreIn c.args.terms.now) (sym c.first_of-trait_args.ensures) (All-take (IsIn c.args.terms.now) c.len-trait_params.result c.args.alias.now.args.now c.requires.args),
   ),
 )
+
+pub eval::lists::entries::term_found-returns-in-TypeChecked-clause-says : goal.eval::lists::entries::term_found-returns-in-TypeChecked-clause-says
+eval::lists::entries::term_found-returns-in-TypeChecked-clause-says t c = λ m s.
+    checked-found (level_in c.args.setting.now m c.args.depth) (named_at c.args.terms.now c.args.named.now) c.checked_type.new.terms (term_at c.args.terms.now c.args.term.now)
+    c.in-HiddenType.field-0 (erased_all c.args.terms.now c.in-HiddenType.args.items) (tree_of_ty c.in-HiddenType.row.now.typeck_hidden) c.in-HiddenType.row.now.bounds.items c.checked_type.result
+    (ap (term_at c.args.terms.now) c.in-HiddenType.is
+    ∙ ap (λ f. hidden_type c.in-HiddenType.field-0 (erased_all c.args.terms.now c.in-HiddenType.args.items) f (tree_of_ty c.in-HiddenType.row.now.typeck_hidden) c.in-HiddenType.row.now.bounds.items) c.in-TypeChecked.is)
+    (subst (λ ids. IfOk c.checked_type.result (SaysChecked (level_in c.args.setting.now m c.args.depth) (erased_all c.args.terms.now ids) c.in-HiddenType.row.now c.checked_type.new.terms))
+    c.deref.ensures.value (c.checked_type.ensures.says m s))
+
+pub eval::lists::entries::term_found-returns-in-Expected-clause-says : goal.eval::lists::entries::term_found-returns-in-Expected-clause-says
+eval::lists::entries::term_found-returns-in-Expected-clause-says t c = λ m s.
+    unknown-found (level_in c.args.setting.now m c.args.depth) (named_at c.args.terms.now c.args.named.now) c.args.terms.now (term_at c.args.terms.now c.args.term.now)
+    c.in-HiddenType.field-0 (erased_all c.args.terms.now c.in-HiddenType.args.items) (tree_of_ty c.in-HiddenType.row.now.typeck_hidden) c.in-HiddenType.row.now.bounds.items
+    (ap (term_at c.args.terms.now) c.in-HiddenType.is
+    ∙ ap (λ f. hidden_type c.in-HiddenType.field-0 (erased_all c.args.terms.now c.in-HiddenType.args.items) f (tree_of_ty c.in-HiddenType.row.now.typeck_hidden) c.in-HiddenType.row.now.bounds.items) c.in-Expected.is)
+
+pub normalizes_to::opaque_types::bounded_type-clauses_outcome-requires : goal.normalizes_to::opaque_types::bounded_type-clauses_outcome-requires
+normalizes_to::opaque_types::bounded_type-clauses_outcome-requires t c = (
+  omega arith,
+  (
+    search (rules, caching),
+    behind-in c.args.terms.now c.value_under.new.terms c.value_under.ensures.kept c.args.args.now c.deref-2.result.now c.in_ok-hidden.hidden c.requires.args
+        (c.deref-2.ensures.value ∙ c.in_ok-all.ensures) c.in_ok-hidden.ensures.within,
+  ),
+)
+
+pub normalizes_to::opaque_types::bounded_type-returns-in-Refuted-clause-says : goal.normalizes_to::opaque_types::bounded_type-returns-in-Refuted-clause-says
+normalizes_to::opaque_types::bounded_type-returns-in-Refuted-clause-says t c = λ m s forms.
+    bounds-refuted (level_in c.args.setting.now m c.args.depth) (erased_all c.args.terms.now c.args.args.now) c.args.row.now c.clauses_outcome.new.terms forms
+    (bounds-say (level_in c.args.setting.now m c.args.depth) c.args.terms.now c.value_under.new.terms c.value_under.ensures.kept c.args.args.now c.deref-2.result.now c.in_ok-hidden.hidden
+    c.args.row.now c.deref.result.now outcome.Refuted c.requires.args (c.deref-2.ensures.value ∙ c.in_ok-all.ensures) c.in_ok-hidden.ensures.tree c.deref.ensures.value
+    (subst (SaysPremises (level_in c.args.setting.now m c.args.depth) (clauses_under (erased_all c.value_under.new.terms c.deref-2.result.now) c.deref.result.now)) c.in-Refuted.is
+    (c.in_ok-bounds.ensures.says m s)))
+
+pub normalizes_to::opaque_types::bounded_type-returns : goal.normalizes_to::opaque_types::bounded_type-returns
+normalizes_to::opaque_types::bounded_type-returns t c = record {
+  effects = c.head_form.ensures.effects;
+  kept = keeps-chain c.args.terms.now c.value_under.new.terms c.head_form.new.terms c.value_under.ensures.kept
+      (keeps-chain c.value_under.new.terms c.clauses_outcome.new.terms c.head_form.new.terms c.clauses_outcome.ensures.kept c.head_form.ensures.kept);
+  within = subst (FoundIn c.head_form.new.terms) (sym c.found_where.ensures) (found_where-in c.head_form.new.terms c.in_ok-bounds.bounds c.in_ok-found.found c.in_ok-found.ensures.within);
+  stops = tt;
+  says = λ m s forms.
+      let L = level_in c.args.setting.now m c.args.depth in
+      let args = erased_all c.args.terms.now c.args.args.now in
+      subst (SaysChecked L args c.args.row.now c.head_form.new.terms) (sym c.found_where.ensures)
+      (checked-says L (each_level_is_consistent (setting_in c.args.setting.now m) c.args.depth) args c.args.row.now c.head_form.new.terms c.in_ok-bounds.bounds c.in_ok-found.found forms
+      (bounds-say L c.args.terms.now c.value_under.new.terms c.value_under.ensures.kept c.args.args.now c.deref-2.result.now c.in_ok-hidden.hidden c.args.row.now c.deref.result.now
+      c.in_ok-bounds.bounds c.requires.args (c.deref-2.ensures.value ∙ c.in_ok-all.ensures) c.in_ok-hidden.ensures.tree c.deref.ensures.value (c.in_ok-bounds.ensures.says m s))
+      (subst (λ u. SaysForm L u c.head_form.new.terms c.in_ok-found.found)
+      (same-grown c.value_under.new.terms c.clauses_outcome.new.terms c.clauses_outcome.ensures.kept c.in_ok-hidden.hidden c.in_ok-hidden.ensures.within ∙ c.in_ok-hidden.ensures.tree)
+      (c.in_ok-found.ensures.says m s)));
+}
+
+pub normalizes_to::opaque_types::checked_type-returns-in-Undecided-clause-says : goal.normalizes_to::opaque_types::checked_type-returns-in-Undecided-clause-says
+normalizes_to::opaque_types::checked_type-returns-in-Undecided-clause-says t c = λ m s.
+    let L = level_in c.args.setting.now m c.args.depth in
+    let args = erased_all c.args.terms.now c.args.args.now in
+    args-undecided L args c.args.row.now c.head_forms_outcome.new.terms (subst (Says (HaveForms L args) (SomeLacksForm L args)) c.in-Undecided.is (c.in_ok-head_forms_outcome.ensures.says m s))
+
+pub normalizes_to::opaque_types::checked_type-returns-in-Refuted-clause-says : goal.normalizes_to::opaque_types::checked_type-returns-in-Refuted-clause-says
+normalizes_to::opaque_types::checked_type-returns-in-Refuted-clause-says t c = λ m s.
+    let L = level_in c.args.setting.now m c.args.depth in
+    let args = erased_all c.args.terms.now c.args.args.now in
+    args-unformed L args c.args.row.now c.head_forms_outcome.new.terms (subst (Says (HaveForms L args) (SomeLacksForm L args)) c.in-Refuted.is (c.in_ok-head_forms_outcome.ensures.says m s))
+
+pub normalizes_to::opaque_types::checked_type-returns-in-Holds-clause-says : goal.normalizes_to::opaque_types::checked_type-returns-in-Holds-clause-says
+normalizes_to::opaque_types::checked_type-returns-in-Holds-clause-says t c = λ m s.
+    let L = level_in c.args.setting.now m c.args.depth in
+    let args = erased_all c.args.terms.now c.args.args.now in
+    subst (λ ts. HaveForms L ts → IfOk c.bounded_type.result (SaysChecked L ts c.args.row.now c.bounded_type.new.terms))
+    (all_same-grown c.args.terms.now c.head_forms_outcome.new.terms c.head_forms_outcome.ensures.kept c.args.args.now c.requires.args) (c.bounded_type.ensures.says m s)
+    (subst (Says (HaveForms L args) (SomeLacksForm L args)) c.in-Holds.is (c.in_ok-head_forms_outcome.ensures.says m s))

@@ -198,8 +198,14 @@ invariant-eval::premises::conditions_outcome-loop-condition l = record {
   so_far : PremisesSay l.setting l.depth (condition_at l.constness l.fn.terms) l.conditions l.condition-index l.found;
 }
 
+abbrev pub decreases-normalizes_to::opaque_types::checked_type : goal.decreases-normalizes_to::opaque_types::checked_type
+decreases-normalizes_to::opaque_types::checked_type l = 40 * l.depth + 7
+
+abbrev pub decreases-normalizes_to::opaque_types::bounded_type : goal.decreases-normalizes_to::opaque_types::bounded_type
+decreases-normalizes_to::opaque_types::bounded_type l = 40 * l.depth + 6
+
 abbrev pub decreases-eval::lists::entries::term_found : goal.decreases-eval::lists::entries::term_found
-decreases-eval::lists::entries::term_found l = 40 * l.depth + 3
+decreases-eval::lists::entries::term_found l = 40 * l.depth + 8
 
 abbrev pub decreases-eval::lists::entries::row_outcome : goal.decreases-eval::lists::entries::row_outcome
 decreases-eval::lists::entries::row_outcome l = 40 * l.depth + 6

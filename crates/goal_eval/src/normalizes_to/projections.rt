@@ -370,7 +370,7 @@ fn own_args_normalized(
 
 /// Whether terms have head forms. One without a head form refutes it.
 #[cycle(closed)]
-fn head_forms_outcome(
+pub(crate) fn head_forms_outcome(
     setting: &Setting<'_>,
     terms: &mut TermTable,
     effects: &mut Effects,

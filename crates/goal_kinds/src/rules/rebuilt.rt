@@ -9,12 +9,12 @@ ghost use Rattle.goal_terms.specs.TreeOf.{tree_of_alias, tree_of_arg, tree_of_te
 ghost use Rattle.goal_tables.specs.declared.rows.Tables.{Tables};
 ghost use Rattle.goal_lists.specs.Answers.{erased_predicate};
 ghost use Rattle.goal_kinds.specs.CandidateRules.{asked_trait, IsRefusal};
-ghost use Rattle.goal_lists.specs.Entries.{ExpectsNone, AsksNoTerm, ListAsksNoTerm};
+ghost use Rattle.goal_lists.specs.Entries.{ExpectsNone, AsksNoTerm, ListAsksNoTerm, expected};
 ghost use Rattle.goal_lists.specs.Interned.{IsIn, AreIn, TraitIn, PredicateIn, erased_at, erased_all, trait_at, predicate_at};
 ghost use Rattle.goal_lists.specs.InternedEntries.{ArgumentsIn, TermIn, EntryIn, EntriesIn, ListIn, arguments_at, term_at, entry_at, entries_at, list_at};
 ghost use Rattle.goal_lists.specs.NamedRows.{ArgumentsNameRows, TermNamesRow, NamesItsRows, IsAlias, IsSortedPredicate, IsSortedTerm, IsSorted, IsExpected, ListIsSorted, ListNamesItsRows};
-ghost use Rattle.goal_kinds.specs.RebuiltKeys.{KeepsKey, KeepsKeys};
-ghost use Rattle.goal_kinds.specs.RuleLists.{arguments_of, expected_of, entry_of, list_then, IsListed};
+ghost use Rattle.goal_kinds.specs.RebuiltKeys.{KeepsKey, KeepsKeyOf, KeepsKeys};
+ghost use Rattle.goal_kinds.specs.RuleLists.{arguments_of, entry_of, list_then, IsListed};
 ghost use Rattle.goal_lists.specs.RowWords.{given};
 ghost use Rattle.goal_lists.specs.Words.{Each};
 ghost use Rattle.goal_kinds.specs.RuleWords.{TermIsFor, TermsAreFor};
@@ -167,30 +167,46 @@ fn rebuilt_arguments(
     }
 }
 
-/// What the expected variable stands for. Want of memory or of numbers is the only refusal.
-fn rebuilt_expected(terms: &TermTable, expected: &InternedTerm<'_>) -> Result<RuleTerm, OutOfMemory>
-    requires within { TermIn terms.now expected.now }
-    requires sorted { IsSortedTerm (term_at terms.now expected.now) }
-    ensures { (t : Tables) → TermNamesRow t expected.now → IfOk result (λ e. expected_of t e ≡ Some (term_at terms.now expected.now)) }
+/// The entry by which a goal's expected variable stands for a term. Want of memory or of numbers is the only refusal.
+fn rebuilt_expected(
+    terms: &TermTable,
+    variable: &Term,
+    asked: &InternedTerm<'_>,
+) -> Result<RuleEntry, OutOfMemory>
+    requires within { TermIn terms.now asked.now }
+    requires sorted { IsSortedTerm (term_at terms.now asked.now) }
+    ensures entry { (t : Tables) → TermNamesRow t asked.now → IfOk result (λ e. entry_of t e ≡ Some (expected (term_at terms.now asked.now))) }
+    ensures variable { IfOk result (TermIsFor (λ t. t ≡ tree_of_term variable.now)) }
+    ensures key { IfOk result (KeepsKeyOf terms.now asked.now) }
 {
-    match expected {
+    let variable = copied_term(variable)?;
+    match asked {
         InternedTerm::AsItStands(id) => {
             let term = rebuilt_term(terms, *id)?;
-            Ok(RuleTerm::AsItStands(term))
+            Ok(RuleEntry::Term(variable, RuleTerm::AsItStands(term)))
         }
         InternedTerm::HeadFormOf(id) => {
             let term = rebuilt_term(terms, *id)?;
-            Ok(RuleTerm::Normalized(term))
+            Ok(RuleEntry::Term(variable, RuleTerm::Normalized(term)))
         }
         InternedTerm::ValueUnder(row, _, number) => {
             let number = numbered(*number)?;
-            Ok(RuleTerm::Value(*row, number))
+            Ok(RuleEntry::Term(variable, RuleTerm::Value(*row, number)))
         }
         InternedTerm::ChosenBy(predicate, first, second) => {
             let clause = rebuilt_predicate(terms, predicate)?;
             let first = rebuilt_term(terms, *first)?;
             let second = rebuilt_term(terms, *second)?;
-            Ok(RuleTerm::ChosenBy(clause, first, second))
+            let chosen = RuleTerm::ChosenBy(clause, first, second);
+            Ok(RuleEntry::Term(variable, chosen))
+        }
+        InternedTerm::HiddenType(def_id, ids, first, _) => {
+            let args = rebuilt_args(terms, ids)?;
+            let key = OpaqueTypeKey {
+                def_id: *def_id,
+                args,
+            };
+            Ok(RuleEntry::HiddenType(variable, key, *first))
         }
     }
 }
@@ -231,24 +247,10 @@ fn rebuilt_entry(
             Ok(RuleEntry::RowConditions(*constness, *row, number))
         }
         InternedEntry::Expected(term) => {
-            let Some(expected) = expected else {
+            let Some(variable) = expected else {
                 unreachable!();
             };
-            let expected = copied_term(expected)?;
-            let term = rebuilt_expected(terms, term)?;
-            Ok(RuleEntry::Term(expected, term))
-        }
-        InternedEntry::HiddenType(def_id, ids, first) => {
-            let Some(expected) = expected else {
-                unreachable!();
-            };
-            let expected = copied_term(expected)?;
-            let args = rebuilt_args(terms, ids)?;
-            let key = OpaqueTypeKey {
-                def_id: *def_id,
-                args,
-            };
-            Ok(RuleEntry::HiddenType(expected, key, *first))
+            rebuilt_expected(terms, variable, term)
         }
         InternedEntry::Access(access) => Ok(RuleEntry::Access(*access)),
         InternedEntry::DelayedFault(fault) => Ok(RuleEntry::DelayedFault(*fault)),

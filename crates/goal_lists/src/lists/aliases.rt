@@ -153,19 +153,21 @@ fn defined_list<'t>(
     alloc: Global,
     id: OpaqueId,
     args: &[TermId],
+    row: &'t OpaqueRow,
     first: FirstUse,
 ) -> Result<Vec<InternedEntry<'t>>, OutOfMemory>
     ensures within { (T : List Tree) → AreIn T args.now → IfOk result (λ es. EntriesIn T es.items) }
-    ensures entries { (T : List Tree) → IfOk result (λ es. entries_at T es.items ≡ defined_list id (erased_all T args.now) first) }
-    ensures named { (t : Tables) → IfOk result (λ es. All (NamesItsRows t) es.items) }
+    ensures entries { (T : List Tree) → IfOk result (λ es. entries_at T es.items ≡ defined_list id (erased_all T args.now) row.now first) }
+    ensures named { (t : Tables) → opaque_of t id ≡ Some row.now → IfOk result (λ es. All (NamesItsRows t) es.items) }
     ensures defined { IfOk result (λ es. IsDefined id args.now first es.items) }
 {
     let ids = copied(alloc, args)?;
-    Ok(vec![in alloc; InternedEntry::HiddenType(id, ids, first)]?)
+    let hidden = InternedTerm::HiddenType(id, ids, first, row);
+    Ok(vec![in alloc; InternedEntry::Expected(hidden)]?)
 }
 
 /// The list of an opaque type, by the typing mode: its hidden type, or itself; ambiguous in coherence, the
-/// storage's entry where it is being defined, and recorded in the erased mode. Want of memory is the only
+/// hidden type's entry where it is being defined, and recorded in the erased mode. Want of memory is the only
 /// refusal.
 fn opaque_list<'t>(
     mode: &TypingMode,
@@ -177,7 +179,7 @@ fn opaque_list<'t>(
 ) -> Result<Vec<InternedEntry<'t>>, OutOfMemory>
     ensures within { (T : List Tree) → AreIn T args.now → IsIn T rigid_alias → IfOk result (λ es. EntriesIn T es.items) }
     ensures entries { (T : List Tree) → IfOk result (λ es. entries_at T es.items ≡ opaque_entries mode.now row.now id (erased_all T args.now) (erased_at T rigid_alias)) }
-    ensures named { (t : Tables) → opaque_of t row.now.id ≡ Some row.now → IfOk result (λ es. All (NamesItsRows t) es.items) }
+    ensures named { (t : Tables) → opaque_of t id ≡ Some row.now → opaque_of t row.now.id ≡ Some row.now → IfOk result (λ es. All (NamesItsRows t) es.items) }
     ensures defined { (f : FirstUse) → first_use mode.now row.now ≡ Some f → IfOk result (λ es. IsDefined id args.now f es.items) }
 {
     if let TypingMode::Coherence = mode {
@@ -190,7 +192,7 @@ fn opaque_list<'t>(
             let term = InternedEntry::Expected(InternedTerm::AsItStands(rigid_alias));
             Ok(vec![in alloc; InternedEntry::Access(access), term]?)
         }
-        OpaqueUse::Defining(first) => defined_list(alloc, id, args, first),
+        OpaqueUse::Defining(first) => defined_list(alloc, id, args, row, first),
         OpaqueUse::Undecided => undecided(alloc),
     }
 }

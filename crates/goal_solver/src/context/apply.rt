@@ -6,9 +6,9 @@ ghost use Rattle.goal_terms.specs.declared.terms.Ty.{Ty as Hidden};
 ghost use Rattle.goal_infer.specs.Replacement.{number_of};
 ghost use Rattle.goal_infer.specs.Unification.{is_made_in};
 ghost use Rattle.goal_solver.specs.Accesses.{RecordsCausedFaults};
-ghost use Rattle.goal_solver.specs.Binding.{IsApplicable, Applies, CanBeListed, GetValues, EntersAll, IsSameEntry, with_equations, with_entries};
+ghost use Rattle.goal_solver.specs.Binding.{IsApplicable, Applies, AppliesAside, CanBeListed, GetValues, EntersAll, IsSameEntry, with_equations, with_entries};
 ghost use Rattle.goal_solver.specs.GoingBack.{GoesBack, restored};
-ghost use Rattle.goal_solver.specs.OpenForms.{AppliesSure, IsUnsure};
+ghost use Rattle.goal_solver.specs.OpenForms.{AppliesSure, IsUnsure, has_unknown as lists_unknown};
 ghost use Rattle.goal_solver.specs.Relating.{ChangesRecords};
 ghost use Rattle.goal_solver.specs.Stored.{HasOneTypeAKey};
 ghost use Rattle.goal_solver.specs.Variables.{with_variables};
@@ -19,6 +19,7 @@ use goal_eval::eval::outcomes::Stop;
 use goal_eval::eval::region_constraints::RegionConstraints;
 use goal_terms::answers::{Certainty, OpaqueTypeKey, Response, VarKind};
 use goal_terms::heads::Variable;
+use goal_terms::modes::TypingMode;
 use goal_terms::terms::{InferTy, Region, Term, Ty};
 
 impl EvalCtxt<'_> {
@@ -44,12 +45,12 @@ impl EvalCtxt<'_> {
         Ok(response.certainty)
     }
 
-    /// Applies a response that is sure and lists no hidden type, and answers whether it is one. Only memory is
-    /// refused; then inference state is as before.
+    /// Applies a response that is sure but for its hidden types, if none has to be entered to be known, and answers
+    /// whether it is one. Only memory is refused; then inference state is as before.
     pub(crate) fn apply_sure(&mut self, response: &Response) -> Result<Certainty, Fault>
         requires { IsApplicable self.old response.now }
         ensures applied { IfOk result (λ c. c ≡ Certainty.Yes → AppliesSure self.old self.new response.now) }
-        ensures left { IfOk result (λ c. c ≡ Certainty.Maybe → IsUnsure response.now) }
+        ensures left { IfOk result (λ c. c ≡ Certainty.Maybe → IsUnsure self.old response.now) }
         ensures alone { ChangesRecords self.old self.new }
         ensures goes_back { GoesBack self.old self.new }
         ensures only_memory { IsOkUnless result Fault.OutOfMemory }
@@ -57,10 +58,16 @@ impl EvalCtxt<'_> {
         if let Certainty::Maybe = response.certainty {
             return Ok(Certainty::Maybe);
         }
-        if !response.opaque_entries.is_empty() {
+        if has_unknown(self.typing_mode(), response) {
             return Ok(Certainty::Maybe);
         }
-        self.apply_response(response)
+        self.holds_together();
+        let before = self.snapshot();
+        let Ok(()) = self.apply_aside(response) else {
+            self.rollback(before);
+            return Err(Fault::OutOfMemory);
+        };
+        Ok(Certainty::Yes)
     }
 
     /// Makes, gives and adds what a response lists. Where memory is refused, some of it stays.
@@ -70,10 +77,20 @@ impl EvalCtxt<'_> {
         ensures goes_back { GoesBack self.old self.new }
         ensures only_memory { IsOkUnless result Fault.OutOfMemory }
     {
+        self.apply_aside(response)?;
+        self.enter_types(&response.opaque_entries)
+    }
+
+    /// The same but for the hidden types.
+    fn apply_aside(&mut self, response: &Response) -> Result<(), Fault>
+        requires { IsApplicable self.old response.now }
+        ensures applied { OnOk result (AppliesAside self.old self.new response.now) }
+        ensures goes_back { GoesBack self.old self.new }
+        ensures only_memory { IsOkUnless result Fault.OutOfMemory }
+    {
         self.make_variables(&response.vars)?;
         self.give_values(&response.var_values)?;
-        self.add_equations(&response.region_equations)?;
-        self.enter_types(&response.opaque_entries)
+        self.add_equations(&response.region_equations)
     }
 
     /// Makes a variable of each kind, in order. Where memory is refused, some of them stay.
@@ -205,5 +222,20 @@ impl EvalCtxt<'_> {
             return Err(Fault::OutOfMemory);
         }
         Ok(())
+    }
+}
+
+/// Whether a response lists hidden types that have to be entered to be known. While bodies are borrow checked each is
+/// what type checking found.
+fn has_unknown(mode: &TypingMode, response: &Response) -> bool
+    ensures { result ≡ lists_unknown mode.now response.now.opaque_entries.items }
+{
+    match mode {
+        TypingMode::Borrowck { .. } => false,
+        TypingMode::Coherence
+        | TypingMode::Analysis { .. }
+        | TypingMode::PostBorrowckAnalysis { .. }
+        | TypingMode::PostAnalysis
+        | TypingMode::ErasedNotCoherence => !response.opaque_entries.is_empty(),
     }
 }

@@ -21,12 +21,15 @@ use crate::eval::mode_tests::is_headline;
 use crate::eval::outcomes::{Found, HeaderMatch, OnAccess, Setting, Stop};
 use crate::eval::premises::{clauses_outcome, conditions_outcome, predicate_outcome};
 use crate::eval::row_values::ValueOfRow;
+use crate::normalizes_to::opaque_types::checked_type;
 use crate::relate::equality::compare_lists;
 use crate::relate::header_args::instances;
 use crate::relate::headers::{AskedHeader, match_header};
 use goal_lists::candidates::premises::traits_under;
 use goal_lists::lists::parts::copied;
-use goal_lists::lists::{HeaderTerms, InternedArguments, InternedEntry, InternedTerm, RowHeader};
+use goal_lists::lists::{
+    FirstUse, HeaderTerms, InternedArguments, InternedEntry, InternedTerm, RowHeader,
+};
 use goal_lists::outcomes::Outcome;
 use goal_terms::answers::{DelayedFault, OpaqueAccess};
 use goal_terms::predicates::{BoundConstness, Clause, TraitRef};
@@ -98,7 +101,6 @@ pub fn run_entry(
         }
         InternedEntry::Evaluation => Ok(Reached::Next),
         InternedEntry::Ambiguous | InternedEntry::Undecided => Ok(run.ask(Outcome::Undecided)),
-        InternedEntry::HiddenType(_, _, _) => Ok(run.ask(Outcome::Undecided)),
         InternedEntry::Refused => Ok(Reached::Refuted),
     }
 }
@@ -297,6 +299,10 @@ fn term_found(
             let outcome = predicate_outcome(setting, terms, effects, predicate, depth)?;
             Ok(chosen(outcome, *first, *second))
         }
+        InternedTerm::HiddenType(_, args, first, row) => match first {
+            FirstUse::Expected => Ok(Found::Undecided),
+            FirstUse::TypeChecked => checked_type(setting, terms, effects, row, args, depth),
+        },
     }
 }
 

@@ -112,8 +112,12 @@ fn interned_entry<'t>(
             Ok(Some(InternedEntry::Expected(made)))
         }
         RuleEntry::HiddenType(_, key, first) => {
+            let Some(row) = setting.rows.opaque_row(key.def_id) else {
+                return Ok(None);
+            };
             let ids = intern_args(setting.allocator(), terms, &key.args)?;
-            Ok(Some(InternedEntry::HiddenType(key.def_id, ids, *first)))
+            let hidden = InternedTerm::HiddenType(key.def_id, ids, *first, row);
+            Ok(Some(InternedEntry::Expected(hidden)))
         }
         RuleEntry::Access(access) => Ok(Some(InternedEntry::Access(*access))),
         RuleEntry::DelayedFault(fault) => Ok(Some(InternedEntry::DelayedFault(*fault))),

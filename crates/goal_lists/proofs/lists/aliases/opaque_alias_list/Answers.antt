@@ -19,7 +19,7 @@ unfolding entries_of_row
 returns-clause-entries c T env itself =
     IfOk-weaker c.opaque_list.result _ _
     (λ es made. made
-    ∙ ap (λ t. opaque_list c.args.setting.mode.now c.in-Some.row.now (defined_list c.args.id (erased_all T c.args.args.now)) (hidden_list (erased_all T c.args.args.now) c.in-Some.row.now) (standing t)) itself
+    ∙ ap (λ t. opaque_list c.args.setting.mode.now c.in-Some.row.now (defined_list c.args.id (erased_all T c.args.args.now) c.in-Some.row.now) (hidden_list (erased_all T c.args.args.now) c.in-Some.row.now) (standing t)) itself
     ∙ ap (λ o. entries_of_row o (opaque_alias_list (setting_at c.args.setting env) c.args.id (erased_all T c.args.args.now))) c.in-Some.ensures)
     (c.opaque_list.ensures.entries T)
 
@@ -28,5 +28,5 @@ returns-in_default-clause-named c = c.undecided.ensures.named c.args.setting.row
 
 pub returns-clause-named : goal.returns-clause-named
 returns-clause-named c =
-    c.opaque_list.ensures.named c.args.setting.rows.now
+    c.opaque_list.ensures.named c.args.setting.rows.now (sym c.in-Some.ensures)
     (found-again (λ r. r.id.0) c.args.setting.rows.now.opaque_types.items c.args.id.0 c.in-Some.row.now (sym c.in-Some.ensures))

@@ -9,7 +9,7 @@ use Rattle.goal_terms.specs.declared.answers.Certainty.{Certainty}
 use Rattle.goal_kinds.specs.declared.faults.Fault.{Fault}
 use Rattle.goal_solver.specs.AddedGoals.{AllTakeAt, AreSplit, LeavesUndecided, IsRefusalAt, AreAnswerableAt, AreClosedAt, IsAnswerable, IsAnswerAt}
 use Rattle.goal_solver.specs.GoingBack.{BeginsWith, GoesBack, restored, begun}
-use Rattle.goal_solver.specs.Relating.{IsFaultFor, SaysYes, ChangesRecords}
+use Rattle.goal_solver.specs.Relating.{IsFaultFor, SaysYes}
 use Rattle.goal_solver.proofs.AddedGoalLemmas.{round-begins, records-through, fault-before, restored-owed, restored-alone, restored-fault, restored-itself, answer-before, fault-later}
 use Rattle.goal_solver.proofs.RoundLemmas.{next-answerable, next-listed, next-within, next-fault, next-says, next-split, next-takes, next-waiting, next-begins, ends-says, ends-split, ends-taking, ends-waiting, takes-none, takes-over, gone-over, over-done, over-fault, over-last, over-open, handed-on, left-none, left-some, same-lengths}
 use Rattle.goal_solver.proofs.RefusalLemmas.{refused-on, refuses-later, refuses-among, aside-refused, restored-refused, memory-only, pending-refused, stops-at, refused-map, stops-last, open-refused, open-goal-refused, evaluation-refused, term-refused, arguments-refused}
@@ -75,7 +75,7 @@ use Rattle.goal_terms.specs.declared.term_nodes.TermId.{TermId}
 use Rattle.goal_solver.proofs.AskedGoalLemmas.{asked-merges, asked-passed, asked-refused, asked-shown}
 use Rattle.goal_solver.specs.AskedGoals.{AsksOpen, DecidesBy, MergesAsked, asked_environment, formed_as}
 use Rattle.goal_solver.proofs.OpenedSelfLemmas.{left-or_opened, left-or_opened-const, left-or_opened-through, after-fault, form-passed, form-refused, merge-answered, merge-refused, opened-applies, opened-unsaid}
-use Rattle.goal_solver.specs.Accesses.{RecordsCausedFaults, uncaused}
+use Rattle.goal_solver.specs.Accesses.{uncaused}
 use Rattle.goal_terms.specs.declared.answers.TraitGoalProvenVia.TheVariants as class
 use Rattle.goal_kinds.specs.declared.faults.Fault.TheVariants as fault
 use Rattle.goal_solver.specs.declared.assembly.merged_rules.Merged.TheVariants as merged

@@ -1,38 +1,21 @@
 use Rattle.std.proofs.Common.{rules}
 use Rattle.goal_solver.proofs.BindingLemmas.{on_ok-map}
 use Rattle.goal_solver.proofs.GoingBackLemmas.{goes_back-through}
-use Rattle.goal_solver.proofs.ResponseLemmas.{storage-kept, applies-all, entries-free}
+use Rattle.goal_solver.proofs.ResponseLemmas.{aside-storage, applies-all, entries-free}
 use Rattle.goal_solver.proofs.context.EvalCtxt.apply_lists.Goals as goal
-
-pub returns-in_err-give_values-clause-goes_back : goal.returns-in_err-give_values-clause-goes_back
-returns-in_err-give_values-clause-goes_back c =
-    goes_back-through c.args.self.now c.make_variables.new.self c.give_values.new.self c.make_variables.ensures.goes_back c.give_values.ensures.goes_back
-
-pub returns-in_err-add_equations-clause-goes_back : goal.returns-in_err-add_equations-clause-goes_back
-returns-in_err-add_equations-clause-goes_back c =
-    goes_back-through c.args.self.now c.give_values.new.self c.add_equations.new.self
-    (goes_back-through c.args.self.now c.make_variables.new.self c.give_values.new.self c.make_variables.ensures.goes_back c.give_values.ensures.goes_back)
-    c.add_equations.ensures.goes_back
 
 pub enter_types-requires : goal.enter_types-requires
 enter_types-requires c =
-    entries-free c.args.self.now c.add_equations.new.self c.deref-4.result.now c.args.response.now.opaque_entries.items
-    (storage-kept c.args.self.now c.make_variables.new.self c.give_values.new.self c.add_equations.new.self _ _ _
-    c.in_ok-make_variables.ensures.made c.in_ok-give_values.ensures.given c.in_ok-add_equations.ensures.added)
+    entries-free c.args.self.now c.apply_aside.new.self c.deref.result.now c.args.response.now.opaque_entries.items
+    (aside-storage c.args.self.now c.apply_aside.new.self c.args.response.now c.in_ok-apply_aside.ensures.applied)
     (search rules) c.requires.entries
 
 pub returns-clause-applied : goal.returns-clause-applied
 returns-clause-applied c =
     on_ok-map c.enter_types.result
-    (λ n. applies-all c.args.self.now c.make_variables.new.self c.give_values.new.self c.add_equations.new.self c.enter_types.new.self c.args.response.now
-    c.deref.result.now c.deref-2.result.now c.deref-3.result.now c.deref-4.result.now (search rules) (search rules) (search rules) (search rules)
-    c.in_ok-make_variables.ensures.made c.in_ok-give_values.ensures.given c.in_ok-add_equations.ensures.added n)
+    (λ n. applies-all c.args.self.now c.apply_aside.new.self c.enter_types.new.self c.args.response.now c.deref.result.now (search rules) c.in_ok-apply_aside.ensures.applied n)
     c.enter_types.ensures.entered
 
 pub returns-clause-goes_back : goal.returns-clause-goes_back
 returns-clause-goes_back c =
-    goes_back-through c.args.self.now c.add_equations.new.self c.enter_types.new.self
-    (goes_back-through c.args.self.now c.give_values.new.self c.add_equations.new.self
-    (goes_back-through c.args.self.now c.make_variables.new.self c.give_values.new.self c.make_variables.ensures.goes_back c.give_values.ensures.goes_back)
-    c.add_equations.ensures.goes_back)
-    c.enter_types.ensures.goes_back
+    goes_back-through c.args.self.now c.apply_aside.new.self c.enter_types.new.self c.apply_aside.ensures.goes_back c.enter_types.ensures.goes_back

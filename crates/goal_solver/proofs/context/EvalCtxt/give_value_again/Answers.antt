@@ -1,4 +1,4 @@
-use Rattle.goal_solver.proofs.GoingBackLemmas.{goes_back-grown, goes_back-same, goes_back-through}
+use Rattle.goal_solver.proofs.GoingBackLemmas.{goes_back-grown, goes_back-same}
 use Rattle.goal_solver.proofs.context.EvalCtxt.give_value_again.Goals as goal
 
 pub returns-in_default-clause-goes_back : goal.returns-in_default-clause-goes_back

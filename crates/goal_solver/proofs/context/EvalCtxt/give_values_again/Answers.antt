@@ -1,4 +1,4 @@
-use Rattle.std.proofs.Common.{◌≡◌, ◌∙◌, refl}
+use Rattle.std.proofs.Common.{◌∙◌, refl}
 use Rattle.goal_solver.proofs.AddedGoalLemmas.{records-through}
 use Rattle.goal_solver.proofs.GoingBackLemmas.{goes_back-same, goes_back-through}
 use Rattle.goal_solver.proofs.context.EvalCtxt.give_values_again.Goals as goal

@@ -1,7 +1,7 @@
 use Rattle.std.proofs.Common.{arith, sym, ◌∙◌, ap, subst, true≢false, inl, refl}
 use Rattle.goal_terms.specs.NodeTests.{general_variable_at}
 use Rattle.goal_terms.specs.Tree.{node_of}
-use Rattle.goal_lists.specs.Answers.{setting_of, IsAnswer, maybe}
+use Rattle.goal_lists.specs.Answers.{setting_of, IsAnswer}
 use Rattle.goal_eval.specs.Outcomes.{FoundIn, SaysWhich}
 use Rattle.goal_eval.specs.ErasedArgs.{erased_args}
 use Rattle.goal_solver.specs.Answers.{level_over, AnswersAside, is_closed_alias, expected_variable}
