@@ -6,14 +6,14 @@ use Rattle.std.specs.HashMap.{get, HashMap}
 use Rattle.std.specs.Map.{lookup}
 use Rattle.std.proofs.lemmas.List.Elements.{All-nil, All-same}
 use Rattle.goal_terms.specs.Erased.{erased}
-use Rattle.goal_terms.specs.TableMeaning.{Keeps}
+use Rattle.goal_interner.specs.TableMeaning.{Keeps}
 use Rattle.goal_terms.specs.Tree.{Tree, Trees, node, alias, variable, forest, list_of}
 use Rattle.goal_terms.specs.declared.heads.Head.TheVariants as head
 use Rattle.goal_terms.specs.declared.ids.TraitId.{TraitId}
 use Rattle.goal_terms.specs.declared.modes.TypingMode.{TypingMode}
 use Rattle.goal_terms.specs.declared.predicates.BoundConstness.{BoundConstness}
 use Rattle.goal_terms.specs.declared.predicates.BoundConstness.TheVariants as constness
-use Rattle.goal_terms.specs.declared.term_nodes.TermId.{TermId}
+use Rattle.goal_interner.specs.declared.term_nodes.TermId.{TermId}
 use Rattle.goal_terms.specs.declared.terms.AliasTermKind.{AliasTermKind}
 use Rattle.goal_terms.proofs.TreeLemmas.{list_of-forest}
 use Rattle.goal_lists.specs.Causes.{IsCaused, IsFaultCaused}

@@ -4,11 +4,11 @@ use Rattle.std.specs.List.{All}
 use Rattle.std.proofs.lemmas.List.Elements.{All-head, All-tail, All-cons, All-nil}
 use Rattle.goal_terms.specs.Erased.{erased, erased_row}
 use Rattle.goal_terms.specs.Sorts.{IsArgument, Fits}
-use Rattle.goal_terms.specs.TableMeaning.{tree_at, AreBelow}
+use Rattle.goal_interner.specs.TableMeaning.{tree_at, AreBelow}
 use Rattle.goal_terms.specs.Tree.{Tree, Trees, none, more, node, alias, variable, node_of, parts_of, list_of}
 use Rattle.goal_terms.specs.declared.heads.Node.{Node}
 use Rattle.goal_terms.specs.declared.heads.Node.TheVariants as nodes
-use Rattle.goal_terms.specs.declared.term_nodes.TermId.{TermId}
+use Rattle.goal_interner.specs.declared.term_nodes.TermId.{TermId}
 use Rattle.goal_terms.specs.declared.terms.AliasTermKind.{AliasTermKind}
 use Rattle.goal_lists.specs.Interned.{erased_at, erased_all, IsIn, AreIn}
 use Rattle.goal_lists.specs.Level.{Level, HasHeadForm, HeadFormRefuted}

@@ -4,12 +4,12 @@ use Rattle.std.specs.Prelude.{◌↔◌, Result, Ok, Err, IfOk, slice_get, Vec}
 use Rattle.std.specs.Global.{Global}
 use Rattle.std.proofs.lemmas.Bool.{false≢true}
 use Rattle.std.proofs.lemmas.Option.{same_Some}
-use Rattle.goal_terms.specs.TableMeaning.{Keeps}
+use Rattle.goal_interner.specs.TableMeaning.{Keeps}
 use Rattle.goal_terms.specs.Tree.{Tree}
 use Rattle.goal_terms.specs.declared.answers.ParamKind.{ParamKind}
 use Rattle.goal_terms.specs.declared.answers.ParamKind.TheVariants as kind
 use Rattle.goal_terms.specs.declared.modes.TypingMode.{TypingMode}
-use Rattle.goal_terms.specs.declared.term_nodes.TermId.{TermId}
+use Rattle.goal_interner.specs.declared.term_nodes.TermId.{TermId}
 use Rattle.goal_lists.specs.Headers.{under, PartAmong, is_term_kind, Known, PartsFrom, AllKnown, Fits, Clashes}
 use Rattle.goal_lists.specs.Interned.{erased_at, erased_all, AreIn}
 use Rattle.goal_lists.specs.Laws.{IsConsistent}

@@ -8,7 +8,7 @@ use Rattle.std.proofs.lemmas.Bool.Decides.{Decides-eqb}
 use Rattle.std.proofs.lemmas.Option.{slice_get-map}
 use Rattle.goal_terms.specs.Erased.{erased, erased_head, compared_node}
 use Rattle.goal_terms.specs.NodeTests.{some_node, some_in_row}
-use Rattle.goal_terms.specs.TableMeaning.{tree_at, Keeps}
+use Rattle.goal_interner.specs.TableMeaning.{tree_at, Keeps}
 use Rattle.goal_terms.specs.Tree.{Tree, Trees, node, alias, variable, none, more, node_of}
 use Rattle.goal_terms.specs.View.{tree_of_ref}
 use Rattle.goal_terms.specs.declared.compare.Regions.TheVariants.{Forgotten}
@@ -16,7 +16,7 @@ use Rattle.goal_terms.specs.declared.heads.Head.{Head}
 use Rattle.goal_terms.specs.declared.heads.Node.{Node}
 use Rattle.goal_terms.specs.declared.heads.Node.TheVariants as nodes
 use Rattle.goal_terms.specs.declared.modes.TypingMode.{TypingMode}
-use Rattle.goal_terms.specs.declared.term_nodes.TermId.{TermId}
+use Rattle.goal_interner.specs.declared.term_nodes.TermId.{TermId}
 use Rattle.goal_terms.specs.declared.terms.AliasTermKind.{AliasTermKind}
 use Rattle.goal_terms.specs.declared.view.TermRef.{TermRef}
 use Rattle.goal_terms.proofs.NodeTestLemmas.{some_node-erased}

@@ -3,7 +3,7 @@ use Rattle.std.proofs.Common.{◌≡◌, ◌≢◌, ℕ, zero, suc, ◌+◌, ◌
 use Rattle.std.specs.Prelude.{◌↔◌, Result, Ok, Err, IfOk}
 use Rattle.std.specs.Option.{option_map}
 use Rattle.goal_terms.specs.Erased.{erased, erased_head, compared_node}
-use Rattle.goal_terms.specs.TableMeaning.{tree_at, Keeps}
+use Rattle.goal_interner.specs.TableMeaning.{tree_at, Keeps}
 use Rattle.goal_terms.specs.Tree.{Tree, node, alias, variable, node_of}
 use Rattle.goal_terms.specs.TreeOf.{trees_of}
 use Rattle.goal_terms.specs.View.{tree_of_ref}
@@ -12,7 +12,7 @@ use Rattle.goal_terms.specs.declared.compare.Regions.TheVariants.{Forgotten}
 use Rattle.goal_terms.specs.declared.heads.Head.{Head}
 use Rattle.goal_terms.specs.declared.heads.Node.TheVariants as nodes
 use Rattle.goal_terms.specs.declared.modes.TypingMode.{TypingMode}
-use Rattle.goal_terms.specs.declared.term_nodes.TermId.{TermId}
+use Rattle.goal_interner.specs.declared.term_nodes.TermId.{TermId}
 use Rattle.goal_terms.specs.declared.terms.AliasTermKind.{AliasTermKind}
 use Rattle.goal_terms.specs.declared.terms.GenericArg.{GenericArg}
 use Rattle.goal_terms.specs.declared.view.TermRef.{TermRef}

@@ -9,8 +9,8 @@ use Rattle.goal_terms.specs.NodeTests.{some_node_outside_aliases, some_in_row_ou
 use Rattle.goal_terms.specs.SameTree.{same_node}
 use Rattle.goal_terms.specs.SameLaws.{same_node-true, same_node-refl}
 use Rattle.goal_terms.specs.Sorts.{is_argument_sort, IsSort, IsArgument, Are, HeadFits, Fits}
-use Rattle.goal_terms.specs.TableMeaning.{tree_at}
-use Rattle.goal_terms.specs.declared.term_nodes.TermId.{TermId}
+use Rattle.goal_interner.specs.TableMeaning.{tree_at}
+use Rattle.goal_interner.specs.declared.term_nodes.TermId.{TermId}
 use Rattle.goal_terms.specs.Tree.{Tree, Trees, node, alias, variable, none, more, node_of, parts_of, list_of}
 use Rattle.goal_terms.specs.declared.compare.Regions.TheVariants.{Forgotten}
 use Rattle.goal_terms.specs.declared.heads.Head.{Head}

@@ -4,13 +4,13 @@ use Rattle.std.specs.Borrow.{Bor}
 use Rattle.std.specs.Prelude.{IfOk}
 use Rattle.std.proofs.lemmas.List.Elements.{All-head, All-tail}
 use Rattle.std.proofs.lemmas.Result.{IfOk-weaker}
-use Rattle.goal_terms.specs.TableMeaning.{Keeps}
+use Rattle.goal_interner.specs.TableMeaning.{Keeps}
 use Rattle.goal_terms.specs.Tree.{Tree}
 use Rattle.goal_terms.specs.declared.answers.TraitGoalProvenVia.{TraitGoalProvenVia}
 use Rattle.goal_terms.specs.declared.ids.TraitId.{TraitId}
 use Rattle.goal_terms.specs.declared.predicates.BoundConstness.{BoundConstness}
-use Rattle.goal_terms.specs.declared.term_nodes.TermId.{TermId}
-use Rattle.goal_terms.proofs.InternLemmas.{keeps-chain, keeps-refl}
+use Rattle.goal_interner.specs.declared.term_nodes.TermId.{TermId}
+use Rattle.goal_interner.proofs.InternLemmas.{keeps-chain, keeps-refl}
 use Rattle.goal_lists.specs.ConstGoals.{ConstHolds, ConstRefuted}
 use Rattle.goal_lists.specs.Interned.{IsIn, AreIn, erased_at, erased_all}
 use Rattle.goal_lists.specs.Laws.{IsConsistent}

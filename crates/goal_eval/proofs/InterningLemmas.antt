@@ -7,16 +7,16 @@ use Rattle.std.specs.Option.{option_map}
 use Rattle.std.specs.Prelude.{slice_get, Bool, true, false, IsTrue, if◌then◌else◌}
 use Rattle.goal_terms.specs.Erased.{erased}
 use Rattle.goal_terms.specs.Sorts.{IsArgument, is_term_sort, is_argument_sort, sort_of}
-use Rattle.goal_terms.specs.TableMeaning.{tree_at, Keeps}
+use Rattle.goal_interner.specs.TableMeaning.{tree_at, Keeps}
 use Rattle.goal_terms.specs.Tree.{Tree, node_of}
 use Rattle.goal_terms.specs.TreeOf.{is_type_kind, tree_of_arg, tree_of_alias, tree_of_term, trees_of}
 use Rattle.goal_terms.specs.declared.sorts.Sort.{Sort}
 use Rattle.goal_terms.specs.declared.sorts.Sort.TheVariants as sorts
-use Rattle.goal_terms.specs.declared.term_nodes.TermId.{TermId}
+use Rattle.goal_interner.specs.declared.term_nodes.TermId.{TermId}
 use Rattle.goal_terms.specs.declared.terms.AliasTerm.{AliasTerm}
 use Rattle.goal_terms.specs.declared.terms.GenericArg.{GenericArg}
 use Rattle.goal_terms.specs.declared.terms.Term.{Term}
-use Rattle.goal_terms.proofs.InternLemmas.{trees-pushed, keeps-chain}
+use Rattle.goal_interner.proofs.InternLemmas.{trees-pushed, keeps-chain}
 use Rattle.goal_terms.proofs.TreeLemmas.{tree_of_alias-record}
 use Rattle.goal_terms.proofs.SortLemmas.{arg_sort, term_sort}
 use Rattle.goal_lists.specs.Interned.{erased_at, erased_all, IsIn, AreIn}

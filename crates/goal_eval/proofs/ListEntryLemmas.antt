@@ -10,7 +10,7 @@ use Rattle.goal_terms.specs.Tree.{Tree}
 use Rattle.goal_terms.specs.declared.answers.ParamKind.{ParamKind}
 use Rattle.goal_terms.specs.declared.ids.OpaqueId.{OpaqueId}
 use Rattle.goal_terms.specs.declared.predicates.Clause.{Clause}
-use Rattle.goal_terms.specs.declared.term_nodes.TermId.{TermId}
+use Rattle.goal_interner.specs.declared.term_nodes.TermId.{TermId}
 use Rattle.goal_lists.specs.Entries.{Arguments, given_arguments, of_header, of_other_header, followed_by, ExpectedTerm, as_it_stands, head_form_of, value_under, chosen_by, Named, NamedKnown, NamesNothing, TermIs, NoTerm, hidden_type}
 use Rattle.goal_lists.specs.Headers.{under, AllKnown, Fits, Clashes}
 use Rattle.goal_lists.specs.HiddenTypes.{HiddenGives, HiddenRefuted}

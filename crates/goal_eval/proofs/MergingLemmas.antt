@@ -1,6 +1,6 @@
 -- What merged outcomes say.
 use Rattle.std.proofs.Common.{◌≡◌, ◌≢◌, ◌⊎◌, inl, inr, ℕ, ◌+◌, ◌<◌, ◌≤◌, List, length, map, get_or, sym, subst, ◌∙◌, ⊎_elim}
-use Rattle.goal_terms.specs.TableMeaning.{Keeps}
+use Rattle.goal_interner.specs.TableMeaning.{Keeps}
 use Rattle.goal_terms.specs.Tree.{Tree}
 use Rattle.goal_lists.specs.Interned.{erased_at}
 use Rattle.goal_lists.specs.Words.{Each, Exists}

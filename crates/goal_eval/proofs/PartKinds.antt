@@ -8,7 +8,7 @@ use Rattle.std.proofs.lemmas.List.Elements.{All-nil, All-cons, All-head, All-tai
 use Rattle.goal_terms.specs.Erased.{erased, erased_head, compared_node}
 use Rattle.goal_terms.specs.SameHead.{top_of}
 use Rattle.goal_terms.specs.Sorts.{sort_of, is_argument_sort, IsSort, HeadFits, Fits, tree_in}
-use Rattle.goal_terms.specs.TableMeaning.{tree_at, AreBelow}
+use Rattle.goal_interner.specs.TableMeaning.{tree_at, AreBelow}
 use Rattle.goal_terms.specs.Tree.{Tree, node, alias, variable, node_of, parts_of}
 use Rattle.goal_terms.specs.declared.compare.Regions.TheVariants.{Forgotten}
 use Rattle.goal_terms.specs.declared.heads.Head.{Head}
@@ -17,7 +17,7 @@ use Rattle.goal_terms.specs.declared.heads.Node.{Node}
 use Rattle.goal_terms.specs.declared.heads.Node.TheVariants as nodes
 use Rattle.goal_terms.specs.declared.sorts.Sort.{Sort}
 use Rattle.goal_terms.specs.declared.sorts.Sort.TheVariants as sorts
-use Rattle.goal_terms.specs.declared.term_nodes.TermId.{TermId}
+use Rattle.goal_interner.specs.declared.term_nodes.TermId.{TermId}
 use Rattle.goal_eval.specs.Pending.{is_alias, IsOfSort, IsOfKind, AreListsOfOneKind, HavePartsOfOneKind}
 
 -- whether a constructor's parts are arguments; those of a `dyn` type are clauses

@@ -1,14 +1,14 @@
 -- What comparisons of terms leave to be compared.
 use Rattle.std.proofs.Common.{◌≡◌, ◌≢◌, ◌↔◌, ◌<◌, ◌≤◌, ◌+◌, ◌⊎◌, ℕ, zero, suc, true, max, List, [], ◌∷◌, ◌++◌, length, map, drop, get_or, refl, sym, ap, ◌∙◌, subst, inl, inr, arith}
 use Rattle.std.specs.Prelude.{Result, Ok, Err, IfOk}
-use Rattle.goal_terms.specs.TableMeaning.{tree_at, AreBelow}
+use Rattle.goal_interner.specs.TableMeaning.{tree_at, AreBelow}
 use Rattle.std.proofs.lemmas.List.{length-map, drop_all, drop_more, get_or-map}
 use Rattle.std.proofs.lemmas.List.Elements.{All-head, All-tail}
 use Rattle.goal_terms.proofs.WalkLemmas.{parts_of-compared}
 use Rattle.goal_terms.specs.Erased.{erased}
 use Rattle.goal_terms.specs.Tree.{Tree, parts_of}
 use Rattle.goal_terms.specs.declared.compare.Regions.TheVariants.{Forgotten}
-use Rattle.goal_terms.specs.declared.term_nodes.TermId.{TermId}
+use Rattle.goal_interner.specs.declared.term_nodes.TermId.{TermId}
 use Rattle.goal_lists.specs.Interned.{erased_at, erased_all}
 use Rattle.goal_lists.specs.Level.{Level}
 use Rattle.goal_lists.specs.Levels.{level}

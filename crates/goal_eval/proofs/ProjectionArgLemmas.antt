@@ -4,11 +4,11 @@ use Rattle.std.specs.List.{All}
 use Rattle.std.proofs.lemmas.List.Elements.{All-map}
 use Rattle.goal_terms.specs.Erased.{erased, erased_row}
 use Rattle.goal_terms.specs.Sorts.{IsArgument}
-use Rattle.goal_terms.specs.TableMeaning.{tree_at}
+use Rattle.goal_interner.specs.TableMeaning.{tree_at}
 use Rattle.goal_terms.specs.Tree.{Tree, Trees, node, alias, none, more, forest, list_of}
 use Rattle.goal_terms.specs.declared.heads.Head.TheVariants as head
 use Rattle.goal_terms.specs.declared.ids.TraitId.{TraitId}
-use Rattle.goal_terms.specs.declared.term_nodes.TermId.{TermId}
+use Rattle.goal_interner.specs.declared.term_nodes.TermId.{TermId}
 use Rattle.goal_terms.specs.declared.terms.AliasTermKind.{AliasTermKind}
 use Rattle.goal_lists.specs.Interned.{erased_at, erased_all, AreIn}
 use Rattle.goal_eval.specs.ProjectionParts.{rest_of}

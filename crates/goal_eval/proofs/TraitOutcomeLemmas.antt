@@ -4,13 +4,13 @@ use Rattle.std.specs.Prelude.{IfOk, Result}
 use Rattle.std.specs.List.{All}
 use Rattle.std.proofs.lemmas.Result.{IfOk-weaker}
 use Rattle.std.proofs.lemmas.List.Elements.{All-tail, All-cons}
-use Rattle.goal_terms.specs.TableMeaning.{Keeps}
+use Rattle.goal_interner.specs.TableMeaning.{Keeps}
 use Rattle.goal_terms.specs.Tree.{Tree}
 use Rattle.goal_terms.specs.declared.answers.ParamKind.{ParamKind}
 use Rattle.goal_terms.specs.declared.answers.TraitGoalProvenVia.{TraitGoalProvenVia}
 use Rattle.goal_terms.specs.declared.answers.TraitGoalProvenVia.TheVariants as class
 use Rattle.goal_terms.specs.declared.ids.TraitId.{TraitId}
-use Rattle.goal_terms.specs.declared.term_nodes.TermId.{TermId}
+use Rattle.goal_interner.specs.declared.term_nodes.TermId.{TermId}
 use Rattle.goal_terms.specs.declared.terms.GenericArg.{GenericArg}
 use Rattle.goal_tables.specs.declared.rows.ImplRow.{ImplRow}
 use Rattle.goal_lists.specs.Candidates.{Candidate, environment, alias_bounds, rest, class_of, classes_before, all_candidates}

@@ -5,7 +5,7 @@ use Rattle.std.specs.List.{All, AllZip}
 use Rattle.std.specs.Option.{option_map}
 use Rattle.goal_terms.specs.Erased.{erased}
 use Rattle.goal_terms.specs.Sorts.{IsArgument}
-use Rattle.goal_terms.specs.TableMeaning.{tree_at}
+use Rattle.goal_interner.specs.TableMeaning.{tree_at}
 use Rattle.goal_terms.specs.Tree.{Tree, node_of, parts_of}
 use Rattle.goal_terms.specs.View.{tree_of_ref, trees_seen}
 use Rattle.goal_terms.specs.declared.answers.ParamKind.{ParamKind}
@@ -13,7 +13,7 @@ use Rattle.goal_terms.specs.declared.answers.ParamKind.TheVariants as kind
 use Rattle.goal_terms.specs.declared.heads.Head.{Head}
 use Rattle.goal_terms.specs.declared.heads.Node.{Node}
 use Rattle.goal_terms.specs.declared.heads.Node.TheVariants as nodes
-use Rattle.goal_terms.specs.declared.term_nodes.TermId.{TermId}
+use Rattle.goal_interner.specs.declared.term_nodes.TermId.{TermId}
 use Rattle.goal_terms.specs.declared.terms.AliasTermKind.{AliasTermKind}
 use Rattle.goal_terms.specs.declared.view.Parts.{Parts}
 use Rattle.goal_terms.specs.declared.view.TermRef.{TermRef}

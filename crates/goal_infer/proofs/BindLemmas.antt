@@ -8,7 +8,7 @@ use Rattle.std.proofs.Math.Path.{fun_ext}
 use Rattle.goal_terms.specs.Tree.{Tree, node, alias, variable, node_of}
 use Rattle.goal_terms.specs.NodeTests.{same_var_kind}
 use Rattle.goal_terms.specs.declared.heads.Variable.{Variable}
-use Rattle.goal_terms.specs.declared.term_nodes.TermId.{TermId}
+use Rattle.goal_interner.specs.declared.term_nodes.TermId.{TermId}
 use Rattle.goal_infer.specs.Inference.{Inference}
 use Rattle.goal_infer.specs.Occurrence.{place_of, place_at}
 use Rattle.goal_infer.specs.Replacement.{number_of, kind_of_variable, same_variable, replaced, takes, OfKinds}

@@ -9,7 +9,7 @@ use Rattle.std.proofs.lemmas.List.Elements.{All-head, All-tail, all_zip_more}
 use Rattle.goal_terms.specs.Tree.{Tree, Trees, node, alias, variable, none, more, node_of, parts_of, list_of, forest}
 use Rattle.goal_terms.specs.Erased.{erased, erased_row, erased_head, compared_node}
 use Rattle.goal_terms.specs.Sorts.{sort_of, tree_in, part_at, Fits}
-use Rattle.goal_terms.specs.TableMeaning.{tree_at, AreBelow, Keeps}
+use Rattle.goal_interner.specs.TableMeaning.{tree_at, AreBelow, Keeps}
 use Rattle.goal_terms.specs.TreeOf.{leaf}
 use Rattle.goal_terms.specs.TreeWith.{tree_with}
 use Rattle.goal_terms.specs.declared.compare.Regions.TheVariants.{Forgotten}
@@ -20,9 +20,9 @@ use Rattle.goal_terms.specs.declared.heads.Variable.{Variable}
 use Rattle.goal_terms.specs.declared.heads.Variable.TheVariants as variables
 use Rattle.goal_terms.specs.declared.sorts.Sort.{Sort}
 use Rattle.goal_terms.specs.declared.sorts.Sort.TheVariants as sorts
-use Rattle.goal_terms.specs.declared.term_nodes.TermId.{TermId}
+use Rattle.goal_interner.specs.declared.term_nodes.TermId.{TermId}
 use Rattle.goal_terms.specs.declared.terms.InferTy.TheVariants as infer
-use Rattle.goal_terms.proofs.InternLemmas.{tree_with-parts, within-pushed, trees-pushed}
+use Rattle.goal_interner.proofs.InternLemmas.{tree_with-parts, within-pushed, trees-pushed}
 use Rattle.goal_infer.specs.Following.{sort_at, StaysUnbound}
 use Rattle.goal_infer.specs.Inference.{Inference}
 use Rattle.goal_infer.specs.Replacement.{replaced, replaced_row, takes, is_type_sort, is_const_sort, OfKinds}

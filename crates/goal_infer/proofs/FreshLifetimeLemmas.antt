@@ -7,7 +7,7 @@ use Rattle.std.proofs.lemmas.List.Elements.{all_zip_more}
 use Rattle.goal_terms.specs.Erased.{erased, erased_head, compared_node}
 use Rattle.goal_terms.specs.NodeTests.{some_node, some_in_row}
 use Rattle.goal_terms.specs.Sorts.{sort_of, tree_in, part_at, HeadFits, Fits}
-use Rattle.goal_terms.specs.TableMeaning.{tree_at, AreBelow, Keeps}
+use Rattle.goal_interner.specs.TableMeaning.{tree_at, AreBelow, Keeps}
 use Rattle.goal_terms.specs.Tree.{Tree, node_of, parts_of, forest}
 use Rattle.goal_terms.specs.TreeOf.{leaf}
 use Rattle.goal_terms.specs.TreeWith.{tree_with}
@@ -16,8 +16,8 @@ use Rattle.goal_terms.specs.declared.heads.Head.TheVariants as head
 use Rattle.goal_terms.specs.declared.heads.Head.{Head}
 use Rattle.goal_terms.specs.declared.heads.Node.{Node}
 use Rattle.goal_terms.specs.declared.heads.Node.TheVariants as nodes
-use Rattle.goal_terms.specs.declared.term_nodes.TermId.{TermId}
-use Rattle.goal_terms.proofs.InternLemmas.{tree_with-parts}
+use Rattle.goal_interner.specs.declared.term_nodes.TermId.{TermId}
+use Rattle.goal_interner.proofs.InternLemmas.{tree_with-parts}
 use Rattle.goal_infer.specs.FreshLifetimes.{names_erased, IsFreshened}
 use Rattle.goal_infer.proofs.FollowLemmas.{sort-forgotten, erased-with, numbers-kept, map-push}
 use Rattle.goal_infer.proofs.SortLemmas.{HaveOneSort, fits-sorts}

@@ -7,12 +7,12 @@ use Rattle.std.proofs.Math.Seq.{take-append_seam}
 use Rattle.goal_terms.specs.Erased.{erased}
 use Rattle.goal_terms.specs.Regions.{region_of}
 use Rattle.goal_terms.specs.SameHead.{top_of}
-use Rattle.goal_terms.specs.TableMeaning.{tree_at}
+use Rattle.goal_interner.specs.TableMeaning.{tree_at}
 use Rattle.goal_terms.specs.Tree.{Tree, Trees, node, alias, variable, none, more, node_of, parts_of, list_of}
 use Rattle.goal_terms.specs.declared.heads.Node.{Node}
-use Rattle.goal_terms.specs.declared.term_nodes.TermId.{TermId}
+use Rattle.goal_interner.specs.declared.term_nodes.TermId.{TermId}
 use Rattle.goal_terms.specs.declared.terms.Region.{Region}
-use Rattle.goal_terms.proofs.SameTermLemmas.{erased-top, erased-parts, same-count}
+use Rattle.goal_interner.proofs.SameTermLemmas.{erased-top, erased-parts, same-count}
 use Rattle.goal_infer.specs.Inference.{Inference}
 use Rattle.goal_infer.specs.RegionEquations.{Scopes, is_binder, levels_below, number_at, numbers_in, numbers_in_row, with_number, own_numbers, own_count, numbered, scopes_below, variables_between, variables_in_row, own_equation, equations_in, equations_in_row, equated_in, with_regions}
 use Rattle.goal_infer.specs.Resolution.{term_at}

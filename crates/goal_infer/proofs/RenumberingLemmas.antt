@@ -2,7 +2,7 @@
 use Rattle.std.proofs.Common.{◌≡◌, ℕ, zero, suc, ◌+◌, ◌<◌, ◌≤◌, List, [], ◌∷◌, ◌++◌, length, map, take, drop, get_or, refl, sym, ap, ◌∙◌, subst, arith}
 use Rattle.std.specs.List.{AllZip}
 use Rattle.goal_terms.specs.Sorts.{sort_of_head, part_at, HeadFits, Fits}
-use Rattle.goal_terms.specs.TableMeaning.{tree_at, AreBelow, Keeps}
+use Rattle.goal_interner.specs.TableMeaning.{tree_at, AreBelow, Keeps}
 use Rattle.goal_terms.specs.Tree.{Tree, Trees, node, alias, variable, none, more, node_of, parts_of, list_of, forest}
 use Rattle.goal_terms.specs.TreeCode.{forest-list_of}
 use Rattle.goal_terms.specs.TreeWith.{tree_with}
@@ -11,10 +11,10 @@ use Rattle.goal_terms.specs.declared.heads.Head.TheVariants as head
 use Rattle.goal_terms.specs.declared.heads.Node.{Node}
 use Rattle.goal_terms.specs.declared.heads.Node.TheVariants as nodes
 use Rattle.goal_terms.specs.declared.heads.Variable.TheVariants as variables
-use Rattle.goal_terms.specs.declared.term_nodes.TermId.{TermId}
+use Rattle.goal_interner.specs.declared.term_nodes.TermId.{TermId}
 use Rattle.goal_terms.specs.declared.terms.InferTy.TheVariants as infer
-use Rattle.goal_terms.proofs.InternLemmas.{trees-pushed}
-use Rattle.goal_terms.proofs.UnderLemmas.{all-rewritten, count-parts, part-read}
+use Rattle.goal_interner.proofs.InternLemmas.{trees-pushed}
+use Rattle.goal_interner.proofs.UnderLemmas.{all-rewritten, count-parts, part-read}
 use Rattle.goal_infer.specs.Renumbering.{renumbered_head, renumbered_node, renumbered, renumbered_row, numbered_node, numbered, numbered_row}
 use Rattle.goal_infer.proofs.SortLemmas.{HaveOneSort, fits-sorts}
 

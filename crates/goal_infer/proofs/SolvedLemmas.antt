@@ -7,10 +7,10 @@ use Rattle.std.proofs.Math.Path.{fun_ext}
 use Rattle.goal_terms.specs.Tree.{Tree, variable}
 use Rattle.goal_terms.specs.Erased.{erased}
 use Rattle.goal_terms.specs.NodeTests.{same_var_kind}
-use Rattle.goal_terms.specs.TableMeaning.{tree_at, Keeps}
+use Rattle.goal_interner.specs.TableMeaning.{tree_at, Keeps}
 use Rattle.goal_terms.specs.declared.answers.VarKind.{VarKind}
 use Rattle.goal_terms.specs.declared.heads.Variable.{Variable}
-use Rattle.goal_terms.specs.declared.term_nodes.TermId.{TermId}
+use Rattle.goal_interner.specs.declared.term_nodes.TermId.{TermId}
 use Rattle.goal_terms.specs.declared.terms.Region.{Region}
 use Rattle.goal_infer.specs.Inference.{Inference}
 use Rattle.goal_infer.specs.Replacement.{number_of, kind_of_variable, replaced, OfKinds}

@@ -4,7 +4,7 @@ use Rattle.std.specs.Prelude.{slice_get, slice_set, Option, unwrap_or}
 use Rattle.std.proofs.lemmas.List.{drop_all, length-take}
 use Rattle.std.proofs.Math.Seq.{take-length, take-append_seam, drop-append_seam, drop-length}
 use Rattle.goal_terms.specs.declared.answers.VarKind.{VarKind}
-use Rattle.goal_terms.specs.declared.term_nodes.TermId.{TermId}
+use Rattle.goal_interner.specs.declared.term_nodes.TermId.{TermId}
 use Rattle.goal_terms.specs.declared.terms.Region.{Region}
 use Rattle.goal_infer.specs.Inference.{Inference, GoesBack, lengths_of, rolled_back}
 use Rattle.goal_infer.specs.Undo.{unbound_at, unbound}

@@ -6,12 +6,12 @@ use Rattle.goal_terms.specs.Tree.{Tree, node, alias, variable, node_of}
 use Rattle.goal_terms.specs.Erased.{erased}
 use Rattle.goal_terms.specs.NodeTests.{is_made, same_var_kind}
 use Rattle.goal_terms.specs.SameHead.{top_of}
-use Rattle.goal_terms.specs.TableMeaning.{tree_at}
+use Rattle.goal_interner.specs.TableMeaning.{tree_at}
 use Rattle.goal_terms.specs.declared.answers.VarKind.{VarKind}
 use Rattle.goal_terms.specs.declared.heads.Node.{Node}
 use Rattle.goal_terms.specs.declared.heads.Node.TheVariants as nodes
 use Rattle.goal_terms.specs.declared.heads.Variable.{Variable}
-use Rattle.goal_terms.specs.declared.term_nodes.TermId.{TermId}
+use Rattle.goal_interner.specs.declared.term_nodes.TermId.{TermId}
 use Rattle.goal_infer.specs.Inference.{Inference}
 use Rattle.goal_infer.specs.Occurrence.{place_of, place_at}
 use Rattle.goal_infer.specs.Replacement.{number_of, kind_of_variable, same_variable, replaced, takes, OfKinds}

@@ -4,11 +4,11 @@ use Rattle.std.specs.Prelude.{max, slice_index_or, if◌then◌else◌, ◌==◌
 use Rattle.std.proofs.Math.Nat.{mul-le-mul_right}
 use Rattle.goal_terms.specs.Tree.{Tree, Trees, node, alias, variable, none, more}
 use Rattle.goal_terms.specs.Erased.{erased}
-use Rattle.goal_terms.specs.TableMeaning.{tree_at}
+use Rattle.goal_interner.specs.TableMeaning.{tree_at}
 use Rattle.goal_terms.specs.TreeOf.{leaf}
 use Rattle.goal_terms.specs.declared.heads.Head.TheVariants as head
 use Rattle.goal_terms.specs.declared.heads.Variable.{Variable}
-use Rattle.goal_terms.specs.declared.term_nodes.TermId.{TermId}
+use Rattle.goal_interner.specs.declared.term_nodes.TermId.{TermId}
 use Rattle.goal_infer.specs.Inference.{Inference}
 use Rattle.goal_infer.specs.Replacement.{number_of, replaced, replaced_row}
 use Rattle.goal_infer.specs.Resolution.{term_at, binding_of, unbound_count, bound_tree, bound_at, resolution_after, resolution, resolved, IsSolved}

@@ -1,6 +1,6 @@
 -- What a state of inference is, and when one goes back to another.
 use Rattle.std.specs.Prelude.{◌≡◌, ◌++◌, ◌∷◌, [], ℕ, List, Some, length, take, drop, slice_set}
-use Rattle.goal_terms.specs.declared.term_nodes.TermId.{TermId}
+use Rattle.goal_interner.specs.declared.term_nodes.TermId.{TermId}
 use Rattle.goal_terms.specs.declared.terms.Region.{Region}
 use Rattle.goal_infer.specs.Undo.{unbound}
 use Rattle.goal_infer.specs.declared.state.Snapshot.{Snapshot}

@@ -5,7 +5,7 @@ use Rattle.goal_terms.specs.NodeTests.{is_any_infer, some_node}
 use Rattle.goal_terms.specs.Tree.{Tree}
 use Rattle.goal_terms.specs.declared.answers.VarKind.{VarKind}
 use Rattle.goal_terms.specs.declared.heads.Variable.{Variable}
-use Rattle.goal_terms.specs.declared.term_nodes.TermId.{TermId}
+use Rattle.goal_interner.specs.declared.term_nodes.TermId.{TermId}
 use Rattle.goal_infer.specs.Inference.{Inference}
 use Rattle.goal_infer.specs.Replacement.{replaced}
 use Rattle.goal_infer.specs.Resolution.{term_at, resolved}

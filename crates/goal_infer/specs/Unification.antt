@@ -4,12 +4,12 @@ use Rattle.goal_terms.specs.Tree.{Tree, Trees, node, variable, none, more, node_
 use Rattle.goal_terms.specs.NodeTests.{is_made, is_any_infer, some_node}
 use Rattle.goal_terms.specs.SameHead.{top_of}
 use Rattle.goal_terms.specs.SameTree.{same_node, same_tree}
-use Rattle.goal_terms.specs.TableMeaning.{tree_at}
+use Rattle.goal_interner.specs.TableMeaning.{tree_at}
 use Rattle.goal_terms.specs.declared.answers.VarKind.{VarKind}
 use Rattle.goal_terms.specs.declared.heads.Node.{Node}
 use Rattle.goal_terms.specs.declared.heads.Node.TheVariants as nodes
 use Rattle.goal_terms.specs.declared.heads.Variable.{Variable}
-use Rattle.goal_terms.specs.declared.term_nodes.TermId.{TermId}
+use Rattle.goal_interner.specs.declared.term_nodes.TermId.{TermId}
 use Rattle.goal_infer.specs.Inference.{Inference, GoesBack}
 use Rattle.goal_infer.specs.Replacement.{number_of, kind_of_variable, replaced, takes, OfKinds}
 use Rattle.goal_infer.specs.Resolution.{term_at, unbound_count, resolved, Agrees, IsSolved}

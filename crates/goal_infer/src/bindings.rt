@@ -1,6 +1,6 @@
 //! Binding of one variable.
 ghost use Rattle.std.specs.Prelude.{◌≡◌, ◌↔◌, ◌<◌, length, IsTrue, OnOk, OnErr, None};
-ghost use Rattle.goal_terms.specs.TableMeaning.{tree_at};
+ghost use Rattle.goal_interner.specs.TableMeaning.{tree_at};
 ghost use Rattle.goal_terms.specs.Tree.{node_of};
 ghost use Rattle.goal_infer.specs.Binding.{IsBound, MayBecome, bound_to};
 ghost use Rattle.goal_infer.specs.Occurrence.{place_of};
@@ -14,9 +14,9 @@ use crate::occurs::{Occurrence, occurs};
 use crate::resolve::{number, resolve};
 use crate::state::InferState;
 use crate::unify::{may_be, was_made};
+use goal_interner::term_nodes::{OutOfMemory, TermId};
+use goal_interner::term_table::TermTable;
 use goal_terms::heads::Variable;
-use goal_terms::term_nodes::{OutOfMemory, TermId};
-use goal_terms::term_table::TermTable;
 
 /// Binds an unbound variable to a term as it stands after the bindings, which it may stand for and in
 /// which it doesn't stand. The state then says what it said before, and that the variable is the term;

@@ -1,14 +1,14 @@
 //! Terms with the bindings of their variables followed.
 ghost use Rattle.std.specs.Prelude.{◌≡◌, ◌<◌, length, map, IfOk};
 ghost use Rattle.std.specs.List.{AllZip};
-ghost use Rattle.goal_terms.specs.TableMeaning.{AreBelow, Keeps};
+ghost use Rattle.goal_interner.specs.TableMeaning.{AreBelow, Keeps};
 ghost use Rattle.goal_infer.specs.Following.{sort_at, StaysUnbound};
 ghost use Rattle.goal_infer.specs.Resolution.{term_at, resolved, IsSolved};
 
 use crate::resolve::resolve;
 use crate::state::InferState;
-use goal_terms::term_nodes::{OutOfMemory, TermId};
-use goal_terms::term_table::TermTable;
+use goal_interner::term_nodes::{OutOfMemory, TermId};
+use goal_interner::term_table::TermTable;
 
 /// The number of a term with each variable replaced by what it is bound to, which the table gets if it
 /// isn't there yet. It is the term's own number where nothing in it is bound. Want of memory or of

@@ -1,13 +1,13 @@
 //! Terms with fresh lifetimes in place of the erased ones.
 ghost use Rattle.std.specs.Prelude.{◌≡◌, ◌<◌, false, length, Some, IfOk};
 ghost use Rattle.goal_terms.specs.Erased.{compared_node};
-ghost use Rattle.goal_terms.specs.TableMeaning.{tree_at, Keeps};
+ghost use Rattle.goal_interner.specs.TableMeaning.{tree_at, Keeps};
 ghost use Rattle.goal_terms.specs.declared.compare.Regions.TheVariants.{Forgotten};
 ghost use Rattle.goal_infer.specs.FreshLifetimes.{is_erased, names_erased, IsFreshened};
 
+use goal_interner::term_nodes::{OutOfMemory, TermId};
+use goal_interner::term_table::TermTable;
 use goal_terms::heads::{Head, Node};
-use goal_terms::term_nodes::{OutOfMemory, TermId};
-use goal_terms::term_table::TermTable;
 use goal_terms::terms::Region;
 
 /// The lifetime; in place of the erased one the region variable of the next number.

@@ -1,9 +1,9 @@
 //! Laws, each the contract of a function that does nothing.
 ghost use Rattle.std.specs.Prelude.{◌≡◌, ◌≢◌, ◌<◌, ◌↔◌, IsTrue, length, List, [], ◌∷◌, ◌++◌, Some, None};
 ghost use Rattle.goal_terms.specs.Tree.{Tree};
-ghost use Rattle.goal_terms.specs.TableMeaning.{Keeps};
+ghost use Rattle.goal_interner.specs.TableMeaning.{Keeps};
 ghost use Rattle.goal_terms.specs.declared.heads.Variable.{Variable};
-ghost use Rattle.goal_terms.specs.declared.term_nodes.TermId.{TermId};
+ghost use Rattle.goal_interner.specs.declared.term_nodes.TermId.{TermId};
 ghost use Rattle.goal_terms.specs.declared.terms.Region.{Region};
 ghost use Rattle.goal_infer.specs.Binding.{IsBound};
 ghost use Rattle.goal_infer.specs.Inference.{Inference, GoesBack};

@@ -5,10 +5,10 @@ ghost use Rattle.goal_infer.specs.Resolution.{resolved, IsSolved};
 
 use crate::resolve::resolve;
 use crate::state::InferState;
+use goal_interner::term_nodes::TermId;
+use goal_interner::term_table::TermTable;
 use goal_terms::compare::Regions;
 use goal_terms::heads::{Node, Variable};
-use goal_terms::term_nodes::TermId;
-use goal_terms::term_table::TermTable;
 
 /// Where a variable stands in a term.
 #[derive(Clone, Copy, PartialEq, Eq)]

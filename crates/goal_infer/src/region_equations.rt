@@ -1,7 +1,7 @@
 //! Which regions must be equal where two terms are identical but for regions.
 ghost use Rattle.std.specs.Prelude.{◌≡◌, ◌<◌, ◌+◌, ◌^◌, ◌++◌, List, [], fold, length, IfOk, OnOk};
 ghost use Rattle.goal_terms.specs.Regions.{region_of};
-ghost use Rattle.goal_terms.specs.TableMeaning.{tree_at};
+ghost use Rattle.goal_interner.specs.TableMeaning.{tree_at};
 ghost use Rattle.goal_terms.specs.Tree.{Tree, node_of};
 ghost use Rattle.goal_infer.specs.Inference.{GoesBack};
 ghost use Rattle.goal_infer.specs.RegionEquations.{AddsRegions, is_binder, levels_below, variable_in, region_in, number_at, numbers_in, with_number, own_numbers};
@@ -9,11 +9,11 @@ ghost use Rattle.goal_infer.specs.RegionEquations.{numbered, scopes_below, own_c
 ghost use Rattle.goal_infer.specs.Resolution.{term_at, IsSolved};
 
 use crate::state::InferState;
+use goal_interner::term_nodes::{OutOfMemory, TermId};
+use goal_interner::term_table::TermTable;
 use goal_terms::answers::VarKind;
 use goal_terms::heads::{Head, Node};
 use goal_terms::regions::region_of;
-use goal_terms::term_nodes::{OutOfMemory, TermId};
-use goal_terms::term_table::TermTable;
 use goal_terms::terms::Region;
 use std::marker::Model;
 

@@ -1,14 +1,14 @@
 //! Terms with other numbers for their variables.
 ghost use Rattle.std.specs.Prelude.{◌≡◌, ◌<◌, length, IfOk, OnOk};
-ghost use Rattle.goal_terms.specs.TableMeaning.{tree_at, Keeps};
+ghost use Rattle.goal_interner.specs.TableMeaning.{tree_at, Keeps};
 ghost use Rattle.goal_infer.specs.Renumbering.{number_for, renumbered_region, renumbered_variable, renumbered_head, renumbered_node, renumbered};
 ghost use Rattle.goal_infer.specs.Renumbering.{has_pair, with_pair, numbered_region, numbered_node, numbered};
 
 use crate::resolve::number;
+use goal_interner::term_nodes::{OutOfMemory, TermId};
+use goal_interner::term_table::TermTable;
 use goal_terms::heads::{Head, Node, Variable};
 use goal_terms::regions::region_of;
-use goal_terms::term_nodes::{OutOfMemory, TermId};
-use goal_terms::term_table::TermTable;
 use goal_terms::terms::{InferTy, Region};
 
 /// What stands for a number: the second of the first pair that begins with it, or the number itself.

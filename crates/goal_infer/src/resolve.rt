@@ -2,15 +2,15 @@
 ghost use Rattle.std.specs.Prelude.{◌≡◌, ◌<◌, length, None};
 ghost use Rattle.goal_terms.specs.NodeTests.{same_var_kind};
 ghost use Rattle.goal_terms.specs.Tree.{node_of};
-ghost use Rattle.goal_terms.specs.TableMeaning.{tree_at};
+ghost use Rattle.goal_interner.specs.TableMeaning.{tree_at};
 ghost use Rattle.goal_infer.specs.Replacement.{number_of, kind_of_variable};
 ghost use Rattle.goal_infer.specs.Resolution.{binding_of, binding_at, resolved, IsSolved};
 
 use crate::state::InferState;
+use goal_interner::term_nodes::TermId;
+use goal_interner::term_table::TermTable;
 use goal_terms::answers::VarKind;
 use goal_terms::heads::{Node, Variable};
-use goal_terms::term_nodes::TermId;
-use goal_terms::term_table::TermTable;
 use goal_terms::terms::InferTy;
 
 pub(crate) fn same_kind(kind: VarKind, other: VarKind) -> bool

@@ -4,9 +4,9 @@ ghost use Rattle.goal_infer.specs.Resolution.{resolved, IsSolved};
 
 use crate::resolve::resolve;
 use crate::state::InferState;
+use goal_interner::term_nodes::TermId;
+use goal_interner::term_table::TermTable;
 use goal_terms::compare::Regions;
-use goal_terms::term_nodes::TermId;
-use goal_terms::term_table::TermTable;
 
 /// Whether two terms are identical but for lifetimes and numbers of bound lifetimes, once each variable
 /// is replaced by what it is bound to. It takes no memory.

@@ -3,8 +3,8 @@ ghost use Rattle.std.specs.Prelude.{◌≡◌, ◌<◌, ◌^◌, ◌++◌, ◌�
 ghost use Rattle.goal_infer.specs.Inference.{Inference, GoesBack, lengths_of, rolled_back, with_binding};
 
 use crate::undo::{InferVariable, unbind_from};
+use goal_interner::term_nodes::{OutOfMemory, TermId};
 use goal_terms::answers::VarKind;
-use goal_terms::term_nodes::{OutOfMemory, TermId};
 use goal_terms::terms::Region;
 use std::alloc::Global;
 use std::marker::Model;

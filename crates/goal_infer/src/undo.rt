@@ -2,8 +2,8 @@
 ghost use Rattle.std.specs.Prelude.{◌≡◌, drop};
 ghost use Rattle.goal_infer.specs.Undo.{unbound_at, unbound};
 
+use goal_interner::term_nodes::TermId;
 use goal_terms::answers::VarKind;
-use goal_terms::term_nodes::TermId;
 
 /// An inference variable: its kind, and the number of the term that it is bound to, if it is.
 #[derive(Clone, Copy, PartialEq, Eq)]

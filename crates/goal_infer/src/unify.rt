@@ -1,7 +1,7 @@
 //! Unification of terms, as far as their structure goes.
 ghost use Rattle.std.specs.Prelude.{◌≡◌, ◌≢◌, ◌<◌, ◌||◌, length, IsTrue, IfOk, None};
 ghost use Rattle.goal_terms.specs.Tree.{node_of};
-ghost use Rattle.goal_terms.specs.TableMeaning.{tree_at};
+ghost use Rattle.goal_interner.specs.TableMeaning.{tree_at};
 ghost use Rattle.goal_infer.specs.Replacement.{takes, is_integer, is_floating};
 ghost use Rattle.goal_infer.specs.Resolution.{binding_at, binding_of, IsSolved};
 ghost use Rattle.goal_infer.specs.Unification.{IsOther, Becomes, MakesSame, IsUnified, Advances};
@@ -14,11 +14,11 @@ use crate::occurs::{Occurrence, occurs};
 use crate::resolve::{kind, number, resolve, same_kind};
 use crate::same_resolved::same_resolved;
 use crate::state::InferState;
+use goal_interner::term_nodes::{OutOfMemory, TermId};
+use goal_interner::term_table::TermTable;
 use goal_terms::compare::Regions;
 use goal_terms::heads::{Head, Node, Variable};
 use goal_terms::sorts::Sort;
-use goal_terms::term_nodes::{OutOfMemory, TermId};
-use goal_terms::term_table::TermTable;
 use goal_terms::terms::InferTy;
 
 /// Whether two terms were made the same.

@@ -1,14 +1,14 @@
 //! Unification of lists of terms.
 ghost use Rattle.std.specs.Prelude.{◌≡◌, ◌<◌, length, IfOk};
-ghost use Rattle.goal_terms.specs.TableMeaning.{AreBelow};
+ghost use Rattle.goal_interner.specs.TableMeaning.{AreBelow};
 ghost use Rattle.goal_infer.specs.Resolution.{IsSolved};
 ghost use Rattle.goal_infer.specs.ListUnification.{MakesAllSame, AreDecidedWherePlain, AreIdentified, AreClashing, AreUntouched};
 ghost use Rattle.goal_infer.specs.Unification.{sides, Advances, IsUnified};
 
 use crate::state::InferState;
 use crate::unify::{Unified, unify};
-use goal_terms::term_nodes::{OutOfMemory, TermId};
-use goal_terms::term_table::TermTable;
+use goal_interner::term_nodes::{OutOfMemory, TermId};
+use goal_interner::term_table::TermTable;
 
 /// Makes two lists of terms of a table the same, in pairs, as `unify` does with two terms: each pair under
 /// the bindings that came of those before it, up to the first that can't be made the same.

@@ -15,7 +15,7 @@ use Rattle.goal_tables.specs.ParamKinds.{differs_in_count, asks_other_kinds}
 use Rattle.goal_tables.specs.Rows.{item_of, trait_of}
 use Rattle.goal_tables.specs.Sites.{projection_params, params_of, params_of_alias, alias_is_unknown, is_unknown, is_misplaced, lies_here, lies_in, lies_in_row}
 use Rattle.goal_tables.specs.declared.rows.Tables.{Tables}
-use Rattle.goal_tables.specs.declared.sites.TermFault.TheVariants.{UnknownItem, WrongArgumentCount, WrongArgumentKind}
+use Rattle.goal_tables.specs.declared.faults.TermFault.TheVariants.{UnknownItem, WrongArgumentCount, WrongArgumentKind}
 use Rattle.goal_lists.specs.FastReject.{lists_may_unify, heads_agree}
 use Rattle.goal_lists.specs.KindedTerms.{kinds_of_terms, kinds_over, IsKinded, NoKindFault}
 use Rattle.goal_lists.specs.Projections.{projected_item}

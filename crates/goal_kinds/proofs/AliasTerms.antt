@@ -4,10 +4,10 @@ use Rattle.std.specs.List.{All}
 use Rattle.std.proofs.lemmas.List.Elements.{All-cons, All-nil}
 use Rattle.goal_terms.specs.Erased.{erased}
 use Rattle.goal_terms.specs.Sorts.{IsArgument}
-use Rattle.goal_terms.specs.TableMeaning.{tree_at, AreBelow}
+use Rattle.goal_interner.specs.TableMeaning.{tree_at, AreBelow}
 use Rattle.goal_terms.specs.Tree.{Tree, alias, forest, parts_of}
 use Rattle.goal_terms.specs.TreeOf.{tree_of_alias, tree_of_arg, trees_of}
-use Rattle.goal_terms.specs.declared.term_nodes.TermId.{TermId}
+use Rattle.goal_interner.specs.declared.term_nodes.TermId.{TermId}
 use Rattle.goal_terms.specs.declared.terms.AliasTerm.{AliasTerm}
 use Rattle.goal_terms.specs.declared.terms.GenericArg.{GenericArg}
 use Rattle.goal_terms.proofs.SortLemmas.{arg_sort}

@@ -10,13 +10,13 @@ use Rattle.goal_terms.specs.declared.modes.TypingMode.{TypingMode}
 use Rattle.goal_terms.specs.declared.predicates.Clause.{Clause}
 use Rattle.goal_terms.specs.declared.predicates.Goal.{Goal}
 use Rattle.goal_terms.specs.declared.terms.Ty.{Ty}
-use Rattle.goal_terms.proofs.TableLemmas.{list_any-none}
+use Rattle.goal_interner.proofs.TableLemmas.{list_any-none}
 use Rattle.goal_tables.specs.Clauses.{lies_in_clause_kind}
 use Rattle.goal_tables.specs.Predicates.{lies_in_env}
 use Rattle.goal_tables.specs.declared.rows.ImplRow.{ImplRow}
 use Rattle.goal_tables.specs.declared.rows.Tables.{Tables}
-use Rattle.goal_tables.specs.declared.sites.TermFault.{TermFault}
-use Rattle.goal_tables.specs.declared.sites.TermFault.TheVariants.{UnknownItem, WrongArgumentCount, WrongArgumentKind}
+use Rattle.goal_tables.specs.declared.faults.TermFault.{TermFault}
+use Rattle.goal_tables.specs.declared.faults.TermFault.TheVariants.{UnknownItem, WrongArgumentCount, WrongArgumentKind}
 use Rattle.goal_lists.specs.Answers.{setting_of}
 use Rattle.goal_kinds.specs.CandidateRules.{HasNoKindFault, IsAcceptedClause}
 use Rattle.goal_lists.specs.Candidates.{rest}

@@ -30,7 +30,7 @@ use Rattle.goal_tables.specs.declared.rows.ImplRow.{ImplRow}
 use Rattle.goal_tables.specs.declared.rows.ItemRow.{ItemRow}
 use Rattle.goal_tables.specs.declared.rows.OpaqueRow.{OpaqueRow}
 use Rattle.goal_tables.specs.declared.rows.Tables.{Tables}
-use Rattle.goal_tables.specs.declared.sites.TermFault.TheVariants.{InferInTable}
+use Rattle.goal_tables.specs.declared.faults.TermFault.TheVariants.{InferInTable}
 use Rattle.goal_lists.specs.Answers.{erased_predicate, environment_of, setting_of}
 use Rattle.goal_lists.specs.Candidates.{Candidate, assumption, implied_bound, by_impl, built_in, error, bounds_under, const_bounds_under, item_bounds, opaque_bounds, bounds_of_alias, bounds_of, all_but_last, last_of, projects, object_bound, object_bounds_among, object_bounds, impls_for, environment, alias_bounds, rest, second_group}
 use Rattle.goal_lists.specs.Premises.{TraitTree, predicate_under, trait_under, traits_under}

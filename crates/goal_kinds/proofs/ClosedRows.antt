@@ -34,7 +34,7 @@ use Rattle.goal_tables.specs.declared.rows.ImplRow.{ImplRow}
 use Rattle.goal_tables.specs.declared.rows.InherentRow.{InherentRow}
 use Rattle.goal_tables.specs.declared.rows.OpaqueRow.{OpaqueRow}
 use Rattle.goal_tables.specs.declared.rows.Tables.{Tables}
-use Rattle.goal_tables.specs.declared.sites.TermFault.TheVariants.{InferInTable}
+use Rattle.goal_tables.specs.declared.faults.TermFault.TheVariants.{InferInTable}
 use Rattle.goal_lists.specs.TraitGoals.{header_of}
 use Rattle.goal_lists.specs.Words.{Each}
 use Rattle.goal_kinds.proofs.ClosedTerms.{IsClosedTree, IsClosedRow, AreClosedTrees, closed-erased, closed-more}

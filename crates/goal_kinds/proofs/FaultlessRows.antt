@@ -29,8 +29,8 @@ use Rattle.goal_tables.specs.declared.rows.InherentRow.{InherentRow}
 use Rattle.goal_tables.specs.declared.rows.ItemRow.{ItemRow}
 use Rattle.goal_tables.specs.declared.rows.OpaqueRow.{OpaqueRow}
 use Rattle.goal_tables.specs.declared.rows.Tables.{Tables}
-use Rattle.goal_tables.specs.declared.sites.TermFault.{TermFault}
-use Rattle.goal_tables.specs.declared.sites.TermFault.TheVariants.{UnknownItem, WrongArgumentCount, WrongArgumentKind, ParameterOutOfRange, InferInTable, NeverConst}
+use Rattle.goal_tables.specs.declared.faults.TermFault.{TermFault}
+use Rattle.goal_tables.specs.declared.faults.TermFault.TheVariants.{UnknownItem, WrongArgumentCount, WrongArgumentKind, ParameterOutOfRange, InferInTable, NeverConst}
 use Rattle.goal_lists.proofs.AcceptedLemmas.{found_fails}
 use Rattle.goal_lists.proofs.TableKindLemmas.{both_fail}
 

@@ -27,11 +27,11 @@ use Rattle.goal_tables.specs.Options.{option_holds}
 use Rattle.goal_tables.specs.Rows.{item_of, adt_of, function_of, closure_of, same_lang_target, lang_naming, lang_trait_of, lang_adt_of}
 use Rattle.goal_tables.specs.Sites.{kind_of_value, kind_of_row, is_of_other_kind}
 use Rattle.goal_tables.specs.declared.faults.TableFault.TheVariants as fault
-use Rattle.goal_tables.specs.declared.lang.LangItem.{LangItem}
-use Rattle.goal_tables.specs.declared.lang.LangItem.TheVariants as lang
-use Rattle.goal_tables.specs.declared.lang.LangRow.{LangRow}
-use Rattle.goal_tables.specs.declared.lang.LangTarget.{LangTarget}
-use Rattle.goal_tables.specs.declared.lang.LangTarget.TheVariants as target
+use Rattle.goal_terms.specs.declared.lang.LangItem.{LangItem}
+use Rattle.goal_terms.specs.declared.lang.LangItem.TheVariants as lang
+use Rattle.goal_terms.specs.declared.lang.LangRow.{LangRow}
+use Rattle.goal_terms.specs.declared.lang.LangTarget.{LangTarget}
+use Rattle.goal_terms.specs.declared.lang.LangTarget.TheVariants as target
 use Rattle.goal_tables.specs.declared.rows.AdtKind.{AdtKind}
 use Rattle.goal_tables.specs.declared.rows.AdtKind.TheVariants as adt
 use Rattle.goal_tables.specs.declared.rows.AdtRow.{AdtRow}

@@ -41,7 +41,7 @@ use Rattle.goal_kinds.specs.declared.faults.Fault.{Fault}
 use Rattle.goal_kinds.specs.declared.faults.Fault.TheVariants as fault
 use Rattle.goal_lists.specs.declared.lists.ListSetting.{ListSetting}
 use Rattle.goal_kinds.specs.declared.rules.Rule.{Rule}
-use Rattle.goal_kinds.specs.declared.rules.assoc_items.AskedItem.{AskedItem}
+use Rattle.goal_kinds.specs.declared.rules.assoc_items.AssocItem.{AssocItem}
 use Rattle.goal_lists.proofs.EntryLemmas.{iff-chain, iff-back, iff-same}
 use Rattle.goal_kinds.proofs.FaceLemmas.{IsSomeGiven, some-given, listed-yes, listed-yes_back, face-gives, face-refuted, face-told, face-named}
 use Rattle.goal_kinds.proofs.ImplTermKindLemmas.{alias-erased}
@@ -123,10 +123,10 @@ projection-answer S t m env a rows mode tested b r same other listed refused_as 
     projection-named S t m env a built_in rows mode b r (λ e. other (same ∙ e)) listed (λ e. refused_as (same ∙ e))
 
 -- the list that is made for an alias, by numbers that stand for it
-pub same-asked : (x : AskedItem) (a : AliasTerm) (ts : List Tree) → ts ≡ given a.args → record { item = x.row.now; trait_params = x.trait_params; args = ts } ≡ asked_by x a
+pub same-asked : (x : AssocItem) (a : AliasTerm) (ts : List Tree) → ts ≡ given a.args → record { item = x.row.now; trait_params = x.trait_params; args = ts } ≡ asked_by x a
 same-asked x a ts e = ap (λ us. record { item = x.row.now; trait_params = x.trait_params; args = us }) e
 
-pub asked-made : (a : AliasTerm) (S : Setting) (x : AskedItem) (q : Projection) (itself : Tree) (d c : Candidate) → projection_in S.tables a ≡ Some (asked_by x a) →
+pub asked-made : (a : AliasTerm) (S : Setting) (x : AssocItem) (q : Projection) (itself : Tree) (d c : Candidate) → projection_in S.tables a ≡ Some (asked_by x a) →
     q ≡ asked_by x a → itself ≡ alias a.kind (forest (given a.args)) → d ≡ c → projection_list S q itself d ≡ asked_projection_list a S c
 asked-made a S x q itself d c found same_projection same_alias same_candidate =
     ap (λ p. projection_list S p itself d) same_projection ∙ ap (λ u. projection_list S (asked_by x a) u d) same_alias

@@ -24,8 +24,8 @@ use Rattle.goal_tables.specs.Sites.{kind_of_value, kind_of_row, is_of_other_kind
 use Rattle.goal_tables.specs.declared.rows.ImplRow.{ImplRow}
 use Rattle.goal_tables.specs.declared.rows.ItemRow.{ItemRow}
 use Rattle.goal_tables.specs.declared.rows.Tables.{Tables}
-use Rattle.goal_tables.specs.declared.sites.TermFault.{TermFault}
-use Rattle.goal_tables.specs.declared.sites.TermFault.TheVariants.{UnknownItem, WrongArgumentCount, WrongArgumentKind}
+use Rattle.goal_tables.specs.declared.faults.TermFault.{TermFault}
+use Rattle.goal_tables.specs.declared.faults.TermFault.TheVariants.{UnknownItem, WrongArgumentCount, WrongArgumentKind}
 use Rattle.goal_kinds.specs.CandidateRules.{HasNoKindFault, IsAcceptedClause, said_by}
 use Rattle.goal_lists.specs.Candidates.{Candidate, by_impl}
 use Rattle.goal_lists.specs.FastReject.{lists_may_unify, heads_agree}
@@ -38,7 +38,7 @@ use Rattle.goal_lists.specs.Premises.{TraitTree}
 use Rattle.goal_kinds.specs.ProjectionKind.{ProjectionCandidateGives, ProjectionCandidateRefuted, projected_trait, same_kind_of_alias, may_match_term}
 use Rattle.goal_lists.specs.Projections.{projected_item, EquationRefuted, AssumptionTermRefuted, TermRefuted, asked}
 use Rattle.goal_kinds.specs.RuleWords.{projection_in, asked_by}
-use Rattle.goal_kinds.specs.declared.rules.assoc_items.AskedItem.{AskedItem}
+use Rattle.goal_kinds.specs.declared.rules.assoc_items.AssocItem.{AssocItem}
 use Rattle.goal_lists.specs.RowWords.{given}
 use Rattle.goal_lists.specs.Settings.{Setting}
 use Rattle.goal_lists.specs.Words.{SomePair}
@@ -205,7 +205,7 @@ other-head S args r q a sought same other =
     term_refuted S 0 p args (sym (its ∙ same)) (by_impl r) other)
 
 -- the trait of a projection, as it is seen in the alias
-pub seen-projected : (t : Tables) (a : AliasTerm) (x : AskedItem) (args : List GenericArg) → projection_in t a ≡ Some (asked_by x a) → args ≡ take x.trait_params a.args.items →
+pub seen-projected : (t : Tables) (a : AliasTerm) (x : AssocItem) (args : List GenericArg) → projection_in t a ≡ Some (asked_by x a) → args ≡ take x.trait_params a.args.items →
     Some (record { def_id = x.row.now.trait_id; args = map erased (trees_of args) }) ≡ projected_trait t a
 seen-projected t a x args found e =
     ap (λ xs. Some (record { def_id = x.row.now.trait_id; args = xs })) (ap (λ xs. map erased (trees_of xs)) e ∙ given-take x.trait_params a.args)

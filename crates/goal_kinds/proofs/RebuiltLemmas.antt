@@ -4,7 +4,7 @@ use Rattle.std.specs.List.{AllZip}
 use Rattle.std.proofs.lemmas.List.{map-append, take_more, take_all}
 use Rattle.goal_terms.specs.Erased.{erased, erased_head}
 use Rattle.goal_terms.specs.Sorts.{sort_of, sort_of_head, is_term_sort, IsTerm}
-use Rattle.goal_terms.specs.TableMeaning.{tree_at}
+use Rattle.goal_interner.specs.TableMeaning.{tree_at}
 use Rattle.goal_terms.specs.Tree.{Tree, node, alias, variable, forest, node_of, parts_of}
 use Rattle.goal_terms.specs.TreeOf.{tree_of_alias, tree_of_arg, trees_of}
 use Rattle.goal_terms.specs.TreeWith.{tree_with}
@@ -12,11 +12,11 @@ use Rattle.goal_terms.specs.declared.heads.Head.{Head}
 use Rattle.goal_terms.specs.declared.heads.Head.TheVariants.{Ref, FnPtr, Dynamic, Lifetime}
 use Rattle.goal_terms.specs.declared.heads.Node.{Node}
 use Rattle.goal_terms.specs.declared.heads.Node.TheVariants as nodes
-use Rattle.goal_terms.specs.declared.term_nodes.TermId.{TermId}
+use Rattle.goal_interner.specs.declared.term_nodes.TermId.{TermId}
 use Rattle.goal_terms.specs.declared.terms.AliasTerm.{AliasTerm}
 use Rattle.goal_terms.specs.declared.terms.AliasTermKind.{AliasTermKind}
 use Rattle.goal_terms.specs.declared.terms.GenericArg.{GenericArg}
-use Rattle.goal_terms.proofs.InternLemmas.{tree_with-parts}
+use Rattle.goal_interner.proofs.InternLemmas.{tree_with-parts}
 use Rattle.goal_terms.proofs.TreeLemmas.{tree_of_alias-record}
 use Rattle.goal_tables.specs.declared.rows.Tables.{Tables}
 use Rattle.goal_lists.specs.Entries.{Entry, ExpectsNone, AsksNoTerm}

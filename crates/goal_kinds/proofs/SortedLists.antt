@@ -6,7 +6,7 @@ use Rattle.goal_terms.specs.Erased.{erased}
 use Rattle.goal_terms.specs.Folding.{instance, folded}
 use Rattle.goal_terms.specs.PredicateTrees.{PredicateTree, holds, equals, holds_const, tree_of_kind}
 use Rattle.goal_terms.specs.Sorts.{is_term_sort, IsTerm}
-use Rattle.goal_terms.specs.TableMeaning.{tree_at}
+use Rattle.goal_interner.specs.TableMeaning.{tree_at}
 use Rattle.goal_terms.specs.Tree.{Tree, node, alias, variable}
 use Rattle.goal_terms.specs.TreeOf.{tree_of_alias, tree_of_term}
 use Rattle.goal_terms.specs.declared.answers.GoalSource.{GoalSource}
@@ -18,15 +18,15 @@ use Rattle.goal_terms.specs.declared.modes.TypingMode.TheVariants as modes
 use Rattle.goal_terms.specs.declared.predicates.Clause.{Clause}
 use Rattle.goal_terms.specs.declared.predicates.ClauseKind.{ClauseKind}
 use Rattle.goal_terms.specs.declared.predicates.ClauseKind.TheVariants as clauses
-use Rattle.goal_terms.specs.declared.term_nodes.TermId.{TermId}
+use Rattle.goal_interner.specs.declared.term_nodes.TermId.{TermId}
 use Rattle.goal_terms.specs.declared.terms.AliasTerm.{AliasTerm}
 use Rattle.goal_terms.specs.declared.terms.Term.{Term}
 use Rattle.goal_terms.proofs.SortLemmas.{term_sort}
 use Rattle.goal_terms.proofs.TreeLemmas.{tree_of_alias-record}
-use Rattle.goal_terms.proofs.UnderLemmas.{instantiating-sorts}
+use Rattle.goal_interner.proofs.UnderLemmas.{instantiating-sorts}
 use Rattle.goal_tables.specs.Rows.{trait_of, adt_of, lang_trait_of}
-use Rattle.goal_tables.specs.declared.lang.LangItem.{LangItem}
-use Rattle.goal_tables.specs.declared.lang.LangItem.TheVariants as lang
+use Rattle.goal_terms.specs.declared.lang.LangItem.{LangItem}
+use Rattle.goal_terms.specs.declared.lang.LangItem.TheVariants as lang
 use Rattle.goal_tables.specs.declared.rows.ImplPolarity.{ImplPolarity}
 use Rattle.goal_tables.specs.declared.rows.ImplPolarity.TheVariants as polarity
 use Rattle.goal_tables.specs.declared.rows.ImplRow.{ImplRow}

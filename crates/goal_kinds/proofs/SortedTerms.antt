@@ -21,10 +21,10 @@ use Rattle.goal_terms.specs.declared.terms.GenericArg.{GenericArg}
 use Rattle.goal_terms.specs.declared.terms.Ty.{Ty}
 use Rattle.goal_terms.proofs.SortLemmas.{ty_sort}
 use Rattle.goal_terms.proofs.TreeLemmas.{list_of-forest, tree_of_sig-record}
-use Rattle.goal_terms.proofs.UnderLemmas.{instantiating-sorts}
+use Rattle.goal_interner.proofs.UnderLemmas.{instantiating-sorts}
 use Rattle.goal_tables.specs.Rows.{adt_of, function_of, closure_of, lang_trait_of, lang_adt_of}
-use Rattle.goal_tables.specs.declared.lang.LangItem.{LangItem}
-use Rattle.goal_tables.specs.declared.lang.LangItem.TheVariants as lang
+use Rattle.goal_terms.specs.declared.lang.LangItem.{LangItem}
+use Rattle.goal_terms.specs.declared.lang.LangItem.TheVariants as lang
 use Rattle.goal_tables.specs.declared.rows.AdtKind.{AdtKind}
 use Rattle.goal_tables.specs.declared.rows.AdtKind.TheVariants as adt
 use Rattle.goal_tables.specs.declared.rows.AdtRow.{AdtRow}

@@ -26,7 +26,7 @@ use Rattle.goal_tables.specs.declared.rows.ImplRow.{ImplRow}
 use Rattle.goal_tables.specs.declared.rows.ItemRow.{ItemRow}
 use Rattle.goal_tables.specs.declared.rows.OpaqueRow.{OpaqueRow}
 use Rattle.goal_tables.specs.declared.rows.Tables.{Tables}
-use Rattle.goal_tables.specs.declared.sites.TermFault.{TermFault}
+use Rattle.goal_tables.specs.declared.faults.TermFault.{TermFault}
 use Rattle.goal_lists.specs.Answers.{setting_of}
 use Rattle.goal_kinds.specs.CandidateRules.{RuleSays, HoldsError, IsAcceptedClause, NamedRule, trait_alias, sizedness, copy_clone, fn_ptr_trait, fn_trait, tuple, pointee, discriminant_kind, destruct, field, said_by}
 use Rattle.goal_lists.specs.Candidates.{Candidate, assumption, implied_bound, by_impl, built_in, error, bounds_under, object_bounds, impls_for, environment, rest}
@@ -38,7 +38,7 @@ use Rattle.goal_kinds.specs.RuleWords.{TermsAreFor}
 use Rattle.goal_kinds.specs.Rules.{RuleRefuted}
 use Rattle.goal_kinds.specs.declared.rules.Rule.{Rule}
 use Rattle.goal_tables.specs.Predicates.{lies_in_env}
-use Rattle.goal_tables.specs.declared.sites.TermFault.TheVariants.{UnknownItem, WrongArgumentCount, WrongArgumentKind}
+use Rattle.goal_tables.specs.declared.faults.TermFault.TheVariants.{UnknownItem, WrongArgumentCount, WrongArgumentKind}
 use Rattle.goal_kinds.specs.declared.assembly.class_rules.ClassRules.{ClassRules}
 
 -- a rule says what a candidate does, if it is sure: it gives a term at a height where the candidate does, and is refuted where that is

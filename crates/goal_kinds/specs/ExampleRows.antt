@@ -8,9 +8,9 @@ use Rattle.goal_terms.specs.declared.terms.GenericArg as arg
 use Rattle.goal_terms.specs.declared.terms.Term as term
 use Rattle.goal_terms.specs.declared.terms.Ty.{Ty}
 use Rattle.goal_terms.specs.declared.terms.Ty as ty
-use Rattle.goal_tables.specs.declared.lang.LangItem.{LangItem}
-use Rattle.goal_tables.specs.declared.lang.LangRow.{LangRow}
-use Rattle.goal_tables.specs.declared.lang.LangTarget.TheVariants as target
+use Rattle.goal_terms.specs.declared.lang.LangItem.{LangItem}
+use Rattle.goal_terms.specs.declared.lang.LangRow.{LangRow}
+use Rattle.goal_terms.specs.declared.lang.LangTarget.TheVariants as target
 use Rattle.goal_tables.specs.declared.rows.AdtKind.TheVariants as adts
 use Rattle.goal_tables.specs.declared.rows.AdtRow.{AdtRow}
 use Rattle.goal_tables.specs.declared.rows.Container.TheVariants as container

@@ -6,8 +6,8 @@ use Rattle.goal_terms.specs.declared.modes.TypingMode.TheVariants as mode
 use Rattle.goal_terms.specs.declared.scalars.UintTy.TheVariants as unsigned
 use Rattle.goal_terms.specs.declared.terms.Ty.{Ty}
 use Rattle.goal_terms.specs.declared.terms.Ty as ty
-use Rattle.goal_tables.specs.declared.lang.LangItem.TheVariants as lang
-use Rattle.goal_tables.specs.declared.lang.LangRow.{LangRow}
+use Rattle.goal_terms.specs.declared.lang.LangItem.TheVariants as lang
+use Rattle.goal_terms.specs.declared.lang.LangRow.{LangRow}
 use Rattle.goal_tables.specs.declared.rows.AdtRow.{AdtRow}
 use Rattle.goal_tables.specs.declared.rows.DefRow.{DefRow}
 use Rattle.goal_tables.specs.declared.rows.ImplRow.{ImplRow}

@@ -21,7 +21,7 @@ use Rattle.goal_tables.specs.Faults.{IsChecked}
 use Rattle.goal_tables.specs.Rows.{impl_of}
 use Rattle.goal_tables.specs.declared.rows.ImplRow.{ImplRow}
 use Rattle.goal_tables.specs.declared.rows.Tables.{Tables}
-use Rattle.goal_tables.specs.declared.sites.TermFault.{TermFault}
+use Rattle.goal_tables.specs.declared.faults.TermFault.{TermFault}
 use Rattle.goal_lists.specs.Answers.{setting_of}
 use Rattle.goal_kinds.specs.CandidateRules.{NamedRule, IsNamedAnswer, GivesAs, RefutedAs, IsRefusal, AllHold, OneRefuted, HasNoKindFault, IsAcceptedClause, said_by, asked_trait, first_type, is_rule_for, may_match, IsWithSelf, TraitCandidateHolds, TraitCandidateRefuted}
 use Rattle.goal_lists.specs.Candidates.{Candidate, by_impl, built_in, IsNoImpl}

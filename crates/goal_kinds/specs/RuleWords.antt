@@ -18,7 +18,7 @@ use Rattle.goal_lists.specs.Projections.{projected_item, asked}
 use Rattle.goal_kinds.specs.Rules.{RuleGives, RuleRefuted}
 use Rattle.goal_lists.specs.RowWords.{given}
 use Rattle.goal_lists.specs.Settings.{Setting}
-use Rattle.goal_kinds.specs.declared.rules.assoc_items.AskedItem.{AskedItem}
+use Rattle.goal_kinds.specs.declared.rules.assoc_items.AssocItem.{AssocItem}
 use Rattle.goal_lists.specs.declared.lists.FirstUse.{FirstUse}
 use Rattle.goal_kinds.specs.declared.rules.Rule.{Rule}
 use Rattle.goal_kinds.specs.declared.rules.RuleEntry.{RuleEntry}
@@ -60,7 +60,7 @@ projection_in t a =
     (projected_item a.kind)
 
 -- the projection that an alias asks for, by its item
-abbrev pub asked_by : AskedItem → AliasTerm → Projection
+abbrev pub asked_by : AssocItem → AliasTerm → Projection
 asked_by x a = record { item = x.row.now; trait_params = x.trait_params; args = given a.args }
 
 -- the entries of an auto trait's rule: it records the fault, and doesn't stand

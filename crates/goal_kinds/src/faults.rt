@@ -1,5 +1,5 @@
 //! Why a goal gets no answer.
-use goal_terms::term_nodes::OutOfMemory;
+use goal_interner::term_nodes::OutOfMemory;
 use thiserror::Error;
 
 /// Why a goal gets no answer.

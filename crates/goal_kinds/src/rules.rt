@@ -43,8 +43,10 @@ impl Drop for Rule {
     }
 }
 
-/// One thing that a rule asks for. Entries that name arguments are counted from 0: a later entry says by
-/// this number whose arguments it takes.
+/// Which of a list's arguments are meant: the entries that name arguments are counted from 0.
+pub type ArgsIndex = u32;
+
+/// One thing that a rule asks for. A later entry says by an `ArgsIndex` whose arguments it takes.
 pub enum RuleEntry {
     /// Arguments are named.
     Arguments(RuleArguments),
@@ -53,9 +55,9 @@ pub enum RuleEntry {
     /// A clause holds, as it stands.
     Clause(GoalSource, ClauseKind),
     /// The clauses of a row hold, under the arguments of that number.
-    RowClauses(RowClauses, u32),
+    RowClauses(RowClauses, ArgsIndex),
     /// The const conditions of an impl hold with a constness, under the arguments of that number.
-    RowConditions(BoundConstness, ImplId, u32),
+    RowConditions(BoundConstness, ImplId, ArgsIndex),
     /// The goal's expected term, the first, stands for the second.
     Term(Term, RuleTerm),
     /// The goal's expected term is the hidden type of an opaque type that is being defined, by its
@@ -102,9 +104,9 @@ pub enum RuleArguments {
     /// Those of a header that is matched with given ones.
     Header(RuleHeader, Vec<GenericArg>),
     /// Those of an impl whose header is matched with that of the second impl, under the arguments of a number.
-    OtherImpl(ImplId, ImplId, u32),
+    OtherImpl(ImplId, ImplId, ArgsIndex),
     /// Those of a number, and these behind them.
-    Followed(u32, Vec<GenericArg>),
+    Followed(ArgsIndex, Vec<GenericArg>),
 }
 
 impl Drop for RuleArguments {
@@ -125,7 +127,7 @@ pub enum RuleTerm {
     /// The head form of this term.
     Normalized(Term),
     /// The head form of a row's value, under the arguments of a number.
-    Value(RowValue, u32),
+    Value(RowValue, ArgsIndex),
     /// The first of two terms where a clause holds, the second where it is refuted.
     ChosenBy(ClauseKind, Term, Term),
 }

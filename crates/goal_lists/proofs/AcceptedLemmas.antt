@@ -19,8 +19,8 @@ use Rattle.goal_tables.specs.Sites.{lies_in, trait_params}
 use Rattle.goal_tables.specs.declared.faults.TableFault.TheVariants as fault
 use Rattle.goal_tables.specs.declared.rows.ImplRow.{ImplRow}
 use Rattle.goal_tables.specs.declared.rows.Tables.{Tables}
-use Rattle.goal_tables.specs.declared.sites.TermFault as faults
-use Rattle.goal_tables.specs.declared.sites.TermFault.TheVariants.{UnknownItem, WrongArgumentCount, WrongArgumentKind}
+use Rattle.goal_tables.specs.declared.faults.TermFault as faults
+use Rattle.goal_tables.specs.declared.faults.TermFault.TheVariants.{UnknownItem, WrongArgumentCount, WrongArgumentKind}
 use Rattle.goal_lists.specs.FastReject.{lists_may_unify, heads_agree}
 use Rattle.goal_lists.specs.Headers.{Clashes, Known}
 use Rattle.goal_lists.specs.KindedTerms.{kinds_of_terms, kinds_over, IsKinded, IsAcceptedRef}

@@ -1,10 +1,10 @@
 -- Bounds of rows under arguments, in a table that grows.
 use Rattle.std.proofs.Common.{◌≡◌, List, ◌++◌, map, ap, ap₂, ◌∙◌, append_assoc}
-use Rattle.goal_terms.specs.TableMeaning.{Keeps}
+use Rattle.goal_interner.specs.TableMeaning.{Keeps}
 use Rattle.goal_terms.specs.Tree.{Tree}
 use Rattle.goal_terms.specs.declared.predicates.Clause.{Clause}
 use Rattle.goal_terms.specs.declared.predicates.TraitRef.{TraitRef}
-use Rattle.goal_terms.specs.declared.term_nodes.TermId.{TermId}
+use Rattle.goal_interner.specs.declared.term_nodes.TermId.{TermId}
 use Rattle.goal_lists.specs.Candidates.{Candidate, implied_bound, bounds_under}
 use Rattle.goal_lists.specs.Interned.{AreIn, erased_all, trait_at, TraitIn}
 use Rattle.goal_lists.specs.Premises.{trait_under, traits_under}

@@ -8,7 +8,7 @@ use Rattle.std.proofs.lemmas.List.{length-map, take-map}
 use Rattle.std.proofs.lemmas.List.Elements.{All-take}
 use Rattle.goal_terms.specs.Erased.{erased, erased_row}
 use Rattle.goal_terms.specs.Sorts.{Fits, IsSort, IsArgument, Are}
-use Rattle.goal_terms.specs.TableMeaning.{tree_at}
+use Rattle.goal_interner.specs.TableMeaning.{tree_at}
 use Rattle.goal_terms.specs.Tree.{Tree, node, alias, variable, more, node_of, parts_of, forest, list_of}
 use Rattle.goal_terms.specs.TreeWith.{tree_with}
 use Rattle.goal_terms.specs.declared.heads.Head.TheVariants as head
@@ -16,11 +16,11 @@ use Rattle.goal_terms.specs.declared.heads.Node.{Node}
 use Rattle.goal_terms.specs.declared.heads.Node.TheVariants as nodes
 use Rattle.goal_terms.specs.declared.ids.TraitId.{TraitId}
 use Rattle.goal_terms.specs.declared.sorts.Sort.TheVariants as sorts
-use Rattle.goal_terms.specs.declared.term_nodes.OutOfMemory.{OutOfMemory}
-use Rattle.goal_terms.specs.declared.term_nodes.TermId.{TermId}
+use Rattle.goal_interner.specs.declared.term_nodes.OutOfMemory.{OutOfMemory}
+use Rattle.goal_interner.specs.declared.term_nodes.TermId.{TermId}
 use Rattle.goal_tables.specs.Rows.{lang_trait_of}
-use Rattle.goal_tables.specs.declared.lang.LangItem.{LangItem}
-use Rattle.goal_tables.specs.declared.lang.LangItem.TheVariants as lang
+use Rattle.goal_terms.specs.declared.lang.LangItem.{LangItem}
+use Rattle.goal_terms.specs.declared.lang.LangItem.TheVariants as lang
 use Rattle.goal_tables.specs.declared.rows.Tables.{Tables}
 use Rattle.goal_lists.specs.Builtins.{is_fn_ptr, inputs_of, output_of, call_premises, signature_of, call_rule}
 use Rattle.goal_lists.specs.Candidates.{all_but_last, last_of}

@@ -5,10 +5,10 @@ use Rattle.std.specs.Option.{option_map, option_and_then}
 use Rattle.goal_terms.specs.Tree.{Tree}
 use Rattle.goal_terms.specs.TreeOf.{tree_of_sig}
 use Rattle.goal_terms.specs.declared.ids.TraitId.{TraitId}
-use Rattle.goal_terms.specs.declared.term_nodes.OutOfMemory.{OutOfMemory}
+use Rattle.goal_interner.specs.declared.term_nodes.OutOfMemory.{OutOfMemory}
 use Rattle.goal_tables.specs.Rows.{lang_trait_of}
-use Rattle.goal_tables.specs.declared.lang.LangItem.{LangItem}
-use Rattle.goal_tables.specs.declared.lang.LangItem.TheVariants as lang
+use Rattle.goal_terms.specs.declared.lang.LangItem.{LangItem}
+use Rattle.goal_terms.specs.declared.lang.LangItem.TheVariants as lang
 use Rattle.goal_tables.specs.declared.rows.ClosureRow.{ClosureRow}
 use Rattle.goal_tables.specs.declared.rows.FnRow.{FnRow}
 use Rattle.goal_tables.specs.declared.rows.Tables.{Tables}

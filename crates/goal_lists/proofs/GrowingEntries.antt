@@ -1,6 +1,6 @@
 -- Entries in a table of terms stay there, and stay the same, when the table grows.
 use Rattle.std.proofs.Common.{◌≡◌, List, ap, ap₂, refl}
-use Rattle.goal_terms.specs.TableMeaning.{Keeps}
+use Rattle.goal_interner.specs.TableMeaning.{Keeps}
 use Rattle.goal_terms.specs.Tree.{Tree}
 use Rattle.goal_terms.specs.TreeOf.{tree_of_ty}
 use Rattle.goal_lists.specs.Entries.{given_arguments, of_header, followed_by, as_it_stands, head_form_of, arguments, equal_terms, clause, expected, hidden_type}

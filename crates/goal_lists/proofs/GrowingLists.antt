@@ -4,9 +4,9 @@ use Rattle.std.specs.Prelude.{Result, Ok, Err, IfOk}
 use Rattle.std.specs.List.{All}
 use Rattle.std.proofs.lemmas.List.{map_more, map_push, take_all}
 use Rattle.std.proofs.lemmas.List.Elements.{All-push, filter-append}
-use Rattle.goal_terms.specs.TableMeaning.{Keeps}
+use Rattle.goal_interner.specs.TableMeaning.{Keeps}
 use Rattle.goal_terms.specs.Tree.{Tree}
-use Rattle.goal_terms.specs.declared.term_nodes.TermId.{TermId}
+use Rattle.goal_interner.specs.declared.term_nodes.TermId.{TermId}
 use Rattle.goal_lists.specs.Interned.{AreIn, erased_all}
 use Rattle.goal_lists.proofs.InternedLemmas.{all-grow, map-same, all_same-grown}
 

@@ -6,9 +6,9 @@ use Rattle.std.specs.Prelude.{get_or}
 use Rattle.goal_terms.specs.Erased.{erased}
 use Rattle.goal_terms.specs.PredicateTrees.{holds, equals, holds_const}
 use Rattle.goal_terms.specs.Sorts.{IsArgument}
-use Rattle.goal_terms.specs.TableMeaning.{Keeps}
+use Rattle.goal_interner.specs.TableMeaning.{Keeps}
 use Rattle.goal_terms.specs.Tree.{Tree}
-use Rattle.goal_terms.specs.declared.term_nodes.TermId.{TermId}
+use Rattle.goal_interner.specs.declared.term_nodes.TermId.{TermId}
 use Rattle.goal_lists.specs.Candidates.{assumption, implied_bound}
 use Rattle.goal_lists.specs.Interned.{erased_at, erased_all, IsIn, AreIn, trait_at, TraitIn, predicate_at, PredicateIn, premise_at, PremiseIn, candidate_at, CandidateIn}
 use Rattle.goal_lists.specs.Premises.{predicate, equation}

@@ -6,7 +6,7 @@ use Rattle.std.specs.Option.{option_map, option_and_then, option_copied}
 use Rattle.std.proofs.lemmas.List.Elements.{All-weaker}
 use Rattle.goal_terms.specs.Erased.{erased, erased_head}
 use Rattle.goal_terms.specs.Sorts.{Are, IsSort, IsArgument, is_argument_sort}
-use Rattle.goal_terms.specs.TableMeaning.{tree_at}
+use Rattle.goal_interner.specs.TableMeaning.{tree_at}
 use Rattle.goal_terms.specs.Tree.{Tree, Trees, node, alias, variable, forest, list_of, node_of, parts_of}
 use Rattle.goal_terms.specs.TreeCode.{forest-list_of}
 use Rattle.goal_terms.specs.TreeOf.{leaf, tree_of_ty}
@@ -17,11 +17,11 @@ use Rattle.goal_terms.specs.declared.heads.Variable.{Variable}
 use Rattle.goal_terms.specs.declared.ids.AdtId.{AdtId}
 use Rattle.goal_terms.specs.declared.ids.ItemId.{ItemId}
 use Rattle.goal_terms.specs.declared.sorts.Sort.TheVariants as sorts
-use Rattle.goal_terms.specs.declared.term_nodes.TermId.{TermId}
+use Rattle.goal_interner.specs.declared.term_nodes.TermId.{TermId}
 use Rattle.goal_terms.specs.declared.terms.AliasTermKind.{AliasTermKind}
 use Rattle.goal_terms.specs.declared.terms.AliasTermKind.TheVariants.{ProjectionTy}
 use Rattle.goal_tables.specs.Rows.{adt_of, lang_trait_of, lang_adt_of}
-use Rattle.goal_tables.specs.declared.lang.LangItem.TheVariants as lang
+use Rattle.goal_terms.specs.declared.lang.LangItem.TheVariants as lang
 use Rattle.goal_tables.specs.declared.rows.AdtRow.{AdtRow}
 use Rattle.goal_tables.specs.declared.rows.FieldInfo.{FieldInfo}
 use Rattle.goal_tables.specs.declared.rows.Tables.{Tables}

@@ -5,13 +5,13 @@ use Rattle.std.proofs.lemmas.Result.{IfOk-weaker}
 use Rattle.goal_terms.specs.Erased.{erased}
 use Rattle.goal_terms.specs.Folding.{instance}
 use Rattle.goal_terms.specs.Sorts.{IsArgument, sort_of, is_term_sort, is_argument_sort}
-use Rattle.goal_terms.specs.TableMeaning.{tree_at, Keeps}
+use Rattle.goal_interner.specs.TableMeaning.{tree_at, Keeps}
 use Rattle.goal_terms.specs.Tree.{Tree, node_of}
 use Rattle.goal_terms.specs.TreeOf.{tree_of_alias, tree_of_term, is_type_kind}
 use Rattle.goal_terms.specs.declared.sorts.Sort.{Sort}
 use Rattle.goal_terms.specs.declared.sorts.Sort.TheVariants as sorts
-use Rattle.goal_terms.specs.declared.term_nodes.OutOfMemory.{OutOfMemory}
-use Rattle.goal_terms.specs.declared.term_nodes.TermId.{TermId}
+use Rattle.goal_interner.specs.declared.term_nodes.OutOfMemory.{OutOfMemory}
+use Rattle.goal_interner.specs.declared.term_nodes.TermId.{TermId}
 use Rattle.goal_terms.specs.declared.terms.AliasTerm.{AliasTerm}
 use Rattle.goal_terms.specs.declared.terms.Term.{Term}
 use Rattle.goal_terms.specs.PredicateTrees.{equals}

@@ -25,7 +25,7 @@ use Rattle.goal_tables.specs.Rows.{trait_of, item_of, adt_of, function_of, closu
 use Rattle.goal_tables.specs.Sites.{kind_of_value, params_of, is_unknown, is_misplaced, clause_params, projection_params, adt_params, function_params, closure_params, trait_clause_params, lies_here, lies_in, lies_in_row}
 use Rattle.goal_tables.specs.declared.rows.ItemRow.{ItemRow}
 use Rattle.goal_tables.specs.declared.rows.Tables.{Tables}
-use Rattle.goal_tables.specs.declared.sites.TermFault.TheVariants.{UnknownItem, WrongArgumentCount, WrongArgumentKind}
+use Rattle.goal_tables.specs.declared.faults.TermFault.TheVariants.{UnknownItem, WrongArgumentCount, WrongArgumentKind}
 use Rattle.goal_lists.specs.KindedTerms.{kinds_of_terms, IsKinded, RowIsKinded, kinds_over, FitsThroughout, RowFitsThroughout, NoKindFault}
 use Rattle.goal_lists.proofs.KindOfTermLemmas.{kind_of_term, same_kind-true}
 

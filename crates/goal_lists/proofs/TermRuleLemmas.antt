@@ -3,8 +3,8 @@ use Rattle.std.proofs.Common.{◌≡◌, List, [], ◌∷◌, Option, Some, None
 use Rattle.std.proofs.lemmas.List.Elements.{All-tail}
 use Rattle.goal_terms.specs.Tree.{Tree}
 use Rattle.goal_terms.specs.declared.ids.ItemId.{ItemId}
-use Rattle.goal_terms.specs.declared.term_nodes.TermId.{TermId}
-use Rattle.goal_tables.specs.declared.lang.LangItem.{LangItem}
+use Rattle.goal_interner.specs.declared.term_nodes.TermId.{TermId}
+use Rattle.goal_terms.specs.declared.lang.LangItem.{LangItem}
 use Rattle.goal_tables.specs.declared.rows.Tables.{Tables}
 use Rattle.goal_lists.specs.Builtins.{nothing_listed, lang_of_item, lang_term, term_of_lang, term_rule}
 use Rattle.goal_lists.specs.Interned.{erased_at, erased_all, IsIn, AreIn}

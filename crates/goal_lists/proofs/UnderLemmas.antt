@@ -9,15 +9,15 @@ use Rattle.goal_terms.specs.Erased.{erased, erased_row, erased_head}
 use Rattle.goal_terms.specs.Folding.{Folding, depth_below, folded_node, folded, folded_row, shifting, shifted, argument_of, instance_of, instance, instantiating}
 use Rattle.goal_terms.specs.Kinds.{same_kind, kind_of, kind_of_head}
 use Rattle.goal_terms.specs.Sorts.{is_argument_sort, IsArgument}
-use Rattle.goal_terms.specs.TableMeaning.{tree_at, AreBelow}
+use Rattle.goal_interner.specs.TableMeaning.{tree_at, AreBelow}
 use Rattle.goal_terms.specs.Tree.{Tree, Trees, node, alias, variable, none, more, node_of}
 use Rattle.goal_terms.specs.TreeOf.{leaf}
 use Rattle.goal_terms.specs.declared.answers.ParamKind.{ParamKind}
 use Rattle.goal_terms.specs.declared.answers.ParamKind.TheVariants as kind
 use Rattle.goal_terms.specs.declared.heads.Head.{Head}
 use Rattle.goal_terms.specs.declared.heads.Head.TheVariants.{Ref, FnPtr, Dynamic, Lifetime, TyParam, ConstParam}
-use Rattle.goal_terms.specs.declared.term_nodes.TermId.{TermId}
-use Rattle.goal_terms.proofs.UnderLemmas.{instantiating-sorts}
+use Rattle.goal_interner.specs.declared.term_nodes.TermId.{TermId}
+use Rattle.goal_interner.proofs.UnderLemmas.{instantiating-sorts}
 use Rattle.goal_lists.specs.Headers.{under}
 use Rattle.goal_lists.specs.Interned.{erased_at, erased_all, IsIn, AreIn}
 use Rattle.goal_lists.proofs.InstanceLemmas.{PutTheSame, folded-erased, instantiating_the_same}

@@ -6,10 +6,10 @@ use Rattle.goal_terms.specs.Tree.{Tree, parts_of}
 use Rattle.goal_terms.specs.TreeOf.{tree_of_ty, tree_of_sig}
 use Rattle.goal_terms.specs.declared.ids.ClosureId.{ClosureId}
 use Rattle.goal_terms.specs.declared.ids.FnId.{FnId}
-use Rattle.goal_terms.specs.declared.term_nodes.TermId.{TermId}
+use Rattle.goal_interner.specs.declared.term_nodes.TermId.{TermId}
 use Rattle.goal_tables.specs.Rows.{function_of, closure_of}
-use Rattle.goal_tables.specs.declared.lang.LangItem.{LangItem}
-use Rattle.goal_tables.specs.declared.lang.LangItem.TheVariants as lang
+use Rattle.goal_terms.specs.declared.lang.LangItem.{LangItem}
+use Rattle.goal_terms.specs.declared.lang.LangItem.TheVariants as lang
 use Rattle.goal_tables.specs.declared.rows.AdtRow.{AdtRow}
 use Rattle.goal_tables.specs.declared.rows.FieldInfo.{FieldInfo}
 use Rattle.goal_tables.specs.declared.rows.FnRow.{FnRow}

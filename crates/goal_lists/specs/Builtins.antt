@@ -12,9 +12,9 @@ use Rattle.goal_terms.specs.declared.ids.TraitId.{TraitId}
 use Rattle.goal_terms.specs.declared.scalars.UintTy.TheVariants as unsigned
 use Rattle.goal_terms.specs.declared.terms.AliasTermKind.TheVariants.{ProjectionTy}
 use Rattle.goal_tables.specs.Rows.{trait_of, adt_of, function_of, closure_of, lang_naming, lang_trait_of, lang_adt_of}
-use Rattle.goal_tables.specs.declared.lang.LangItem.{LangItem}
-use Rattle.goal_tables.specs.declared.lang.LangItem.TheVariants as lang
-use Rattle.goal_tables.specs.declared.lang.LangTarget.TheVariants as target
+use Rattle.goal_terms.specs.declared.lang.LangItem.{LangItem}
+use Rattle.goal_terms.specs.declared.lang.LangItem.TheVariants as lang
+use Rattle.goal_terms.specs.declared.lang.LangTarget.TheVariants as target
 use Rattle.goal_tables.specs.declared.rows.AdtKind.{AdtKind}
 use Rattle.goal_tables.specs.declared.rows.AdtKind.TheVariants as adt
 use Rattle.goal_tables.specs.declared.rows.AdtRow.{AdtRow}

@@ -7,8 +7,8 @@ use Rattle.goal_terms.specs.declared.heads.Head.{Head}
 use Rattle.goal_terms.specs.declared.heads.Head.TheVariants as head
 use Rattle.goal_terms.specs.declared.ids.TraitId.{TraitId}
 use Rattle.goal_tables.specs.Rows.{trait_of, adt_of, function_of, closure_of, lang_trait_of}
-use Rattle.goal_tables.specs.declared.lang.LangItem.{LangItem}
-use Rattle.goal_tables.specs.declared.lang.LangItem.TheVariants as lang
+use Rattle.goal_terms.specs.declared.lang.LangItem.{LangItem}
+use Rattle.goal_terms.specs.declared.lang.LangItem.TheVariants as lang
 use Rattle.goal_tables.specs.declared.rows.ClosureRow.{ClosureRow}
 use Rattle.goal_tables.specs.declared.rows.FnRow.{FnRow}
 use Rattle.goal_tables.specs.declared.rows.TraitRow.{TraitRow}

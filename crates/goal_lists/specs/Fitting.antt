@@ -1,7 +1,7 @@
 -- Which candidates may fit given arguments, as far as the heads of headers say. The others are refuted without any height.
 use Rattle.std.specs.Prelude.{◌==◌, Bool, true, false, ◌&&◌, List, [], ◌∷◌, map, filter, Option, Some, None}
 use Rattle.goal_terms.specs.PredicateTrees.{PredicateTree, holds, equals, holds_const}
-use Rattle.goal_terms.specs.TableMeaning.{tree_at}
+use Rattle.goal_interner.specs.TableMeaning.{tree_at}
 use Rattle.goal_terms.specs.Tree.{Tree, node, alias, variable, list_of, node_of}
 use Rattle.goal_terms.specs.TreeOf.{trees_of}
 use Rattle.goal_terms.specs.declared.answers.TraitGoalProvenVia.{TraitGoalProvenVia}
@@ -10,7 +10,7 @@ use Rattle.goal_terms.specs.declared.heads.Node.{Node}
 use Rattle.goal_terms.specs.declared.heads.Node.TheVariants as nodes
 use Rattle.goal_terms.specs.declared.ids.ItemId.{ItemId}
 use Rattle.goal_terms.specs.declared.ids.TraitId.{TraitId}
-use Rattle.goal_terms.specs.declared.term_nodes.TermId.{TermId}
+use Rattle.goal_interner.specs.declared.term_nodes.TermId.{TermId}
 use Rattle.goal_lists.specs.Candidates.{Candidate, assumption, by_impl, class_of}
 use Rattle.goal_lists.specs.FastReject.{agree, heads_agree}
 use Rattle.goal_lists.specs.Projections.{projected_item}

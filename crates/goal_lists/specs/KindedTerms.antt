@@ -17,7 +17,7 @@ use Rattle.goal_tables.specs.Clauses.{lies_in_trait_args}
 use Rattle.goal_tables.specs.Predicates.{lies_in_env}
 use Rattle.goal_tables.specs.Sites.{params_of, lies_in}
 use Rattle.goal_tables.specs.declared.rows.Tables.{Tables}
-use Rattle.goal_tables.specs.declared.sites.TermFault.TheVariants.{UnknownItem, WrongArgumentCount, WrongArgumentKind}
+use Rattle.goal_tables.specs.declared.faults.TermFault.TheVariants.{UnknownItem, WrongArgumentCount, WrongArgumentKind}
 
 -- the kinds of terms
 abbrev pub kinds_of_terms : List Tree → List ParamKind

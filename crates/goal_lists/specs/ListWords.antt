@@ -6,7 +6,7 @@ use Rattle.goal_terms.specs.declared.ids.DefId.{DefId}
 use Rattle.goal_terms.specs.declared.ids.OpaqueId.{OpaqueId}
 use Rattle.goal_terms.specs.declared.modes.TypingMode.{TypingMode}
 use Rattle.goal_terms.specs.declared.predicates.Clause.{Clause}
-use Rattle.goal_terms.specs.declared.term_nodes.TermId.{TermId}
+use Rattle.goal_interner.specs.declared.term_nodes.TermId.{TermId}
 use Rattle.goal_terms.specs.declared.terms.AliasTermKind.{AliasTermKind}
 use Rattle.goal_tables.specs.Rows.{definition_of, opaque_of}
 use Rattle.goal_tables.specs.declared.rows.DefRow.{DefRow}

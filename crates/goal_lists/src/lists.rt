@@ -9,13 +9,13 @@ pub mod projections;
 pub mod traits;
 
 use crate::candidates::interned::InternedPredicate;
+use goal_interner::term_nodes::TermId;
 use goal_tables::lookup::IndexedTables;
 use goal_tables::rows::{ItemRow, OpaqueRow};
 use goal_terms::answers::{DelayedFault, GoalSource, OpaqueAccess, ParamKind};
 use goal_terms::ids::{DefId, FreeId, ImplId, InherentId, InherentImplId, ItemId, OpaqueId};
 use goal_terms::modes::TypingMode;
 use goal_terms::predicates::{BoundConstness, Clause, TraitRef};
-use goal_terms::term_nodes::TermId;
 use goal_terms::terms::{GenericArg, Term, Ty};
 
 /// A row whose header is matched.

@@ -3,8 +3,8 @@ ghost use Rattle.std.specs.Prelude.{◌≡◌};
 ghost use Rattle.goal_lists.specs.Interned.{AreIn, erased_all};
 ghost use Rattle.goal_lists.specs.TraitGoals.{any_error};
 
-use goal_terms::term_nodes::TermId;
-use goal_terms::term_table::TermTable;
+use goal_interner::term_nodes::TermId;
+use goal_interner::term_table::TermTable;
 
 /// Whether an error stands in some terms, lifetimes aside. It takes no memory.
 pub fn any_error(terms: &TermTable, ids: &[TermId]) -> bool

@@ -5,10 +5,10 @@ use crate::names::{
     PAIR_A, POINTEE, SIZED, TR, TRAIT, TRAIT_ASSOC, TUPLE,
 };
 use crate::types::{trait_clause, trait_ref};
-use goal_tables::lang::{LangItem, LangRow, LangTarget};
 use goal_tables::rows::{ItemRow, TraitRow};
 use goal_terms::answers::ParamKind;
 use goal_terms::ids::{ItemId, TraitId};
+use goal_terms::lang::{LangItem, LangRow, LangTarget};
 use goal_terms::predicates::Clause;
 use goal_terms::terms::Ty;
 use std::alloc::{AllocError, Global};

@@ -3,6 +3,7 @@ ghost use Rattle.std.specs.Prelude.{◌≡◌, ◌↔◌, Ok, Err};
 
 use crate::answer::{Answer, Refusal};
 use crate::faults::RowsFault;
+use goal_checks::checked::{CheckedTables, check_tables};
 use goal_program::asked_terms::{AskedAlias, AskedType};
 use goal_program::names::TR;
 use goal_program::settings::{Environment, Mode};
@@ -11,7 +12,6 @@ use goal_program::types::{trait_ref, two_types};
 use goal_solver::context::EvalCtxt;
 use goal_solver::eval::goals::check_goal;
 use goal_solver::faults::Fault;
-use goal_tables::checked::{CheckedTables, check_tables};
 use goal_tables::faults::TableFault;
 use goal_terms::answers::{Certainty, Response};
 use goal_terms::predicates::{

@@ -6,6 +6,7 @@ use crate::ask::Asked::{
 };
 use crate::ask::{Asked, Question, ask};
 use crate::faults::RowsFault;
+use goal_checks::checked::{CheckedTables, check_tables};
 use goal_program::asked_terms::AskedAlias::{
     Discriminant, Free, FreeConst, Inherent, Metadata, Opaque, Output, PairA, TrA, TraitAssoc,
 };
@@ -17,7 +18,6 @@ use goal_program::settings::Environment::{Empty, HasTwoTerms, IsMaybeConst, IsOw
 use goal_program::settings::Mode::{Analysis, Erased, ErasedThatStops, PostAnalysis};
 use goal_program::settings::{Environment, Mode};
 use goal_program::tables::whole_tables;
-use goal_tables::checked::{CheckedTables, check_tables};
 use goal_tables::faults::TableFault;
 use goal_terms::scalars::UintTy::{U8, U16};
 use std::alloc::Global;

@@ -5,7 +5,7 @@ use Rattle.goal_terms.specs.Erased.{erased}
 use Rattle.goal_terms.specs.Kinds.{same_kind, kind_of, kind_of_alias}
 use Rattle.goal_terms.specs.NodeTests.{some_node, some_in_row, is_any_infer, is_unmade, general_variable_at}
 use Rattle.goal_terms.specs.Sorts.{sort_of, IsTerm, is_term_sort}
-use Rattle.goal_terms.specs.TableMeaning.{tree_at, HasTerm}
+use Rattle.goal_interner.specs.TableMeaning.{tree_at, HasTerm}
 use Rattle.goal_terms.specs.Tree.{Tree, Trees, node, alias, variable, none, more, node_of}
 use Rattle.goal_terms.specs.TreeOf.{tree_of_alias, tree_of_term, is_type_kind}
 use Rattle.goal_terms.specs.declared.answers.Certainty.TheVariants as certainty
@@ -19,7 +19,7 @@ use Rattle.goal_terms.specs.declared.heads.Variable.TheVariants as variables
 use Rattle.goal_terms.specs.declared.modes.TypingMode.{TypingMode}
 use Rattle.goal_terms.specs.declared.predicates.Clause.{Clause}
 use Rattle.goal_terms.specs.declared.predicates.NormalizesTo.{NormalizesTo}
-use Rattle.goal_terms.specs.declared.term_nodes.TermId.{TermId}
+use Rattle.goal_interner.specs.declared.term_nodes.TermId.{TermId}
 use Rattle.goal_terms.specs.declared.terms.AliasTerm.{AliasTerm}
 use Rattle.goal_terms.specs.declared.terms.AliasTermKind.{AliasTermKind}
 use Rattle.goal_terms.specs.declared.terms.InferTy.TheVariants as infer
@@ -29,8 +29,8 @@ use Rattle.goal_tables.specs.Faults.{IsChecked}
 use Rattle.goal_tables.specs.Predicates.{lies_in_env, some_in_env, some_in_equation}
 use Rattle.goal_tables.specs.Sites.{lies_in}
 use Rattle.goal_tables.specs.declared.rows.Tables.{Tables}
-use Rattle.goal_tables.specs.declared.sites.TermFault.{TermFault}
-use Rattle.goal_tables.specs.declared.sites.TermFault.TheVariants as lies
+use Rattle.goal_tables.specs.declared.faults.TermFault.{TermFault}
+use Rattle.goal_tables.specs.declared.faults.TermFault.TheVariants as lies
 use Rattle.goal_infer.specs.Inference.{Inference}
 use Rattle.goal_infer.specs.Occurrence.{place_of, place_in_row, joined, within_alias}
 use Rattle.goal_infer.specs.Replacement.{number_of, replaced, replaced_row, takes}

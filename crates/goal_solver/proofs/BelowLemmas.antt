@@ -6,7 +6,7 @@ use Rattle.goal_terms.specs.declared.predicates.Goal.{Goal}
 use Rattle.goal_terms.specs.declared.predicates.NormalizesTo.{NormalizesTo}
 use Rattle.goal_terms.specs.declared.predicates.ProjectionPredicate.{ProjectionPredicate}
 use Rattle.goal_terms.specs.declared.predicates.TraitPredicate.{TraitPredicate}
-use Rattle.goal_terms.proofs.InternLemmas.{keeps-refl}
+use Rattle.goal_interner.proofs.InternLemmas.{keeps-refl}
 use Rattle.goal_infer.specs.Resolution.{IsSolved}
 use Rattle.goal_kinds.specs.declared.faults.Fault.{Fault}
 use Rattle.goal_solver.specs.Binding.{IsApplicable}

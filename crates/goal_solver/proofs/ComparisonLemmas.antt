@@ -6,7 +6,7 @@ use Rattle.goal_terms.specs.Erased.{erased}
 use Rattle.goal_terms.specs.SameLaws.{same_tree-is}
 use Rattle.goal_terms.specs.SameTree.{same_tree}
 use Rattle.goal_terms.specs.Sorts.{is_term_sort}
-use Rattle.goal_terms.specs.TableMeaning.{tree_at, HasTerm}
+use Rattle.goal_interner.specs.TableMeaning.{tree_at, HasTerm}
 use Rattle.goal_terms.specs.Tree.{Tree}
 use Rattle.goal_terms.specs.TreeOf.{is_type_kind, tree_of_term}
 use Rattle.goal_terms.specs.contracts.modes.TypingModeClone.TheImpl.{is_clone-value as is_mode_clone}
@@ -18,7 +18,7 @@ use Rattle.goal_terms.specs.declared.predicates.Goal.{Goal}
 use Rattle.goal_terms.specs.declared.predicates.NormalizesTo.{NormalizesTo}
 use Rattle.goal_terms.specs.declared.predicates.Predicate.{Predicate}
 use Rattle.goal_terms.specs.declared.predicates.Predicate.TheVariants as predicate
-use Rattle.goal_terms.specs.declared.term_nodes.TermId.{TermId}
+use Rattle.goal_interner.specs.declared.term_nodes.TermId.{TermId}
 use Rattle.goal_terms.specs.declared.terms.Term.{Term}
 use Rattle.goal_tables.specs.Faults.{IsChecked}
 use Rattle.goal_tables.specs.Predicates.{normalization_of}

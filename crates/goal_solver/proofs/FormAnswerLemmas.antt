@@ -5,10 +5,10 @@ use Rattle.std.specs.Prelude.{◌||◌, Option, IfOk, IfErr}
 use Rattle.goal_terms.specs.Erased.{erased}
 use Rattle.goal_terms.specs.NodeTests.{is_any_infer, some_node}
 use Rattle.goal_terms.specs.Sorts.{IsTerm, is_term_sort}
-use Rattle.goal_terms.specs.TableMeaning.{tree_at, HasTerm}
+use Rattle.goal_interner.specs.TableMeaning.{tree_at, HasTerm}
 use Rattle.goal_terms.specs.Tree.{Tree, node, alias, variable, node_of}
 use Rattle.goal_terms.specs.declared.predicates.Clause.{Clause}
-use Rattle.goal_terms.specs.declared.term_nodes.TermId.{TermId}
+use Rattle.goal_interner.specs.declared.term_nodes.TermId.{TermId}
 use Rattle.goal_terms.specs.declared.terms.Term.{Term}
 use Rattle.goal_tables.specs.Predicates.{some_in_env}
 use Rattle.goal_infer.specs.Following.{sort_at}

@@ -4,13 +4,13 @@ use Rattle.std.proofs.lemmas.Bool.{false≢true}
 use Rattle.std.specs.Prelude.{IfOk, IsOkUnless}
 use Rattle.goal_terms.specs.Erased.{erased, erased_head}
 use Rattle.goal_terms.specs.Sorts.{IsTerm, is_term_sort, sort_of, sort_of_head}
-use Rattle.goal_terms.specs.TableMeaning.{tree_at, HasTerm}
+use Rattle.goal_interner.specs.TableMeaning.{tree_at, HasTerm}
 use Rattle.goal_terms.specs.Tree.{Tree, node, alias, variable, node_of}
 use Rattle.goal_terms.specs.declared.answers.Certainty.TheVariants as certainty
 use Rattle.goal_terms.specs.declared.answers.Response.{Response}
 use Rattle.goal_terms.specs.declared.heads.Head.{Head}
 use Rattle.goal_terms.specs.declared.heads.Head.TheVariants.{Ref, FnPtr, Dynamic, Lifetime}
-use Rattle.goal_terms.specs.declared.term_nodes.TermId.{TermId}
+use Rattle.goal_interner.specs.declared.term_nodes.TermId.{TermId}
 use Rattle.goal_terms.specs.declared.terms.AliasTermKind.{AliasTermKind}
 use Rattle.goal_terms.specs.declared.terms.Term.{Term}
 use Rattle.goal_lists.specs.Interned.{erased_at}

@@ -9,7 +9,7 @@ use Rattle.goal_terms.specs.declared.heads.Node.TheVariants as nodes
 use Rattle.goal_terms.specs.declared.node_tests.Within.TheVariants.{Everything}
 use Rattle.goal_terms.proofs.NodeTestLemmas.{some_from, some_from-found, some_from-more, some_from-end, some_node-walk}
 use Rattle.goal_terms.specs.declared.heads.Variable.{Variable}
-use Rattle.goal_terms.specs.declared.term_nodes.TermId.{TermId}
+use Rattle.goal_interner.specs.declared.term_nodes.TermId.{TermId}
 use Rattle.goal_infer.specs.Occurrence.{place_of, place_in_row, place_at, joined, within_alias}
 use Rattle.goal_infer.specs.Replacement.{same_variable}
 use Rattle.goal_infer.specs.Resolution.{binding_of, resolved, Agrees, IsSolved}

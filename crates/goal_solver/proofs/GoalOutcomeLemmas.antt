@@ -2,10 +2,10 @@
 use Rattle.std.proofs.Common.{◌≡◌, ◌<◌, List, [], ◌∷◌, length, map, sym, ap, ◌∙◌, subst}
 use Rattle.std.proofs.lemmas.List.Elements.{All-nil, All-cons, All-head, All-tail}
 use Rattle.goal_terms.specs.Sorts.{IsArgument, sort_of, is_argument_sort}
-use Rattle.goal_terms.specs.TableMeaning.{tree_at, AreBelow, HasTerm, Keeps}
+use Rattle.goal_interner.specs.TableMeaning.{tree_at, AreBelow, HasTerm, Keeps}
 use Rattle.goal_terms.specs.Tree.{Tree, node_of}
 use Rattle.goal_terms.specs.TreeOf.{tree_of_term}
-use Rattle.goal_terms.specs.declared.term_nodes.TermId.{TermId}
+use Rattle.goal_interner.specs.declared.term_nodes.TermId.{TermId}
 use Rattle.goal_terms.specs.declared.terms.Term.{Term}
 use Rattle.goal_terms.proofs.SortLemmas.{term_sort}
 use Rattle.goal_infer.specs.Following.{sort_at}

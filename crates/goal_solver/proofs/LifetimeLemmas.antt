@@ -4,12 +4,12 @@ use Rattle.std.specs.Prelude.{replicate, min, Result, OnOk}
 use Rattle.std.proofs.lemmas.Bool.{cases_lt}
 use Rattle.std.proofs.lemmas.List.{length-map, drop_all, get_or-map, map-append}
 use Rattle.std.proofs.lemmas.List.Elements.{All-get_or}
-use Rattle.goal_terms.specs.TableMeaning.{tree_at, AreBelow, Keeps}
+use Rattle.goal_interner.specs.TableMeaning.{tree_at, AreBelow, Keeps}
 use Rattle.goal_terms.specs.Tree.{Tree}
 use Rattle.goal_terms.specs.Erased.{erased}
 use Rattle.goal_terms.specs.declared.answers.VarKind.{VarKind}
 use Rattle.goal_terms.specs.declared.answers.VarKind.TheVariants as kind
-use Rattle.goal_terms.specs.declared.term_nodes.TermId.{TermId}
+use Rattle.goal_interner.specs.declared.term_nodes.TermId.{TermId}
 use Rattle.goal_infer.specs.Inference.{Inference}
 use Rattle.goal_infer.specs.RegionEquations.{AddsRegions, region_variable, equated}
 use Rattle.goal_infer.specs.declared.undo.InferVariable.{InferVariable}

@@ -4,7 +4,7 @@ use Rattle.std.specs.Prelude.{IsTrue, IfOk, OnOk, slice_get}
 use Rattle.goal_terms.specs.NodeTests.{is_any_infer, is_made, same_var_kind, some_node}
 use Rattle.goal_terms.specs.Erased.{erased}
 use Rattle.goal_terms.specs.Sorts.{sort_of}
-use Rattle.goal_terms.specs.TableMeaning.{Keeps, tree_at}
+use Rattle.goal_interner.specs.TableMeaning.{Keeps, tree_at}
 use Rattle.goal_terms.specs.Tree.{Tree, node, alias, node_of, variable}
 use Rattle.goal_terms.specs.TreeOf.{tree_of_alias, tree_of_term, is_type_kind}
 use Rattle.goal_terms.specs.declared.answers.Certainty.{Certainty}
@@ -20,7 +20,7 @@ use Rattle.goal_terms.specs.declared.predicates.Goal.{Goal}
 use Rattle.goal_terms.specs.declared.predicates.NormalizesTo.{NormalizesTo}
 use Rattle.goal_terms.specs.declared.predicates.Predicate.{Predicate}
 use Rattle.goal_terms.specs.declared.predicates.Predicate.TheVariants as predicate
-use Rattle.goal_terms.specs.declared.term_nodes.TermId.{TermId}
+use Rattle.goal_interner.specs.declared.term_nodes.TermId.{TermId}
 use Rattle.goal_terms.specs.declared.terms.AliasTermKind.{AliasTermKind}
 use Rattle.goal_terms.specs.declared.terms.Region.{Region}
 use Rattle.goal_terms.specs.declared.terms.Term.{Term}

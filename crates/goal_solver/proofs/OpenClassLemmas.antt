@@ -11,7 +11,7 @@ use Rattle.goal_terms.specs.declared.predicates.Goal.{Goal}
 use Rattle.goal_terms.specs.declared.terms.Term.{Term}
 use Rattle.goal_terms.specs.declared.terms.Ty.{Ty}
 use Rattle.goal_tables.specs.declared.rows.Tables.{Tables}
-use Rattle.goal_tables.specs.declared.sites.TermFault.{TermFault}
+use Rattle.goal_tables.specs.declared.faults.TermFault.{TermFault}
 use Rattle.goal_lists.specs.Candidates.{rest}
 use Rattle.goal_kinds.specs.declared.faults.Fault.{Fault}
 use Rattle.goal_kinds.specs.declared.faults.Fault.TheVariants as fault

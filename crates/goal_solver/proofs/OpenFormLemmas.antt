@@ -5,7 +5,7 @@ use Rattle.std.specs.Prelude.{IfOk, IfErr, IfSome, OnOk}
 use Rattle.goal_terms.specs.Erased.{erased}
 use Rattle.goal_terms.specs.NodeTests.{is_any_infer, some_node}
 use Rattle.goal_terms.specs.Tree.{Tree, variable, node_of}
-use Rattle.goal_terms.specs.TableMeaning.{tree_at}
+use Rattle.goal_interner.specs.TableMeaning.{tree_at}
 use Rattle.goal_terms.specs.TreeOf.{tree_of_alias, tree_of_term, is_type_kind}
 use Rattle.goal_terms.specs.declared.answers.Certainty.{Certainty}
 use Rattle.goal_terms.specs.declared.answers.Certainty.TheVariants as certainty
@@ -16,7 +16,7 @@ use Rattle.goal_terms.specs.declared.modes.TypingMode.{TypingMode}
 use Rattle.goal_terms.specs.declared.predicates.Clause.{Clause}
 use Rattle.goal_terms.specs.declared.predicates.Goal.{Goal}
 use Rattle.goal_terms.specs.declared.predicates.NormalizesTo.{NormalizesTo}
-use Rattle.goal_terms.specs.declared.term_nodes.TermId.{TermId}
+use Rattle.goal_interner.specs.declared.term_nodes.TermId.{TermId}
 use Rattle.goal_terms.specs.declared.terms.AliasTerm.{AliasTerm}
 use Rattle.goal_terms.specs.declared.terms.Term.{Term}
 use Rattle.goal_tables.specs.Predicates.{some_in_env}

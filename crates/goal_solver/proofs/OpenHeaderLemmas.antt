@@ -6,19 +6,19 @@ use Rattle.std.specs.List.{AllZip}
 use Rattle.std.proofs.lemmas.List.Elements.{All-weaker, All-nil, All-cons, All-head, All-tail}
 use Rattle.goal_terms.specs.Erased.{erased}
 use Rattle.goal_terms.specs.Sorts.{is_argument_sort}
-use Rattle.goal_terms.specs.TableMeaning.{tree_at, AreBelow, Keeps}
+use Rattle.goal_interner.specs.TableMeaning.{tree_at, AreBelow, Keeps}
 use Rattle.goal_terms.specs.Tree.{Tree, forest}
 use Rattle.goal_terms.specs.TreeOf.{trees_of}
 use Rattle.goal_terms.specs.View.{trees_seen}
 use Rattle.goal_terms.specs.declared.modes.TypingMode.{TypingMode}
 use Rattle.goal_terms.specs.declared.predicates.Clause.{Clause}
-use Rattle.goal_terms.specs.declared.term_nodes.TermId.{TermId}
+use Rattle.goal_interner.specs.declared.term_nodes.TermId.{TermId}
 use Rattle.goal_terms.specs.declared.terms.GenericArg.{GenericArg}
 use Rattle.goal_kinds.specs.declared.faults.Fault.{Fault}
 use Rattle.goal_kinds.specs.declared.faults.Fault.TheVariants as fault
 use Rattle.goal_kinds.specs.declared.rules.RuleArguments.{RuleArguments}
 use Rattle.goal_kinds.specs.declared.rules.RuleArguments.TheVariants as arguments
-use Rattle.goal_terms.proofs.UnderLemmas.{trees-same}
+use Rattle.goal_interner.proofs.UnderLemmas.{trees-same}
 use Rattle.goal_lists.specs.Interned.{IsIn, AreIn}
 use Rattle.goal_solver.specs.Answers.{IsOwed}
 use Rattle.goal_solver.specs.GoingBack.{GoesBack, restored, at_depth}

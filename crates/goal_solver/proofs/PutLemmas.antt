@@ -6,16 +6,16 @@ use Rattle.std.proofs.lemmas.List.{take_all, length-map, map_push}
 use Rattle.std.proofs.lemmas.List.Elements.{All-nil}
 use Rattle.std.proofs.lemmas.Option.{slice_get_within}
 use Rattle.goal_terms.specs.Sorts.{Fits}
-use Rattle.goal_terms.specs.TableMeaning.{tree_at, AreBelow, Keeps}
+use Rattle.goal_interner.specs.TableMeaning.{tree_at, AreBelow, Keeps}
 use Rattle.goal_terms.specs.Tree.{Tree, Trees, node, alias, variable, none, more, node_of, parts_of, forest}
 use Rattle.goal_terms.specs.TreeWith.{tree_with}
-use Rattle.goal_terms.specs.declared.term_nodes.TermId.{TermId}
+use Rattle.goal_interner.specs.declared.term_nodes.TermId.{TermId}
 use Rattle.goal_terms.specs.TreeCode.{forest-list_of}
 use Rattle.goal_terms.specs.declared.heads.Head.{Head}
 use Rattle.goal_terms.specs.declared.heads.Node.{Node}
 use Rattle.goal_terms.specs.declared.heads.Node.TheVariants as nodes
-use Rattle.goal_terms.proofs.TableLemmas.{node_of-tree_with, parts_of-tree_with}
-use Rattle.goal_terms.proofs.UnderLemmas.{trees-same}
+use Rattle.goal_interner.proofs.TableLemmas.{node_of-tree_with, parts_of-tree_with}
+use Rattle.goal_interner.proofs.UnderLemmas.{trees-same}
 use Rattle.goal_infer.proofs.SortLemmas.{fits-sorts}
 use Rattle.goal_lists.specs.Headers.{parameter_of}
 use Rattle.goal_solver.specs.OpenHeaders.{is_entered, trees_at, HaveOneSort, IsFormIn, IsPut, AreAllPut, ArePut}

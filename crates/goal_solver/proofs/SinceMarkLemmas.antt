@@ -8,7 +8,7 @@ use Rattle.std.proofs.lemmas.List.Elements.{all_zip_more, filter_map-append}
 use Rattle.std.proofs.lemmas.Slice.Zip.{all_zipped_more}
 use Rattle.goal_terms.specs.Erased.{erased}
 use Rattle.goal_terms.specs.Sorts.{sort_of, is_term_sort}
-use Rattle.goal_terms.specs.TableMeaning.{tree_at, HasTerm, Keeps}
+use Rattle.goal_interner.specs.TableMeaning.{tree_at, HasTerm, Keeps}
 use Rattle.goal_terms.specs.Tree.{Tree, variable, node_of}
 use Rattle.goal_terms.specs.TreeOf.{tree_of_term, tree_of_ty, tree_of_arg}
 use Rattle.goal_terms.specs.declared.answers.Certainty.{Certainty}
@@ -18,7 +18,7 @@ use Rattle.goal_terms.specs.declared.answers.VarKind.{VarKind}
 use Rattle.goal_terms.specs.declared.answers.VarKind.TheVariants as kind
 use Rattle.goal_terms.specs.declared.heads.Variable.{Variable}
 use Rattle.goal_terms.specs.declared.sorts.Sort.TheVariants as sorts
-use Rattle.goal_terms.specs.declared.term_nodes.TermId.{TermId}
+use Rattle.goal_interner.specs.declared.term_nodes.TermId.{TermId}
 use Rattle.goal_terms.specs.declared.terms.Const.{Const}
 use Rattle.goal_terms.specs.declared.terms.GenericArg.{GenericArg}
 use Rattle.goal_terms.specs.declared.terms.Term.{Term}

@@ -9,7 +9,7 @@ use Rattle.goal_terms.specs.Tree.{Tree, Trees, node, alias, variable, none, more
 use Rattle.goal_terms.specs.declared.answers.VarKind.{VarKind}
 use Rattle.goal_terms.specs.declared.answers.VarKind.TheVariants as kind
 use Rattle.goal_terms.specs.declared.heads.Variable.{Variable}
-use Rattle.goal_terms.specs.declared.term_nodes.TermId.{TermId}
+use Rattle.goal_interner.specs.declared.term_nodes.TermId.{TermId}
 use Rattle.goal_infer.specs.Inference.{Inference}
 use Rattle.goal_infer.specs.Occurrence.{place_of, place_in_row, joined, within_alias, place_at}
 use Rattle.goal_infer.specs.Replacement.{number_of, kind_of_variable, replaced, replaced_row}

@@ -5,7 +5,7 @@ use Rattle.std.specs.Prelude.{◌==◌, if◌then◌else◌}
 use Rattle.std.proofs.lemmas.List.{append-nil, map-append}
 use Rattle.goal_terms.specs.Erased.{erased}
 use Rattle.goal_terms.specs.Folding.{instance}
-use Rattle.goal_terms.specs.TableMeaning.{Keeps}
+use Rattle.goal_interner.specs.TableMeaning.{Keeps}
 use Rattle.goal_terms.specs.Tree.{Tree}
 use Rattle.goal_terms.specs.TreeOf.{trees_of}
 use Rattle.goal_terms.specs.declared.answers.Certainty.{Certainty}

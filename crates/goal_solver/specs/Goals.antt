@@ -10,8 +10,8 @@ use Rattle.goal_tables.specs.Clauses.{lies_in_equation}
 use Rattle.goal_tables.specs.Flaws.{is_flawed}
 use Rattle.goal_tables.specs.Predicates.{lies_in_env, lies_in_predicate, normalization_of, some_in_env, some_in_equation, some_in_predicate}
 use Rattle.goal_tables.specs.declared.rows.Tables.{Tables}
-use Rattle.goal_tables.specs.declared.sites.TermFault.{TermFault}
-use Rattle.goal_tables.specs.declared.sites.TermFault.TheVariants as lies
+use Rattle.goal_tables.specs.declared.faults.TermFault.{TermFault}
+use Rattle.goal_tables.specs.declared.faults.TermFault.TheVariants as lies
 use Rattle.goal_solver.specs.Added.{has_goals}
 use Rattle.goal_solver.specs.FreeVariables.{lacks_free_term}
 use Rattle.goal_solver.specs.State.{State, kinds_of}

@@ -1,6 +1,6 @@
 -- When a context goes back to an earlier one.
 use Rattle.std.specs.Prelude.{◌≡◌, ℕ, List, length, take}
-use Rattle.goal_terms.specs.TableMeaning.{Keeps}
+use Rattle.goal_interner.specs.TableMeaning.{Keeps}
 use Rattle.goal_infer.specs.Inference as inference
 use Rattle.goal_solver.specs.State.{State}
 use Rattle.goal_solver.specs.declared.context.Mark.{Mark}

@@ -3,7 +3,7 @@ use Rattle.std.specs.Prelude.{◌≡◌, Bool, false, ◌||◌, ◌&&◌, Option
 use Rattle.goal_terms.specs.Erased.{erased}
 use Rattle.goal_terms.specs.NodeTests.{is_any_infer, some_node}
 use Rattle.goal_terms.specs.Sorts.{IsTerm}
-use Rattle.goal_terms.specs.TableMeaning.{HasTerm}
+use Rattle.goal_interner.specs.TableMeaning.{HasTerm}
 use Rattle.goal_terms.specs.Tree.{Tree, node_of}
 use Rattle.goal_terms.specs.TreeOf.{tree_of_term}
 use Rattle.goal_terms.specs.declared.modes.TypingMode.{TypingMode}

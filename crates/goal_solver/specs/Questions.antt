@@ -1,9 +1,9 @@
 -- What is said of a question over a table that has grown is said over the one before.
 use Rattle.std.specs.Prelude.{◌≡◌, ℕ, List}
 use Rattle.std.proofs.Common.{subst, sym, ◌∙◌}
-use Rattle.goal_terms.specs.TableMeaning.{Keeps}
+use Rattle.goal_interner.specs.TableMeaning.{Keeps}
 use Rattle.goal_terms.specs.Tree.{Tree}
-use Rattle.goal_terms.specs.declared.term_nodes.TermId.{TermId}
+use Rattle.goal_interner.specs.declared.term_nodes.TermId.{TermId}
 use Rattle.goal_lists.specs.Interned.{PredicateIn, predicate_at, IsIn, AreIn, erased_at, erased_all}
 use Rattle.goal_lists.specs.Levels.{level}
 use Rattle.goal_lists.specs.Settings.{Setting}

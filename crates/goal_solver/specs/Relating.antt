@@ -28,9 +28,9 @@ use Rattle.goal_kinds.specs.declared.faults.Fault.{Fault}
 use Rattle.goal_kinds.specs.declared.faults.Fault.TheVariants as fault
 use Rattle.goal_lists.specs.declared.outcomes.Outcome.{Outcome}
 use Rattle.goal_lists.specs.declared.outcomes.Outcome.TheVariants as outcome
-use Rattle.goal_terms.specs.declared.term_nodes.TermId.{TermId}
+use Rattle.goal_interner.specs.declared.term_nodes.TermId.{TermId}
 use Rattle.goal_lists.specs.Interned.{erased_at, erased_all}
-use Rattle.goal_terms.specs.TableMeaning.{tree_at}
+use Rattle.goal_interner.specs.TableMeaning.{tree_at}
 
 -- a replacement of the variables of a context by trees agrees with what they are bound to
 abbrev pub AgreesWith : State → (Variable → Tree) → Type 0

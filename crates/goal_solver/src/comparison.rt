@@ -1,6 +1,6 @@
 //! Two runs of one goal, compared.
 ghost use Rattle.std.specs.Prelude.{◌≡◌, ◌≢◌, ◌↔◌, true, IsTrue, Ok, Some, None, IfOk, IsOkUnless};
-ghost use Rattle.goal_terms.specs.TableMeaning.{HasTerm};
+ghost use Rattle.goal_interner.specs.TableMeaning.{HasTerm};
 ghost use Rattle.goal_tables.specs.Faults.{IsChecked};
 ghost use Rattle.goal_tables.specs.Predicates.{normalization_of};
 ghost use Rattle.goal_lists.specs.Answers.{decides, yes_with};
@@ -10,15 +10,15 @@ ghost use Rattle.goal_solver.specs.Comparisons.{AreComparable, ComparesExactly, 
 
 use crate::context::{EvalCtxt, GREATEST_LIMIT};
 use crate::faults::Fault;
+use goal_checks::checked::CheckedTables;
+use goal_checks::predicate_terms::PredicateTerms;
 use goal_eval::eval::outcomes::Found;
 use goal_eval::eval::region_constraints::RegionConstraints;
-use goal_tables::checked::CheckedTables;
-use goal_tables::predicate_terms::PredicateTerms;
+use goal_interner::term_nodes::TermId;
 use goal_terms::answers::Certainty;
 use goal_terms::compare::{Regions, same};
 use goal_terms::modes::TypingMode;
 use goal_terms::predicates::{Goal, NormalizesTo, Predicate};
-use goal_terms::term_nodes::TermId;
 use goal_terms::terms::Term;
 
 /// What two runs of one goal come to.

@@ -18,20 +18,20 @@ pub(crate) mod respond;
 pub mod storage;
 pub mod variables;
 
-use crate::eval::search_graph::SearchGraph;
 use crate::faults::DepthTooLarge;
+use goal_checks::checked::CheckedTables;
 use goal_eval::eval::effects::Effects;
 use goal_eval::eval::region_constraints::RegionConstraints;
 use goal_infer::state;
 use goal_infer::state::InferState;
-use goal_tables::checked::CheckedTables;
+use goal_interner::term_table::TermTable;
+use goal_search::search_graph::SearchGraph;
 use goal_terms::answers::{
     Certainty, DelayedFault, GoalSource, OpaqueAccess, OpaqueTypeKey, Response, TraitGoalProvenVia,
     VarKind,
 };
 use goal_terms::modes::TypingMode;
 use goal_terms::predicates::{Goal, Predicate};
-use goal_terms::term_table::TermTable;
 use goal_terms::terms::Ty;
 use std::alloc::Global;
 use std::marker::Model;

@@ -1,6 +1,5 @@
 //! Evaluation: how deep a goal is gone into, what it comes to, and running the lists of rules.
 pub mod added_evaluation;
-pub(crate) mod canonical;
 pub(crate) mod closed_goals;
 pub(crate) mod conclusions;
 pub(crate) mod evaluations;
@@ -15,7 +14,5 @@ pub(crate) mod questions;
 pub(crate) mod recalled;
 pub(crate) mod reruns;
 pub mod run_rule;
-pub(crate) mod search_graph;
 pub mod structural;
 pub(crate) mod where_goals;
-pub(crate) mod written_out;

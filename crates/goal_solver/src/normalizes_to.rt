@@ -1,6 +1,6 @@
 //! Normalization of aliases.
 ghost use Rattle.std.specs.Prelude.{◌≡◌, ◌⊎◌, ◌∷◌, true, false, [], length, Some, None, IfOk, IsOkUnless};
-ghost use Rattle.goal_terms.specs.TableMeaning.{HasTerm};
+ghost use Rattle.goal_interner.specs.TableMeaning.{HasTerm};
 ghost use Rattle.goal_terms.specs.declared.answers.Certainty.TheVariants as certainty;
 ghost use Rattle.goal_terms.specs.declared.terms.Term.{Term as term};
 ghost use Rattle.goal_lists.specs.Answers.{maybe};
@@ -24,10 +24,10 @@ use crate::eval::closed_goals::is_closed_alias;
 use crate::faults::Fault;
 use goal_eval::eval::outcomes::Found;
 use goal_eval::eval::region_constraints::RegionConstraints;
+use goal_interner::term_nodes::TermId;
 use goal_terms::answers::{Certainty, Response};
 use goal_terms::node_tests::general_variable;
 use goal_terms::predicates::{Goal, NormalizesTo};
-use goal_terms::term_nodes::TermId;
 
 impl EvalCtxt<'_> {
     /// The term that an alias normalizes to, as the value of the goal's expected variable. For a closed goal, `Yes`:

@@ -17,10 +17,10 @@ use crate::context::EvalCtxt;
 use crate::faults::Fault;
 use goal_eval::eval::interning::{intern_args, intern_pair};
 use goal_eval::eval::outcomes::Stop;
+use goal_interner::term_nodes::TermId;
 use goal_lists::outcomes::Outcome;
 use goal_terms::answers::Certainty;
 use goal_terms::predicates::Clause;
-use goal_terms::term_nodes::TermId;
 use goal_terms::terms::{GenericArg, Term};
 
 impl EvalCtxt<'_> {

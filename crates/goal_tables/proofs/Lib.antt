@@ -1,12 +1,8 @@
-pub mod FaultLemmas
-pub mod FlawLemmas
 pub mod IndexLemmas
 pub mod KeyLemmas
 pub mod KindLemmas
 pub mod LookupLemmas
 pub mod MarkLemmas
-pub mod ParamLemmas
 pub mod PlaceLemmas
 pub mod PlacesLemmas
-pub mod SiteLemmas
 pub mod SpecialLemmas

@@ -18,8 +18,8 @@ use Rattle.goal_terms.specs.Kinds.{same_kind, kind_of, kind_of_alias}
 use Rattle.goal_tables.specs.Rows.{trait_of}
 use Rattle.goal_tables.specs.Sites.{trait_params, lies_in}
 use Rattle.goal_tables.specs.declared.rows.Tables.{Tables}
-use Rattle.goal_tables.specs.declared.sites.TermFault as faults
-use Rattle.goal_tables.specs.declared.sites.TermFault.TheVariants.{UnknownItem, WrongArgumentCount, WrongArgumentKind, ParameterOutOfRange, InferInTable, NeverConst}
+use Rattle.goal_tables.specs.declared.faults.TermFault as faults
+use Rattle.goal_tables.specs.declared.faults.TermFault.TheVariants.{UnknownItem, WrongArgumentCount, WrongArgumentKind, ParameterOutOfRange, InferInTable, NeverConst}
 
 -- the kinds of arguments
 abbrev pub kinds_of : List GenericArg → List ParamKind

@@ -10,7 +10,7 @@ use Rattle.goal_tables.specs.TraitFaults.{auto_trait, lang_allows_const, alias_w
 use Rattle.goal_tables.specs.declared.faults.TableFault.{TableFault}
 use Rattle.goal_tables.specs.declared.faults.TableFault.TheVariants as fault
 use Rattle.goal_tables.specs.declared.rows.Tables.{Tables}
-use Rattle.goal_tables.specs.declared.sites.TermFault.TheVariants as lies
+use Rattle.goal_tables.specs.declared.faults.TermFault.TheVariants as lies
 
 -- an id stands that no row has
 unfoldable pub unknown_item : Tables → Bool

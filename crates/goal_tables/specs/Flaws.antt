@@ -15,8 +15,8 @@ use Rattle.goal_tables.specs.Clauses.{lies_in_trait_ref, lies_in_equation, lies_
 use Rattle.goal_tables.specs.Predicates.{some_in_args, some_in_equation, some_in_clause_kind}
 use Rattle.goal_tables.specs.Sites.{lies_here, lies_in}
 use Rattle.goal_tables.specs.declared.rows.Tables.{Tables}
-use Rattle.goal_tables.specs.declared.sites.TermFault.{TermFault}
-use Rattle.goal_tables.specs.declared.sites.TermFault.TheVariants.{UnknownItem, WrongArgumentCount, WrongArgumentKind}
+use Rattle.goal_tables.specs.declared.faults.TermFault.{TermFault}
+use Rattle.goal_tables.specs.declared.faults.TermFault.TheVariants.{UnknownItem, WrongArgumentCount, WrongArgumentKind}
 
 -- whether there is a flaw, by which faults lie in something and whether something in it passes
 abbrev pub is_flawed : (TermFault → Bool) → Bool → Bool

@@ -8,9 +8,9 @@ use Rattle.goal_tables.specs.LangFaults.{params_of_lang}
 use Rattle.goal_tables.specs.Options.{option_holds}
 use Rattle.goal_tables.specs.Rows.{trait_of, impl_of, items_of, lang_naming}
 use Rattle.goal_tables.specs.SourceFaults.{is_positive}
-use Rattle.goal_tables.specs.declared.lang.LangItem.{LangItem}
-use Rattle.goal_tables.specs.declared.lang.LangItem.TheVariants as item
-use Rattle.goal_tables.specs.declared.lang.LangTarget.TheVariants as target
+use Rattle.goal_terms.specs.declared.lang.LangItem.{LangItem}
+use Rattle.goal_terms.specs.declared.lang.LangItem.TheVariants as item
+use Rattle.goal_terms.specs.declared.lang.LangTarget.TheVariants as target
 use Rattle.goal_tables.specs.declared.rows.ImplPolarity.{ImplPolarity}
 use Rattle.goal_tables.specs.declared.rows.ImplPolarity.TheVariants as polarity
 use Rattle.goal_tables.specs.declared.rows.ImplRow.{ImplRow}

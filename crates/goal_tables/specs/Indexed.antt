@@ -20,7 +20,7 @@ use Rattle.goal_tables.specs.declared.tables_index.LangIndex.{LangIndex}
 use Rattle.goal_tables.specs.declared.tables_index.Index.{Index}
 use Rattle.goal_tables.specs.declared.rows.Tables.{Tables}
 use Rattle.goal_tables.specs.declared.rows.SourceRow.{SourceRow}
-use Rattle.goal_tables.specs.declared.lang.LangRow.{LangRow}
+use Rattle.goal_terms.specs.declared.lang.LangRow.{LangRow}
 use Rattle.goal_tables.specs.declared.rows.TraitRow.{TraitRow}
 use Rattle.goal_tables.specs.declared.rows.ImplRow.{ImplRow}
 

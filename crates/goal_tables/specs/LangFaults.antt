@@ -8,10 +8,10 @@ use Rattle.goal_tables.specs.Indexed.{lists_number}
 use Rattle.goal_tables.specs.Options.{option_holds}
 use Rattle.goal_tables.specs.ParamKinds.{same_kinds}
 use Rattle.goal_tables.specs.Rows.{trait_of, item_of, adt_of, lang_of, lang_trait_of, lang_item_of}
-use Rattle.goal_tables.specs.declared.lang.LangItem.{LangItem}
-use Rattle.goal_tables.specs.declared.lang.LangItem.TheVariants as item
-use Rattle.goal_tables.specs.declared.lang.LangTarget.{LangTarget}
-use Rattle.goal_tables.specs.declared.lang.LangTarget.TheVariants as target
+use Rattle.goal_terms.specs.declared.lang.LangItem.{LangItem}
+use Rattle.goal_terms.specs.declared.lang.LangItem.TheVariants as item
+use Rattle.goal_terms.specs.declared.lang.LangTarget.{LangTarget}
+use Rattle.goal_terms.specs.declared.lang.LangTarget.TheVariants as target
 use Rattle.goal_tables.specs.declared.rows.AdtRow.{AdtRow}
 use Rattle.goal_tables.specs.declared.rows.ItemRow.{ItemRow}
 use Rattle.goal_tables.specs.declared.rows.TraitRow.{TraitRow}

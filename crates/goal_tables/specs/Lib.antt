@@ -8,7 +8,6 @@ pub mod Indexed
 pub mod LangFaults
 pub mod Options
 pub mod ParamKinds
-pub mod Params
 pub mod Places
 pub mod Predicates
 pub mod RowFaults

@@ -15,7 +15,7 @@ use Rattle.goal_terms.specs.declared.terms.GenericArg.{GenericArg}
 use Rattle.goal_terms.specs.declared.terms.Term.{Term}
 use Rattle.goal_tables.specs.Clauses.{lies_in_trait_ref, lies_in_const_ref, lies_in_equation, lies_in_clauses}
 use Rattle.goal_tables.specs.declared.rows.Tables.{Tables}
-use Rattle.goal_tables.specs.declared.sites.TermFault.{TermFault}
+use Rattle.goal_tables.specs.declared.faults.TermFault.{TermFault}
 
 -- whether a fault lies in an environment; parameters of any number may stand in it
 abbrev pub lies_in_env : Tables → TermFault → List Clause → Bool

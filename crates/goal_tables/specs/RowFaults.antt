@@ -12,9 +12,9 @@ use Rattle.goal_terms.specs.Kinds.{same_kind, kind_of}
 use Rattle.goal_tables.specs.Rows.{trait_of, item_of, impl_of, definition_of, inherent_impl_of, adt_of}
 use Rattle.goal_tables.specs.Sites.{kind_of_value, is_of_other_kind, lies_in}
 use Rattle.goal_tables.specs.Clauses.{lies_in_trait_args, const_fault, lies_in_clauses, lies_in_const_refs}
-use Rattle.goal_tables.specs.declared.lang.LangRow.{LangRow}
-use Rattle.goal_tables.specs.declared.lang.LangTarget.{LangTarget}
-use Rattle.goal_tables.specs.declared.lang.LangTarget.TheVariants as target
+use Rattle.goal_terms.specs.declared.lang.LangRow.{LangRow}
+use Rattle.goal_terms.specs.declared.lang.LangTarget.{LangTarget}
+use Rattle.goal_terms.specs.declared.lang.LangTarget.TheVariants as target
 use Rattle.goal_tables.specs.declared.rows.TraitRow.{TraitRow}
 use Rattle.goal_tables.specs.declared.rows.ItemRow.{ItemRow}
 use Rattle.goal_tables.specs.declared.rows.ConstBounds.{ConstBounds}
@@ -36,8 +36,8 @@ use Rattle.goal_tables.specs.declared.rows.DefValue.{DefValue}
 use Rattle.goal_tables.specs.declared.rows.DefValue.TheVariants as value
 use Rattle.goal_tables.specs.declared.rows.Source.{Source}
 use Rattle.goal_tables.specs.declared.rows.Source.TheVariants as source
-use Rattle.goal_tables.specs.declared.sites.TermFault as faults
-use Rattle.goal_tables.specs.declared.sites.TermFault.TheVariants.{UnknownItem, WrongArgumentKind}
+use Rattle.goal_tables.specs.declared.faults.TermFault as faults
+use Rattle.goal_tables.specs.declared.faults.TermFault.TheVariants.{UnknownItem, WrongArgumentKind}
 
 -- the parameters of the row of a trait, none without a row
 abbrev pub params_of_trait_row : Option TraitRow → List ParamKind

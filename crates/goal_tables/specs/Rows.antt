@@ -26,12 +26,12 @@ use Rattle.goal_tables.specs.declared.rows.AdtRow.{AdtRow}
 use Rattle.goal_tables.specs.declared.rows.FnRow.{FnRow}
 use Rattle.goal_tables.specs.declared.rows.ClosureRow.{ClosureRow}
 use Rattle.goal_tables.specs.declared.rows.Tables.{Tables}
-use Rattle.goal_tables.specs.declared.lang.LangItem.{LangItem}
-use Rattle.goal_tables.specs.declared.lang.LangTarget.{LangTarget}
-use Rattle.goal_tables.specs.declared.lang.LangTarget.TheVariants as target
-use Rattle.goal_tables.specs.declared.lang.LangRow.{LangRow}
-use Rattle.goal_tables.specs.contracts.lang.LangItemPartialEq.TheImpl as items
-use Rattle.goal_tables.specs.contracts.lang.LangTargetPartialEq.TheImpl as targets
+use Rattle.goal_terms.specs.declared.lang.LangItem.{LangItem}
+use Rattle.goal_terms.specs.declared.lang.LangTarget.{LangTarget}
+use Rattle.goal_terms.specs.declared.lang.LangTarget.TheVariants as target
+use Rattle.goal_terms.specs.declared.lang.LangRow.{LangRow}
+use Rattle.goal_terms.specs.contracts.lang.LangItemPartialEq.TheImpl as items
+use Rattle.goal_terms.specs.contracts.lang.LangTargetPartialEq.TheImpl as targets
 
 -- the row of a trait
 abbrev pub trait_of : Tables → TraitId → Option TraitRow

@@ -24,8 +24,8 @@ use Rattle.goal_terms.specs.declared.terms.Region.TheVariants as regions
 use Rattle.goal_tables.specs.ParamKinds.{differs_in_count, asks_other_kinds, has_param}
 use Rattle.goal_tables.specs.Rows.{trait_of, item_of, adt_of, function_of, closure_of, free_of, inherent_of, opaque_of}
 use Rattle.goal_tables.specs.declared.rows.Tables.{Tables}
-use Rattle.goal_tables.specs.declared.sites.TermFault as faults
-use Rattle.goal_tables.specs.declared.sites.TermFault.TheVariants.{UnknownItem, WrongArgumentCount, WrongArgumentKind, ParameterOutOfRange, InferInTable, NeverConst}
+use Rattle.goal_tables.specs.declared.faults.TermFault as faults
+use Rattle.goal_tables.specs.declared.faults.TermFault.TheVariants.{UnknownItem, WrongArgumentCount, WrongArgumentKind, ParameterOutOfRange, InferInTable, NeverConst}
 
 -- the kind of a type or of a constant
 abbrev pub kind_of_value : Bool → ParamKind

@@ -4,8 +4,8 @@ use Rattle.std.specs.List.{list_any}
 use Rattle.std.specs.Option.{option_and_then}
 use Rattle.goal_tables.specs.Options.{option_holds}
 use Rattle.goal_tables.specs.Rows.{trait_of, lang_trait_of}
-use Rattle.goal_tables.specs.declared.lang.LangItem.{LangItem}
-use Rattle.goal_tables.specs.declared.lang.LangItem.TheVariants as item
+use Rattle.goal_terms.specs.declared.lang.LangItem.{LangItem}
+use Rattle.goal_terms.specs.declared.lang.LangItem.TheVariants as item
 use Rattle.goal_tables.specs.declared.rows.Tables.{Tables}
 
 -- a trait is an auto trait

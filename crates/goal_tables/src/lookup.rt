@@ -15,7 +15,6 @@ ghost use Rattle.goal_tables.specs.Rows.{trait_of, item_of, impl_of, definition_
 
 use crate::impls_by_head::places_with_head;
 use crate::index::{RowIndex, place_of, row_at};
-use crate::lang::{LangItem, LangRow, LangTarget};
 use crate::listings::{lists_number, some_lists_twice};
 use crate::rows::{
     AdtRow, ClosureRow, DefRow, FnRow, FreeRow, ImplRow, InherentImplRow, InherentRow, ItemRow,
@@ -27,6 +26,7 @@ use goal_terms::ids::{
     AdtId, ClosureId, DefId, FnId, FreeId, ImplId, InherentId, InherentImplId, ItemId, OpaqueId,
     TraitId,
 };
+use goal_terms::lang::{LangItem, LangRow, LangTarget};
 use indexmap::IndexMap;
 use std::alloc::{AllocError, Global};
 use std::marker::Model;

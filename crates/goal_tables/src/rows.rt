@@ -1,12 +1,14 @@
 ghost use Rattle.std.specs.Prelude.{◌≡◌};
+ghost use Rattle.goal_tables.specs.ImplFaults.{is_reservation};
 ghost use Rattle.goal_tables.specs.Rows.{row_count};
+ghost use Rattle.goal_tables.specs.SourceFaults.{is_positive};
 
-use crate::lang::LangRow;
 use goal_terms::answers::ParamKind;
 use goal_terms::ids::{
     AdtId, ClosureId, DefId, FnId, FreeId, ImplId, InherentId, InherentImplId, ItemId, OpaqueId,
     TraitId,
 };
+use goal_terms::lang::LangRow;
 use goal_terms::predicates::{Clause, TraitRef};
 use goal_terms::terms::{FnSig, GenericArg, Term, Ty};
 use std::alloc::Global;
@@ -87,6 +89,28 @@ pub enum ImplPolarity {
     Positive,
     Negative,
     Reservation,
+}
+
+impl ImplPolarity {
+    /// Whether the impl says that its trait holds.
+    pub fn is_positive(self) -> bool
+        ensures { result ≡ is_positive self }
+    {
+        match self {
+            ImplPolarity::Positive => true,
+            ImplPolarity::Negative | ImplPolarity::Reservation => false,
+        }
+    }
+
+    /// Whether the impl only bars a refutation.
+    pub fn is_reservation(self) -> bool
+        ensures { result ≡ is_reservation self }
+    {
+        match self {
+            ImplPolarity::Positive | ImplPolarity::Negative => false,
+            ImplPolarity::Reservation => true,
+        }
+    }
 }
 
 /// An impl of a trait, for the arguments of its header, the self type included.

@@ -8,10 +8,10 @@ use crate::fixed_params::{some_impl_has_unfixed, some_inherent_has_unfixed};
 use crate::impl_lists::impl_lists;
 use crate::impls_by_head::{ImplKey, key_lists};
 use crate::index::{RowIndex, index_of};
-use crate::lang::{LangItem, LangRow, LangTarget};
 use crate::listings::listings;
 use crate::rows::{SourceRow, Tables};
 use crate::specialized::{some_leads_back, special_lists};
+use goal_terms::lang::{LangItem, LangRow, LangTarget};
 use indexmap::IndexMap;
 use std::alloc::{AllocError, Global};
 

@@ -16,6 +16,4 @@ pub mod PredicateTrees
 pub mod TreeWith
 pub mod TreeCode
 pub mod Sorts
-pub mod TableMeaning
-pub mod TermFlags
 pub mod SameHead

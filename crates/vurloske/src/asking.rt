@@ -5,16 +5,16 @@ ghost use Rattle.vurloske.specs.Asked.{IsForKind};
 use crate::endings::Ending;
 use crate::records::Records;
 use crate::scenes::{Progress, Scene};
+use goal_checks::checked::CheckedTables;
+use goal_checks::predicate_terms::PredicateTerms;
+use goal_interner::term_nodes::OutOfMemory;
 use goal_solver::context::EvalCtxt;
 use goal_solver::eval::goals::check_goal;
 use goal_solver::faults::Fault;
-use goal_tables::checked::CheckedTables;
-use goal_tables::predicate_terms::PredicateTerms;
 use goal_terms::answers::{Response, VarKind};
 use goal_terms::predicates::{
     Clause, Goal, HostEffectPredicate, NormalizesTo, ProjectionPredicate, TraitPredicate,
 };
-use goal_terms::term_nodes::OutOfMemory;
 use goal_terms::terms::{AliasTermKind, Term};
 use std::mem;
 use vurloske_answers::answers::{Answer, Refusal, answer_of};

@@ -3,7 +3,7 @@ use crate::endings::{Ending, output};
 use crate::faulty_items::faulty_item;
 use crate::session::answer_statements;
 use crate::table_faults::expected_tables;
-use goal_tables::checked::{CheckedTables, check_tables};
+use goal_checks::checked::{CheckedTables, check_tables};
 use goal_tables::faults::TableFault;
 use std::alloc::Global;
 use std::io;

@@ -2,8 +2,8 @@
 ghost use Rattle.std.specs.Prelude.{◌≡◌, [], OnOk};
 
 use crate::endings::{Ending, output};
+use goal_checks::checked::CheckedTables;
 use goal_solver::context::EvalCtxt;
-use goal_tables::checked::CheckedTables;
 use goal_terms::answers::{Certainty, DelayedFault, OpaqueAccess, Response};
 use goal_terms::ids::{DefId, ItemId};
 use goal_terms::terms::{Region, Term};

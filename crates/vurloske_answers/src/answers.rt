@@ -2,10 +2,10 @@
 ghost use Rattle.std.specs.Prelude.{◌≡◌, ◌↔◌, Ok, Err, IsErr, IfOk};
 ghost use Rattle.vurloske_answers.specs.Answers.{IsListed, IsTermFor, Says};
 
+use goal_interner::term_nodes::OutOfMemory;
 use goal_solver::eval::goals::GoalFault;
 use goal_solver::faults::{DepthTooLarge, Fault};
 use goal_terms::answers::{Certainty, Response};
-use goal_terms::term_nodes::OutOfMemory;
 use goal_terms::terms::Term;
 use goal_text::names::TermNames;
 use goal_text::text::Shown;

@@ -1,7 +1,7 @@
 -- How words of the language are written, and what they name.
 use Rattle.std.specs.Prelude.{ℕ, List, codes}
-use Rattle.goal_tables.specs.declared.lang.LangItem.{LangItem}
-use Rattle.goal_tables.specs.declared.lang.LangItem.TheVariants as lang
+use Rattle.goal_terms.specs.declared.lang.LangItem.{LangItem}
+use Rattle.goal_terms.specs.declared.lang.LangItem.TheVariants as lang
 use Rattle.goal_text.specs.NameText.{int_text, uint_text, float_text}
 use Rattle.goal_terms.specs.Tree.{Tree}
 use Rattle.goal_terms.specs.TreeOf.{leaf}

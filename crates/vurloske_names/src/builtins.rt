@@ -4,7 +4,7 @@ ghost use Rattle.goal_terms.specs.TreeOf.{tree_of_ty};
 ghost use Rattle.vurloske_names.specs.Spelling.{builtin_text, builtin_tree, lang_text};
 ghost use Rattle.vurloske_ast.specs.Spelling.{IsNamed};
 
-use goal_tables::lang::LangItem;
+use goal_terms::lang::LangItem;
 use goal_terms::scalars::{FloatTy, IntTy, UintTy};
 use goal_terms::terms::Ty;
 

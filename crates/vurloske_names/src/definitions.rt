@@ -10,11 +10,11 @@ mod supertraits;
 
 use crate::builtins::Builtin;
 use crate::faults::ItemFault;
-use goal_tables::lang::LangRow;
 use goal_terms::ids::{
     AdtId, ClosureId, FnId, ForeignId, FreeId, ImplId, InherentId, InherentImplId, ItemId,
     OpaqueId, TraitId,
 };
+use goal_terms::lang::LangRow;
 use goal_terms::predicates::Clause;
 use indexmap::IndexMap;
 use places::Places;

@@ -14,11 +14,11 @@ use Rattle.goal_eval.proofs.EffectLemmas.{sound-met}
 use Rattle.goal_eval.proofs.CacheLemmas.{caching, cache-grown, sound-grown, sound-aside, known-trait, keep-trait, known-const, keep-const, known-alias, known-within, keep-alias, sound-of, sound-parts}
 use Rattle.goal_terms.specs.Erased.{erased}
 use Rattle.goal_eval.specs.Outcomes.{setting_in, level_in, SaysWhich, SaysThrough, FoundIn, Says, projection_at, header_terms, SaysForm, SaysPremises}
-use Rattle.goal_terms.proofs.InternLemmas.{keeps-chain, keeps-refl}
+use Rattle.goal_interner.proofs.InternLemmas.{keeps-chain, keeps-refl}
 use Rattle.std.proofs.Common.{◌-◌, arith, ap, map, subst, sym, ◌+◌, ◌∙◌, refl, ◌∷◌, ◌++◌, length, rules, get_or, ◌<◌, ◌≡◌, ⊎_elim, Some}
 use Rattle.std.proofs.lemmas.List.Elements.{All-push, All-nil, All-get_or, All-same, All-take}
 use Rattle.goal_terms.specs.TreeOf.{trees_of, tree_of_ty}
-use Rattle.goal_terms.specs.TableMeaning.{tree_at, Keeps}
+use Rattle.goal_interner.specs.TableMeaning.{tree_at, Keeps}
 use Rattle.goal_terms.specs.View.{tree_of_ref}
 use Rattle.goal_lists.proofs.ConsistentLemmas.{each_level_is_consistent}
 use Rattle.goal_lists.proofs.FittingLemmas.{about_projection}
@@ -48,7 +48,7 @@ use Rattle.goal_eval.proofs.ProjectionGroupLemmas.{class-near, groups-by_environ
 use Rattle.goal_eval.proofs.MergingLemmas.{found_in-grown, merged-in}
 use Rattle.goal_eval.proofs.+closed.Goals.{normalizes_to::projections::head_forms_outcome-in-Is, normalizes_to::projections::head_forms_outcome-in-Undecided}
 use Rattle.std.proofs.lemmas.Bool.{false≢true}
-use Rattle.goal_terms.proofs.SameTermLemmas.{tops-same, tops-differ}
+use Rattle.goal_interner.proofs.SameTermLemmas.{tops-same, tops-differ}
 use Rattle.goal_eval.specs.Pending.{IsOpen}
 use Rattle.goal_eval.proofs.FormLemmas.{pair-ground, pair-found_ok, pair-lacking, same-form, other-node, forms-compared, found-in, open-grown, narrows-more, narrows-end, narrows-refuted, left-over_ok}
 use Rattle.goal_eval.proofs.PartKinds.{parts-of_one_kind, lists-of_one_kind}

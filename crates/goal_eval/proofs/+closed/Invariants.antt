@@ -1,5 +1,5 @@
 use Rattle.std.proofs.Common.{◌+◌, ◌-◌, ◌*◌, length, ◌≡◌, take, drop}
-use Rattle.goal_terms.specs.TableMeaning.{Keeps}
+use Rattle.goal_interner.specs.TableMeaning.{Keeps}
 use Rattle.goal_lists.specs.Interned.{premise_at, erased_all, erased_at}
 use Rattle.goal_eval.proofs.PremiseOutcomes.{PremisesSay, condition_at}
 use Rattle.goal_eval.specs.Effects.{AreSound}

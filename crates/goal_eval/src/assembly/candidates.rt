@@ -1,7 +1,7 @@
 //! The candidates for a trait that is asked, as it is or as a const trait: each is evaluated by its list.
 ghost use Rattle.std.specs.Prelude.{IfErr, IfOk, map};
 ghost use Rattle.std.specs.List.{All};
-ghost use Rattle.goal_terms.specs.TableMeaning.{Keeps};
+ghost use Rattle.goal_interner.specs.TableMeaning.{Keeps};
 ghost use Rattle.goal_lists.specs.Causes.{IsCausedList};
 ghost use Rattle.goal_lists.specs.Interned.{CandidateIn, candidate_at};
 ghost use Rattle.goal_lists.specs.InternedEntries.{ListIn};
@@ -15,6 +15,8 @@ use crate::assembly::specialized::more_special_outcome;
 use crate::eval::effects::Effects;
 use crate::eval::lists::run_list;
 use crate::eval::outcomes::{Setting, Stop};
+use goal_interner::term_nodes::{OutOfMemory, TermId};
+use goal_interner::term_table::TermTable;
 use goal_lists::candidates::interned::InternedCandidate;
 use goal_lists::candidates::lists::{Sought, candidates_of_class};
 use goal_lists::lists::InternedEntry;
@@ -25,8 +27,6 @@ use goal_terms::answers::TraitGoalProvenVia;
 use goal_terms::ids::TraitId;
 use goal_terms::modes::TypingMode;
 use goal_terms::predicates::BoundConstness;
-use goal_terms::term_nodes::{OutOfMemory, TermId};
-use goal_terms::term_table::TermTable;
 
 /// A trait whose self type is a head form, which is the first of its arguments. It is asked as a const trait
 /// where a constness is.

@@ -3,7 +3,7 @@ ghost use Rattle.goal_eval.specs.Outcomes.{FoundIn};
 ghost use Rattle.goal_eval.specs.ProjectionParts.{MergesTo};
 
 use crate::eval::outcomes::Found;
-use goal_terms::term_table::TermTable;
+use goal_interner::term_table::TermTable;
 
 /// What two candidates give together: both have to give one term, lifetimes aside, where they give one.
 pub(crate) fn merge_terms(terms: &TermTable, first: Found, second: Found) -> Found

@@ -1,6 +1,6 @@
 //! Impls that are more special than another: whether this is passed over, or decides where it holds.
 ghost use Rattle.std.specs.Prelude.{◌≡◌, IfErr, IfOk};
-ghost use Rattle.goal_terms.specs.TableMeaning.{Keeps};
+ghost use Rattle.goal_interner.specs.TableMeaning.{Keeps};
 ghost use Rattle.goal_lists.specs.Causes.{IsCausedList};
 ghost use Rattle.goal_lists.specs.Candidates.{by_impl};
 ghost use Rattle.goal_lists.specs.Interned.{AreIn, erased_all, candidate_at};
@@ -13,14 +13,14 @@ ghost use Rattle.goal_eval.specs.Effects.{AreSound, IsStop};
 use crate::eval::effects::Effects;
 use crate::eval::lists::{ListOutcome, run_list};
 use crate::eval::outcomes::{Setting, Stop};
+use goal_interner::term_nodes::{OutOfMemory, TermId};
+use goal_interner::term_table::TermTable;
 use goal_lists::candidates::interned::InternedCandidate;
 use goal_lists::lists::InternedEntry;
 use goal_lists::lists::traits::trait_list;
 use goal_lists::outcomes::Outcome;
 use goal_tables::rows::ImplRow;
 use goal_terms::modes::TypingMode;
-use goal_terms::term_nodes::{OutOfMemory, TermId};
-use goal_terms::term_table::TermTable;
 
 /// Whether an impl that is more special than a candidate holds at a depth, for arguments of its trait. If one does,
 /// the candidate is passed over; if each of them is refuted, it decides where it holds; if neither, it doesn't decide.

@@ -1,6 +1,6 @@
 //! Host effect goals: whether a trait holds as a const trait.
 ghost use Rattle.std.specs.Prelude.{IfErr, ◌≢◌, IfOk};
-ghost use Rattle.goal_terms.specs.TableMeaning.{Keeps};
+ghost use Rattle.goal_interner.specs.TableMeaning.{Keeps};
 ghost use Rattle.goal_lists.specs.Interned.{AreIn, erased_all};
 ghost use Rattle.goal_eval.specs.AskedTraits.{AskedIn, SaysGroups, asked_via};
 ghost use Rattle.goal_eval.specs.Outcomes.{ForEachMode, SaysConst};
@@ -14,13 +14,13 @@ use crate::eval::listed_regions::KeptGoal;
 use crate::eval::outcomes::{Found, Setting, Stop};
 use crate::eval::self_types::{split_self_type, with_self_type};
 use crate::trait_goals::evaluation::evaluate_trait_goal;
+use goal_interner::term_nodes::TermId;
+use goal_interner::term_table::TermTable;
 use goal_lists::candidates::lists::{Sought, second_group};
 use goal_lists::outcomes::{Outcome, TraitOutcome};
 use goal_terms::answers::TraitGoalProvenVia;
 use goal_terms::ids::TraitId;
 use goal_terms::predicates::BoundConstness;
-use goal_terms::term_nodes::TermId;
-use goal_terms::term_table::TermTable;
 
 /// A trait with its arguments, which is asked as a const trait of a constness.
 #[derive(Clone, Copy)]

@@ -8,8 +8,8 @@ ghost use Rattle.goal_eval.specs.Effects.{AreNone};
 use crate::eval::entering::{enter_access, enter_fault};
 use crate::eval::evaluation_cache::EvaluationCache;
 use crate::eval::listed_regions::ListedRegions;
+use goal_interner::term_nodes::OutOfMemory;
 use goal_terms::answers::{DelayedFault, OpaqueAccess};
-use goal_terms::term_nodes::OutOfMemory;
 use std::alloc::Global;
 
 /// The opaque accesses and the delayed faults that an evaluation met, each once, in the order of first entry;

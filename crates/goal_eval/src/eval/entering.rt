@@ -3,8 +3,8 @@ ghost use Rattle.std.specs.Prelude.{◌≡◌, ◌↔◌, IsTrue, OnOk, OnErr};
 ghost use Rattle.std.specs.List.{Contains};
 ghost use Rattle.goal_eval.specs.Entering.{Enters};
 
+use goal_interner::term_nodes::OutOfMemory;
 use goal_terms::answers::{DelayedFault, OpaqueAccess};
-use goal_terms::term_nodes::OutOfMemory;
 
 /// Enters an access behind others, where it isn't among them. Only memory is refused; then nothing changes.
 pub fn enter_access(

@@ -6,9 +6,9 @@ ghost use Rattle.goal_eval.specs.EvaluationCache.{IsEmptyCache, consts_of, Keeps
 ghost use Rattle.goal_lists.specs.declared.outcomes.Outcome.{Outcome as outcomes};
 
 use crate::eval::outcomes::Found;
+use goal_interner::term_nodes::TermId;
 use goal_lists::outcomes::{Outcome, TraitOutcome};
 use goal_terms::predicates::BoundConstness;
-use goal_terms::term_nodes::TermId;
 use indexmap::IndexMap;
 use std::alloc::Global;
 

@@ -1,6 +1,6 @@
 //! The head forms of terms.
 ghost use Rattle.std.specs.Prelude.{IfErr, IfOk};
-ghost use Rattle.goal_terms.specs.TableMeaning.{Keeps};
+ghost use Rattle.goal_interner.specs.TableMeaning.{Keeps};
 ghost use Rattle.goal_lists.specs.Headers.{under};
 ghost use Rattle.goal_lists.specs.Interned.{IsIn, AreIn, erased_at, erased_all};
 ghost use Rattle.goal_lists.specs.InternedEntries.{value_tree};
@@ -11,10 +11,10 @@ use crate::eval::effects::Effects;
 use crate::eval::outcomes::{Found, Setting, Stop};
 use crate::eval::row_values::{ValueOfRow, value_under};
 use crate::normalizes_to::alias_terms::alias_term;
+use goal_interner::term_nodes::TermId;
+use goal_interner::term_table::TermTable;
 use goal_lists::lists::parts::copied;
 use goal_terms::heads::Node;
-use goal_terms::term_nodes::TermId;
-use goal_terms::term_table::TermTable;
 
 /// The head form of a term at a depth: what an alias normalizes to, and each other term itself.
 #[cycle(closed)]

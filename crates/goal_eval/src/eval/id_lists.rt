@@ -2,7 +2,7 @@
 ghost use Rattle.std.specs.Prelude.{◌≡◌, ◌++◌, IfOk};
 
 use crate::eval::outcomes::Setting;
-use goal_terms::term_nodes::{OutOfMemory, TermId};
+use goal_interner::term_nodes::{OutOfMemory, TermId};
 
 /// Some numbers, and then others.
 pub(crate) fn joined(

@@ -6,8 +6,8 @@ ghost use Rattle.goal_lists.specs.Headers.{under};
 ghost use Rattle.goal_eval.specs.Outcomes.{header_terms};
 
 use crate::eval::outcomes::Setting;
-use goal_terms::term_nodes::OutOfMemory;
-use goal_terms::term_table::TermTable;
+use goal_interner::term_nodes::OutOfMemory;
+use goal_interner::term_table::TermTable;
 use goal_terms::terms::{GenericArg, Ty};
 use goal_terms::view::TermRef;
 

@@ -1,18 +1,18 @@
 //! The numbers of a goal's terms.
 ghost use Rattle.std.specs.Prelude.{◌≡◌, ◌<◌, map, length, IfOk};
 ghost use Rattle.goal_terms.specs.Erased.{erased};
-ghost use Rattle.goal_terms.specs.TableMeaning.{tree_at, Keeps};
+ghost use Rattle.goal_interner.specs.TableMeaning.{tree_at, Keeps};
 ghost use Rattle.goal_terms.specs.Tree.{node, forest};
 ghost use Rattle.goal_terms.specs.declared.heads.Head.{Head as heads};
 ghost use Rattle.goal_terms.specs.TreeOf.{tree_of_alias, tree_of_arg, tree_of_term};
 ghost use Rattle.goal_lists.specs.Interned.{IsIn, AreIn, erased_at, erased_all};
 ghost use Rattle.goal_eval.specs.ErasedArgs.{erased_args};
 
+use goal_interner::term_nodes::{OutOfMemory, TermId};
+use goal_interner::term_table::TermTable;
 use goal_lists::lists::parts::copied;
 use goal_terms::heads::{Head, Node};
 use goal_terms::ids::TraitId;
-use goal_terms::term_nodes::{OutOfMemory, TermId};
-use goal_terms::term_table::TermTable;
 use goal_terms::terms::{AliasTerm, GenericArg, Term};
 use goal_terms::view::TermRef;
 use std::alloc::Global;

@@ -1,14 +1,14 @@
 //! What an evaluation lists of lifetimes, as far as it has come.
 ghost use Rattle.std.specs.Prelude.{◌≡◌, ◌<◌, IfOk, length};
 ghost use Rattle.goal_terms.specs.Erased.{erased};
-ghost use Rattle.goal_terms.specs.TableMeaning.{tree_at, Keeps};
+ghost use Rattle.goal_interner.specs.TableMeaning.{tree_at, Keeps};
 
 use crate::eval::region_constraints::RegionConstraints;
 use goal_infer::fresh_lifetimes::with_fresh_lifetimes;
+use goal_interner::term_nodes::{OutOfMemory, TermId};
+use goal_interner::term_table::TermTable;
 use goal_terms::answers::VarKind;
 use goal_terms::predicates::BoundConstness;
-use goal_terms::term_nodes::{OutOfMemory, TermId};
-use goal_terms::term_table::TermTable;
 use goal_terms::terms::Region;
 use indexmap::IndexMap;
 use std::alloc::Global;

@@ -1,7 +1,7 @@
 //! Running a list of entries.
 ghost use Rattle.std.specs.Prelude.{◌≡◌, IfErr, IfOk};
 ghost use Rattle.std.specs.List.{All};
-ghost use Rattle.goal_terms.specs.TableMeaning.{Keeps};
+ghost use Rattle.goal_interner.specs.TableMeaning.{Keeps};
 ghost use Rattle.goal_terms.specs.declared.modes.TypingMode.{TypingMode};
 ghost use Rattle.goal_lists.specs.Causes.{IsCausedEntry, IsCausedList};
 ghost use Rattle.goal_lists.specs.InternedEntries.{EntriesIn, entries_at, ListIn, list_at};
@@ -17,11 +17,11 @@ use crate::eval::lists::entries::run_entry;
 use crate::eval::lists::progress::{ListRun, Reached};
 use crate::eval::mode_tests::is_headline;
 use crate::eval::outcomes::{Found, OnAccess, Setting, Stop};
+use goal_interner::term_nodes::TermId;
+use goal_interner::term_table::TermTable;
 use goal_lists::lists::{InternedEntry, ListSetting};
 use goal_lists::outcomes::Outcome;
 use goal_terms::modes::TypingMode;
-use goal_terms::term_nodes::TermId;
-use goal_terms::term_table::TermTable;
 
 /// What a list of entries comes to. Where it holds and asks for a term, this is the term.
 #[derive(Clone, Copy)]

@@ -1,10 +1,10 @@
 //! What an evaluation goes over, and what its parts come to.
+use goal_interner::term_nodes::{OutOfMemory, TermId};
 use goal_tables::lookup::IndexedTables;
 use goal_tables::rows::ItemRow;
 use goal_terms::answers::OpaqueAccess;
 use goal_terms::modes::TypingMode;
 use goal_terms::predicates::Clause;
-use goal_terms::term_nodes::{OutOfMemory, TermId};
 use std::alloc::Global;
 
 /// What a run does where a rule reads a mode that isn't one of the headline: it ends there, or records the

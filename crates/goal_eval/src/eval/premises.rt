@@ -1,7 +1,7 @@
 //! Whether what a rule asks for holds.
 ghost use Rattle.std.specs.Prelude.{IfErr, IfOk, map};
 ghost use Rattle.std.specs.List.{All};
-ghost use Rattle.goal_terms.specs.TableMeaning.{Keeps};
+ghost use Rattle.goal_interner.specs.TableMeaning.{Keeps};
 ghost use Rattle.goal_lists.specs.Interned.{IsIn, AreIn, TraitIn, PredicateIn, PremiseIn, erased_at, erased_all, trait_at, predicate_at, premise_at};
 ghost use Rattle.goal_lists.specs.Premises.{clauses_under, conditions_as};
 ghost use Rattle.goal_eval.specs.Outcomes.{ForEachMode, SaysHolds, SaysEquation, SaysPremise, SaysPremises};
@@ -12,12 +12,12 @@ use crate::eval::effects::Effects;
 use crate::eval::outcomes::{Setting, Stop};
 use crate::relate::equality::compare_terms;
 use crate::trait_goals::evaluation::evaluate_trait_goal;
+use goal_interner::term_nodes::TermId;
+use goal_interner::term_table::TermTable;
 use goal_lists::candidates::interned::{InternedPredicate, InternedPremise, InternedTrait};
 use goal_lists::candidates::premises::clauses_under;
 use goal_lists::outcomes::Outcome;
 use goal_terms::predicates::{BoundConstness, Clause};
-use goal_terms::term_nodes::TermId;
-use goal_terms::term_table::TermTable;
 
 /// Whether a premise holds at a depth.
 #[cycle(closed)]

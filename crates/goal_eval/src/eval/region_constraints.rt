@@ -2,8 +2,8 @@
 ghost use Rattle.std.specs.Prelude.{◌≡◌, [], length, replicate};
 ghost use Rattle.goal_terms.specs.declared.answers.VarKind.TheVariants as kind;
 
+use goal_interner::term_nodes::OutOfMemory;
 use goal_terms::answers::VarKind;
-use goal_terms::term_nodes::OutOfMemory;
 use goal_terms::terms::Region;
 use std::alloc::Global;
 

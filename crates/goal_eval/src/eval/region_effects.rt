@@ -2,7 +2,7 @@
 ghost use Rattle.std.specs.Prelude.{◌≡◌, ◌<◌, ◌==◌, IfOk, IfSome, length};
 ghost use Rattle.indexmap.specs.IndexMap.{get};
 ghost use Rattle.goal_terms.specs.Erased.{erased};
-ghost use Rattle.goal_terms.specs.TableMeaning.{AreBelow, tree_at, Keeps};
+ghost use Rattle.goal_interner.specs.TableMeaning.{AreBelow, tree_at, Keeps};
 ghost use Rattle.goal_eval.specs.CacheEntries.{IsKeptAt};
 ghost use Rattle.goal_eval.specs.Effects.{KeepsButRegions};
 ghost use Rattle.goal_eval.specs.EvaluationCache.{consts_of};
@@ -15,10 +15,10 @@ use crate::eval::listed_regions::{KeptGoal, RegionMark};
 use crate::eval::outcomes::Found;
 use crate::eval::region_constraints::RegionConstraints;
 use crate::relate::region_pairs::{equate_forms, equate_lists, equate_terms};
+use goal_interner::term_nodes::{OutOfMemory, TermId};
+use goal_interner::term_table::TermTable;
 use goal_lists::outcomes::{Outcome, TraitOutcome};
 use goal_terms::predicates::BoundConstness;
-use goal_terms::term_nodes::{OutOfMemory, TermId};
-use goal_terms::term_table::TermTable;
 use goal_terms::terms::Region;
 
 #[tactic(auto, unfolding(crate::specs::Effects::KeepsButRegions))]

@@ -1,6 +1,6 @@
 //! The values of rows under arguments.
 ghost use Rattle.std.specs.Prelude.{◌≡◌, IfOk};
-ghost use Rattle.goal_terms.specs.TableMeaning.{Keeps};
+ghost use Rattle.goal_interner.specs.TableMeaning.{Keeps};
 ghost use Rattle.goal_terms.specs.View.{tree_of_ref};
 ghost use Rattle.goal_lists.specs.Headers.{under};
 ghost use Rattle.goal_lists.specs.Interned.{IsIn, AreIn, erased_at, erased_all};
@@ -9,11 +9,11 @@ ghost use Rattle.goal_eval.specs.Effects.{KeepsButRegions};
 
 use crate::eval::effects::Effects;
 use crate::eval::outcomes::Setting;
+use goal_interner::term_nodes::{OutOfMemory, TermId};
+use goal_interner::term_table::TermTable;
 use goal_lists::candidates::premises::term_under;
 use goal_lists::lists::{RowValue, RowValueTerm};
 use goal_terms::modes::TypingMode;
-use goal_terms::term_nodes::{OutOfMemory, TermId};
-use goal_terms::term_table::TermTable;
 use goal_terms::view::TermRef;
 
 /// A row's value, and which row it is of.

@@ -1,8 +1,8 @@
 //! Arguments whose self type is replaced.
 ghost use Rattle.std.specs.Prelude.{◌≡◌, [], ◌∷◌, IfOk, MatchOption};
 
+use goal_interner::term_nodes::{OutOfMemory, TermId};
 use goal_tables::lookup::IndexedTables;
-use goal_terms::term_nodes::{OutOfMemory, TermId};
 
 /// The self type of arguments, and the others.
 pub fn split_self_type(args: &[TermId]) -> Option<(TermId, &[TermId])>

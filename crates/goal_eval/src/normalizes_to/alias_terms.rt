@@ -1,7 +1,7 @@
 //! The terms that aliases stand for, by their lists.
 ghost use Rattle.std.specs.Prelude.{◌≢◌, IfErr, IfOk};
 ghost use Rattle.std.specs.List.{All};
-ghost use Rattle.goal_terms.specs.TableMeaning.{Keeps};
+ghost use Rattle.goal_interner.specs.TableMeaning.{Keeps};
 ghost use Rattle.goal_lists.specs.AliasLists.{alias_list};
 ghost use Rattle.goal_lists.specs.Causes.{IsCausedEntry};
 ghost use Rattle.goal_lists.specs.Interned.{AreIn, erased_all};
@@ -16,11 +16,11 @@ use crate::eval::lists::run_list;
 use crate::eval::outcomes::{Found, Setting, Stop};
 use crate::normalizes_to::projection_args::intern_alias;
 use crate::normalizes_to::projections::{AliasWithArgs, projection_term};
+use goal_interner::term_nodes::{OutOfMemory, TermId};
+use goal_interner::term_table::TermTable;
 use goal_lists::lists::InternedEntry;
 use goal_lists::lists::aliases::alias_list;
 use goal_terms::modes::TypingMode;
-use goal_terms::term_nodes::{OutOfMemory, TermId};
-use goal_terms::term_table::TermTable;
 use goal_terms::terms::AliasTermKind;
 
 /// The term that an alias has at a depth. What an evaluation knows isn't evaluated again.

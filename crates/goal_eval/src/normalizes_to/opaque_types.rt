@@ -1,6 +1,6 @@
 //! Opaque types that are being defined.
 ghost use Rattle.std.specs.Prelude.{◌≡◌, IfErr, IfOk};
-ghost use Rattle.goal_terms.specs.TableMeaning.{Keeps};
+ghost use Rattle.goal_interner.specs.TableMeaning.{Keeps};
 ghost use Rattle.goal_lists.specs.HiddenTypes.{HaveForms};
 ghost use Rattle.goal_lists.specs.Interned.{AreIn, erased_all};
 ghost use Rattle.goal_eval.specs.Effects.{AreSound, IsStop};
@@ -15,11 +15,11 @@ use crate::eval::outcomes::{Found, Setting, Stop};
 use crate::eval::premises::clauses_outcome;
 use crate::eval::row_values::{ValueOfRow, value_under};
 use crate::normalizes_to::projections::head_forms_outcome;
+use goal_interner::term_nodes::TermId;
+use goal_interner::term_table::TermTable;
 use goal_lists::lists::{RowValue, RowValueTerm};
 use goal_lists::outcomes::Outcome;
 use goal_tables::rows::OpaqueRow;
-use goal_terms::term_nodes::TermId;
-use goal_terms::term_table::TermTable;
 
 /// What type checking found for an opaque type, under its arguments: that type's head form, where the arguments have
 /// head forms and the opaque type's bounds hold with the type in its own place.

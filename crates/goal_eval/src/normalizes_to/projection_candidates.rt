@@ -1,6 +1,6 @@
 //! The terms that candidates give projections, by their lists.
 ghost use Rattle.std.specs.Prelude.{◌≡◌, IfErr, IfOk};
-ghost use Rattle.goal_terms.specs.TableMeaning.{Keeps};
+ghost use Rattle.goal_interner.specs.TableMeaning.{Keeps};
 ghost use Rattle.goal_lists.specs.Causes.{IsCausedList};
 ghost use Rattle.goal_lists.specs.Interned.{CandidateIn, candidate_at};
 ghost use Rattle.goal_lists.specs.InternedEntries.{ListIn};
@@ -14,14 +14,14 @@ use crate::assembly::specialized::more_special_outcome;
 use crate::eval::effects::Effects;
 use crate::eval::lists::run_list;
 use crate::eval::outcomes::{Found, Projection, Setting, Stop};
+use goal_interner::term_nodes::OutOfMemory;
+use goal_interner::term_table::TermTable;
 use goal_lists::candidates::interned::InternedCandidate;
 use goal_lists::lists::projections::projection_list;
 use goal_lists::lists::{AskedProjection, InternedEntry};
 use goal_lists::outcomes::Outcome;
 use goal_terms::modes::TypingMode;
 use goal_terms::slices::first_of;
-use goal_terms::term_nodes::OutOfMemory;
-use goal_terms::term_table::TermTable;
 
 /// What a candidate gives a projection: nothing where it is ruled out. Whether it decides is told beside.
 #[derive(Clone, Copy)]

@@ -1,7 +1,7 @@
 //! The terms of projections.
 ghost use Rattle.std.specs.Prelude.{◌≡◌, IfErr, IfOk, map};
 ghost use Rattle.std.specs.List.{All};
-ghost use Rattle.goal_terms.specs.TableMeaning.{Keeps};
+ghost use Rattle.goal_interner.specs.TableMeaning.{Keeps};
 ghost use Rattle.goal_lists.specs.Candidates.{environment};
 ghost use Rattle.goal_lists.specs.Interned.{IsIn, AreIn, CandidateIn, erased_all, candidate_at};
 ghost use Rattle.goal_eval.specs.Outcomes.{Says, FoundIn, ProjectionIn, ForEachMode};
@@ -17,6 +17,8 @@ use crate::eval::outcomes::{Found, Projection, Setting, Stop};
 use crate::normalizes_to::projection_args::{intern_alias, with_self};
 use crate::normalizes_to::projection_candidates::consider_term;
 use crate::trait_goals::evaluation::evaluate_trait_goal;
+use goal_interner::term_nodes::TermId;
+use goal_interner::term_table::TermTable;
 use goal_lists::candidates::interned::InternedCandidate;
 use goal_lists::candidates::lists::{Sought, candidates_of_class, second_group};
 use goal_lists::outcomes::{Outcome, TraitOutcome};
@@ -24,8 +26,6 @@ use goal_tables::rows::{ItemRow, TraitRow};
 use goal_terms::answers::TraitGoalProvenVia;
 use goal_terms::ids::ItemId;
 use goal_terms::slices::{behind, first_of};
-use goal_terms::term_nodes::TermId;
-use goal_terms::term_table::TermTable;
 use goal_terms::terms::AliasTermKind;
 
 /// A projection as it was given, whose trait goal holds through a class: the alias and its arguments, its

@@ -1,7 +1,7 @@
 //! Whether two terms are equal, aliases opened.
 ghost use Rattle.std.specs.Prelude.{IfErr, IfOk};
 ghost use Rattle.std.specs.List.{All};
-ghost use Rattle.goal_terms.specs.TableMeaning.{Keeps};
+ghost use Rattle.goal_interner.specs.TableMeaning.{Keeps};
 ghost use Rattle.goal_lists.specs.Interned.{IsIn, AreIn, erased_at, erased_all};
 ghost use Rattle.goal_eval.specs.Outcomes.{Says, ForEachMode, SaysEqual, SaysAllEqual, SaysSameForm};
 ghost use Rattle.goal_eval.specs.Pending.{IsOpen, Relates, SaysPending};
@@ -11,10 +11,10 @@ use crate::eval::effects::Effects;
 use crate::eval::head_forms::head_form;
 use crate::eval::outcomes::{Setting, Stop};
 use crate::relate::pairs::{Forms, Pending, TermPair, collect, collect_lists, pair_forms};
+use goal_interner::term_nodes::TermId;
+use goal_interner::term_table::TermTable;
 use goal_lists::outcomes::Outcome;
 use goal_terms::compare::Regions;
-use goal_terms::term_nodes::TermId;
-use goal_terms::term_table::TermTable;
 
 /// Whether two terms are equal at a depth, lifetimes aside. Those at equal places are listed.
 #[tactic(auto, using(crate::proofs::CacheLemmas::caching))]

@@ -2,7 +2,7 @@
 ghost use Rattle.std.specs.Prelude.{◌≡◌, ◌++◌, ◌∷◌, [], length, map, IfOk};
 ghost use Rattle.goal_terms.specs.NodeTests.{some_node};
 ghost use Rattle.goal_terms.specs.Sorts.{IsArgument};
-ghost use Rattle.goal_terms.specs.TableMeaning.{Keeps};
+ghost use Rattle.goal_interner.specs.TableMeaning.{Keeps};
 ghost use Rattle.goal_terms.specs.View.{tree_of_ref};
 ghost use Rattle.goal_lists.specs.Headers.{under};
 ghost use Rattle.goal_lists.specs.Interned.{IsIn, AreIn, erased_at, erased_all};
@@ -13,9 +13,9 @@ ghost use Rattle.goal_eval.specs.HeaderWords.{erased_ref, OptionIn, KnownIn, is_
 use crate::eval::effects::Effects;
 use crate::eval::outcomes::Setting;
 use crate::relate::header_places::parameter_at;
+use goal_interner::term_nodes::{OutOfMemory, TermId};
+use goal_interner::term_table::TermTable;
 use goal_terms::answers::ParamKind;
-use goal_terms::term_nodes::{OutOfMemory, TermId};
-use goal_terms::term_table::TermTable;
 use goal_terms::terms::GenericArg;
 use goal_terms::view::TermRef;
 use std::alloc::Global;

@@ -1,7 +1,7 @@
 //! Whether a header clashes with given arguments.
 ghost use Rattle.std.specs.Prelude.{IfErr, IfOk};
 ghost use Rattle.std.specs.List.{All};
-ghost use Rattle.goal_terms.specs.TableMeaning.{Keeps};
+ghost use Rattle.goal_interner.specs.TableMeaning.{Keeps};
 ghost use Rattle.goal_lists.specs.Interned.{IsIn, AreIn};
 ghost use Rattle.goal_lists.specs.Words.{Exists};
 ghost use Rattle.goal_eval.specs.HeaderWords.{is_any, asked_terms, asked_given, IsBehind, KnownIn, filled_trees, ClashAgainst, ClashAt, QuestionIn, Fills, TestOutcome, SomeClash};
@@ -15,9 +15,9 @@ use crate::relate::header_args::{FilledArgs, instance_of, mentions_unknown};
 use crate::relate::header_places::Against;
 use crate::relate::header_questions::{Question, questions_of, questions_of_args};
 use crate::relate::headers::AskedHeader;
+use goal_interner::term_table::TermTable;
 use goal_lists::outcomes::Outcome;
 use goal_terms::compare::Regions;
-use goal_terms::term_table::TermTable;
 
 /// Whether the instance of a header's parameter or alias, whose parameters are known, is unequal to a
 /// given term.

@@ -1,6 +1,6 @@
 //! The terms of a header's parameters, as given arguments have them.
 ghost use Rattle.std.specs.Prelude.{IfErr, ◌≡◌, length, IfOk};
-ghost use Rattle.goal_terms.specs.TableMeaning.{Keeps};
+ghost use Rattle.goal_interner.specs.TableMeaning.{Keeps};
 ghost use Rattle.goal_lists.specs.Headers.{PartAmong};
 ghost use Rattle.goal_lists.specs.Interned.{AreIn, erased_at};
 ghost use Rattle.goal_eval.specs.HeaderWords.{is_this, erased_ref, asked_terms, asked_given, IsBehind, GivesPart, PlaceIn, OptionIn, KnownIn, known_trees, SaysKnown, PartOutcome, TermOutcome, AskedKnown};
@@ -12,10 +12,10 @@ use crate::eval::outcomes::{Found, Setting, Stop};
 use crate::relate::header_args::add_known;
 use crate::relate::header_places::{Against, Place, find_among, find_place};
 use crate::relate::headers::AskedHeader;
+use goal_interner::term_nodes::TermId;
+use goal_interner::term_table::TermTable;
 use goal_terms::answers::ParamKind;
 use goal_terms::compare::Regions;
-use goal_terms::term_nodes::TermId;
-use goal_terms::term_table::TermTable;
 use goal_terms::view::Parts;
 
 /// A parameter of a header: its number, and its kind.

@@ -1,15 +1,15 @@
 //! Where the first place of a header's parameter leads to in given terms.
 ghost use Rattle.std.specs.Prelude.{◌≡◌, ◌<◌, length, map};
-ghost use Rattle.goal_terms.specs.TableMeaning.{tree_at, AreBelow};
+ghost use Rattle.goal_interner.specs.TableMeaning.{tree_at, AreBelow};
 ghost use Rattle.goal_terms.specs.View.{tree_of_ref, trees_seen};
 ghost use Rattle.goal_lists.specs.Headers.{is_number, has_place, PartAmong};
 ghost use Rattle.goal_lists.specs.Interned.{erased_at};
 ghost use Rattle.goal_eval.specs.HeaderWords.{parameter_at, erased_ref, MayStand, MayAllStand, PlaceIn, FindsPart, erased_refs, erased_trees};
 
+use goal_interner::term_nodes::TermId;
+use goal_interner::term_table::TermTable;
 use goal_terms::compare::Regions;
 use goal_terms::heads::{Head, Node};
-use goal_terms::term_nodes::TermId;
-use goal_terms::term_table::TermTable;
 use goal_terms::view::{Parts, TermRef};
 
 /// Where the first place of a parameter leads to: to a given term, nowhere, or to a constructor of the

@@ -1,17 +1,17 @@
 //! What has to be asked to find out whether a header clashes with given terms.
 ghost use Rattle.std.specs.Prelude.{◌≡◌, ◌<◌, ◌↔◌, length, map, IfOk};
 ghost use Rattle.std.specs.List.{All};
-ghost use Rattle.goal_terms.specs.TableMeaning.{tree_at, AreBelow};
+ghost use Rattle.goal_interner.specs.TableMeaning.{tree_at, AreBelow};
 ghost use Rattle.goal_terms.specs.View.{tree_of_ref, trees_seen};
 ghost use Rattle.goal_lists.specs.Interned.{erased_at, erased_all, AreIn};
 ghost use Rattle.goal_eval.specs.Outcomes.{header_terms};
 ghost use Rattle.goal_eval.specs.HeaderWords.{erased_ref, is_whole, IsKnown, MayStand, MayAllStand, QuestionIn, MeetingClashes, MeetingIn, AddsClash, AsksClash, ForEachKnown, SomeClash, erased_refs, erased_trees};
 
 use crate::relate::header_places::parameter_at;
+use goal_interner::term_nodes::{OutOfMemory, TermId};
+use goal_interner::term_table::TermTable;
 use goal_terms::compare::Regions;
 use goal_terms::heads::Node;
-use goal_terms::term_nodes::{OutOfMemory, TermId};
-use goal_terms::term_table::TermTable;
 use goal_terms::terms::GenericArg;
 use goal_terms::view::{Parts, TermRef};
 use std::alloc::Global;

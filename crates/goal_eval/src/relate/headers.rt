@@ -1,6 +1,6 @@
 //! Whether a header fits given arguments.
 ghost use Rattle.std.specs.Prelude.{IfErr, ◌≡◌, true, false, length, IfOk};
-ghost use Rattle.goal_terms.specs.TableMeaning.{Keeps};
+ghost use Rattle.goal_interner.specs.TableMeaning.{Keeps};
 ghost use Rattle.goal_lists.specs.Interned.{AreIn, erased_all};
 ghost use Rattle.goal_eval.specs.Outcomes.{MatchIn, ForEachMode};
 ghost use Rattle.goal_eval.specs.HeaderWords.{asked_terms, asked_given, KnownIn, known_trees, filled_trees, AreFilled, is_complete, TestOutcome, EqualUnder, AskedKnown, AskedOutcome, SaysAsked};
@@ -12,10 +12,10 @@ use crate::relate::equality::compare_lists;
 use crate::relate::header_args::{FilledArgs, filled_args, instances, is_complete};
 use crate::relate::header_clashes::header_clashes;
 use crate::relate::header_parts::known_args;
+use goal_interner::term_nodes::TermId;
+use goal_interner::term_table::TermTable;
 use goal_lists::outcomes::Outcome;
 use goal_terms::answers::ParamKind;
-use goal_terms::term_nodes::TermId;
-use goal_terms::term_table::TermTable;
 use goal_terms::terms::GenericArg;
 
 /// A header under its parameters, and the arguments that it is matched with.

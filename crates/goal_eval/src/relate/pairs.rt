@@ -7,12 +7,12 @@ ghost use Rattle.goal_lists.specs.Joined.{both};
 ghost use Rattle.goal_eval.specs.Pending.{is_alias, is_variable, AreOfOneKind, AreListsOfOneKind, forms_of, TopsSay, IsOpen, Adds};
 
 use crate::eval::outcomes::Found;
+use goal_interner::term_nodes::{OutOfMemory, TermId};
+use goal_interner::term_table::TermTable;
 use goal_lists::outcomes::Outcome;
 use goal_tables::lookup::IndexedTables;
 use goal_terms::compare::Regions;
 use goal_terms::heads::Node;
-use goal_terms::term_nodes::{OutOfMemory, TermId};
-use goal_terms::term_table::TermTable;
 
 /// Two terms that are to be compared.
 #[derive(Clone, Copy)]

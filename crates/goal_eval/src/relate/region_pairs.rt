@@ -1,13 +1,13 @@
 //! The lifetimes at equal places of two terms that are compared.
 ghost use Rattle.std.specs.Prelude.{◌<◌, length};
-ghost use Rattle.goal_terms.specs.TableMeaning.{AreBelow};
+ghost use Rattle.goal_interner.specs.TableMeaning.{AreBelow};
 
 use crate::eval::listed_regions::ListedRegions;
+use goal_interner::term_nodes::{OutOfMemory, TermId};
+use goal_interner::term_table::TermTable;
 use goal_terms::compare::Regions;
 use goal_terms::heads::{Head, Node};
 use goal_terms::regions::region_of;
-use goal_terms::term_nodes::{OutOfMemory, TermId};
-use goal_terms::term_table::TermTable;
 use goal_terms::terms::Region;
 
 /// The side of a comparison on which a term stands.

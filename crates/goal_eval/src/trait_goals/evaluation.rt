@@ -1,6 +1,6 @@
 //! Trait goals: by which class of candidates they hold.
 ghost use Rattle.std.specs.Prelude.{IfErr, ◌≡◌, ◌≢◌, None, IfOk};
-ghost use Rattle.goal_terms.specs.TableMeaning.{Keeps};
+ghost use Rattle.goal_interner.specs.TableMeaning.{Keeps};
 ghost use Rattle.goal_lists.specs.Interned.{AreIn, erased_all};
 ghost use Rattle.goal_eval.specs.AskedTraits.{AskedIn};
 ghost use Rattle.goal_eval.specs.Outcomes.{ForEachMode, SaysTrait};
@@ -14,11 +14,11 @@ use crate::eval::interning::intern_trait_ref;
 use crate::eval::listed_regions::KeptGoal;
 use crate::eval::outcomes::{Found, Setting, Stop};
 use crate::eval::self_types::{split_self_type, with_self_type};
+use goal_interner::term_nodes::TermId;
+use goal_interner::term_table::TermTable;
 use goal_lists::outcomes::TraitOutcome;
 use goal_terms::answers::TraitGoalProvenVia;
 use goal_terms::ids::TraitId;
-use goal_terms::term_nodes::TermId;
-use goal_terms::term_table::TermTable;
 
 /// Whether a trait goal holds at a depth, and through which class. What an evaluation knows isn't evaluated again.
 #[tactic(auto, using(crate::proofs::CacheLemmas::caching))]

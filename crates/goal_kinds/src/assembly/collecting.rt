@@ -18,7 +18,8 @@ ghost use Rattle.goal_kinds.specs.Collecting.{has_kind_fault};
 use crate::faults::Fault;
 use crate::goal_kind::{GoalKind, TraitView};
 use crate::rules::Rule;
-use goal_tables::checked::CheckedTables;
+use goal_checks::checked::CheckedTables;
+use goal_interner::term_nodes::OutOfMemory;
 use goal_tables::rows::ImplRow;
 use goal_terms::answers::{BuiltinImplSource, CandidateSource, Certainty, TraitGoalProvenVia};
 use goal_terms::heads::Node;
@@ -28,7 +29,6 @@ use goal_terms::modes::TypingMode;
 use goal_terms::predicates::{
     Clause, ClauseKind, Goal, ProjectionPredicate, TraitPredicate, TraitRef,
 };
-use goal_terms::term_nodes::OutOfMemory;
 use goal_terms::terms::{AliasTerm, AliasTermKind, DynClause, GenericArg, Ty};
 use std::alloc::Global;
 

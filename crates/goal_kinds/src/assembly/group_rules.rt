@@ -8,7 +8,7 @@ use crate::assembly::collecting::{class_rules, push_rules};
 use crate::faults::Fault;
 use crate::goal_kind::GoalKind;
 use crate::rules::Rule;
-use goal_tables::checked::CheckedTables;
+use goal_checks::checked::CheckedTables;
 use goal_terms::answers::TraitGoalProvenVia;
 use goal_terms::modes::TypingMode;
 use goal_terms::predicates::{Clause, Goal};

@@ -25,18 +25,18 @@ use crate::rules::parts::alias_given;
 use crate::rules::rebuilt::rule_of_list;
 use crate::rules::trait_goal_kind::setting_of;
 use crate::rules::{FirstUse, Rule};
+use goal_checks::checked::CheckedTables;
+use goal_interner::term_nodes::OutOfMemory;
+use goal_interner::term_table::TermTable;
 use goal_lists::lists::aliases::alias_list;
 use goal_lists::lists::projected::projected;
 use goal_lists::lists::{InternedEntry, ListSetting};
-use goal_tables::checked::CheckedTables;
 use goal_tables::lookup::IndexedTables;
 use goal_tables::rows::OpaqueRow;
 use goal_terms::answers::{BuiltinImplSource, CandidateSource, Certainty};
 use goal_terms::ids::OpaqueId;
 use goal_terms::modes::TypingMode;
 use goal_terms::predicates::{Goal, NormalizesTo};
-use goal_terms::term_nodes::OutOfMemory;
-use goal_terms::term_table::TermTable;
 use goal_terms::terms::AliasTerm;
 
 /// The rule of a free, inherent or opaque alias, for a goal whose bindings are followed: its list (`list`). A

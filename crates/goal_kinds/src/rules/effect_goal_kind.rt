@@ -16,8 +16,8 @@ use crate::rules::effects::{
 };
 use crate::rules::named::{is_alias, is_copy_clone, is_destruct, is_fn_trait, lang_item};
 use crate::rules::trait_goal_kind::{first_type, setting_of, with_self};
+use goal_checks::checked::CheckedTables;
 use goal_lists::lists::ListSetting;
-use goal_tables::checked::CheckedTables;
 use goal_terms::answers::{CandidateSource, Certainty};
 use goal_terms::ids::{ImplId, TraitId};
 use goal_terms::modes::TypingMode;

@@ -1,6 +1,6 @@
 //! The rules of candidates for host effect goals.
 ghost use Rattle.std.specs.Prelude.{◌≡◌, List, Err, true, false, IfOk, IsOkUnless};
-ghost use Rattle.goal_terms.specs.TableMeaning.{Keeps};
+ghost use Rattle.goal_interner.specs.TableMeaning.{Keeps};
 ghost use Rattle.goal_terms.specs.Tree.{Tree as tree};
 ghost use Rattle.goal_terms.specs.declared.predicates.Clause.{Clause as clause};
 ghost use Rattle.goal_tables.specs.Rows.{impl_of};
@@ -17,6 +17,7 @@ use crate::rules::Rule;
 use crate::rules::lists::push_rule;
 use crate::rules::rebuilt::rule_of_list;
 use crate::rules::traits::only_bars;
+use goal_interner::term_table::TermTable;
 use goal_lists::candidates::bounds::push_alias_bounds;
 use goal_lists::candidates::environment::{args_given, predicate_given};
 use goal_lists::candidates::interned::InternedCandidate;
@@ -26,7 +27,6 @@ use goal_lists::lists::effects::{effect_list, satisfies};
 use goal_terms::answers::{BuiltinImplSource, CandidateSource, Certainty};
 use goal_terms::ids::{ImplId, TraitId};
 use goal_terms::predicates::{Clause, ClauseKind, HostEffectPredicate};
-use goal_terms::term_table::TermTable;
 use goal_terms::terms::AliasTerm;
 use goal_terms::view::TermRef;
 

@@ -4,10 +4,10 @@ ghost use Rattle.goal_kinds.specs.CandidateRules.{entries_for};
 ghost use Rattle.goal_kinds.specs.RuleWords.{auto_trait_entries};
 
 use crate::rules::{Rule, RuleEntry};
+use goal_interner::term_nodes::OutOfMemory;
 use goal_terms::answers::{BuiltinImplSource, CandidateSource, DelayedFault, GoalSource};
 use goal_terms::ids::TraitId;
 use goal_terms::predicates::ClauseKind;
-use goal_terms::term_nodes::OutOfMemory;
 use std::alloc::Global;
 
 /// A rule that asks for clauses beside what it asks for already. Want of memory is the only refusal.

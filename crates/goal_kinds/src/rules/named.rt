@@ -4,9 +4,9 @@ ghost use Rattle.goal_tables.specs.Rows.{trait_of};
 ghost use Rattle.goal_lists.specs.Builtins.{lang_of_trait};
 ghost use Rattle.goal_kinds.specs.CandidateRules.{is_alias_row, is_rule_of, sizedness, copy_clone, fn_ptr_trait, fn_trait, tuple, pointee, discriminant_kind, destruct, field};
 
-use goal_tables::lang::{LangItem, LangTarget};
 use goal_tables::lookup::IndexedTables;
 use goal_terms::ids::TraitId;
+use goal_terms::lang::{LangItem, LangTarget};
 
 /// Whether a trait is a trait alias. It takes no memory.
 pub(crate) fn is_alias(rows: &IndexedTables, trait_id: TraitId) -> bool

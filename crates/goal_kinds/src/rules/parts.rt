@@ -1,6 +1,6 @@
 //! What the rules of several kinds of goals are made with.
 ghost use Rattle.std.specs.Prelude.{◌≡◌, ◌++◌, map, take, IfOk};
-ghost use Rattle.goal_terms.specs.TableMeaning.{Keeps, tree_at};
+ghost use Rattle.goal_interner.specs.TableMeaning.{Keeps, tree_at};
 ghost use Rattle.goal_terms.specs.Tree.{alias, forest};
 ghost use Rattle.goal_terms.specs.TreeOf.{trees_of, tree_of_term};
 ghost use Rattle.goal_kinds.specs.CandidateRules.{after};
@@ -8,10 +8,10 @@ ghost use Rattle.goal_lists.specs.Interned.{AreIn, IsIn, erased_all, erased_at};
 ghost use Rattle.goal_lists.specs.RowWords.{given};
 
 use crate::rules::RuleEntry;
+use goal_interner::term_nodes::{OutOfMemory, TermId};
+use goal_interner::term_table::TermTable;
 use goal_lists::lists::parts::copied;
 use goal_terms::answers::Certainty;
-use goal_terms::term_nodes::{OutOfMemory, TermId};
-use goal_terms::term_table::TermTable;
 use goal_terms::terms::{AliasTerm, GenericArg, Term};
 use goal_terms::view::TermRef;
 

@@ -7,27 +7,27 @@ ghost use Rattle.goal_lists.specs.Candidates.{built_in};
 ghost use Rattle.goal_lists.specs.InternedEntries.{setting_at};
 ghost use Rattle.goal_kinds.specs.ProjectionKind.{asked_projection_list, lang_of_alias, is_lang, IsAliasWithSelf as is_goal_with_self};
 ghost use Rattle.goal_kinds.specs.RuleLists.{IsListed};
-ghost use Rattle.goal_tables.specs.declared.lang.LangItem.TheVariants as lang_items;
+ghost use Rattle.goal_terms.specs.declared.lang.LangItem.TheVariants as lang_items;
 
 use crate::faults::Fault;
 use crate::goal_kind::{GoalKind, MergeRule, TraitView};
 use crate::rules::Rule;
-use crate::rules::assoc_items::asked_item;
+use crate::rules::assoc_items::assoc_item;
 use crate::rules::parts::{copied_term, first_of};
 use crate::rules::projections::{
     built_in_term_rule, impl_term_rule, match_projection, may_match_projection,
 };
 use crate::rules::trait_goal_kind::{first_type, setting_of};
+use goal_checks::checked::CheckedTables;
+use goal_interner::term_nodes::OutOfMemory;
 use goal_lists::lists::ListSetting;
 use goal_lists::lists::projected::projected;
-use goal_tables::checked::CheckedTables;
-use goal_tables::lang::{LangItem, LangTarget};
 use goal_terms::answers::{CandidateSource, Certainty};
 use goal_terms::ids::{ImplId, TraitId};
 use goal_terms::instantiate::rebase_onto;
+use goal_terms::lang::{LangItem, LangTarget};
 use goal_terms::modes::TypingMode;
 use goal_terms::predicates::{BoundConstness, Clause, Goal, NormalizesTo};
-use goal_terms::term_nodes::OutOfMemory;
 use goal_terms::terms::{AliasTerm, GenericArg, Ty};
 
 /// The lang item that names the item of a projection. It takes no memory.
@@ -99,7 +99,7 @@ impl GoalKind for NormalizesTo {
     }
 
     fn trait_ref<'a>(&'a self, tables: &'a CheckedTables) -> Option<TraitView<'a>> {
-        let item = asked_item(tables.rows(), &self.alias)?;
+        let item = assoc_item(tables.rows(), &self.alias)?;
         Some(TraitView {
             def_id: item.row.trait_id,
             args: first_of(self.alias.args.as_slice(), item.trait_params),
@@ -107,7 +107,7 @@ impl GoalKind for NormalizesTo {
     }
 
     fn trait_def_id(&self, tables: &CheckedTables) -> Option<TraitId> {
-        let item = asked_item(tables.rows(), &self.alias)?;
+        let item = assoc_item(tables.rows(), &self.alias)?;
         Some(item.row.trait_id)
     }
 

@@ -18,22 +18,22 @@ ghost use Rattle.goal_lists.specs.Settings.{Setting};
 
 use crate::faults::Fault;
 use crate::rules::Rule;
-use crate::rules::assoc_items::asked_item;
+use crate::rules::assoc_items::assoc_item;
 use crate::rules::parts::{alias_given, first_of};
 use crate::rules::rebuilt::rule_of_list;
 use crate::rules::traits::only_bars;
+use goal_checks::checked::CheckedTables;
+use goal_interner::term_nodes::OutOfMemory;
+use goal_interner::term_table::TermTable;
 use goal_lists::candidates::environment::predicate_given;
 use goal_lists::candidates::interned::InternedCandidate;
 use goal_lists::fast_reject::{args_may_unify_infer, args_may_unify_rigid};
 use goal_lists::lists::aliases::equation_list;
 use goal_lists::lists::projections::projection_list;
 use goal_lists::lists::{AskedProjection, InternedEntry, ListSetting};
-use goal_tables::checked::CheckedTables;
 use goal_terms::answers::{BuiltinImplSource, CandidateSource, Certainty};
 use goal_terms::ids::ImplId;
 use goal_terms::predicates::{Clause, ClauseKind, Goal, NormalizesTo, ProjectionPredicate};
-use goal_terms::term_nodes::OutOfMemory;
-use goal_terms::term_table::TermTable;
 use goal_terms::terms::AliasTerm;
 
 /// The rule of a projection goal: its alias and its term are equal, which names no row (`list`). It holds and
@@ -87,7 +87,7 @@ fn asked_list<'t>(
     ensures list { GivesList terms.new setting.entry result (λ S. asked_projection_list asked.now S (candidate_at terms.old candidate.now)) }
     ensures named { CandidateIsOf setting.entry.rows.now candidate.now → IfOk result (ListNamesItsRows setting.entry.rows.now) }
 {
-    let Some(item) = asked_item(setting.rows, asked) else {
+    let Some(item) = assoc_item(setting.rows, asked) else {
         return Ok(Some(vec![in terms.allocator(); InternedEntry::Refused]?));
     };
     let alias = alias_given(terms, asked)?;
@@ -171,7 +171,7 @@ pub fn impl_term_rule(
     let Some(row) = setting.rows.impl_row(id) else {
         return Err(Fault::NoSolution);
     };
-    let Some(item) = asked_item(setting.rows, &asked.alias) else {
+    let Some(item) = assoc_item(setting.rows, &asked.alias) else {
         return Err(Fault::NoSolution);
     };
     let args = first_of(asked.alias.args.as_slice(), item.trait_params);

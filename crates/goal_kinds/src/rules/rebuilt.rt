@@ -4,7 +4,7 @@ ghost use Rattle.std.specs.List.{All, AllZip};
 ghost use Rattle.goal_terms.specs.Erased.{erased};
 ghost use Rattle.goal_terms.specs.PredicateTrees.{tree_of_kind};
 ghost use Rattle.goal_terms.specs.Sorts.{IsTerm};
-ghost use Rattle.goal_terms.specs.TableMeaning.{tree_at};
+ghost use Rattle.goal_interner.specs.TableMeaning.{tree_at};
 ghost use Rattle.goal_terms.specs.TreeOf.{tree_of_alias, tree_of_arg, tree_of_term, trees_of};
 ghost use Rattle.goal_tables.specs.declared.rows.Tables.{Tables};
 ghost use Rattle.goal_lists.specs.Answers.{erased_predicate};
@@ -21,7 +21,9 @@ ghost use Rattle.goal_kinds.specs.RuleWords.{TermIsFor, TermsAreFor};
 
 use crate::faults::Fault;
 use crate::rules::parts::{copied_term, with_certainty};
-use crate::rules::{Rule, RuleArguments, RuleEntry, RuleTerm};
+use crate::rules::{ArgsIndex, Rule, RuleArguments, RuleEntry, RuleTerm};
+use goal_interner::term_nodes::{OutOfMemory, TermId};
+use goal_interner::term_table::TermTable;
 use goal_lists::candidates::interned::{InternedPredicate, InternedTrait};
 use goal_lists::lists::{InternedArguments, InternedEntry, InternedTerm};
 use goal_terms::answers::{CandidateSource, Certainty, OpaqueTypeKey};
@@ -29,12 +31,10 @@ use goal_terms::heads::{Head, Node};
 use goal_terms::predicates::{
     ClauseKind, HostEffectPredicate, ProjectionPredicate, TraitPredicate, TraitRef,
 };
-use goal_terms::term_nodes::{OutOfMemory, TermId};
-use goal_terms::term_table::TermTable;
 use goal_terms::terms::{AliasTerm, GenericArg, Term};
 
-/// A number of named arguments, with 32 bits. Want of numbers is the refusal.
-fn numbered(number: usize) -> Result<u32, OutOfMemory>
+/// The index of named arguments. Want of numbers is the refusal.
+fn numbered(number: usize) -> Result<ArgsIndex, OutOfMemory>
     ensures { IfOk result (λ n. n ≡ number) }
 {
     if number > u32::MAX as usize {
@@ -43,7 +43,7 @@ fn numbered(number: usize) -> Result<u32, OutOfMemory>
     Ok(number as u32)
 }
 
-#[tactic(auto, using(goal_terms::proofs::RebuildLemmas::rebuilding))]
+#[tactic(auto, using(goal_interner::proofs::RebuildLemmas::rebuilding))]
 /// The argument of a number. Want of memory is the only refusal.
 fn rebuilt_arg(terms: &TermTable, id: TermId) -> Result<GenericArg, OutOfMemory>
     requires { IsIn terms.now id }

@@ -17,14 +17,14 @@ use crate::rules::named::{
     is_fn_trait, is_pointee, is_sizedness, is_tuple, lang_item,
 };
 use crate::rules::traits::{built_in_rule, error_rule, impl_rule, match_trait, may_match_trait};
+use goal_checks::checked::CheckedTables;
+use goal_interner::term_nodes::OutOfMemory;
 use goal_lists::lists::ListSetting;
-use goal_tables::checked::CheckedTables;
 use goal_terms::answers::{CandidateSource, Certainty};
 use goal_terms::ids::{ImplId, TraitId};
 use goal_terms::instantiate::rebase_onto;
 use goal_terms::modes::TypingMode;
 use goal_terms::predicates::{BoundConstness, Clause, Goal, TraitPredicate, TraitRef};
-use goal_terms::term_nodes::OutOfMemory;
 use goal_terms::terms::{AliasTerm, GenericArg, Ty};
 
 /// The first of some arguments, if it is a type. It takes no memory.

@@ -14,6 +14,7 @@ ghost use Rattle.goal_lists.specs.RowWords.{given};
 use crate::faults::Fault;
 use crate::rules::Rule;
 use crate::rules::rebuilt::rule_of_list;
+use goal_interner::term_table::TermTable;
 use goal_lists::candidates::environment::{args_given, predicate_given};
 use goal_lists::candidates::interned::InternedCandidate;
 use goal_lists::fast_reject::{args_may_unify_infer, args_may_unify_rigid};
@@ -24,7 +25,6 @@ use goal_terms::answers::{BuiltinImplSource, CandidateSource, Certainty};
 use goal_terms::ids::ImplId;
 use goal_terms::modes::TypingMode;
 use goal_terms::predicates::{Clause, ClauseKind, TraitRef};
-use goal_terms::term_table::TermTable;
 
 /// Whether a clause may say what a trait goal asks: it is of the goal's trait, and its arguments may
 /// become the goal's, as [`args_may_unify_rigid`] says. It takes no memory.

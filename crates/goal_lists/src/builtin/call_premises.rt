@@ -3,7 +3,7 @@ ghost use Rattle.std.specs.Prelude.{◌≡◌, true, [], ◌∷◌, map, IfOk, I
 ghost use Rattle.std.specs.List.{All};
 ghost use Rattle.std.specs.Option.{option_map};
 ghost use Rattle.goal_terms.specs.Sorts.{IsSort};
-ghost use Rattle.goal_terms.specs.TableMeaning.{tree_at, Keeps};
+ghost use Rattle.goal_interner.specs.TableMeaning.{tree_at, Keeps};
 ghost use Rattle.goal_terms.specs.Tree.{parts_of};
 ghost use Rattle.goal_terms.specs.declared.sorts.Sort.TheVariants as sorts;
 ghost use Rattle.goal_lists.specs.BuiltinWords.{ArePremises, rule_at};
@@ -14,12 +14,12 @@ use crate::builtin::calls::signature_of;
 use crate::builtin::constituents::type_is;
 use crate::candidates::interned::InternedPremise;
 use crate::candidates::row_terms::{allocator_of, arguments_of, last_part};
-use goal_tables::lang::LangItem;
+use goal_interner::term_nodes::{OutOfMemory, TermId};
+use goal_interner::term_table::TermTable;
 use goal_tables::lookup::IndexedTables;
 use goal_terms::heads::{Head, Node};
 use goal_terms::ids::TraitId;
-use goal_terms::term_nodes::{OutOfMemory, TermId};
-use goal_terms::term_table::TermTable;
+use goal_terms::lang::LangItem;
 use std::alloc::Global;
 
 /// The inputs of a signature and then its output, which are types. Want of memory is the only refusal.

@@ -5,7 +5,7 @@ ghost use Rattle.std.specs.Option.{option_map, option_and_then};
 ghost use Rattle.goal_tables.specs.Rows.{function_of, closure_of};
 ghost use Rattle.goal_terms.specs.Erased.{erased_head};
 ghost use Rattle.goal_terms.specs.Sorts.{IsArgument, HeadFits};
-ghost use Rattle.goal_terms.specs.TableMeaning.{tree_at, Keeps};
+ghost use Rattle.goal_interner.specs.TableMeaning.{tree_at, Keeps};
 ghost use Rattle.goal_terms.specs.Tree.{node_of, parts_of};
 ghost use Rattle.goal_terms.specs.TreeOf.{tree_of_sig};
 ghost use Rattle.goal_lists.specs.BuiltinWords.{parts_at, function_sig};
@@ -14,13 +14,13 @@ ghost use Rattle.goal_lists.specs.Headers.{under};
 ghost use Rattle.goal_lists.specs.Interned.{IsIn, AreIn, erased_at, erased_all};
 
 use crate::candidates::row_terms::{allocator_of, arguments_of, signature_under};
-use goal_tables::lang::LangItem;
+use goal_interner::term_nodes::{OutOfMemory, TermId};
+use goal_interner::term_table::TermTable;
 use goal_tables::lookup::IndexedTables;
 use goal_tables::rows::{ClosureKind, ClosureRow, FnRow};
 use goal_terms::heads::{Head, Node};
 use goal_terms::ids::{ClosureId, FnId};
-use goal_terms::term_nodes::{OutOfMemory, TermId};
-use goal_terms::term_table::TermTable;
+use goal_terms::lang::LangItem;
 
 /// A signature, if its functions have the traits `Fn`.
 fn callable_sig(terms: &TermTable, sig: TermId) -> Option<TermId>

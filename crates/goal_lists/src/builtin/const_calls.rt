@@ -3,7 +3,7 @@ ghost use Rattle.std.specs.Prelude.{◌≡◌, true, map, IfOk, IfSome};
 ghost use Rattle.std.specs.List.{All};
 ghost use Rattle.goal_terms.specs.Erased.{erased_head};
 ghost use Rattle.goal_terms.specs.Sorts.{IsArgument, HeadFits};
-ghost use Rattle.goal_terms.specs.TableMeaning.{tree_at, Keeps};
+ghost use Rattle.goal_interner.specs.TableMeaning.{tree_at, Keeps};
 ghost use Rattle.goal_terms.specs.Tree.{parts_of};
 ghost use Rattle.goal_lists.specs.BuiltinWords.{parts_at, GivesConstRule, const_function_rule, const_closure_rule};
 ghost use Rattle.goal_lists.specs.Builtins.{is_fn_ptr};
@@ -15,13 +15,13 @@ use crate::builtin::calls::{closure_sig, function_sig};
 use crate::candidates::interned::{InternedConstRule, InternedTrait};
 use crate::candidates::premises::traits_under;
 use crate::candidates::row_terms::{allocator_of, arguments_of};
-use goal_tables::lang::LangItem;
+use goal_interner::term_nodes::{OutOfMemory, TermId};
+use goal_interner::term_table::TermTable;
 use goal_tables::lookup::IndexedTables;
 use goal_tables::rows::{ClosureRow, FnRow};
 use goal_terms::heads::{Head, Node};
 use goal_terms::ids::{ClosureId, FnId};
-use goal_terms::term_nodes::{OutOfMemory, TermId};
-use goal_terms::term_table::TermTable;
+use goal_terms::lang::LangItem;
 
 /// What a call by a signature asks whose const conditions are these. The table gets the terms. Want of
 /// memory or of numbers is the only refusal.

@@ -11,8 +11,8 @@ ghost use Rattle.goal_lists.specs.Premises.{predicate};
 use crate::candidates::interned::{
     InternedConstRule, InternedPredicate, InternedPremise, InternedTrait,
 };
+use goal_interner::term_nodes::{OutOfMemory, TermId};
 use goal_terms::ids::TraitId;
-use goal_terms::term_nodes::{OutOfMemory, TermId};
 use std::alloc::Global;
 
 /// A trait of a type alone. Want of memory is the only refusal.

@@ -1,6 +1,6 @@
 //! The meaning of trait aliases as const traits, and the built-in rules of const traits.
 ghost use Rattle.std.specs.Prelude.{◌≡◌, IfOk, IfSome};
-ghost use Rattle.goal_terms.specs.TableMeaning.{Keeps};
+ghost use Rattle.goal_interner.specs.TableMeaning.{Keeps};
 ghost use Rattle.goal_lists.specs.BuiltinWords.{GivesConstRule, alias_const_rule};
 ghost use Rattle.goal_lists.specs.ConstRules.{lang_const_rule, const_rule};
 ghost use Rattle.goal_lists.specs.Interned.{IsIn, AreIn, ConstRuleIn, erased_at, erased_all, const_rule_at};
@@ -10,12 +10,12 @@ use crate::builtin::copy_clone::const_copy_rule;
 use crate::builtin::destruct::destruct_rule;
 use crate::candidates::interned::InternedConstRule;
 use crate::candidates::premises::{clauses_under, traits_under};
-use goal_tables::lang::{LangItem, LangTarget};
+use goal_interner::term_nodes::{OutOfMemory, TermId};
+use goal_interner::term_table::TermTable;
 use goal_tables::lookup::IndexedTables;
 use goal_tables::rows::TraitRow;
 use goal_terms::ids::TraitId;
-use goal_terms::term_nodes::{OutOfMemory, TermId};
-use goal_terms::term_table::TermTable;
+use goal_terms::lang::{LangItem, LangTarget};
 
 #[tactic(auto, unfolding(crate::specs::ConstRules::lang_const_rule))]
 /// The rule of a lang trait that may be const, for its self type and its other arguments.

@@ -5,7 +5,7 @@ ghost use Rattle.std.specs.Option.{option_map};
 ghost use Rattle.goal_tables.specs.Rows.{closure_of};
 ghost use Rattle.goal_terms.specs.Erased.{erased_head};
 ghost use Rattle.goal_terms.specs.Sorts.{IsArgument, HeadFits};
-ghost use Rattle.goal_terms.specs.TableMeaning.{tree_at, Keeps};
+ghost use Rattle.goal_interner.specs.TableMeaning.{tree_at, Keeps};
 ghost use Rattle.goal_terms.specs.Tree.{parts_of};
 ghost use Rattle.goal_lists.specs.BuiltinWords.{parts_at, rule_at, types_at, GivesConstRule};
 ghost use Rattle.goal_lists.specs.Builtins.{each_is, upvars_of, copied_parts_of_head, copied_parts};
@@ -15,11 +15,11 @@ ghost use Rattle.goal_lists.specs.Interned.{IsIn, AreIn, PremiseIn, ConstRuleIn,
 use crate::builtin::constituents::{each_const, each_is};
 use crate::candidates::interned::{InternedConstRule, InternedPremise};
 use crate::candidates::row_terms::{allocator_of, arguments_of, types_under};
+use goal_interner::term_nodes::{OutOfMemory, TermId};
+use goal_interner::term_table::TermTable;
 use goal_tables::lookup::IndexedTables;
 use goal_terms::heads::{Head, Node};
 use goal_terms::ids::{ClosureId, TraitId};
-use goal_terms::term_nodes::{OutOfMemory, TermId};
-use goal_terms::term_table::TermTable;
 
 /// The types of a closure's captured variables. The table gets them. Want of memory or of numbers is the
 /// only refusal.

@@ -5,7 +5,7 @@ ghost use Rattle.std.specs.Option.{option_map};
 ghost use Rattle.goal_tables.specs.Rows.{adt_of, closure_of};
 ghost use Rattle.goal_terms.specs.Erased.{erased_head};
 ghost use Rattle.goal_terms.specs.Sorts.{IsArgument, HeadFits};
-ghost use Rattle.goal_terms.specs.TableMeaning.{tree_at, Keeps};
+ghost use Rattle.goal_interner.specs.TableMeaning.{tree_at, Keeps};
 ghost use Rattle.goal_terms.specs.Tree.{Tree, parts_of};
 ghost use Rattle.goal_lists.specs.BuiltinWords.{parts_at, GivesConstRule, destruct_row};
 ghost use Rattle.goal_lists.specs.Builtins.{upvars_of};
@@ -17,11 +17,11 @@ use crate::builtin::copy_clone::upvars_of;
 use crate::candidates::interned::InternedConstRule;
 use crate::candidates::premises::traits_under;
 use crate::candidates::row_terms::{allocator_of, arguments_of};
+use goal_interner::term_nodes::{OutOfMemory, TermId};
+use goal_interner::term_table::TermTable;
 use goal_tables::lookup::IndexedTables;
 use goal_terms::heads::{Head, Node};
 use goal_terms::ids::{AdtId, ClosureId, TraitId};
-use goal_terms::term_nodes::{OutOfMemory, TermId};
-use goal_terms::term_table::TermTable;
 use std::alloc::Global;
 
 /// The rule for a type that holds all its parts.

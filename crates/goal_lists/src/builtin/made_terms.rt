@@ -3,7 +3,7 @@ ghost use Rattle.std.specs.Prelude.{◌≡◌, ◌<◌, [], IfOk, IsTrue};
 ghost use Rattle.std.specs.List.{All};
 ghost use Rattle.goal_terms.specs.Erased.{erased_head};
 ghost use Rattle.goal_terms.specs.Sorts.{HeadFits, IsArgument, is_argument_sort, sort_of_head};
-ghost use Rattle.goal_terms.specs.TableMeaning.{tree_at, Keeps};
+ghost use Rattle.goal_interner.specs.TableMeaning.{tree_at, Keeps};
 ghost use Rattle.goal_terms.specs.Tree.{parts_of};
 ghost use Rattle.goal_terms.specs.TreeOf.{leaf, tree_of_ty};
 ghost use Rattle.goal_lists.specs.Headers.{under};
@@ -11,9 +11,9 @@ ghost use Rattle.goal_lists.specs.Interned.{IsIn, erased_at};
 
 use crate::candidates::row_terms;
 use crate::candidates::row_terms::arguments_of;
+use goal_interner::term_nodes::{OutOfMemory, TermId};
+use goal_interner::term_table::TermTable;
 use goal_terms::heads::{Head, Node};
-use goal_terms::term_nodes::{OutOfMemory, TermId};
-use goal_terms::term_table::TermTable;
 use goal_terms::terms::Ty;
 use std::alloc::Global;
 

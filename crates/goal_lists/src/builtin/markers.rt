@@ -8,11 +8,11 @@ ghost use Rattle.goal_lists.specs.Builtins.{field_of, is_fn_ptr, is_tuple, where
 ghost use Rattle.goal_lists.specs.Interned.{IsIn, PremiseIn, erased_at, premise_at};
 
 use crate::candidates::interned::InternedPremise;
+use goal_interner::term_nodes::TermId;
+use goal_interner::term_table::TermTable;
 use goal_tables::lookup::IndexedTables;
 use goal_terms::heads::{Head, Node};
 use goal_terms::ids::AdtId;
-use goal_terms::term_nodes::TermId;
-use goal_terms::term_table::TermTable;
 use std::alloc::Global;
 
 /// No premises, where a test is passed. It takes no memory.

@@ -1,7 +1,7 @@
 //! What the built-in rule of the item `Output` says.
 ghost use Rattle.std.specs.Prelude.{◌≡◌, IfOk};
-ghost use Rattle.goal_terms.specs.TableMeaning.{Keeps};
-ghost use Rattle.goal_tables.specs.declared.lang.LangItem.TheVariants as lang;
+ghost use Rattle.goal_interner.specs.TableMeaning.{Keeps};
+ghost use Rattle.goal_terms.specs.declared.lang.LangItem.TheVariants as lang;
 ghost use Rattle.goal_lists.specs.BuiltinWords.{call_output};
 ghost use Rattle.goal_lists.specs.Interned.{IsIn, AreIn, ListedIn, erased_at, erased_all, listed_at};
 
@@ -9,10 +9,10 @@ use crate::builtin::call_premises::{call_premises, output_of};
 use crate::builtin::calls::signature_of;
 use crate::candidates::interned::ListedTerm;
 use crate::candidates::row_terms::allocator_of;
-use goal_tables::lang::LangItem;
+use goal_interner::term_nodes::{OutOfMemory, TermId};
+use goal_interner::term_table::TermTable;
 use goal_tables::lookup::IndexedTables;
-use goal_terms::term_nodes::{OutOfMemory, TermId};
-use goal_terms::term_table::TermTable;
+use goal_terms::lang::LangItem;
 
 /// What is said of an item `Output`: the output of the signature by which the self type is called, where
 /// the call's premises hold. The table gets the terms. Want of memory or of numbers is the only refusal.

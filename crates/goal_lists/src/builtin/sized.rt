@@ -5,7 +5,7 @@ ghost use Rattle.std.specs.Option.{option_map};
 ghost use Rattle.goal_tables.specs.Rows.{adt_of};
 ghost use Rattle.goal_terms.specs.Erased.{erased_head};
 ghost use Rattle.goal_terms.specs.Sorts.{IsArgument, HeadFits};
-ghost use Rattle.goal_terms.specs.TableMeaning.{tree_at, Keeps};
+ghost use Rattle.goal_interner.specs.TableMeaning.{tree_at, Keeps};
 ghost use Rattle.goal_terms.specs.Tree.{Tree, parts_of};
 ghost use Rattle.goal_lists.specs.BuiltinWords.{parts_at, ArePremises, rule_at};
 ghost use Rattle.goal_lists.specs.Builtins.{last_is, constraint_is, sized_of_head, sized_rule};
@@ -15,12 +15,12 @@ ghost use Rattle.goal_lists.specs.Interned.{IsIn, AreIn, PremiseIn, erased_at, e
 use crate::builtin::constituents::each_is;
 use crate::candidates::interned::InternedPremise;
 use crate::candidates::row_terms::{allocator_of, arguments_of, last_part, option_under};
+use goal_interner::term_nodes::{OutOfMemory, TermId};
+use goal_interner::term_table::TermTable;
 use goal_tables::lookup::IndexedTables;
 use goal_tables::rows::AdtRow;
 use goal_terms::heads::{Head, Node};
 use goal_terms::ids::{AdtId, TraitId};
-use goal_terms::term_nodes::{OutOfMemory, TermId};
-use goal_terms::term_table::TermTable;
 use std::alloc::Global;
 
 /// That a type has a trait, if there is one. Want of memory is the only refusal.

@@ -1,17 +1,17 @@
 //! The built-in rules of items.
 ghost use Rattle.std.specs.Prelude.{◌≡◌, [], ◌∷◌, IfOk, MatchOption};
-ghost use Rattle.goal_terms.specs.TableMeaning.{Keeps};
+ghost use Rattle.goal_interner.specs.TableMeaning.{Keeps};
 ghost use Rattle.goal_lists.specs.Builtins.{lang_of_item, lang_term, term_rule};
 ghost use Rattle.goal_lists.specs.Interned.{IsIn, AreIn, ListedIn, erased_at, erased_all, listed_at};
 
 use crate::builtin::item_terms::{base_rule, discriminant_rule, field_type_rule, metadata_rule};
 use crate::builtin::outputs::output_rule;
 use crate::candidates::interned::ListedTerm;
-use goal_tables::lang::{LangItem, LangTarget};
+use goal_interner::term_nodes::{OutOfMemory, TermId};
+use goal_interner::term_table::TermTable;
 use goal_tables::lookup::IndexedTables;
 use goal_terms::ids::ItemId;
-use goal_terms::term_nodes::{OutOfMemory, TermId};
-use goal_terms::term_table::TermTable;
+use goal_terms::lang::{LangItem, LangTarget};
 
 /// What built-in rules say of an item's term for arguments, the self type first. The table gets the terms.
 /// Want of memory or of numbers is the only refusal.

@@ -1,7 +1,7 @@
 //! The meaning of trait aliases, and the built-in rules of traits.
 ghost use Rattle.std.specs.Prelude.{◌≡◌, IfOk, IfSome};
 ghost use Rattle.std.specs.List.{All};
-ghost use Rattle.goal_terms.specs.TableMeaning.{Keeps};
+ghost use Rattle.goal_interner.specs.TableMeaning.{Keeps};
 ghost use Rattle.goal_lists.specs.BuiltinWords.{rule_at};
 ghost use Rattle.goal_lists.specs.Builtins.{lang_rule, trait_rule};
 ghost use Rattle.goal_lists.specs.Interned.{IsIn, AreIn, PremiseIn, erased_at, erased_all};
@@ -13,11 +13,11 @@ use crate::builtin::sized::sized_rule;
 use crate::candidates::interned::InternedPremise;
 use crate::candidates::premises::clauses_under;
 use crate::candidates::row_terms::allocator_of;
-use goal_tables::lang::{LangItem, LangTarget};
+use goal_interner::term_nodes::{OutOfMemory, TermId};
+use goal_interner::term_table::TermTable;
 use goal_tables::lookup::IndexedTables;
 use goal_terms::ids::TraitId;
-use goal_terms::term_nodes::{OutOfMemory, TermId};
-use goal_terms::term_table::TermTable;
+use goal_terms::lang::{LangItem, LangTarget};
 
 #[tactic(auto, unfolding(crate::specs::Builtins::lang_rule))]
 /// The rule of a lang trait, for its self type and its other arguments.

@@ -3,7 +3,7 @@ ghost use Rattle.std.specs.Prelude.{◌≡◌, ◌++◌, [], ◌∷◌, map, IfO
 ghost use Rattle.std.specs.List.{All};
 ghost use Rattle.goal_terms.specs.Erased.{erased};
 ghost use Rattle.goal_terms.specs.Sorts.{IsArgument};
-ghost use Rattle.goal_terms.specs.TableMeaning.{Keeps, tree_at};
+ghost use Rattle.goal_interner.specs.TableMeaning.{Keeps, tree_at};
 ghost use Rattle.goal_terms.specs.Tree.{parts_of};
 ghost use Rattle.goal_tables.specs.Rows.{item_of, opaque_of};
 ghost use Rattle.goal_lists.specs.CandidateWords.{AddsCandidates, row_bounds};
@@ -13,12 +13,12 @@ ghost use Rattle.goal_lists.specs.Interned.{IsIn, AreIn, CandidateIn, erased_at,
 use crate::candidates::interned::InternedCandidate;
 use crate::candidates::premises::{predicate_under, trait_under, traits_under};
 use crate::candidates::tops::{opaque_number, projected_item};
+use goal_interner::term_nodes::{OutOfMemory, TermId};
+use goal_interner::term_table::TermTable;
 use goal_tables::lookup::IndexedTables;
 use goal_tables::rows::ConstBounds;
 use goal_terms::ids::{ItemId, OpaqueId};
 use goal_terms::predicates::Clause;
-use goal_terms::term_nodes::{OutOfMemory, TermId};
-use goal_terms::term_table::TermTable;
 
 /// Adds a row's clauses under arguments. The table gets their terms. Want of memory or of numbers is the
 /// only refusal.

@@ -3,7 +3,7 @@ ghost use Rattle.std.specs.Prelude.{◌≡◌, ◌∷◌, [], map, IfOk};
 ghost use Rattle.std.specs.List.{All};
 ghost use Rattle.goal_terms.specs.Erased.{erased};
 ghost use Rattle.goal_terms.specs.PredicateTrees.{tree_of_kind};
-ghost use Rattle.goal_terms.specs.TableMeaning.{Keeps};
+ghost use Rattle.goal_interner.specs.TableMeaning.{Keeps};
 ghost use Rattle.goal_terms.specs.TreeOf.{trees_of};
 ghost use Rattle.goal_lists.specs.Answers.{erased_predicate};
 ghost use Rattle.goal_lists.specs.CandidateWords.{AddsCandidates, near_for, environment_near};
@@ -13,9 +13,9 @@ ghost use Rattle.goal_lists.specs.Interned.{AreIn, PredicateIn, CandidateIn, era
 use crate::candidates::fitting::clause_may_fit;
 use crate::candidates::interned::{InternedCandidate, InternedPredicate, InternedTrait};
 use crate::candidates::lists::Sought;
+use goal_interner::term_nodes::{OutOfMemory, TermId};
+use goal_interner::term_table::TermTable;
 use goal_terms::predicates::{Clause, ClauseKind};
-use goal_terms::term_nodes::{OutOfMemory, TermId};
-use goal_terms::term_table::TermTable;
 use goal_terms::terms::GenericArg;
 use goal_terms::view::TermRef;
 

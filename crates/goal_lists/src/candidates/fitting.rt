@@ -1,7 +1,7 @@
 //! Which impls and which clauses of an environment may fit given arguments, by the heads of theirs. It takes no memory.
 ghost use Rattle.std.specs.Prelude.{◌≡◌, ◌<◌, length};
 ghost use Rattle.goal_terms.specs.PredicateTrees.{tree_of_kind};
-ghost use Rattle.goal_terms.specs.TableMeaning.{tree_at, AreBelow};
+ghost use Rattle.goal_interner.specs.TableMeaning.{tree_at, AreBelow};
 ghost use Rattle.goal_terms.specs.TreeOf.{trees_of, tree_of_alias};
 ghost use Rattle.goal_terms.specs.View.{tree_of_ref, trees_seen};
 ghost use Rattle.goal_lists.specs.Answers.{erased_predicate};
@@ -15,12 +15,12 @@ ghost use Rattle.goal_lists.specs.declared.fast_reject.Parameters.TheVariants.{I
 
 use crate::candidates::lists::Sought;
 use crate::fast_reject::{Parameters, is_open};
+use goal_interner::term_nodes::TermId;
+use goal_interner::term_table::TermTable;
 use goal_tables::rows::ImplRow;
 use goal_terms::compare::Regions;
 use goal_terms::ids::ItemId;
 use goal_terms::predicates::{ClauseKind, TraitRef};
-use goal_terms::term_nodes::TermId;
-use goal_terms::term_table::TermTable;
 use goal_terms::terms::{AliasTerm, AliasTermKind};
 use goal_terms::view::{Parts, TermRef};
 

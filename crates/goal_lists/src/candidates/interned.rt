@@ -1,8 +1,8 @@
 //! Rules and candidates whose terms are given by their numbers in a table.
+use goal_interner::term_nodes::TermId;
 use goal_tables::rows::ImplRow;
 use goal_terms::ids::TraitId;
 use goal_terms::predicates::BoundConstness;
-use goal_terms::term_nodes::TermId;
 
 /// A trait with its arguments.
 #[derive(Drop)]

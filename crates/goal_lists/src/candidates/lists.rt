@@ -1,7 +1,7 @@
 //! The candidates for a goal of a trait, whose self type is a head form.
 ghost use Rattle.std.specs.Prelude.{◌≡◌, ◌∷◌, ◌<◌, [], List, length, IfOk};
 ghost use Rattle.std.specs.List.{All};
-ghost use Rattle.goal_terms.specs.TableMeaning.{Keeps};
+ghost use Rattle.goal_interner.specs.TableMeaning.{Keeps};
 ghost use Rattle.goal_terms.specs.Tree.{Tree};
 ghost use Rattle.goal_terms.specs.declared.modes.TypingMode.{TypingMode};
 ghost use Rattle.goal_lists.specs.Answers.{setting_of};
@@ -15,14 +15,14 @@ use crate::candidates::environment::push_environment;
 use crate::candidates::fitting::may_fit;
 use crate::candidates::interned::InternedCandidate;
 use crate::candidates::objects::push_object_bounds;
+use goal_interner::term_nodes::{OutOfMemory, TermId};
+use goal_interner::term_table::TermTable;
 use goal_tables::lookup::IndexedTables;
 use goal_tables::rows::ImplRow;
 use goal_terms::answers::TraitGoalProvenVia;
 use goal_terms::heads::Node;
 use goal_terms::ids::{ItemId, TraitId};
 use goal_terms::predicates::Clause;
-use goal_terms::term_nodes::{OutOfMemory, TermId};
-use goal_terms::term_table::TermTable;
 
 /// A trait that is asked of arguments, with the head form of their self type, or the item of it whose term is asked
 /// for, and then the arguments are the item's.

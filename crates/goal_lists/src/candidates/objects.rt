@@ -3,7 +3,7 @@ ghost use Rattle.std.specs.Prelude.{◌≡◌, ◌<◌, ◌≤◌, ◌∷◌, le
 ghost use Rattle.std.specs.List.{All};
 ghost use Rattle.goal_terms.specs.Erased.{erased};
 ghost use Rattle.goal_terms.specs.Sorts.{IsArgument, Fits};
-ghost use Rattle.goal_terms.specs.TableMeaning.{Keeps, tree_at};
+ghost use Rattle.goal_interner.specs.TableMeaning.{Keeps, tree_at};
 ghost use Rattle.goal_terms.specs.Tree.{node_of, parts_of};
 ghost use Rattle.goal_lists.specs.CandidateWords.{AddsCandidates};
 ghost use Rattle.goal_lists.specs.Candidates.{object_bound, object_bounds};
@@ -12,10 +12,10 @@ ghost use Rattle.goal_lists.specs.Interned.{IsIn, AreIn, CandidateIn, erased_at,
 
 use crate::candidates::interned::{InternedCandidate, InternedPredicate, InternedTrait};
 use crate::candidates::tops::{clause_item, clause_trait, is_object};
+use goal_interner::term_nodes::{OutOfMemory, TermId};
+use goal_interner::term_table::TermTable;
 use goal_terms::heads::Node;
 use goal_terms::ids::{ItemId, TraitId};
-use goal_terms::term_nodes::{OutOfMemory, TermId};
-use goal_terms::term_table::TermTable;
 use goal_terms::terms::AliasTermKind;
 
 /// A self type and then the first arguments of one of its clauses.

@@ -25,10 +25,10 @@ use crate::lists::{
     FirstUse, HeaderTerms, InternedEntry, InternedTerm, ListSetting, RowClauses, RowHeader,
     RowValue, RowValueTerm, RuleHeader,
 };
+use goal_interner::term_nodes::{OutOfMemory, TermId};
 use goal_tables::rows::{FreeRow, InherentImplRow, InherentRow, OpaqueRow};
 use goal_terms::ids::{FreeId, InherentId, OpaqueId};
 use goal_terms::modes::TypingMode;
-use goal_terms::term_nodes::{OutOfMemory, TermId};
 use goal_terms::terms::{AliasTermKind, Term};
 use std::alloc::Global;
 

@@ -1,7 +1,7 @@
 //! The lists of the candidates for host effect goals, over numbers of a term table.
 ghost use Rattle.std.specs.Prelude.{◌≡◌, List, Some, IfOk};
 ghost use Rattle.std.specs.List.{All};
-ghost use Rattle.goal_terms.specs.TableMeaning.{Keeps};
+ghost use Rattle.goal_interner.specs.TableMeaning.{Keeps};
 ghost use Rattle.goal_terms.specs.Tree.{Tree};
 ghost use Rattle.goal_tables.specs.Rows.{impl_of, trait_of};
 ghost use Rattle.goal_tables.specs.declared.rows.Tables.{Tables};
@@ -21,15 +21,15 @@ use crate::lists::parts::{
     condition_entries, equal_terms, error_list, impl_match, list_by_polarity, premise_entries,
 };
 use crate::lists::{InternedEntry, ListSetting};
-use goal_tables::lang::{LangItem, LangTarget};
+use goal_interner::term_nodes::{OutOfMemory, TermId};
+use goal_interner::term_table::TermTable;
 use goal_tables::lookup::IndexedTables;
 use goal_tables::rows::ImplRow;
 use goal_terms::answers::GoalSource;
 use goal_terms::ids::TraitId;
+use goal_terms::lang::{LangItem, LangTarget};
 use goal_terms::modes::TypingMode;
 use goal_terms::predicates::BoundConstness;
-use goal_terms::term_nodes::{OutOfMemory, TermId};
-use goal_terms::term_table::TermTable;
 use std::alloc::Global;
 
 /// Whether a clause of one constness satisfies a goal of another.

@@ -17,12 +17,12 @@ use crate::lists::{
     HeaderTerms, InternedArguments, InternedEntry, InternedTerm, RowClauses, RowHeader, RuleHeader,
 };
 use crate::term_errors::any_error;
+use goal_interner::term_nodes::{OutOfMemory, TermId};
+use goal_interner::term_table::TermTable;
 use goal_tables::rows::{ImplPolarity, ImplRow};
 use goal_terms::answers::GoalSource;
 use goal_terms::modes::TypingMode;
 use goal_terms::predicates::BoundConstness;
-use goal_terms::term_nodes::{OutOfMemory, TermId};
-use goal_terms::term_table::TermTable;
 use std::alloc::Global;
 
 /// A copy of some numbers. Want of memory is the only refusal.

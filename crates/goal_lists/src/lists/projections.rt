@@ -1,7 +1,7 @@
 //! The lists of the candidates for the terms of projections, over numbers of a term table.
 ghost use Rattle.std.specs.Prelude.{◌≡◌, List, IfOk};
 ghost use Rattle.std.specs.List.{All};
-ghost use Rattle.goal_terms.specs.TableMeaning.{Keeps};
+ghost use Rattle.goal_interner.specs.TableMeaning.{Keeps};
 ghost use Rattle.goal_terms.specs.Tree.{Tree};
 ghost use Rattle.goal_lists.specs.ImplTerms.{error_term, taken};
 ghost use Rattle.goal_lists.specs.Interned.{IsIn, PredicateIn, CandidateIn, ListedIn, erased_at, predicate_at, candidate_at, listed_at};
@@ -26,14 +26,14 @@ use crate::lists::{
     AskedProjection, HeaderTerms, InternedArguments, InternedEntry, InternedTerm, ListSetting,
     RowClauses, RowHeader, RowValue, RowValueTerm,
 };
+use goal_interner::term_nodes::{OutOfMemory, TermId};
+use goal_interner::term_table::TermTable;
 use goal_tables::rows::{Container, DefRow, DefValue, ImplRow, Source};
 use goal_terms::answers::{DelayedFault, GoalSource, OpaqueAccess};
 use goal_terms::heads::{Head, Node};
 use goal_terms::ids::DefId;
 use goal_terms::modes::TypingMode;
 use goal_terms::slices::{behind, first_of};
-use goal_terms::term_nodes::{OutOfMemory, TermId};
-use goal_terms::term_table::TermTable;
 use std::alloc::Global;
 
 /// The value of a definition under the arguments of a number; a constant that would have to be evaluated

@@ -1,6 +1,6 @@
 //! The lists of the candidates for trait goals, over numbers of a term table.
 ghost use Rattle.std.specs.Prelude.{◌≡◌, List, Some, IfOk};
-ghost use Rattle.goal_terms.specs.TableMeaning.{Keeps};
+ghost use Rattle.goal_interner.specs.TableMeaning.{Keeps};
 ghost use Rattle.goal_terms.specs.Tree.{Tree};
 ghost use Rattle.goal_tables.specs.Rows.{impl_of, trait_of};
 ghost use Rattle.goal_tables.specs.declared.rows.Tables.{Tables};
@@ -14,13 +14,13 @@ use crate::builtin::traits::trait_rule;
 use crate::candidates::interned::{InternedCandidate, InternedPredicate};
 use crate::lists::parts::{equal_terms, error_list, impl_match, list_by_polarity, premise_entries};
 use crate::lists::{InternedEntry, ListSetting};
+use goal_interner::term_nodes::{OutOfMemory, TermId};
+use goal_interner::term_table::TermTable;
 use goal_tables::lookup::IndexedTables;
 use goal_tables::rows::ImplRow;
 use goal_terms::answers::GoalSource;
 use goal_terms::ids::TraitId;
 use goal_terms::modes::TypingMode;
-use goal_terms::term_nodes::{OutOfMemory, TermId};
-use goal_terms::term_table::TermTable;
 use std::alloc::Global;
 
 /// The list of a clause: one of the trait asks that its arguments are the goal's. Want of memory is the

@@ -1,12 +1,12 @@
 //! Goals with inference variables, of the three kinds, that are answered by their candidates.
 ghost use Rattle.std.specs.Prelude.{◌≡◌, Result, None, Ok, IfOk, IfSome, IsOkUnless};
-ghost use Rattle.goal_terms.specs.TableMeaning.{Keeps};
+ghost use Rattle.goal_interner.specs.TableMeaning.{Keeps};
 ghost use Rattle.goal_solver.specs.AskedGoals.{asked_environment, AsksOpen, IsAskedAlias, RulesForAsked};
 
 use crate::assembly::formed_rules::{FormedRules, Merging, rules_for_form};
 use crate::context::EvalCtxt;
 use crate::faults::Fault;
-use goal_tables::checked::CheckedTables;
+use goal_checks::checked::CheckedTables;
 use goal_terms::answers::TraitGoalProvenVia;
 use goal_terms::modes::TypingMode;
 use goal_terms::predicates::{Clause, Goal, HostEffectPredicate, NormalizesTo, TraitPredicate};

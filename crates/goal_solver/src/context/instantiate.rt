@@ -1,7 +1,7 @@
 //! Giving the expected term of an alias its value.
 ghost use Rattle.std.specs.Prelude.{◌≡◌, ◌<◌, true, false, length, is_some, None, IfOk, IfSome, OnOk, OnErr, IsOkUnless};
 ghost use Rattle.goal_terms.specs.Tree.{node_of, variable as tree_of_variable};
-ghost use Rattle.goal_terms.specs.TableMeaning.{tree_at};
+ghost use Rattle.goal_interner.specs.TableMeaning.{tree_at};
 ghost use Rattle.goal_terms.specs.TreeOf.{tree_of_alias, tree_of_ty, tree_of_const, tree_of_term};
 ghost use Rattle.goal_terms.specs.View.{tree_of_ref};
 ghost use Rattle.goal_solver.specs.Binding.{IsFreeFor, BindsTo, OfVariable, AddsNormalization, BindsExpected, AddsExpected, StandsForAlias, StandsForNoAlias};
@@ -14,10 +14,10 @@ use crate::context::EvalCtxt;
 use crate::faults::Fault;
 use goal_infer::bindings::bind_term;
 use goal_infer::resolve::{binding, resolve};
+use goal_interner::term_nodes::TermId;
 use goal_terms::answers::GoalSource;
 use goal_terms::heads::{Node, Variable};
 use goal_terms::predicates::{Clause, Goal, NormalizesTo, Predicate};
-use goal_terms::term_nodes::TermId;
 use goal_terms::terms::{AliasTerm, Const, Term, Ty};
 use goal_terms::view::TermRef;
 

@@ -1,12 +1,12 @@
 //! Arguments from the numbers of their terms.
 ghost use Rattle.std.specs.Prelude.{◌≡◌, map, IfOk};
-ghost use Rattle.goal_terms.specs.TableMeaning.{tree_at};
+ghost use Rattle.goal_interner.specs.TableMeaning.{tree_at};
 ghost use Rattle.goal_terms.specs.TreeOf.{tree_of_arg, trees_of};
 ghost use Rattle.goal_lists.specs.Interned.{IsIn, AreIn};
 
+use goal_interner::term_nodes::{OutOfMemory, TermId};
+use goal_interner::term_table::TermTable;
 use goal_terms::heads::{Head, Node};
-use goal_terms::term_nodes::{OutOfMemory, TermId};
-use goal_terms::term_table::TermTable;
 use goal_terms::terms::{GenericArg, Term};
 
 /// The arguments of some numbers, lifetimes included. Want of memory is the only refusal.
@@ -25,7 +25,7 @@ pub(crate) fn rebuilt_args(
     Ok(args)
 }
 
-#[tactic(auto, using(goal_terms::proofs::RebuildLemmas::rebuilding))]
+#[tactic(auto, using(goal_interner::proofs::RebuildLemmas::rebuilding))]
 /// The argument of a number.
 fn rebuilt_arg(terms: &TermTable, id: TermId) -> Result<GenericArg, OutOfMemory>
     requires { IsIn terms.now id }

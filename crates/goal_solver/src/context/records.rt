@@ -13,14 +13,14 @@ ghost use Rattle.goal_solver.specs.Stored.{IsSet};
 use crate::context::EvalCtxt;
 use crate::context::respond::since;
 use crate::faults::Fault;
+use goal_checks::checked::CheckedTables;
 use goal_eval::eval::effects::Effects;
 use goal_eval::eval::entering::{enter_access, enter_fault};
 use goal_eval::eval::outcomes::Stop;
 use goal_eval::eval::region_constraints::RegionConstraints;
-use goal_tables::checked::CheckedTables;
+use goal_interner::term_nodes::OutOfMemory;
 use goal_tables::rows::DefValue;
 use goal_terms::answers::{DelayedFault, OpaqueAccess};
-use goal_terms::term_nodes::OutOfMemory;
 
 impl EvalCtxt<'_> {
     /// What the answers so far would have read of another typing mode, each access once, in the order

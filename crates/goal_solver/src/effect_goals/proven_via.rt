@@ -1,6 +1,6 @@
 //! Host effect goals whose plain goals hold through a class.
 ghost use Rattle.std.specs.Prelude.{◌≡◌, [], None, suc, true, IfOk, IfErr, length};
-ghost use Rattle.goal_terms.specs.TableMeaning.{Keeps};
+ghost use Rattle.goal_interner.specs.TableMeaning.{Keeps};
 ghost use Rattle.goal_terms.specs.declared.modes.TypingMode.{TypingMode};
 ghost use Rattle.goal_lists.specs.Answers.{setting_of};
 ghost use Rattle.goal_lists.specs.Settings.{is_headline};
@@ -24,11 +24,11 @@ use goal_eval::eval::interning::intern_args;
 use goal_eval::eval::outcomes::{Found, Setting, Stop};
 use goal_eval::eval::region_constraints::RegionConstraints;
 use goal_eval::eval::self_types::{split_self_type, with_self_type};
+use goal_interner::term_table::TermTable;
 use goal_kinds::goal_kind::TraitView;
 use goal_lists::outcomes::Outcome;
 use goal_terms::answers::{Response, TraitGoalProvenVia};
 use goal_terms::predicates::{BoundConstness, Clause};
-use goal_terms::term_table::TermTable;
 
 /// A host effect goal whose plain goal is taken to hold through a class.
 #[derive(Clone, Copy)]

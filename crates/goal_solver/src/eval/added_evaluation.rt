@@ -23,12 +23,12 @@ use crate::eval::recalled::{outcome_of, outcome_of_form};
 use crate::eval::where_goals::copied_clauses;
 use crate::faults::Fault;
 use goal_eval::eval::outcomes::Stop;
+use goal_interner::term_nodes::TermId;
 use goal_lists::outcomes::Outcome;
 use goal_terms::answers::{Certainty, GoalSource, Response};
 use goal_terms::predicates::{
     Clause, Goal, HostEffectPredicate, Predicate, TraitPredicate, TraitRef,
 };
-use goal_terms::term_nodes::TermId;
 use goal_terms::terms::AliasTerm;
 use std::mem;
 

@@ -4,7 +4,7 @@ ghost use Rattle.goal_terms.specs.NodeTests.{is_any_infer};
 ghost use Rattle.goal_tables.specs.Predicates.{some_in_env as some_env};
 ghost use Rattle.goal_solver.specs.Answers.{is_closed_alias};
 
-use goal_tables::predicate_terms::{PredicateTerms, some_in_env};
+use goal_checks::predicate_terms::{PredicateTerms, some_in_env};
 use goal_terms::node_tests::NodeTest;
 use goal_terms::predicates::{Clause, Goal};
 use goal_terms::terms::AliasTerm;

@@ -1,6 +1,6 @@
 //! Goals, handed to the evaluation by the numbers of their terms.
 ghost use Rattle.std.specs.Prelude.{◌≡◌, ◌⊎◌, IfOk, IfErr};
-ghost use Rattle.goal_terms.specs.TableMeaning.{Keeps};
+ghost use Rattle.goal_interner.specs.TableMeaning.{Keeps};
 ghost use Rattle.goal_terms.specs.declared.modes.TypingMode.{TypingMode};
 ghost use Rattle.goal_solver.specs.Accesses.{RecordsCaused, EndsFor, RecordsCausedFaults};
 ghost use Rattle.goal_eval.specs.ErasedArgs.{erased_args};
@@ -21,13 +21,13 @@ use goal_eval::eval::premises::predicate_outcome;
 use goal_eval::eval::region_constraints::RegionConstraints;
 use goal_eval::normalizes_to::alias_terms::alias_term;
 use goal_eval::trait_goals::evaluation::evaluate_trait_goal;
+use goal_interner::term_nodes::TermId;
+use goal_interner::term_table::TermTable;
 use goal_kinds::goal_kind::TraitView;
 use goal_lists::candidates::interned::InternedPredicate;
 use goal_lists::outcomes::{Outcome, TraitOutcome};
 use goal_terms::ids::TraitId;
 use goal_terms::predicates::Clause;
-use goal_terms::term_nodes::TermId;
-use goal_terms::term_table::TermTable;
 use goal_terms::terms::{AliasTerm, AliasTermKind, GenericArg};
 
 /// Through which class a trait goal holds.

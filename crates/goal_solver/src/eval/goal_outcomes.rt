@@ -1,6 +1,6 @@
 //! Whether a goal that was added holds.
 ghost use Rattle.std.specs.Prelude.{◌≡◌, ◌<◌, ◌||◌, length, None, IfOk, IfErr, IfSome, OnOk, IsOkUnless};
-ghost use Rattle.goal_terms.specs.TableMeaning.{Keeps, tree_at};
+ghost use Rattle.goal_interner.specs.TableMeaning.{Keeps, tree_at};
 ghost use Rattle.goal_terms.specs.TreeOf.{tree_of_term};
 ghost use Rattle.goal_infer.specs.Resolution.{binding_of};
 ghost use Rattle.goal_lists.specs.Interned.{IsIn, AreIn, PredicateIn};
@@ -19,22 +19,22 @@ use crate::eval::closed_goals::{has_variable, is_closed_alias};
 use crate::eval::free_variables::general_variable;
 use crate::eval::open_terms::any_variable;
 use crate::eval::predicate_views::PredicateView;
-use crate::eval::written_out::may_be_written_out;
 use crate::faults::Fault;
+use goal_checks::predicate_terms::some_in_env;
 use goal_eval::eval::outcomes::{Found, Stop};
 use goal_eval::eval::region_constraints::RegionConstraints;
 use goal_infer::bindings::may_become;
 use goal_infer::followed::{follow, follow_all};
 use goal_infer::resolve::resolve;
 use goal_infer::unify::{Unified, unify};
+use goal_interner::term_nodes::TermId;
 use goal_lists::candidates::interned::{InternedPredicate, InternedTrait};
 use goal_lists::outcomes::Outcome;
-use goal_tables::predicate_terms::some_in_env;
+use goal_search::written_out::may_be_written_out;
 use goal_terms::heads::Variable;
 use goal_terms::ids::TraitId;
 use goal_terms::node_tests::NodeTest;
 use goal_terms::predicates::{BoundConstness, Clause, Goal, NormalizesTo, Predicate, TraitRef};
-use goal_terms::term_nodes::TermId;
 use goal_terms::terms::{AliasTerm, AliasTermKind, GenericArg, Term};
 
 /// A goal with inference variables that its candidates are asked for: a trait with the numbers of its arguments, the

@@ -4,9 +4,10 @@ ghost use Rattle.goal_tables.specs.Predicates.{lies_in_env as in_env};
 ghost use Rattle.goal_solver.specs.Goals.{has_in_goal, fault_lies_in, flaw_of, is_flawed_goal, words_of, IsAcceptedBy, IsSmallestOf, wants_taken};
 
 use crate::context::EvalCtxt;
-use goal_tables::checked::CheckedTables;
-use goal_tables::predicate_terms::{PredicateTerms, lies_in_env, some_never_const};
-use goal_tables::sites::TermFault;
+use goal_checks::checked::CheckedTables;
+use goal_checks::checker::Checker;
+use goal_checks::predicate_terms::{PredicateTerms, lies_in_env, some_never_const};
+use goal_tables::faults::TermFault;
 use goal_terms::node_tests::NodeTest;
 use goal_terms::predicates::Goal;
 use thiserror::Error;
@@ -73,7 +74,7 @@ fn is_flawed<P: PredicateTerms>(
 {
     let test = NodeTest::Unmade(context.variables());
     goal.predicate.is_flawed(tables.rows(), test)
-        || tables.rows().flaw_lies_in_env(test, &goal.param_env)
+        || Checker::of(tables.rows()).flaw_lies_in_env(test, &goal.param_env)
 }
 
 /// The first fault of a goal to which one of the first four applies. The goal's terms are walked for each fault alone.

@@ -1,20 +1,20 @@
 //! Answers that are kept, given again by the variables of who asks.
 ghost use Rattle.std.specs.Prelude.{◌≡◌, ◌<◌, length, IfOk, IfSome, IsOkUnless};
-ghost use Rattle.goal_terms.specs.TableMeaning.{Keeps};
+ghost use Rattle.goal_interner.specs.TableMeaning.{Keeps};
 ghost use Rattle.goal_lists.specs.Interned.{IsIn};
 ghost use Rattle.goal_solver.specs.Accesses.{RecordsCausedFaults};
 ghost use Rattle.goal_solver.specs.GoingBack.{GoesBack};
 ghost use Rattle.goal_solver.specs.Relating.{ChangesRecords, IsFaultFor};
 
 use crate::context::EvalCtxt;
-use crate::eval::canonical::{
+use crate::faults::Fault;
+use goal_interner::term_nodes::TermId;
+use goal_lists::outcomes::Outcome;
+use goal_search::canonical::{
     numbers_by_canonical, renumbered_both, renumbered_equation, renumbered_in,
 };
-use crate::eval::search_graph::{KeptAnswer, Recalled};
-use crate::faults::Fault;
-use goal_lists::outcomes::Outcome;
+use goal_search::search_graph::{KeptAnswer, Recalled};
 use goal_terms::answers::Certainty;
-use goal_terms::term_nodes::TermId;
 
 impl EvalCtxt<'_> {
     /// What a goal was answered before. Only memory and what was refused is refused; variables are bound as they were.

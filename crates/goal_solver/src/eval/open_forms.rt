@@ -2,7 +2,7 @@
 ghost use Rattle.std.specs.Prelude.{◌≡◌, ◌<◌, ◌∷◌, [], false, is_some, None, length, IfOk, IfErr, IfSome, OnOk, OnErr, IsOkUnless};
 ghost use Rattle.goal_terms.specs.Erased.{erased};
 ghost use Rattle.goal_terms.specs.Tree.{variable};
-ghost use Rattle.goal_terms.specs.TableMeaning.{Keeps};
+ghost use Rattle.goal_interner.specs.TableMeaning.{Keeps};
 ghost use Rattle.goal_terms.specs.TreeOf.{tree_of_alias, tree_of_term};
 ghost use Rattle.goal_lists.specs.Interned.{IsIn, erased_at};
 ghost use Rattle.goal_solver.specs.Accesses.{RecordsCausedFaults};
@@ -19,9 +19,9 @@ use crate::context::EvalCtxt;
 use crate::context::instantiate::into_alias;
 use crate::eval::where_goals::copied_clauses;
 use crate::faults::Fault;
+use goal_interner::term_nodes::TermId;
 use goal_terms::answers::Certainty;
 use goal_terms::predicates::{Clause, Goal, NormalizesTo};
-use goal_terms::term_nodes::TermId;
 use goal_terms::terms::{AliasTerm, Term};
 
 impl EvalCtxt<'_> {

@@ -2,10 +2,10 @@
 ghost use Rattle.std.specs.Prelude.{◌≡◌, ◌<◌, length, map};
 ghost use Rattle.std.specs.List.{list_any};
 ghost use Rattle.goal_terms.specs.NodeTests.{some_node, is_any_infer};
-ghost use Rattle.goal_terms.specs.TableMeaning.{tree_at, AreBelow};
+ghost use Rattle.goal_interner.specs.TableMeaning.{tree_at, AreBelow};
 
-use goal_terms::term_nodes::TermId;
-use goal_terms::term_table::TermTable;
+use goal_interner::term_nodes::TermId;
+use goal_interner::term_table::TermTable;
 
 /// Whether an inference variable stands in some terms. Region variables do not count. It takes no
 /// memory.

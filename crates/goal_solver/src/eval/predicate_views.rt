@@ -1,15 +1,15 @@
 //! Predicates that hold or not, as they stand in goals.
 ghost use Rattle.std.specs.Prelude.{◌≡◌, IfOk};
-ghost use Rattle.goal_terms.specs.TableMeaning.{Keeps};
+ghost use Rattle.goal_interner.specs.TableMeaning.{Keeps};
 ghost use Rattle.goal_lists.specs.Interned.{PredicateIn, TraitIn, erased_all, predicate_at};
 ghost use Rattle.goal_eval.specs.ErasedArgs.{erased_args};
 ghost use Rattle.goal_solver.specs.Evaluations.{predicate_seen};
 
 use goal_eval::eval::interning::{intern_args, intern_equation};
+use goal_interner::term_nodes::OutOfMemory;
+use goal_interner::term_table::TermTable;
 use goal_lists::candidates::interned::{InternedPredicate, InternedTrait};
 use goal_terms::predicates::{HostEffectPredicate, ProjectionPredicate, TraitPredicate, TraitRef};
-use goal_terms::term_nodes::OutOfMemory;
-use goal_terms::term_table::TermTable;
 use std::alloc::Global;
 
 /// A predicate that holds or not, as it stands in a goal.

@@ -1,6 +1,6 @@
 //! Questions about terms without inference variables, put to the evaluation.
 ghost use Rattle.std.specs.Prelude.{◌≡◌, IfOk, IfErr};
-ghost use Rattle.goal_terms.specs.TableMeaning.{Keeps};
+ghost use Rattle.goal_interner.specs.TableMeaning.{Keeps};
 ghost use Rattle.goal_terms.specs.declared.modes.TypingMode.{TypingMode};
 ghost use Rattle.goal_lists.specs.Answers.{setting_of};
 ghost use Rattle.goal_eval.specs.Effects.{AreSound, IsStop};
@@ -14,8 +14,8 @@ use crate::context::EvalCtxt;
 use goal_eval::eval::effects::Effects;
 use goal_eval::eval::outcomes::{OnAccess, Setting, Stop};
 use goal_eval::eval::region_constraints::RegionConstraints;
+use goal_interner::term_table::TermTable;
 use goal_terms::predicates::Clause;
-use goal_terms::term_table::TermTable;
 
 /// A question about terms without inference variables, which the evaluation answers at a depth.
 pub(crate) trait Question {

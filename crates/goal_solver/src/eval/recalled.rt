@@ -1,28 +1,28 @@
 //! Goals with inference variables that are answered once: what is known of one is answered again.
 ghost use Rattle.std.specs.Prelude.{◌≡◌, IsOkUnless};
-ghost use Rattle.goal_terms.specs.TableMeaning.{Keeps};
+ghost use Rattle.goal_interner.specs.TableMeaning.{Keeps};
 ghost use Rattle.goal_infer.specs.Resolution.{IsSolved};
 ghost use Rattle.goal_lists.specs.Interned.{AreIn};
 
 use crate::context::EvalCtxt;
 use crate::context::respond::variable_at;
-use crate::eval::canonical::{CanonicalResponse, canonicalize, list_equations, list_kinds};
 use crate::eval::goal_outcomes::OpenGoal;
-use crate::eval::search_graph::{
-    AskedInput, Begun, CanonicalInput, KeptAnswer, Recalled, StackEntry,
-};
 use crate::faults::Fault;
 use goal_eval::eval::interning::intern_trait_ref;
 use goal_eval::eval::outcomes::Stop;
 use goal_infer::followed::follow;
 use goal_infer::state::InferState;
+use goal_interner::term_nodes::{OutOfMemory, TermId};
+use goal_interner::term_table::TermTable;
 use goal_lists::outcomes::Outcome;
+use goal_search::canonical::{CanonicalResponse, canonicalize, list_equations, list_kinds};
+use goal_search::search_graph::{
+    AskedInput, Begun, CanonicalInput, KeptAnswer, Recalled, StackEntry,
+};
 use goal_terms::answers::Certainty;
 use goal_terms::heads::{Node, Variable};
 use goal_terms::ids::TraitId;
 use goal_terms::predicates::{BoundConstness, Clause};
-use goal_terms::term_nodes::{OutOfMemory, TermId};
-use goal_terms::term_table::TermTable;
 use goal_terms::terms::AliasTerm;
 use goal_terms::view::TermRef;
 
@@ -120,7 +120,7 @@ impl EvalCtxt<'_> {
             begun,
             names,
         };
-        self.search_graph.begin(asked, self.remaining_depth)
+        Ok(self.search_graph.begin(asked, self.remaining_depth)?)
     }
 
     /// The number by which a goal is known: by canonical variables if its answer lasts, and else as it stands.

@@ -1,7 +1,7 @@
 //! The head forms of terms in a context.
 ghost use Rattle.std.specs.Prelude.{◌≡◌, ◌||◌, true, false, Ok, None, IfOk, IfErr, IfSome};
 ghost use Rattle.goal_terms.specs.NodeTests.{is_any_infer, some_node};
-ghost use Rattle.goal_terms.specs.TableMeaning.{tree_at, Keeps, HasTerm};
+ghost use Rattle.goal_interner.specs.TableMeaning.{tree_at, Keeps, HasTerm};
 ghost use Rattle.goal_terms.specs.Tree.{node_of};
 ghost use Rattle.goal_terms.specs.declared.modes.TypingMode.{TypingMode as modes};
 ghost use Rattle.goal_tables.specs.Predicates.{some_in_env as some_env};
@@ -23,17 +23,17 @@ ghost use Rattle.goal_solver.specs.Promises.{WhereOwed};
 use crate::context::EvalCtxt;
 use crate::eval::questions::Question;
 use crate::faults::Fault;
+use goal_checks::predicate_terms::some_in_env;
 use goal_eval::eval::effects::Effects;
 use goal_eval::eval::head_forms::head_form;
 use goal_eval::eval::outcomes::{Found, Setting, Stop};
 use goal_eval::eval::region_constraints::RegionConstraints;
 use goal_infer::followed::follow;
-use goal_tables::predicate_terms::some_in_env;
+use goal_interner::term_nodes::TermId;
+use goal_interner::term_table::TermTable;
 use goal_terms::heads::Node;
 use goal_terms::node_tests::NodeTest;
 use goal_terms::predicates::Clause;
-use goal_terms::term_nodes::TermId;
-use goal_terms::term_table::TermTable;
 use goal_terms::terms::Term;
 
 /// A term of which the head form is asked for.

@@ -23,16 +23,16 @@ use crate::context::respond::copied_args;
 use crate::eval::closed_goals::is_closed_alias;
 use crate::eval::where_goals::copied_clauses;
 use crate::faults::Fault;
+use goal_checks::checked::CheckedTables;
+use goal_interner::term_nodes::OutOfMemory;
 use goal_kinds::assembly::group_rules::{GroupRules, rules_by_group};
 use goal_kinds::goal_kind::GoalKind;
 use goal_kinds::rules::aliases::alias_rule;
 use goal_kinds::rules::{RuleEntry, RuleTerm};
-use goal_tables::checked::CheckedTables;
 use goal_terms::answers::{Certainty, Response, TraitGoalProvenVia};
 use goal_terms::node_tests::general_variable;
 use goal_terms::predicates::{Clause, Goal, NormalizesTo, TraitPredicate, TraitRef};
 use goal_terms::slices::behind;
-use goal_terms::term_nodes::OutOfMemory;
 use goal_terms::terms::{AliasTerm, Const, GenericArg, Term, Ty};
 
 impl EvalCtxt<'_> {

@@ -1,7 +1,7 @@
 //! The terms that projections have through a class by which their trait goals hold.
 ghost use Rattle.std.specs.Prelude.{◌≡◌, ◌⊎◌, true, [], length, Some, None, IfOk, IfErr};
 ghost use Rattle.goal_terms.specs.declared.answers.Certainty.TheVariants as certainty;
-ghost use Rattle.goal_terms.specs.TableMeaning.{Keeps};
+ghost use Rattle.goal_interner.specs.TableMeaning.{Keeps};
 ghost use Rattle.goal_terms.specs.declared.modes.TypingMode.{TypingMode};
 ghost use Rattle.goal_lists.specs.Projections.{projected_item};
 ghost use Rattle.goal_lists.specs.Settings.{is_headline};
@@ -22,11 +22,11 @@ use goal_eval::eval::interning::intern_args;
 use goal_eval::eval::outcomes::{Found, Setting, Stop};
 use goal_eval::eval::region_constraints::RegionConstraints;
 use goal_eval::normalizes_to::projections::{Given, term_proven_via};
+use goal_interner::term_table::TermTable;
 use goal_terms::answers::{Certainty, Response, TraitGoalProvenVia};
 use goal_terms::ids::ItemId;
 use goal_terms::node_tests::general_variable;
 use goal_terms::predicates::{Clause, NormalizesTo};
-use goal_terms::term_table::TermTable;
 use goal_terms::terms::{AliasTerm, AliasTermKind};
 
 /// The item that a kind of alias projects.

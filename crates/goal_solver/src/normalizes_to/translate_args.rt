@@ -3,7 +3,7 @@ ghost use Rattle.std.specs.Prelude.{◌≡◌, ◌↔◌, ◌||◌, ◌++◌, Li
 ghost use Rattle.std.specs.List.{list_any};
 ghost use Rattle.goal_terms.specs.Erased.{erased};
 ghost use Rattle.goal_terms.specs.NodeTests.{is_any_infer, some_node};
-ghost use Rattle.goal_terms.specs.TableMeaning.{tree_at, Keeps};
+ghost use Rattle.goal_interner.specs.TableMeaning.{tree_at, Keeps};
 ghost use Rattle.goal_terms.specs.Tree.{Tree};
 ghost use Rattle.goal_terms.specs.TreeOf.{trees_of};
 ghost use Rattle.goal_terms.specs.declared.heads.Variable.{Variable};
@@ -31,13 +31,15 @@ use crate::eval::open_terms::any_variable;
 use crate::eval::questions::Question;
 use crate::eval::where_goals::goals_under;
 use crate::faults::Fault;
+use goal_checks::predicate_terms::some_in_env;
 use goal_eval::eval::effects::Effects;
 use goal_eval::eval::interning::intern_args;
 use goal_eval::eval::outcomes::{HeaderMatch, Setting, Stop};
 use goal_eval::eval::region_constraints::RegionConstraints;
 use goal_eval::relate::headers::{AskedHeader, match_header};
 use goal_infer::followed::follow_all;
-use goal_tables::predicate_terms::some_in_env;
+use goal_interner::term_nodes::TermId;
+use goal_interner::term_table::TermTable;
 use goal_tables::rows::{Container, ImplRow};
 use goal_terms::answers::Certainty;
 use goal_terms::ids::ImplId;
@@ -45,8 +47,6 @@ use goal_terms::instantiate::{instantiate_args, rebase_onto};
 use goal_terms::modes::TypingMode;
 use goal_terms::node_tests::NodeTest;
 use goal_terms::predicates::{Clause, Goal, NormalizesTo, TraitRef};
-use goal_terms::term_nodes::TermId;
-use goal_terms::term_table::TermTable;
 use goal_terms::terms::GenericArg;
 
 /// An impl's header, matched with given terms.

@@ -1,14 +1,14 @@
 //! Headers of which constructors stand against aliases.
 ghost use Rattle.std.specs.Prelude.{◌≡◌, ◌<◌, length, IfOk, OnOk, IsTrue};
 ghost use Rattle.std.specs.List.{AllZip};
-ghost use Rattle.goal_terms.specs.TableMeaning.{tree_at, AreBelow, Keeps};
+ghost use Rattle.goal_interner.specs.TableMeaning.{tree_at, AreBelow, Keeps};
 ghost use Rattle.goal_solver.specs.OpenHeaders.{is_entered, trees_at, HaveOneSort, IsPutAt, ArePutAt, IsFormIn, Lists};
 
+use goal_interner::term_nodes::{OutOfMemory, TermId};
+use goal_interner::term_table::TermTable;
 use goal_terms::compare::Regions;
 use goal_terms::heads::{Head, Node};
 use goal_terms::sorts::Sort;
-use goal_terms::term_nodes::{OutOfMemory, TermId};
-use goal_terms::term_table::TermTable;
 use goal_terms::view::{Parts, TermRef};
 
 /// An alias, and what was found as its head form.

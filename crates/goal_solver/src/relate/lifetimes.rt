@@ -1,6 +1,6 @@
 //! Equations of the lifetimes of terms that were made equal.
 ghost use Rattle.std.specs.Prelude.{◌≡◌, ◌+◌, ◌<◌, ◌^◌, ◌++◌, ℕ, List, length, map, replicate, OnOk, OnErr};
-ghost use Rattle.goal_terms.specs.TableMeaning.{tree_at, AreBelow, Keeps};
+ghost use Rattle.goal_interner.specs.TableMeaning.{tree_at, AreBelow, Keeps};
 ghost use Rattle.goal_terms.specs.Tree.{Tree};
 ghost use Rattle.goal_infer.specs.Inference as inferences;
 ghost use Rattle.goal_infer.specs.RegionEquations.{AddsRegions, equated};
@@ -14,9 +14,9 @@ use crate::context::EvalCtxt;
 use goal_infer::followed::follow;
 use goal_infer::region_equations::equate_regions;
 use goal_infer::state::InferState;
+use goal_interner::term_nodes::{OutOfMemory, TermId};
+use goal_interner::term_table::TermTable;
 use goal_terms::answers::VarKind;
-use goal_terms::term_nodes::{OutOfMemory, TermId};
-use goal_terms::term_table::TermTable;
 
 impl EvalCtxt<'_> {
     /// Adds the equations of lifetimes for two lists of terms, pair by pair: of a pair that is identical,

@@ -1,6 +1,6 @@
 //! Equating two lists of terms at a depth: unification, and what is left compared.
 ghost use Rattle.std.specs.Prelude.{◌≡◌, true, IsTrue, ◌↔◌, IfOk, IfErr};
-ghost use Rattle.goal_terms.specs.TableMeaning.{Keeps};
+ghost use Rattle.goal_interner.specs.TableMeaning.{Keeps};
 ghost use Rattle.goal_terms.specs.Tree.{Tree};
 ghost use Rattle.goal_terms.specs.declared.heads.Variable.{Variable};
 ghost use Rattle.goal_infer.specs.ListUnification.{MakesAllSame, AreDecidedWherePlain, AreIdentified, AreClashing, AreUntouched};
@@ -17,19 +17,19 @@ ghost use Rattle.goal_solver.specs.State.{kinds_of};
 use crate::context::EvalCtxt;
 use crate::eval::questions::Question;
 use crate::relate::resolved::{RelatedUnder, relate_resolved_lists};
+use goal_checks::predicate_terms::some_in_env;
 use goal_eval::eval::effects::Effects;
 use goal_eval::eval::outcomes::{Setting, Stop};
 use goal_eval::eval::region_constraints::RegionConstraints;
 use goal_infer::followed::follow_all;
 use goal_infer::unify::Unified;
 use goal_infer::unify_all::unify_all;
+use goal_interner::term_nodes::{OutOfMemory, TermId};
+use goal_interner::term_table::TermTable;
 use goal_lists::outcomes::Outcome;
-use goal_tables::predicate_terms::some_in_env;
 use goal_terms::modes::TypingMode;
 use goal_terms::node_tests::NodeTest;
 use goal_terms::predicates::Clause;
-use goal_terms::term_nodes::{OutOfMemory, TermId};
-use goal_terms::term_table::TermTable;
 
 /// Two lists of terms whose bindings are followed. Aliases are opened only where `opens` says so.
 #[derive(Clone, Copy)]

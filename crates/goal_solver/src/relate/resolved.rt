@@ -1,7 +1,7 @@
 //! What terms come to that may hold inference variables.
 ghost use Rattle.std.specs.Prelude.{◌≡◌, ◌<◌, ◌||◌, not, IfOk, IfErr, length};
 ghost use Rattle.goal_terms.specs.NodeTests.{some_node, is_any_infer};
-ghost use Rattle.goal_terms.specs.TableMeaning.{tree_at, Keeps};
+ghost use Rattle.goal_interner.specs.TableMeaning.{tree_at, Keeps};
 ghost use Rattle.goal_lists.specs.Interned.{erased_at, erased_all};
 ghost use Rattle.goal_eval.specs.Pending.{AreOfOneKind, AreListsOfOneKind, NeedForms};
 ghost use Rattle.goal_solver.specs.Settled.{IsSettled, AreSettled, HoldsWithMemory};
@@ -11,10 +11,10 @@ use goal_eval::eval::effects::Effects;
 use goal_eval::eval::outcomes::{Setting, Stop};
 use goal_eval::relate::equality::compare_terms;
 use goal_eval::relate::pairs::{Tops, compare_tops};
+use goal_interner::term_nodes::TermId;
+use goal_interner::term_table::TermTable;
 use goal_lists::lists::parts::copied;
 use goal_lists::outcomes::Outcome;
-use goal_terms::term_nodes::TermId;
-use goal_terms::term_table::TermTable;
 
 /// Under what terms are related that may hold inference variables: the setting, whether aliases are opened, which they
 /// are where the environment holds no variable, and the depth.

@@ -1,6 +1,6 @@
 //! Trait goals with inference variables.
 ghost use Rattle.std.specs.Prelude.{◌≡◌, ◌<◌, ℕ, suc, [], true, is_some, length, Option, Result, None, Ok, Err, IfOk, IfErr, IfSome, IsOkUnless};
-ghost use Rattle.goal_terms.specs.TableMeaning.{Keeps};
+ghost use Rattle.goal_interner.specs.TableMeaning.{Keeps};
 ghost use Rattle.goal_terms.specs.TreeOf.{tree_of_ty};
 ghost use Rattle.goal_solver.specs.Binding.{IsApplicable};
 ghost use Rattle.goal_solver.specs.Answers.{IsQuiet};

@@ -6,10 +6,10 @@ ghost use Rattle.goal_infer.specs.Replacement.{is_type};
 ghost use Rattle.goal_solver.specs.Binding.{IsFreeFor, OfVariable};
 
 use crate::tests::sketches::{TypeSketch, V0, alias_goal_of, ty_of};
+use goal_checks::checked::CheckedTables;
 use goal_solver::context::EvalCtxt;
 use goal_solver::eval::goals::check_goal;
 use goal_solver::faults::Fault;
-use goal_tables::checked::CheckedTables;
 use goal_terms::predicates::{Goal, NormalizesTo};
 use goal_terms::sorts::Sort;
 use goal_terms::terms::{AliasTermKind, Term};

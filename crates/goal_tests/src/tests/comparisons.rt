@@ -4,10 +4,10 @@ use crate::tests::sketches::{
     ASSOC, Asked, I32, STRUCT_X, STRUCT_Z, TR_A, TermSketch, TypeSketch, U64, V0, VEC_OF_U32,
     goal_of,
 };
+use goal_checks::checked::{CheckedTables, check_tables};
 use goal_program::names::VEC;
 use goal_program::tables::{tables_with_specialized_impl, whole_tables};
 use goal_solver::comparison::{Comparison, compare_runs};
-use goal_tables::checked::{CheckedTables, check_tables};
 use goal_tables::rows::{DefRow, DefValue, ImplRow, SourceRow, Tables};
 use goal_terms::ids::{DefId, ImplId};
 use goal_terms::modes::TypingMode;

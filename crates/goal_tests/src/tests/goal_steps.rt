@@ -2,10 +2,10 @@
 use crate::tests::entries::{ResponseSketch, response_of};
 use crate::tests::expected::Expected;
 use crate::tests::sketches::{Asked, TypeSketch, V1, alias_goal_of, goal_of, trait_goal_of, ty_of};
+use goal_checks::checked::CheckedTables;
 use goal_solver::context::EvalCtxt;
 use goal_solver::eval::goals::{GoalFault, check_goal};
 use goal_solver::faults::Fault;
-use goal_tables::checked::CheckedTables;
 use goal_terms::answers::{Certainty, GoalSource, Response, TraitGoalProvenVia};
 use goal_terms::ids::TraitId;
 use goal_terms::predicates::{Goal, NormalizesTo, TraitPredicate};

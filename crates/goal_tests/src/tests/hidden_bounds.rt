@@ -1,10 +1,10 @@
 //! The bounds of an opaque type, which are asked of its hidden type.
 use crate::tests::expected::{Expected, NO, YES};
 use crate::tests::sketches::{ClauseSketch, STRUCT_Z, T, TypeSketch, U8, clause_of, ty_of};
+use goal_checks::checked::{CheckedTables, check_tables};
 use goal_program::names::TR;
 use goal_program::tables::whole_tables;
 use goal_solver::context::EvalCtxt;
-use goal_tables::checked::{CheckedTables, check_tables};
 use goal_tables::rows::OpaqueRow;
 use goal_terms::ids::OpaqueId;
 use goal_terms::modes::TypingMode;

@@ -2,9 +2,9 @@
 ghost use Rattle.std.specs.Prelude.{◌≡◌};
 
 use crate::tests::changes::{Change, changed_tables};
+use goal_checks::checked::{CheckedTables, check_tables};
 use goal_solver::context::EvalCtxt;
 use goal_solver::faults::Fault;
-use goal_tables::checked::{CheckedTables, check_tables};
 use goal_terms::answers::VarKind;
 use goal_terms::modes::TypingMode;
 use goal_terms::terms::GenericArg;

@@ -1,8 +1,8 @@
 //! The faults of tables that no text can make, since it has names and no numbers.
+use goal_checks::checked::check_tables;
 use goal_program::names::P;
 use goal_program::tables::whole_tables;
 use goal_program::types::struct_row;
-use goal_tables::checked::check_tables;
 use goal_tables::faults::TableFault;
 use goal_tables::rows::Tables;
 use goal_terms::ids::{ImplId, TraitId};

@@ -1,6 +1,6 @@
 //! Which rows lang items name.
 use crate::rows::Text;
-use goal_tables::lang::LangRow;
+use goal_terms::lang::LangRow;
 use vurloske_names::faults::ItemFault;
 
 impl Text<'_> {

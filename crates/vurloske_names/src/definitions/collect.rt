@@ -4,11 +4,11 @@ use crate::builtins::{Builtin, lang_item};
 use crate::definitions::places::{InherentEntry, ItemEntry};
 use crate::definitions::{Definition, Definitions, ItemKey, Named, Owners};
 use crate::faults::{ItemFault, wrong_name};
-use goal_tables::lang::{LangItem, LangRow, LangTarget};
 use goal_terms::ids::{
     AdtId, ClosureId, FnId, ForeignId, FreeId, ImplId, InherentId, InherentImplId, ItemId,
     OpaqueId, TraitId,
 };
+use goal_terms::lang::{LangItem, LangRow, LangTarget};
 use std::alloc::Global;
 use vurloske_ast::ast::{
     Adt, AssocItem, Ast, AttrValue, Closure, Fn, Free, FreeValue, Generics, Ident, Impl, Item,

@@ -1,7 +1,7 @@
 //! What the entries of a list come to.
 ghost use Rattle.std.specs.Prelude.{◌≡◌, true, false, List, IfErr, IfOk, IfSome, slice_get};
 ghost use Rattle.std.specs.Option.{ForSome, option_copied};
-ghost use Rattle.goal_terms.specs.TableMeaning.{Keeps};
+ghost use Rattle.goal_interner.specs.TableMeaning.{Keeps};
 ghost use Rattle.goal_terms.specs.Tree.{Tree};
 ghost use Rattle.goal_lists.specs.Causes.{IsCaused, IsCausedEntry};
 ghost use Rattle.goal_lists.specs.Interned.{AreIn, erased_all};
@@ -25,6 +25,8 @@ use crate::normalizes_to::opaque_types::checked_type;
 use crate::relate::equality::compare_lists;
 use crate::relate::header_args::instances;
 use crate::relate::headers::{AskedHeader, match_header};
+use goal_interner::term_nodes::TermId;
+use goal_interner::term_table::TermTable;
 use goal_lists::candidates::premises::traits_under;
 use goal_lists::lists::parts::copied;
 use goal_lists::lists::{
@@ -33,8 +35,6 @@ use goal_lists::lists::{
 use goal_lists::outcomes::Outcome;
 use goal_terms::answers::{DelayedFault, OpaqueAccess};
 use goal_terms::predicates::{BoundConstness, Clause, TraitRef};
-use goal_terms::term_nodes::TermId;
-use goal_terms::term_table::TermTable;
 
 /// What a row asks for under arguments: its clauses, or its const conditions with a constness.
 #[derive(Clone, Copy)]

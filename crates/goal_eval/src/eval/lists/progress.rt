@@ -6,9 +6,9 @@ ghost use Rattle.goal_eval.specs.Outcomes.{FoundIn};
 
 use crate::eval::lists::ListOutcome;
 use crate::eval::outcomes::{Found, HeaderMatch};
+use goal_interner::term_nodes::{OutOfMemory, TermId};
+use goal_interner::term_table::TermTable;
 use goal_lists::outcomes::Outcome;
-use goal_terms::term_nodes::{OutOfMemory, TermId};
-use goal_terms::term_table::TermTable;
 use std::alloc::Global;
 
 /// How far a list of entries was run: the lists of arguments that were named so far, whether all entries so

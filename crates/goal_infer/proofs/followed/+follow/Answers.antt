@@ -4,11 +4,11 @@ use Rattle.std.proofs.lemmas.Bool.{false≢true}
 use Rattle.std.proofs.lemmas.List.{take_all}
 use Rattle.std.proofs.lemmas.Result.{IfOk-weaker}
 use Rattle.goal_terms.specs.Sorts.{part_at}
-use Rattle.goal_terms.specs.TableMeaning.{tree_at}
+use Rattle.goal_interner.specs.TableMeaning.{tree_at}
 use Rattle.goal_terms.specs.Tree.{parts_of}
 use Rattle.goal_terms.specs.TreeWith.{tree_with}
-use Rattle.goal_terms.proofs.InternLemmas.{keeps-chain}
-use Rattle.goal_terms.proofs.UnderLemmas.{count-parts}
+use Rattle.goal_interner.proofs.InternLemmas.{keeps-chain}
+use Rattle.goal_interner.proofs.UnderLemmas.{count-parts}
 use Rattle.goal_infer.proofs.FollowLemmas.{IsFollowed, fits-followed, followed-with, followed-unchanged, followed-from, followed-tree, followed-sort, followed-same, followed-part, lower-followed, followed-more, followed-all, within-more, unchanged-more}
 use Rattle.goal_infer.proofs.SolvedLemmas.{solved-kept}
 use Rattle.goal_infer.proofs.followed.+follow.Goals as goal

@@ -1,7 +1,7 @@
 use Rattle.std.proofs.Common.{◌≡◌, length, map, take}
 use Rattle.std.specs.Prelude.{IsTrue}
 use Rattle.std.specs.List.{AllZip}
-use Rattle.goal_terms.specs.TableMeaning.{tree_at, AreBelow, Keeps}
+use Rattle.goal_interner.specs.TableMeaning.{tree_at, AreBelow, Keeps}
 use Rattle.goal_terms.specs.Tree.{parts_of}
 use Rattle.goal_infer.specs.Resolution.{resolved}
 use Rattle.goal_infer.proofs.FollowLemmas.{IsFollowed}

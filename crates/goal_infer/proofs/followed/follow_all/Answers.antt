@@ -2,9 +2,9 @@ use Rattle.std.proofs.Common.{◌<◌, length, map, arith}
 use Rattle.std.specs.List.{AllZip}
 use Rattle.std.proofs.lemmas.List.{length-map}
 use Rattle.goal_terms.specs.Sorts.{tree_in}
-use Rattle.goal_terms.specs.TableMeaning.{tree_at}
-use Rattle.goal_terms.specs.declared.term_nodes.TermId.{TermId}
-use Rattle.goal_terms.proofs.InternLemmas.{keeps-chain}
+use Rattle.goal_interner.specs.TableMeaning.{tree_at}
+use Rattle.goal_interner.specs.declared.term_nodes.TermId.{TermId}
+use Rattle.goal_interner.proofs.InternLemmas.{keeps-chain}
 use Rattle.goal_infer.proofs.FollowLemmas.{IsFollowed, followed-part, followed-more, followed-all, within-more, tree-among, all-trees, all-sorts, all-same}
 use Rattle.goal_infer.proofs.SolvedLemmas.{solved-kept}
 use Rattle.goal_infer.proofs.followed.follow_all.Goals as goal

@@ -1,6 +1,6 @@
 use Rattle.std.proofs.Common.{length, map, take}
 use Rattle.std.specs.List.{AllZip}
-use Rattle.goal_terms.specs.TableMeaning.{tree_at, AreBelow, Keeps}
+use Rattle.goal_interner.specs.TableMeaning.{tree_at, AreBelow, Keeps}
 use Rattle.goal_infer.proofs.FollowLemmas.{IsFollowed}
 use Rattle.goal_infer.proofs.followed.follow_all.Given as goal
 

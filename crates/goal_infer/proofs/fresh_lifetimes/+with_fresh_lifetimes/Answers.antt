@@ -1,9 +1,9 @@
 use Rattle.std.proofs.Common.{◌<◌, length, subst, sym, arith}
 use Rattle.std.proofs.lemmas.Result.{IfOk-weaker}
-use Rattle.goal_terms.specs.TableMeaning.{tree_at}
+use Rattle.goal_interner.specs.TableMeaning.{tree_at}
 use Rattle.goal_terms.specs.Tree.{parts_of}
-use Rattle.goal_terms.proofs.InternLemmas.{keeps-chain}
-use Rattle.goal_terms.proofs.UnderLemmas.{count-parts}
+use Rattle.goal_interner.proofs.InternLemmas.{keeps-chain}
+use Rattle.goal_interner.proofs.UnderLemmas.{count-parts}
 use Rattle.goal_infer.specs.FreshLifetimes.{IsFreshened}
 use Rattle.goal_infer.proofs.FollowLemmas.{within-more}
 use Rattle.goal_infer.proofs.FreshLifetimeLemmas.{fits-fresh, fresh-with, fresh-more, fresh-all}

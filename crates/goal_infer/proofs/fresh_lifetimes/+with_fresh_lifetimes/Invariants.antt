@@ -1,6 +1,6 @@
 use Rattle.std.proofs.Common.{length, map, take}
 use Rattle.std.specs.List.{AllZip}
-use Rattle.goal_terms.specs.TableMeaning.{tree_at, AreBelow, Keeps}
+use Rattle.goal_interner.specs.TableMeaning.{tree_at, AreBelow, Keeps}
 use Rattle.goal_terms.specs.Tree.{parts_of}
 use Rattle.goal_infer.specs.FreshLifetimes.{IsFreshened}
 use Rattle.goal_infer.proofs.fresh_lifetimes.+with_fresh_lifetimes.Given as goal

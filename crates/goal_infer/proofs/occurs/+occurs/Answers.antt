@@ -1,7 +1,7 @@
 use Rattle.std.proofs.Common.{◌<◌, ◌+◌, length, ap, ◌∙◌, sym, subst, arith, get_or}
 use Rattle.goal_terms.specs.Tree.{node_of}
-use Rattle.goal_terms.specs.TableMeaning.{tree_at}
-use Rattle.goal_terms.specs.declared.term_nodes.TermId.{TermId}
+use Rattle.goal_interner.specs.TableMeaning.{tree_at}
+use Rattle.goal_interner.specs.declared.term_nodes.TermId.{TermId}
 use Rattle.std.proofs.lemmas.List.Elements.{All-get_or}
 use Rattle.goal_infer.specs.Occurrence.{joined, place_under, place_of, place_at}
 use Rattle.goal_infer.proofs.PartLemmas.{is_above, above-if, place-variable, place-parts, places_from, places-more, places-end, places-all, joined-nothing, height-part}

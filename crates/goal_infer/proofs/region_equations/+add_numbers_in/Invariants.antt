@@ -1,6 +1,6 @@
 use Rattle.std.proofs.Common.{◌≡◌}
 use Rattle.std.specs.Prelude.{fold}
-use Rattle.goal_terms.specs.TableMeaning.{tree_at}
+use Rattle.goal_interner.specs.TableMeaning.{tree_at}
 use Rattle.goal_infer.specs.RegionEquations.{numbers_in, with_number}
 use Rattle.goal_infer.proofs.RegionEquationLemmas.{numbers_from}
 use Rattle.goal_infer.proofs.region_equations.+add_numbers_in.Given as goal

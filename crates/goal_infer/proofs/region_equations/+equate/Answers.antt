@@ -1,9 +1,9 @@
 use Rattle.std.proofs.Common.{◌<◌, ◌≤◌, ◌+◌, length, get_or, refl, ap, ◌∙◌, arith}
 use Rattle.std.proofs.lemmas.List.Elements.{All-get_or}
 use Rattle.goal_terms.specs.Regions.{region_of}
-use Rattle.goal_terms.specs.TableMeaning.{tree_at}
+use Rattle.goal_interner.specs.TableMeaning.{tree_at}
 use Rattle.goal_terms.specs.Tree.{node_of}
-use Rattle.goal_terms.specs.declared.term_nodes.TermId.{TermId}
+use Rattle.goal_interner.specs.declared.term_nodes.TermId.{TermId}
 use Rattle.goal_infer.specs.RegionEquations.{own_equation, equated_in, with_regions}
 use Rattle.goal_infer.proofs.RegionStateLemmas.{adds-through}
 use Rattle.goal_infer.proofs.RegionEquationLemmas.{scopes-left, scopes-deep, equated-started, equated-more, equated-done, tops-identical, parts-counted, parts-identical}

@@ -1,5 +1,5 @@
 use Rattle.std.proofs.Common.{◌≡◌}
-use Rattle.goal_terms.specs.TableMeaning.{tree_at}
+use Rattle.goal_interner.specs.TableMeaning.{tree_at}
 use Rattle.goal_infer.specs.RegionEquations.{AddsRegions, equated_in}
 use Rattle.goal_infer.proofs.RegionEquationLemmas.{equated_from}
 use Rattle.goal_infer.proofs.region_equations.+equate.Given as goal

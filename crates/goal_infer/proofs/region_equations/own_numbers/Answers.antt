@@ -1,6 +1,6 @@
 use Rattle.std.proofs.Common.{ap, ◌∙◌, arith}
 use Rattle.std.specs.Prelude.{fold}
-use Rattle.goal_terms.specs.TableMeaning.{tree_at}
+use Rattle.goal_interner.specs.TableMeaning.{tree_at}
 use Rattle.goal_infer.specs.RegionEquations.{is_binder, with_number}
 use Rattle.goal_infer.proofs.RegionEquationLemmas.{numbers_from, own-started, own-none, numbers-more, numbers-done}
 use Rattle.goal_infer.proofs.region_equations.own_numbers.Goals as goal

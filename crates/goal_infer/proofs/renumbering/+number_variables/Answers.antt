@@ -1,5 +1,5 @@
 use Rattle.std.proofs.Common.{arith}
-use Rattle.goal_terms.specs.TableMeaning.{tree_at}
+use Rattle.goal_interner.specs.TableMeaning.{tree_at}
 use Rattle.goal_infer.proofs.RenumberingLemmas.{numbered-started, numbered-more, numbered-done}
 use Rattle.goal_infer.proofs.renumbering.+number_variables.Goals as goal
 

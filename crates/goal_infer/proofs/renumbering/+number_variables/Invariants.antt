@@ -1,5 +1,5 @@
 use Rattle.std.proofs.Common.{◌≡◌}
-use Rattle.goal_terms.specs.TableMeaning.{tree_at}
+use Rattle.goal_interner.specs.TableMeaning.{tree_at}
 use Rattle.goal_infer.specs.Renumbering.{numbered}
 use Rattle.goal_infer.proofs.RenumberingLemmas.{numbered_from}
 use Rattle.goal_infer.proofs.renumbering.+number_variables.Given as goal

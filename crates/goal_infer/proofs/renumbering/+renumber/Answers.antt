@@ -1,9 +1,9 @@
 use Rattle.std.proofs.Common.{◌<◌, length, ◌∙◌, arith}
 use Rattle.std.proofs.lemmas.Result.{IfOk-weaker}
-use Rattle.goal_terms.specs.TableMeaning.{tree_at}
+use Rattle.goal_interner.specs.TableMeaning.{tree_at}
 use Rattle.goal_terms.specs.Tree.{parts_of}
-use Rattle.goal_terms.proofs.InternLemmas.{keeps-chain}
-use Rattle.goal_terms.proofs.UnderLemmas.{count-parts}
+use Rattle.goal_interner.proofs.InternLemmas.{keeps-chain}
+use Rattle.goal_interner.proofs.UnderLemmas.{count-parts}
 use Rattle.goal_infer.proofs.FollowLemmas.{within-more}
 use Rattle.goal_infer.proofs.RenumberingLemmas.{fits-renumbered, made-renumbered, renumbered-more, all-renumbered}
 use Rattle.goal_infer.proofs.renumbering.+renumber.Goals as goal

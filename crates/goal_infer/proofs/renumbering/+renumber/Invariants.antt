@@ -1,5 +1,5 @@
 use Rattle.std.proofs.Common.{◌≡◌, length, map, take}
-use Rattle.goal_terms.specs.TableMeaning.{tree_at, AreBelow, Keeps}
+use Rattle.goal_interner.specs.TableMeaning.{tree_at, AreBelow, Keeps}
 use Rattle.goal_terms.specs.Tree.{parts_of}
 use Rattle.goal_infer.specs.Renumbering.{renumbered}
 use Rattle.goal_infer.proofs.renumbering.+renumber.Given as goal

@@ -1,6 +1,6 @@
 use Rattle.std.proofs.Common.{◌≡◌, Some, None, ◌∙◌, ap, arith}
 use Rattle.goal_terms.specs.Tree.{node_of}
-use Rattle.goal_terms.specs.TableMeaning.{tree_at}
+use Rattle.goal_interner.specs.TableMeaning.{tree_at}
 use Rattle.goal_infer.specs.Resolution.{binding_at}
 use Rattle.goal_infer.proofs.ResolveLemmas.{near-next, near-last, next-same, next-within}
 use Rattle.goal_infer.proofs.resolve.resolve.Goals as goal

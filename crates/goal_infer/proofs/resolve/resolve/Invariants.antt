@@ -1,6 +1,6 @@
 use Rattle.std.proofs.Common.{◌≡◌, ◌<◌, length, None}
 use Rattle.goal_terms.specs.Tree.{node_of}
-use Rattle.goal_terms.specs.TableMeaning.{tree_at}
+use Rattle.goal_interner.specs.TableMeaning.{tree_at}
 use Rattle.goal_infer.specs.Resolution.{binding_at, resolved}
 use Rattle.goal_infer.proofs.ResolveLemmas.{IsNear}
 use Rattle.goal_infer.proofs.resolve.resolve.Given as goal

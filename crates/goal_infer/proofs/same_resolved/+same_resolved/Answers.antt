@@ -1,9 +1,9 @@
 use Rattle.std.proofs.Common.{◌≡◌, ◌<◌, length, map, ap, ◌∙◌, sym, arith, refl, get_or}
 use Rattle.std.proofs.lemmas.Bool.{false≢true}
 use Rattle.std.proofs.lemmas.List.Elements.{All-get_or}
-use Rattle.goal_terms.specs.TableMeaning.{tree_at}
-use Rattle.goal_terms.specs.declared.term_nodes.TermId.{TermId}
-use Rattle.goal_terms.proofs.SameTermLemmas.{agree-more, agree-none, agree-end, part_at, tops-same, tops-differ, same-count, length-parts}
+use Rattle.goal_interner.specs.TableMeaning.{tree_at}
+use Rattle.goal_interner.specs.declared.term_nodes.TermId.{TermId}
+use Rattle.goal_interner.proofs.SameTermLemmas.{agree-more, agree-none, agree-end, part_at, tops-same, tops-differ, same-count, length-parts}
 use Rattle.goal_infer.proofs.SameLemmas.{settled, settled-is, settled-joined, tops-if, parts-if, lower-part}
 use Rattle.goal_infer.proofs.same_resolved.+same_resolved.Goals as goal
 use Rattle.goal_infer.proofs.ReplacementLemmas.{height}

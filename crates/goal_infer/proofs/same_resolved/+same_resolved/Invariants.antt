@@ -1,5 +1,5 @@
 use Rattle.std.proofs.Common.{◌≡◌, map, take}
-use Rattle.goal_terms.specs.TableMeaning.{tree_at}
+use Rattle.goal_interner.specs.TableMeaning.{tree_at}
 use Rattle.goal_infer.specs.Resolution.{resolved}
 use Rattle.goal_infer.proofs.SameLemmas.{settled}
 use Rattle.goal_infer.proofs.same_resolved.+same_resolved.Given as goal

@@ -1,6 +1,6 @@
 use Rattle.std.proofs.Common.{◌≡◌, ◌+◌, ◌<◌, length, ◌∙◌, sym, subst, refl, arith, get_or}
 use Rattle.std.proofs.lemmas.List.Elements.{All-get_or}
-use Rattle.goal_terms.specs.declared.term_nodes.TermId.{TermId}
+use Rattle.goal_interner.specs.declared.term_nodes.TermId.{TermId}
 use Rattle.goal_infer.specs.Unification.{MakesSame, IsUnified, HaveOneHead, TopsSay, TopsDecide, TopsIdentify, TopsClash}
 use Rattle.goal_infer.specs.declared.unify.Unified.TheVariants.{Yes, Undecided, No}
 use Rattle.goal_infer.proofs.PairLemmas.{SameBelow, said-first, said-yes, said-undecided, said-no, no-count, said-whole, said-given, less-work}

@@ -2,8 +2,8 @@ use Rattle.std.proofs.Common.{◌∙◌, sym, ap, ◌≡◌, refl}
 use Rattle.std.specs.Prelude.{◌||◌}
 use Rattle.std.proofs.lemmas.Bool.{false≢true}
 use Rattle.goal_terms.specs.Tree.{node_of}
-use Rattle.goal_terms.specs.TableMeaning.{tree_at}
-use Rattle.goal_terms.proofs.SameTermLemmas.{tops-same, tops-differ}
+use Rattle.goal_interner.specs.TableMeaning.{tree_at}
+use Rattle.goal_interner.proofs.SameTermLemmas.{tops-same, tops-differ}
 use Rattle.goal_infer.specs.Replacement.{takes}
 use Rattle.goal_infer.specs.Resolution.{resolved}
 use Rattle.goal_infer.specs.Unification.{kinds_of, is_alias, IsDefinite, IsDecidedWherePlain}

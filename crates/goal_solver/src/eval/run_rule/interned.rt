@@ -2,7 +2,7 @@
 ghost use Rattle.std.specs.Prelude.{◌≡◌, List, IfOk, IfErr, IfSome};
 ghost use Rattle.std.specs.Option.{option_copied, option_map};
 ghost use Rattle.goal_terms.specs.PredicateTrees.{tree_of_kind};
-ghost use Rattle.goal_terms.specs.TableMeaning.{Keeps};
+ghost use Rattle.goal_interner.specs.TableMeaning.{Keeps};
 ghost use Rattle.goal_terms.specs.Tree.{Tree};
 ghost use Rattle.goal_terms.specs.TreeOf.{trees_of, tree_of_term};
 ghost use Rattle.goal_tables.specs.Rows.{impl_of};
@@ -24,7 +24,11 @@ use goal_eval::eval::interning::{intern_args, intern_equation};
 use goal_eval::eval::lists::entries::run_entry;
 use goal_eval::eval::lists::progress::{ListRun, Reached};
 use goal_eval::eval::outcomes::{Setting, Stop};
-use goal_kinds::rules::{RowClauses, RowValue, RuleArguments, RuleEntry, RuleHeader, RuleTerm};
+use goal_interner::term_nodes::OutOfMemory;
+use goal_interner::term_table::TermTable;
+use goal_kinds::rules::{
+    ArgsIndex, RowClauses, RowValue, RuleArguments, RuleEntry, RuleHeader, RuleTerm,
+};
 use goal_lists::candidates::interned::{InternedPredicate, InternedTrait};
 use goal_lists::lists::{
     HeaderTerms, InternedArguments, InternedEntry, InternedTerm, RowHeader, RowValueTerm,
@@ -35,8 +39,6 @@ use goal_tables::rows::{DefValue, ImplRow};
 use goal_terms::answers::DelayedFault;
 use goal_terms::ids::ImplId;
 use goal_terms::predicates::{BoundConstness, Clause, ClauseKind, TraitRef};
-use goal_terms::term_nodes::OutOfMemory;
-use goal_terms::term_table::TermTable;
 use goal_terms::terms::{GenericArg, Term};
 
 /// Runs an entry of a rule at a depth. One that says to record something asks for nothing; one whose row is
@@ -192,7 +194,7 @@ fn other_header(
     rows: &IndexedTables,
     other: ImplId,
     of: ImplId,
-    number: u32,
+    number: ArgsIndex,
 ) -> Option<InternedArguments<'_>>
     ensures within { (T : List Tree) → IfSome result (ArgumentsIn T) }
     ensures arguments { (T : List Tree) → option_map (arguments_at T) result ≡ other_arguments (impl_of rows.now other) (impl_of rows.now of) number }
@@ -249,7 +251,11 @@ fn interned_clause(
 }
 
 /// The clauses of a row, under the arguments of a number.
-fn row_clauses(rows: &IndexedTables, row: RowClauses, number: u32) -> Option<InternedEntry<'_>>
+fn row_clauses(
+    rows: &IndexedTables,
+    row: RowClauses,
+    number: ArgsIndex,
+) -> Option<InternedEntry<'_>>
     ensures within { (T : List Tree) → IfSome result (EntryIn T) }
     ensures entry { (T : List Tree) → option_map (entry_at T) result ≡ option_map (λ cs. row_clauses cs number) (clauses_in rows.now row) }
 {
@@ -262,7 +268,7 @@ fn row_conditions(
     rows: &IndexedTables,
     constness: BoundConstness,
     id: ImplId,
-    number: u32,
+    number: ArgsIndex,
 ) -> Option<InternedEntry<'_>>
     ensures within { (T : List Tree) → IfSome result (EntryIn T) }
     ensures entry { (T : List Tree) → option_map (entry_at T) result ≡ option_map (λ rs. row_conditions constness rs number) (conditions_in rows.now id) }

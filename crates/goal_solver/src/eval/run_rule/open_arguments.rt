@@ -12,7 +12,7 @@ ghost use Rattle.goal_solver.specs.Relating.{IsFaultFor};
 use crate::context::EvalCtxt;
 use crate::context::respond::{both, copied_args};
 use crate::faults::Fault;
-use goal_kinds::rules::{RuleArguments, RuleHeader};
+use goal_kinds::rules::{ArgsIndex, RuleArguments, RuleHeader};
 use goal_terms::answers::{Certainty, ParamKind};
 use goal_terms::ids::{ImplId, InherentImplId};
 use goal_terms::instantiate::{instantiate_args, rebase_onto};
@@ -67,7 +67,10 @@ impl OpenRun {
 }
 
 /// The arguments of a number, if they were named.
-pub(crate) fn args_of_number(named: &[Vec<GenericArg>], number: u32) -> Option<&Vec<GenericArg>>
+pub(crate) fn args_of_number(
+    named: &[Vec<GenericArg>],
+    number: ArgsIndex,
+) -> Option<&Vec<GenericArg>>
     ensures { option_copied result ≡ slice_get named.now number }
 {
     named.get(number as usize)
@@ -207,7 +210,7 @@ impl EvalCtxt<'_> {
         named: &[Vec<GenericArg>],
         other: ImplId,
         of: ImplId,
-        number: u32,
+        number: ArgsIndex,
     ) -> Result<NamedArgs, Fault>
         ensures names { IfOk result (λ n. NamesIf environment.now (impl_header self.old.tables other) (given_header self.old.tables of named.now number) self.old n self.new) }
         ensures refused { WhenRefused result (RefusesMatchIf environment.now (impl_header self.old.tables other) (given_header self.old.tables of named.now number) self.old self.new) }
@@ -232,7 +235,7 @@ impl EvalCtxt<'_> {
     fn args_behind(
         &self,
         named: &[Vec<GenericArg>],
-        number: u32,
+        number: ArgsIndex,
         own: &[GenericArg],
     ) -> Result<NamedArgs, Fault>
         ensures names { IfOk result (λ n. Follows (slice_get (named_trees named.now) number) (trees_of own.now) self.now (trees_of n.args.items) n.certainty self.now) }

@@ -19,7 +19,7 @@ use crate::eval::run_rule::interned::{clauses_of, conditions_of};
 use crate::eval::run_rule::open_arguments::{OpenRun, args_of_number};
 use crate::eval::where_goals::predicate_of;
 use crate::faults::Fault;
-use goal_kinds::rules::{RowClauses, RowValue, RuleEntry, RuleTerm};
+use goal_kinds::rules::{ArgsIndex, RowClauses, RowValue, RuleEntry, RuleTerm};
 use goal_tables::lookup::IndexedTables;
 use goal_tables::rows::DefValue;
 use goal_terms::answers::{Certainty, GoalSource, OpaqueAccess};
@@ -167,7 +167,7 @@ impl EvalCtxt<'_> {
         environment: &[Clause],
         named: &[Vec<GenericArg>],
         row: RowClauses,
-        number: u32,
+        number: ArgsIndex,
     ) -> Result<Certainty, Fault>
         ensures added { IfOk result (λ c. AddsRow clauses_with (source_of row) environment.now (clauses_in self.old.tables row) (args_at named.now number) self.old c self.new) }
         ensures faults { RecordsCausedFaults self.old self.new }
@@ -216,7 +216,7 @@ impl EvalCtxt<'_> {
         named: &[Vec<GenericArg>],
         constness: BoundConstness,
         row: ImplId,
-        number: u32,
+        number: ArgsIndex,
     ) -> Result<Certainty, Fault>
         ensures added { IfOk result (λ c. AddsRowConditions constness environment.now (conditions_in self.old.tables row) (args_at named.now number) self.old c self.new) }
         ensures faults { RecordsCausedFaults self.old self.new }
@@ -294,7 +294,7 @@ impl EvalCtxt<'_> {
         named: &[Vec<GenericArg>],
         expected: &Term,
         value: RowValue,
-        number: u32,
+        number: ArgsIndex,
     ) -> Result<Certainty, Fault>
         ensures gives { IfOk result (λ c. GivesValue environment.now (tree_of_term expected.now) (value_in self.old.tables value) (args_at named.now number) self.old c self.new) }
         ensures refused { WhenRefused result (RefusesValue environment.now (tree_of_term expected.now) (value_in self.old.tables value) (args_at named.now number) self.old self.new) }

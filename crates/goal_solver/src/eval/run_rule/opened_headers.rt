@@ -1,7 +1,7 @@
 //! The given terms of headers that a list with inference variables matches: an alias against which a constructor of the
 //! header stands gives way to its head form.
 ghost use Rattle.std.specs.Prelude.{◌≡◌, ◌⊎◌, ◌<◌, ◌≤◌, List, length, None, Ok, Some, IfOk, IfSome, OnOk, IsOkUnless};
-ghost use Rattle.goal_terms.specs.TableMeaning.{tree_at, AreBelow, Keeps};
+ghost use Rattle.goal_interner.specs.TableMeaning.{tree_at, AreBelow, Keeps};
 ghost use Rattle.goal_terms.specs.TreeOf.{trees_of};
 ghost use Rattle.goal_terms.specs.View.{trees_seen};
 ghost use Rattle.goal_terms.specs.declared.answers.ParamKind.{ParamKind};
@@ -18,13 +18,13 @@ use crate::context::rebuilding::rebuilt_args;
 use crate::eval::run_rule::open_arguments::{NamedArgs, args_of_number};
 use crate::faults::Fault;
 use crate::relate::headers::{FoundForm, have_one_sort, list_aliases, put_form};
-use goal_kinds::rules::{RuleArguments, RuleHeader};
+use goal_interner::term_nodes::TermId;
+use goal_kinds::rules::{ArgsIndex, RuleArguments, RuleHeader};
 use goal_tables::lookup::IndexedTables;
 use goal_terms::heads::Node;
 use goal_terms::ids::ImplId;
 use goal_terms::instantiate::instantiate_args;
 use goal_terms::predicates::Clause;
-use goal_terms::term_nodes::TermId;
 use goal_terms::terms::GenericArg;
 use goal_terms::view::Parts;
 
@@ -112,7 +112,7 @@ impl<'t> EvalCtxt<'t> {
         &self,
         named: &[Vec<GenericArg>],
         of: ImplId,
-        number: u32,
+        number: ArgsIndex,
     ) -> Result<Option<Vec<GenericArg>>, Fault>
         ensures given { IfOk result (λ o. IfSome o (λ given. given_header self.now.tables of named.now number ≡ Some (trees_of given.items))) }
         ensures only_memory { IsOkUnless result Fault.OutOfMemory }

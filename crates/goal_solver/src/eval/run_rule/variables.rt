@@ -6,8 +6,8 @@ ghost use Rattle.goal_terms.specs.TreeOf.{tree_of_term};
 ghost use Rattle.goal_tables.specs.Predicates.{some_in_args, some_in_clause_kind, some_in_env as some_env};
 ghost use Rattle.goal_solver.specs.RunRules.{some_in_arguments, some_in_term, some_in_entry};
 
+use goal_checks::predicate_terms::{PredicateTerms, some_in_env};
 use goal_kinds::rules::{RuleArguments, RuleEntry, RuleTerm};
-use goal_tables::predicate_terms::{PredicateTerms, some_in_env};
 use goal_terms::node_tests::NodeTest;
 use goal_terms::predicates::{Clause, ClauseKind};
 use goal_terms::terms::{GenericArg, Term};

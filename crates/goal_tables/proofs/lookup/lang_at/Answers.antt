@@ -2,7 +2,7 @@ use Rattle.std.proofs.Common.{◌∙◌, sym, ap}
 use Rattle.std.specs.Prelude.{slice_get}
 use Rattle.std.specs.Option.{option_and_then}
 use Rattle.goal_tables.specs.Rows.{same_lang_item}
-use Rattle.goal_tables.specs.declared.lang.LangRow.{LangRow}
+use Rattle.goal_terms.specs.declared.lang.LangRow.{LangRow}
 use Rattle.goal_tables.proofs.LookupLemmas.{find-index, within-index}
 use Rattle.goal_tables.proofs.lookup.lang_at.Goals as goal
 

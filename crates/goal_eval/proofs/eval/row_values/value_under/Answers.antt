@@ -3,7 +3,7 @@ use Rattle.std.specs.Prelude.{IfOk}
 use Rattle.goal_terms.specs.Erased.{erased}
 use Rattle.goal_terms.specs.Sorts.{IsArgument}
 use Rattle.goal_terms.specs.Tree.{Tree}
-use Rattle.goal_terms.proofs.InternLemmas.{keeps-chain}
+use Rattle.goal_interner.proofs.InternLemmas.{keeps-chain}
 use Rattle.goal_lists.specs.Headers.{under}
 use Rattle.goal_lists.specs.Interned.{erased_at, erased_all}
 use Rattle.goal_lists.specs.InternedEntries.{value_tree}

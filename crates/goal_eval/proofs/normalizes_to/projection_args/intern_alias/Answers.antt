@@ -1,4 +1,4 @@
-use Rattle.goal_terms.specs.TableMeaning.{tree_at}
+use Rattle.goal_interner.specs.TableMeaning.{tree_at}
 use Rattle.goal_terms.specs.Tree.{alias, forest}
 use Rattle.std.proofs.Common.{◌≡◌, map}
 use Rattle.goal_lists.specs.Interned.{erased_at, erased_all}

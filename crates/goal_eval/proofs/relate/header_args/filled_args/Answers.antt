@@ -1,6 +1,6 @@
 use Rattle.std.proofs.Common.{[], sym, subst, arith}
 use Rattle.std.proofs.lemmas.List.Elements.{All-push, All-nil, All-same}
-use Rattle.goal_terms.proofs.InternLemmas.{keeps-chain, keeps-refl}
+use Rattle.goal_interner.proofs.InternLemmas.{keeps-chain, keeps-refl}
 use Rattle.goal_lists.specs.Interned.{IsIn, AreIn}
 use Rattle.goal_lists.proofs.InternedLemmas.{are_in-grown}
 use Rattle.goal_eval.specs.HeaderWords.{AreFilled}

@@ -1,5 +1,5 @@
 use Rattle.std.proofs.Common.{take}
-use Rattle.goal_terms.specs.TableMeaning.{Keeps}
+use Rattle.goal_interner.specs.TableMeaning.{Keeps}
 use Rattle.goal_lists.specs.Interned.{AreIn}
 use Rattle.goal_eval.specs.Effects.{KeepsButRegions}
 use Rattle.goal_eval.specs.HeaderWords.{AreFilled}

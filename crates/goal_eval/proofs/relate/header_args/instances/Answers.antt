@@ -2,7 +2,7 @@ use Rattle.std.proofs.Common.{◌∙◌, ap, sym, subst, arith}
 use Rattle.std.proofs.lemmas.List.Elements.{All-push}
 use Rattle.goal_terms.specs.Erased.{erased}
 use Rattle.goal_terms.specs.View.{tree_of_ref}
-use Rattle.goal_terms.proofs.InternLemmas.{keeps-chain}
+use Rattle.goal_interner.proofs.InternLemmas.{keeps-chain}
 use Rattle.goal_terms.proofs.SortLemmas.{arg_sort}
 use Rattle.goal_lists.specs.Headers.{under}
 use Rattle.goal_lists.specs.Interned.{IsIn, AreIn, erased_all}

@@ -1,12 +1,12 @@
 use Rattle.std.proofs.Common.{◌<◌, ◌≤◌, ◌+◌, map, length, true, false, refl, sym, ap, ◌∙◌, arith}
 use Rattle.std.proofs.lemmas.List.{length-map}
 use Rattle.std.proofs.lemmas.List.Elements.{All-weaker}
-use Rattle.goal_terms.specs.TableMeaning.{tree_at}
+use Rattle.goal_interner.specs.TableMeaning.{tree_at}
 use Rattle.goal_terms.specs.Tree.{tree_size}
 use Rattle.goal_terms.specs.View.{tree_of_ref, trees_seen}
 use Rattle.goal_terms.proofs.FitLemmas.{ref_fit}
 use Rattle.goal_terms.proofs.SizeLemmas.{sizes, tree_size-parts}
-use Rattle.goal_terms.proofs.UnderLemmas.{node-fits}
+use Rattle.goal_interner.proofs.UnderLemmas.{node-fits}
 use Rattle.goal_lists.specs.Levels.{level}
 use Rattle.goal_lists.proofs.AgreeLemmas.{size-among}
 use Rattle.goal_eval.proofs.HeaderPlaceLemmas.{below, level-above, part-loose, part-at, part-variable, part-apart, part-alike, heads-same, heads-other, among-start, among-skip, among-here, among-past, among-end, parts-stand, stand-at, given-at, number-at, both_ways, neither, fits-at}

@@ -1,8 +1,8 @@
 use Rattle.std.proofs.Common.{false, refl, sym, ◌∙◌, ap}
-use Rattle.goal_terms.specs.TableMeaning.{tree_at}
+use Rattle.goal_interner.specs.TableMeaning.{tree_at}
 use Rattle.goal_terms.specs.View.{tree_of_ref}
 use Rattle.goal_terms.proofs.FitLemmas.{ref_fit}
-use Rattle.goal_terms.proofs.UnderLemmas.{node-fits}
+use Rattle.goal_interner.proofs.UnderLemmas.{node-fits}
 use Rattle.goal_lists.specs.Levels.{level}
 use Rattle.goal_eval.specs.HeaderWords.{is_whole, IsKnown}
 use Rattle.goal_eval.proofs.HeaderPlaceLemmas.{below, level-above, heads-same, heads-other, parts-stand, neither, fits-at}

@@ -1,5 +1,5 @@
 use Rattle.std.proofs.Common.{map}
-use Rattle.goal_terms.specs.TableMeaning.{tree_at}
+use Rattle.goal_interner.specs.TableMeaning.{tree_at}
 use Rattle.goal_terms.specs.TreeOf.{trees_of}
 use Rattle.goal_lists.specs.Levels.{level}
 use Rattle.goal_lists.proofs.UnderLemmas.{are_in-arguments}

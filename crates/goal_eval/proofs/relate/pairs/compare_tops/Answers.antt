@@ -1,9 +1,9 @@
 use Rattle.std.proofs.Common.{◌≡◌, ◌∙◌, ap, sym}
 use Rattle.std.proofs.lemmas.Bool.{false≢true}
-use Rattle.goal_terms.specs.TableMeaning.{tree_at}
+use Rattle.goal_interner.specs.TableMeaning.{tree_at}
 use Rattle.goal_terms.specs.Erased.{erased}
 use Rattle.goal_lists.specs.Interned.{erased_at}
-use Rattle.goal_terms.proofs.SameTermLemmas.{tops-same, tops-differ}
+use Rattle.goal_interner.proofs.SameTermLemmas.{tops-same, tops-differ}
 use Rattle.goal_terms.proofs.WalkLemmas.{node_of-compared}
 use Rattle.goal_terms.specs.declared.compare.Regions.TheVariants.{Forgotten}
 use Rattle.goal_eval.proofs.TopLemmas.{aliases-erased, variables-erased, one-head, same-settled, loose-settled, differ-settled}

@@ -1,5 +1,5 @@
 use Rattle.std.proofs.Common.{[], length, ap, ◌∙◌}
-use Rattle.goal_terms.specs.TableMeaning.{tree_at}
+use Rattle.goal_interner.specs.TableMeaning.{tree_at}
 use Rattle.goal_infer.specs.Inference.{Inference}
 use Rattle.goal_infer.specs.RegionEquations.{own_numbers, scopes_below, with_regions}
 use Rattle.goal_infer.proofs.RegionStateLemmas.{regions-count, regions-twice, adds-through}

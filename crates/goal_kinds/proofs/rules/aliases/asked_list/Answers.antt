@@ -1,6 +1,6 @@
 use Rattle.std.proofs.Common.{map, sym, ap, ◌∙◌}
 use Rattle.std.proofs.lemmas.Result.{IfOk-weaker}
-use Rattle.goal_terms.specs.TableMeaning.{tree_at}
+use Rattle.goal_interner.specs.TableMeaning.{tree_at}
 use Rattle.goal_terms.specs.Tree.{alias, forest}
 use Rattle.goal_lists.specs.AliasLists.{alias_list}
 use Rattle.goal_lists.specs.Interned.{erased_all}

@@ -2,8 +2,8 @@ use Rattle.std.proofs.Common.{[], ◌∷◌, ◌++◌, map, take, sym, ap, ◌�
 use Rattle.std.proofs.lemmas.List.{map_more, take_all}
 use Rattle.goal_terms.specs.Erased.{erased}
 use Rattle.goal_terms.specs.Sorts.{IsArgument}
-use Rattle.goal_terms.specs.TableMeaning.{tree_at}
-use Rattle.goal_terms.proofs.InternLemmas.{keeps-refl, keeps-chain}
+use Rattle.goal_interner.specs.TableMeaning.{tree_at}
+use Rattle.goal_interner.proofs.InternLemmas.{keeps-refl, keeps-chain}
 use Rattle.goal_lists.specs.Candidates.{bounds_of}
 use Rattle.goal_kinds.specs.EffectKind.{AreImplied}
 use Rattle.goal_lists.specs.Interned.{candidate_at}

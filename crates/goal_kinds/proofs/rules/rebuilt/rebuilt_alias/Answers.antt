@@ -1,4 +1,4 @@
-use Rattle.goal_terms.specs.TableMeaning.{tree_at}
+use Rattle.goal_interner.specs.TableMeaning.{tree_at}
 use Rattle.goal_lists.proofs.ClauseListLemmas.{alias-args_in}
 use Rattle.goal_kinds.proofs.RebuiltLemmas.{no_other-of_erased, alias-made}
 use Rattle.goal_kinds.proofs.rules.rebuilt.rebuilt_alias.Goals as goal

@@ -1,4 +1,4 @@
-use Rattle.goal_terms.specs.TableMeaning.{tree_at}
+use Rattle.goal_interner.specs.TableMeaning.{tree_at}
 use Rattle.goal_kinds.proofs.RebuiltLemmas.{term-of_erased}
 use Rattle.goal_kinds.proofs.rules.rebuilt.rebuilt_term.Goals as goal
 

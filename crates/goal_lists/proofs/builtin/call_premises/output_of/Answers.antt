@@ -1,5 +1,5 @@
 use Rattle.std.proofs.Common.{◌∙◌}
-use Rattle.goal_terms.specs.TableMeaning.{tree_at}
+use Rattle.goal_interner.specs.TableMeaning.{tree_at}
 use Rattle.goal_lists.specs.Interned.{erased_at}
 use Rattle.goal_lists.proofs.CallPremiseLemmas.{pointer-arguments, pointer-output}
 use Rattle.goal_lists.proofs.builtin.call_premises.output_of.Goals as goal

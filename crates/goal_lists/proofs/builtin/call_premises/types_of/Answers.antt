@@ -1,4 +1,4 @@
-use Rattle.goal_terms.specs.TableMeaning.{tree_at}
+use Rattle.goal_interner.specs.TableMeaning.{tree_at}
 use Rattle.goal_terms.specs.Tree.{parts_of}
 use Rattle.goal_lists.proofs.CallPremiseLemmas.{pointer-types, pointer-arguments, read-types}
 use Rattle.goal_lists.proofs.builtin.call_premises.types_of.Goals as goal

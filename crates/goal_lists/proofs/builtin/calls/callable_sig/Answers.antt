@@ -1,5 +1,5 @@
 use Rattle.std.proofs.Common.{◌∙◌, ap, sym, refl}
-use Rattle.goal_terms.specs.TableMeaning.{tree_at}
+use Rattle.goal_interner.specs.TableMeaning.{tree_at}
 use Rattle.goal_terms.specs.declared.heads.Node.TheVariants as nodes
 use Rattle.goal_lists.specs.Builtins.{callable_sig}
 use Rattle.goal_lists.proofs.CallRuleLemmas.{pointer-at, callable-at, uncallable-at, other-at}

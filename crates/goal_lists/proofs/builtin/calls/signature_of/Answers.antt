@@ -1,5 +1,5 @@
 use Rattle.std.proofs.Common.{refl}
-use Rattle.goal_terms.specs.TableMeaning.{tree_at}
+use Rattle.goal_interner.specs.TableMeaning.{tree_at}
 use Rattle.goal_lists.specs.Builtins.{signature_of, signature_of_head}
 use Rattle.goal_lists.proofs.RowTermLemmas.{at-head, at-alias, at-variable, term-is}
 use Rattle.goal_lists.proofs.builtin.calls.signature_of.Goals as goal

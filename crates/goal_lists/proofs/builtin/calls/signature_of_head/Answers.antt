@@ -1,5 +1,5 @@
 use Rattle.std.proofs.Common.{◌∙◌, ap, sym}
-use Rattle.goal_terms.specs.TableMeaning.{tree_at}
+use Rattle.goal_interner.specs.TableMeaning.{tree_at}
 use Rattle.goal_terms.specs.Erased.{erased_head}
 use Rattle.goal_terms.specs.Tree.{parts_of}
 use Rattle.goal_terms.specs.declared.heads.Node.TheVariants as nodes

@@ -1,5 +1,5 @@
 use Rattle.std.proofs.Common.{refl}
-use Rattle.goal_terms.specs.TableMeaning.{tree_at}
+use Rattle.goal_interner.specs.TableMeaning.{tree_at}
 use Rattle.goal_lists.specs.ConstRules.{const_call_rule, const_call_of_head}
 use Rattle.goal_lists.specs.Interned.{erased_all}
 use Rattle.goal_lists.proofs.ConstRuleLemmas.{rule-is}

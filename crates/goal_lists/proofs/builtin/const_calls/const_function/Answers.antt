@@ -1,6 +1,6 @@
 use Rattle.std.proofs.Common.{◌∙◌, ap, sym}
 use Rattle.std.specs.Option.{option_map}
-use Rattle.goal_terms.proofs.InternLemmas.{keeps-chain}
+use Rattle.goal_interner.proofs.InternLemmas.{keeps-chain}
 use Rattle.goal_lists.specs.Interned.{erased_at, erased_all}
 use Rattle.goal_lists.specs.Premises.{traits_under}
 use Rattle.goal_lists.proofs.InternedLemmas.{all_same-grown, same-grown}

@@ -1,5 +1,5 @@
 use Rattle.std.proofs.Common.{refl}
-use Rattle.goal_terms.specs.TableMeaning.{tree_at}
+use Rattle.goal_interner.specs.TableMeaning.{tree_at}
 use Rattle.goal_lists.specs.Builtins.{copied_parts, copied_parts_of_head}
 use Rattle.goal_lists.proofs.RowTermLemmas.{at-head, at-alias, at-variable, types-are}
 use Rattle.goal_lists.proofs.builtin.copy_clone.copied_parts.Goals as goal

@@ -1,5 +1,5 @@
 use Rattle.std.proofs.Common.{refl}
-use Rattle.goal_terms.specs.TableMeaning.{tree_at}
+use Rattle.goal_interner.specs.TableMeaning.{tree_at}
 use Rattle.goal_lists.specs.ConstRules.{destruct_rule, destruct_of_head}
 use Rattle.goal_lists.proofs.ConstRuleLemmas.{rule-is}
 use Rattle.goal_lists.proofs.RowTermLemmas.{at-head, at-alias, at-variable}

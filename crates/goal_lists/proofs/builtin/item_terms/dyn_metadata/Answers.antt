@@ -1,5 +1,5 @@
 use Rattle.goal_tables.specs.Rows.{lang_adt_of}
-use Rattle.goal_tables.specs.declared.lang.LangItem.TheVariants as lang
+use Rattle.goal_terms.specs.declared.lang.LangItem.TheVariants as lang
 use Rattle.goal_lists.proofs.ItemTermLemmas.{dyn_metadata-made}
 use Rattle.goal_lists.proofs.builtin.item_terms.dyn_metadata.Goals as goal
 

@@ -1,6 +1,6 @@
 use Rattle.std.proofs.Common.{◌∙◌, ap, sym, refl, Some, None}
 use Rattle.std.specs.Option.{option_map}
-use Rattle.goal_terms.specs.TableMeaning.{tree_at}
+use Rattle.goal_interner.specs.TableMeaning.{tree_at}
 use Rattle.goal_terms.specs.Tree.{parts_of}
 use Rattle.goal_lists.specs.Interned.{erased_at}
 use Rattle.goal_lists.specs.Tops.{adt_at}

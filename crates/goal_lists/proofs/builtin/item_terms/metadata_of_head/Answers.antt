@@ -1,6 +1,6 @@
 use Rattle.std.proofs.Common.{◌≡◌, subst}
 use Rattle.std.specs.Prelude.{IfOk}
-use Rattle.goal_terms.specs.TableMeaning.{tree_at}
+use Rattle.goal_interner.specs.TableMeaning.{tree_at}
 use Rattle.goal_lists.specs.Interned.{listed_at}
 use Rattle.goal_lists.proofs.ItemTermLemmas.{metadata-pointer, metadata-error, metadata-dyn, metadata-adt, metadata-tuple, metadata-parameter, metadata-other}
 use Rattle.goal_lists.proofs.builtin.item_terms.metadata_of_head.Goals as goal

@@ -1,6 +1,6 @@
 use Rattle.std.proofs.Common.{◌≡◌, subst}
 use Rattle.std.specs.Prelude.{IfOk}
-use Rattle.goal_terms.specs.TableMeaning.{tree_at}
+use Rattle.goal_interner.specs.TableMeaning.{tree_at}
 use Rattle.goal_lists.specs.Interned.{listed_at}
 use Rattle.goal_lists.proofs.ItemTermLemmas.{metadata-alias, metadata-variable}
 use Rattle.goal_lists.proofs.builtin.item_terms.metadata_rule.Goals as goal

@@ -1,6 +1,6 @@
 use Rattle.std.proofs.Common.{◌∙◌, ap, map}
 use Rattle.goal_terms.specs.Erased.{erased}
-use Rattle.goal_terms.specs.TableMeaning.{tree_at}
+use Rattle.goal_interner.specs.TableMeaning.{tree_at}
 use Rattle.goal_terms.specs.Tree.{node, forest}
 use Rattle.goal_lists.proofs.MadeLemmas.{leaf-erased}
 use Rattle.goal_lists.proofs.builtin.made_terms.intern_leaf.Goals as goal

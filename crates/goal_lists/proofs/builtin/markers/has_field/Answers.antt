@@ -1,5 +1,5 @@
 use Rattle.std.proofs.Common.{None, refl, ap, sym, ◌∙◌}
-use Rattle.goal_terms.specs.TableMeaning.{tree_at}
+use Rattle.goal_interner.specs.TableMeaning.{tree_at}
 use Rattle.goal_terms.specs.Tree.{list_of}
 use Rattle.goal_terms.specs.declared.heads.Head.TheVariants as head
 use Rattle.goal_terms.specs.declared.heads.Node.TheVariants as nodes

@@ -1,5 +1,5 @@
 use Rattle.std.proofs.Common.{true, false, refl, ap, sym, ◌∙◌}
-use Rattle.goal_terms.specs.TableMeaning.{tree_at}
+use Rattle.goal_interner.specs.TableMeaning.{tree_at}
 use Rattle.goal_terms.specs.declared.heads.Head.TheVariants as head
 use Rattle.goal_terms.specs.declared.heads.Node.TheVariants as nodes
 use Rattle.goal_lists.specs.Builtins.{is_fn_ptr}

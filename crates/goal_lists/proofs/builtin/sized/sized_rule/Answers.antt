@@ -1,5 +1,5 @@
 use Rattle.std.proofs.Common.{map, ap, Some, ◌∙◌, refl}
-use Rattle.goal_terms.specs.TableMeaning.{tree_at}
+use Rattle.goal_interner.specs.TableMeaning.{tree_at}
 use Rattle.goal_lists.specs.Builtins.{sized_rule, sized_of_head}
 use Rattle.goal_lists.specs.Interned.{premise_at}
 use Rattle.goal_lists.proofs.RowTermLemmas.{at-head, at-alias, at-variable, premises-are}

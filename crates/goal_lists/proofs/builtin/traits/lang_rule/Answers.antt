@@ -1,8 +1,8 @@
 use Rattle.std.proofs.Common.{◌≡◌, ◌⊎◌, inl, inr, ◌∙◌, List, true, ap, sym}
 use Rattle.goal_terms.specs.Tree.{Tree}
 use Rattle.goal_terms.specs.declared.ids.TraitId.{TraitId}
-use Rattle.goal_tables.specs.declared.lang.LangItem.{LangItem}
-use Rattle.goal_tables.specs.declared.lang.LangItem.TheVariants as lang
+use Rattle.goal_terms.specs.declared.lang.LangItem.{LangItem}
+use Rattle.goal_terms.specs.declared.lang.LangItem.TheVariants as lang
 use Rattle.goal_tables.specs.declared.rows.Tables.{Tables}
 use Rattle.goal_lists.specs.Builtins.{lang_rule, where_true}
 use Rattle.goal_lists.specs.Interned.{erased_at, erased_all}

@@ -3,7 +3,7 @@ use Rattle.std.proofs.lemmas.List.{map_push}
 use Rattle.std.proofs.lemmas.List.Elements.{All-push}
 use Rattle.std.proofs.lemmas.Simd.{map-map}
 use Rattle.goal_terms.specs.Erased.{erased}
-use Rattle.goal_terms.specs.TableMeaning.{tree_at}
+use Rattle.goal_interner.specs.TableMeaning.{tree_at}
 use Rattle.goal_lists.specs.Interned.{IsIn, AreIn, erased_at, erased_all}
 use Rattle.goal_lists.proofs.CandidateTerms.{parts_in}
 use Rattle.goal_lists.proofs.candidates.bounds.args_and_self.Goals as goal

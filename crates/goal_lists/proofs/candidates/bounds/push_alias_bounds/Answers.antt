@@ -1,6 +1,6 @@
 use Rattle.std.proofs.Common.{◌++◌, map, sym, ap, ◌∙◌, append-nil}
 use Rattle.std.proofs.lemmas.Result.{IfOk-weaker}
-use Rattle.goal_terms.specs.TableMeaning.{tree_at}
+use Rattle.goal_interner.specs.TableMeaning.{tree_at}
 use Rattle.goal_tables.specs.Rows.{item_of, opaque_of}
 use Rattle.goal_lists.specs.Candidates.{item_bounds, opaque_bounds}
 use Rattle.goal_lists.specs.CandidateTops.{projected_item, opaque_number}

@@ -1,7 +1,7 @@
 use Rattle.std.proofs.Common.{map, sym, ap, ◌∙◌, subst}
 use Rattle.std.specs.List.{All}
 use Rattle.goal_terms.specs.PredicateTrees.{tree_of_kind}
-use Rattle.goal_terms.proofs.InternLemmas.{keeps-chain}
+use Rattle.goal_interner.proofs.InternLemmas.{keeps-chain}
 use Rattle.goal_lists.specs.Candidates.{assumption}
 use Rattle.goal_lists.specs.Interned.{CandidateIn, candidate_at, erased_all}
 use Rattle.goal_lists.specs.Premises.{predicate_under}

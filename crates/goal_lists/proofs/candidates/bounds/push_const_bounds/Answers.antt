@@ -1,6 +1,6 @@
 use Rattle.std.proofs.Common.{map, sym, ap, ◌∙◌, subst}
 use Rattle.std.specs.List.{All}
-use Rattle.goal_terms.proofs.InternLemmas.{keeps-chain}
+use Rattle.goal_interner.proofs.InternLemmas.{keeps-chain}
 use Rattle.goal_lists.specs.Candidates.{implied_bound}
 use Rattle.goal_lists.specs.Interned.{CandidateIn, candidate_at}
 use Rattle.goal_lists.specs.Premises.{trait_under, traits_under}

@@ -1,6 +1,6 @@
 use Rattle.std.proofs.Common.{◌≡◌, ◌++◌, map, take}
 use Rattle.std.specs.List.{All}
-use Rattle.goal_terms.specs.TableMeaning.{Keeps}
+use Rattle.goal_interner.specs.TableMeaning.{Keeps}
 use Rattle.goal_lists.specs.Candidates.{implied_bound}
 use Rattle.goal_lists.specs.Interned.{CandidateIn, candidate_at, erased_all}
 use Rattle.goal_lists.specs.Premises.{trait_under, traits_under}

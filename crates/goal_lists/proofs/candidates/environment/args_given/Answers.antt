@@ -3,7 +3,7 @@ use Rattle.std.proofs.lemmas.Simd.{map-map}
 use Rattle.goal_terms.specs.Erased.{erased}
 use Rattle.goal_terms.specs.Sorts.{IsArgument}
 use Rattle.goal_terms.specs.TreeOf.{tree_of_arg}
-use Rattle.goal_terms.proofs.InternLemmas.{keeps-chain}
+use Rattle.goal_interner.proofs.InternLemmas.{keeps-chain}
 use Rattle.goal_terms.proofs.SortLemmas.{arg_sort}
 use Rattle.goal_lists.specs.Interned.{IsIn, AreIn, erased_at, erased_all}
 use Rattle.goal_lists.proofs.GrowingLists.{one-more, all-come, in-pushed, at-pushed}

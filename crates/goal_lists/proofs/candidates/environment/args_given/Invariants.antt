@@ -1,6 +1,6 @@
 use Rattle.std.proofs.Common.{◌≡◌, map, take}
 use Rattle.goal_terms.specs.Erased.{erased}
-use Rattle.goal_terms.specs.TableMeaning.{Keeps}
+use Rattle.goal_interner.specs.TableMeaning.{Keeps}
 use Rattle.goal_terms.specs.TreeOf.{tree_of_arg}
 use Rattle.goal_lists.specs.Interned.{AreIn, erased_all}
 use Rattle.goal_lists.proofs.candidates.environment.args_given.Given as goal

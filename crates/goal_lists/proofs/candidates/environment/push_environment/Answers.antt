@@ -1,8 +1,8 @@
 use Rattle.std.proofs.Common.{◌++◌, ◌∷◌, [], map, filter, sym, ap, ◌∙◌, arith}
 use Rattle.std.proofs.lemmas.Simd.{map-map}
 use Rattle.goal_terms.specs.PredicateTrees.{tree_of_kind}
-use Rattle.goal_terms.proofs.InternLemmas.{keeps-chain}
-use Rattle.goal_terms.proofs.UnderLemmas.{trees-same}
+use Rattle.goal_interner.proofs.InternLemmas.{keeps-chain}
+use Rattle.goal_interner.proofs.UnderLemmas.{trees-same}
 use Rattle.goal_lists.specs.Answers.{erased_predicate}
 use Rattle.goal_lists.specs.CandidateWords.{about, near_for}
 use Rattle.goal_lists.specs.Candidates.{assumption}

@@ -1,5 +1,5 @@
 use Rattle.std.proofs.Common.{◌++◌, map, ap, ap₂, ◌∙◌}
-use Rattle.goal_terms.proofs.UnderLemmas.{trees-same}
+use Rattle.goal_interner.proofs.UnderLemmas.{trees-same}
 use Rattle.goal_lists.specs.Answers.{setting_of}
 use Rattle.goal_lists.specs.Candidates.{alias_bounds, rest}
 use Rattle.goal_lists.specs.Fitting.{trees_at, fitting}

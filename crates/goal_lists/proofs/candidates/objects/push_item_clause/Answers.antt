@@ -3,7 +3,7 @@ use Rattle.std.specs.List.{All}
 use Rattle.std.proofs.lemmas.Simd.{map-map}
 use Rattle.goal_terms.specs.Erased.{erased}
 use Rattle.goal_terms.specs.Sorts.{IsArgument}
-use Rattle.goal_terms.specs.TableMeaning.{tree_at}
+use Rattle.goal_interner.specs.TableMeaning.{tree_at}
 use Rattle.goal_terms.specs.Tree.{alias, forest, parts_of}
 use Rattle.goal_terms.specs.declared.terms.AliasTermKind.TheVariants.{ProjectionTy}
 use Rattle.goal_lists.specs.Interned.{IsIn, CandidateIn, candidate_at, erased_at, erased_all}

@@ -1,5 +1,5 @@
 use Rattle.std.proofs.Common.{map, sym, ap, ◌∙◌}
-use Rattle.goal_terms.specs.TableMeaning.{tree_at}
+use Rattle.goal_interner.specs.TableMeaning.{tree_at}
 use Rattle.goal_lists.specs.CandidateTops.{clause_trait, clause_item}
 use Rattle.goal_lists.specs.Interned.{candidate_at, erased_at}
 use Rattle.goal_lists.proofs.CandidateTerms.{object_bound-none, nothing-more}

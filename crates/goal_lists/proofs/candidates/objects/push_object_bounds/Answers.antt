@@ -1,8 +1,8 @@
 use Rattle.std.proofs.Common.{◌≡◌, length, map, refl, sym, ap, ◌∙◌, arith}
 use Rattle.std.proofs.lemmas.List.{length-map}
-use Rattle.goal_terms.specs.TableMeaning.{tree_at}
+use Rattle.goal_interner.specs.TableMeaning.{tree_at}
 use Rattle.goal_terms.specs.Tree.{parts_of}
-use Rattle.goal_terms.proofs.InternLemmas.{keeps-refl, keeps-chain}
+use Rattle.goal_interner.proofs.InternLemmas.{keeps-refl, keeps-chain}
 use Rattle.goal_lists.specs.Candidates.{object_bounds_among}
 use Rattle.goal_lists.specs.CandidateTops.{is_object}
 use Rattle.goal_lists.specs.Interned.{candidate_at}

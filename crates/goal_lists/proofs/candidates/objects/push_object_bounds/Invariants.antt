@@ -1,7 +1,7 @@
 use Rattle.std.proofs.Common.{◌≡◌, ◌++◌, map, take}
 use Rattle.std.specs.List.{All}
 use Rattle.goal_terms.specs.Erased.{erased}
-use Rattle.goal_terms.specs.TableMeaning.{Keeps, tree_at}
+use Rattle.goal_interner.specs.TableMeaning.{Keeps, tree_at}
 use Rattle.goal_terms.specs.Tree.{parts_of}
 use Rattle.goal_lists.specs.Candidates.{object_bounds_among}
 use Rattle.goal_lists.specs.Interned.{CandidateIn, candidate_at, erased_at}

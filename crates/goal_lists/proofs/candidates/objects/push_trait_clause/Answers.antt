@@ -1,6 +1,6 @@
 use Rattle.std.proofs.Common.{◌≡◌, ◌++◌, length, map, ap, ◌∙◌, arith}
 use Rattle.std.proofs.lemmas.List.{map_push}
-use Rattle.goal_terms.specs.TableMeaning.{tree_at}
+use Rattle.goal_interner.specs.TableMeaning.{tree_at}
 use Rattle.goal_terms.specs.Tree.{parts_of}
 use Rattle.goal_lists.specs.Interned.{candidate_at, erased_at, erased_all}
 use Rattle.goal_lists.specs.declared.candidates.interned.InternedCandidate.TheVariants as candidates

@@ -1,7 +1,7 @@
 use Rattle.std.proofs.Common.{◌≡◌, map, take}
 use Rattle.std.specs.List.{All}
 use Rattle.goal_terms.specs.PredicateTrees.{tree_of_kind}
-use Rattle.goal_terms.specs.TableMeaning.{Keeps}
+use Rattle.goal_interner.specs.TableMeaning.{Keeps}
 use Rattle.goal_lists.specs.Interned.{PremiseIn, premise_at, erased_all}
 use Rattle.goal_lists.specs.Premises.{predicate, predicate_under}
 use Rattle.goal_lists.proofs.candidates.premises.clauses_under.Given as goal

@@ -1,6 +1,6 @@
 use Rattle.std.proofs.Common.{[], map, sym, ap, ◌∙◌, subst}
 use Rattle.std.specs.List.{All}
-use Rattle.goal_terms.proofs.InternLemmas.{keeps-chain}
+use Rattle.goal_interner.proofs.InternLemmas.{keeps-chain}
 use Rattle.goal_lists.specs.Interned.{TraitIn, trait_at}
 use Rattle.goal_lists.specs.Premises.{trait_under}
 use Rattle.goal_lists.proofs.GrowingLists.{in-pushed, under-pushed}

@@ -1,6 +1,6 @@
 use Rattle.std.proofs.Common.{◌≡◌, map, take}
 use Rattle.std.specs.List.{All}
-use Rattle.goal_terms.specs.TableMeaning.{Keeps}
+use Rattle.goal_interner.specs.TableMeaning.{Keeps}
 use Rattle.goal_lists.specs.Interned.{TraitIn, trait_at, erased_all}
 use Rattle.goal_lists.specs.Premises.{trait_under}
 use Rattle.goal_lists.proofs.candidates.premises.traits_under.Given as goal

@@ -1,5 +1,5 @@
 use Rattle.std.proofs.Common.{◌∙◌, ap, sym, subst, arith}
-use Rattle.goal_terms.proofs.InternLemmas.{keeps-chain}
+use Rattle.goal_interner.proofs.InternLemmas.{keeps-chain}
 use Rattle.goal_terms.specs.TreeOf.{tree_of_ty}
 use Rattle.goal_lists.specs.Headers.{under}
 use Rattle.goal_lists.specs.Interned.{AreIn, erased_all}

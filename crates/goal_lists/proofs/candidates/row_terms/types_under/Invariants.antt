@@ -1,5 +1,5 @@
 use Rattle.std.proofs.Common.{◌≡◌, map, take}
-use Rattle.goal_terms.specs.TableMeaning.{Keeps}
+use Rattle.goal_interner.specs.TableMeaning.{Keeps}
 use Rattle.goal_terms.specs.TreeOf.{tree_of_ty}
 use Rattle.goal_lists.specs.Headers.{under}
 use Rattle.goal_lists.specs.Interned.{AreIn, erased_all}

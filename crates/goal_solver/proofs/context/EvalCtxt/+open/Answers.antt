@@ -71,7 +71,7 @@ use Rattle.goal_lists.specs.Interned.{erased_at}
 use Rattle.goal_solver.specs.OpenForms.{OpensFrom}
 use Rattle.goal_solver.proofs.OpenFormLemmas.{answers-err, answers-ok, asks-term, grown-left, known, made-records, opens-answered, opens-let_go, opens-refused, opens-undone, refuses-term, same-records, undone-fault, with-fresh, restored-grown, restored-twice}
 use Rattle.goal_terms.specs.declared.terms.AliasTerm.{AliasTerm}
-use Rattle.goal_terms.specs.declared.term_nodes.TermId.{TermId}
+use Rattle.goal_interner.specs.declared.term_nodes.TermId.{TermId}
 use Rattle.goal_solver.proofs.AskedGoalLemmas.{asked-merges, asked-passed, asked-refused, asked-shown}
 use Rattle.goal_solver.specs.AskedGoals.{AsksOpen, DecidesBy, MergesAsked, asked_environment, formed_as}
 use Rattle.goal_solver.proofs.OpenedSelfLemmas.{left-or_opened, left-or_opened-const, left-or_opened-through, after-fault, form-passed, form-refused, merge-answered, merge-refused, opened-applies, opened-unsaid}
@@ -83,7 +83,7 @@ use Rattle.goal_solver.specs.declared.assembly.formed_rules.FormedRules.{FormedR
 use Rattle.goal_solver.specs.OpenHeaders.{trees_at, is_known}
 use Rattle.goal_kinds.specs.declared.rules.RuleArguments.TheVariants as arguments
 use Rattle.goal_terms.specs.View.{trees_seen}
-use Rattle.goal_terms.specs.TableMeaning.{tree_at}
+use Rattle.goal_interner.specs.TableMeaning.{tree_at}
 use Rattle.goal_solver.proofs.OpenHeaderLemmas.{back-at_depth, said-at_depth, refused-always, open-not_closed, lacks-open, lacks-rigid, opens-none, opens-next, opens-through, opens-entered, stops-through, stops-at_one, names-plainly, names-below, refused-plainly, refused-opened, refused-opening, some-asked}
 use Rattle.goal_solver.proofs.context.EvalCtxt.+open.Goals as goal
 

@@ -1,5 +1,5 @@
 use Rattle.std.proofs.Common.{◌≡◌, Some, None, sym, ◌∙◌, subst}
-use Rattle.goal_terms.specs.TableMeaning.{tree_at}
+use Rattle.goal_interner.specs.TableMeaning.{tree_at}
 use Rattle.goal_terms.specs.Tree.{node_of}
 use Rattle.goal_infer.specs.Resolution.{binding_at, binding_of, resolved}
 use Rattle.goal_solver.specs.State.{State}

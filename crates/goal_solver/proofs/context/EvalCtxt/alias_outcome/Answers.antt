@@ -1,6 +1,6 @@
 use Rattle.goal_solver.proofs.EvaluationLemmas.{term-interned, interned-unchanged, interned-caused, interned-ends, interned-stops}
 use Rattle.goal_solver.proofs.GoalOutcomeLemmas.{grown-goes_back, grown-then_back}
-use Rattle.goal_terms.proofs.InternLemmas.{keeps-chain}
+use Rattle.goal_interner.proofs.InternLemmas.{keeps-chain}
 use Rattle.goal_solver.proofs.AccessLemmas.{none-recorded}
 use Rattle.goal_solver.specs.State.{State}
 use Rattle.std.proofs.Common.{ap, ◌∙◌}

@@ -2,7 +2,7 @@ use Rattle.std.proofs.Common.{◌≡◌, refl, sym, subst}
 use Rattle.goal_terms.specs.Erased.{erased}
 use Rattle.goal_terms.specs.Sorts.{IsTerm}
 use Rattle.goal_terms.specs.TreeOf.{tree_of_term}
-use Rattle.goal_terms.specs.TableMeaning.{tree_at}
+use Rattle.goal_interner.specs.TableMeaning.{tree_at}
 use Rattle.goal_terms.proofs.SortLemmas.{term_sort}
 use Rattle.goal_infer.specs.Replacement.{replaced}
 use Rattle.goal_infer.specs.Resolution.{resolution}

@@ -1,6 +1,6 @@
 use Rattle.std.proofs.Common.{refl, sym, subst}
 use Rattle.goal_terms.specs.View.{trees_seen}
-use Rattle.goal_terms.proofs.InternLemmas.{keeps-refl}
+use Rattle.goal_interner.proofs.InternLemmas.{keeps-refl}
 use Rattle.goal_lists.specs.Interned.{AreIn}
 use Rattle.goal_solver.proofs.OpenHeaderLemmas.{enters-nothing, memory-fault, on_ok-always}
 use Rattle.goal_solver.proofs.RefusalLemmas.{memory-only}

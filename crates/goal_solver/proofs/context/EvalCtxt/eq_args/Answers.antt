@@ -1,7 +1,7 @@
 use Rattle.std.proofs.Common.{◌≡◌, map, refl, ap, ◌∙◌}
-use Rattle.goal_terms.specs.TableMeaning.{tree_at, Keeps}
+use Rattle.goal_interner.specs.TableMeaning.{tree_at, Keeps}
 use Rattle.goal_terms.specs.TreeOf.{trees_of}
-use Rattle.goal_terms.proofs.InternLemmas.{keeps-chain}
+use Rattle.goal_interner.proofs.InternLemmas.{keeps-chain}
 use Rattle.goal_lists.proofs.UnderLemmas.{are_in-below}
 use Rattle.goal_solver.specs.Equating.{IsEquated, equation}
 use Rattle.goal_solver.proofs.GoingBackLemmas.{goes_back-interned, solved-grown, solved-grown_twice}

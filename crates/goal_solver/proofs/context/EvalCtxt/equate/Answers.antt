@@ -1,6 +1,6 @@
 use Rattle.std.proofs.Common.{◌≡◌, false, map, Result, Ok, Err, refl, sym, ◌∙◌, subst}
 use Rattle.std.specs.Result.{OnOk, is_err}
-use Rattle.goal_terms.specs.TableMeaning.{tree_at}
+use Rattle.goal_interner.specs.TableMeaning.{tree_at}
 use Rattle.goal_solver.specs.Equating.{IsEquated, equation}
 use Rattle.goal_solver.specs.GoingBack.{GoesBack}
 use Rattle.goal_solver.proofs.EquatedLemmas.{equated-undone, refuted-undone, memory-undone, alone-undone, alone-through, unchanged-undone, related-equated}

@@ -1,7 +1,7 @@
 use Rattle.std.proofs.Common.{◌<◌, length, refl, arith}
 use Rattle.std.proofs.lemmas.List.Elements.{All-get_or}
-use Rattle.goal_terms.specs.declared.term_nodes.TermId.{TermId}
-use Rattle.goal_terms.proofs.InternLemmas.{keeps-chain}
+use Rattle.goal_interner.specs.declared.term_nodes.TermId.{TermId}
+use Rattle.goal_interner.proofs.InternLemmas.{keeps-chain}
 use Rattle.goal_infer.proofs.RegionStateLemmas.{adds-same, adds-through, adds-go_back}
 use Rattle.goal_solver.proofs.LifetimeLemmas.{lifetimes-more, lifetimes-done, past-shorter, changes-through}
 use Rattle.goal_solver.proofs.GoingBackLemmas.{goes_back-inferred}

@@ -1,5 +1,5 @@
 use Rattle.std.proofs.Common.{◌≡◌, map, drop}
-use Rattle.goal_terms.specs.TableMeaning.{tree_at, Keeps}
+use Rattle.goal_interner.specs.TableMeaning.{tree_at, Keeps}
 use Rattle.goal_infer.specs.RegionEquations.{AddsRegions}
 use Rattle.goal_solver.specs.Relating.{ChangesInference, all_equated, AreIdentical}
 use Rattle.goal_solver.proofs.context.EvalCtxt.equate_lifetimes.Given as goal

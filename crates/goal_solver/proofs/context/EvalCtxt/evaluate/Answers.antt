@@ -1,6 +1,6 @@
 use Rattle.std.proofs.Common.{Result, Ok, Err, sym, subst}
 use Rattle.std.specs.Prelude.{IfOk}
-use Rattle.goal_terms.specs.TableMeaning.{Keeps}
+use Rattle.goal_interner.specs.TableMeaning.{Keeps}
 use Rattle.goal_lists.specs.Answers.{setting_of}
 use Rattle.goal_solver.specs.State.{State}
 use Rattle.goal_solver.proofs.AccessLemmas.{recorded-concluded, recorded-rerun}

@@ -1,10 +1,10 @@
 use Rattle.std.proofs.Common.{◌≡◌, List, map, length, Result, Ok, Err, Vec, sym, subst}
 use Rattle.std.specs.Prelude.{IfOk}
 use Rattle.std.specs.Global.{Global}
-use Rattle.goal_terms.specs.TableMeaning.{AreBelow}
+use Rattle.goal_interner.specs.TableMeaning.{AreBelow}
 use Rattle.goal_terms.specs.Tree.{Tree}
-use Rattle.goal_terms.specs.declared.term_nodes.OutOfMemory.{OutOfMemory}
-use Rattle.goal_terms.specs.declared.term_nodes.TermId.{TermId}
+use Rattle.goal_interner.specs.declared.term_nodes.OutOfMemory.{OutOfMemory}
+use Rattle.goal_interner.specs.declared.term_nodes.TermId.{TermId}
 use Rattle.goal_infer.specs.Following.{sort_at}
 use Rattle.goal_infer.specs.Resolution.{resolved, term_at}
 use Rattle.goal_lists.specs.Interned.{AreIn, erased_all}

@@ -1,5 +1,5 @@
 use Rattle.std.proofs.Common.{◌≡◌}
-use Rattle.goal_terms.specs.TableMeaning.{Keeps}
+use Rattle.goal_interner.specs.TableMeaning.{Keeps}
 use Rattle.goal_solver.proofs.context.EvalCtxt.list_values.Given as goal
 
 abbrev pub invariant-loop-place : goal.invariant-loop-place

@@ -1,5 +1,5 @@
 use Rattle.std.proofs.Common.{◌∙◌, true, false, ap}
-use Rattle.goal_terms.specs.TableMeaning.{tree_at}
+use Rattle.goal_interner.specs.TableMeaning.{tree_at}
 use Rattle.goal_lists.specs.Interned.{erased_at}
 use Rattle.goal_solver.specs.HeadForms.{bound_term}
 use Rattle.goal_solver.specs.State.{State}

@@ -1,7 +1,7 @@
 use Rattle.std.proofs.Common.{◌≡◌, List, inl, refl, sym, ap, ◌∙◌, subst}
 use Rattle.std.specs.Prelude.{not}
-use Rattle.goal_terms.specs.TableMeaning.{Keeps}
-use Rattle.goal_terms.specs.declared.term_nodes.TermId.{TermId}
+use Rattle.goal_interner.specs.TableMeaning.{Keeps}
+use Rattle.goal_interner.specs.declared.term_nodes.TermId.{TermId}
 use Rattle.goal_infer.specs.Resolution.{IsSolved, resolution}
 use Rattle.goal_lists.specs.Interned.{AreIn, erased_all}
 use Rattle.goal_lists.proofs.InternedLemmas.{are_in-grown, all_same-grown}

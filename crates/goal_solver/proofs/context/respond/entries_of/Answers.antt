@@ -2,7 +2,7 @@ use Rattle.std.proofs.Common.{subst}
 use Rattle.goal_terms.specs.Tree.{Tree}
 use Rattle.goal_terms.specs.TreeOf.{tree_of_ty}
 use Rattle.goal_terms.specs.declared.heads.Variable.{Variable}
-use Rattle.goal_terms.proofs.InternLemmas.{keeps-chain}
+use Rattle.goal_interner.proofs.InternLemmas.{keeps-chain}
 use Rattle.goal_infer.specs.Resolution.{resolution}
 use Rattle.goal_infer.proofs.SolvedLemmas.{solved-kept}
 use Rattle.goal_solver.specs.Responses.{IsWithBindings}

@@ -1,6 +1,6 @@
 use Rattle.std.proofs.Common.{take}
 use Rattle.std.specs.List.{AllZip}
-use Rattle.goal_terms.specs.TableMeaning.{Keeps}
+use Rattle.goal_interner.specs.TableMeaning.{Keeps}
 use Rattle.goal_infer.specs.Resolution.{resolution}
 use Rattle.goal_solver.specs.Responses.{IsEntryOf}
 use Rattle.goal_solver.proofs.context.respond.entries_of.Given as goal

@@ -1,7 +1,7 @@
 use Rattle.goal_infer.proofs.SolvedLemmas.{solved-kept}
 use Rattle.std.proofs.Common.{◌≡◌}
 use Rattle.goal_terms.specs.Erased.{erased}
-use Rattle.goal_terms.specs.TableMeaning.{tree_at}
+use Rattle.goal_interner.specs.TableMeaning.{tree_at}
 use Rattle.goal_terms.specs.TreeOf.{tree_of_term}
 use Rattle.goal_infer.specs.Resolution.{resolution}
 use Rattle.goal_lists.proofs.ResultLemmas.{ok-map}

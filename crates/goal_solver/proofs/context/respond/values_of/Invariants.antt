@@ -1,6 +1,6 @@
 use Rattle.std.proofs.Common.{take}
 use Rattle.std.specs.List.{AllZip}
-use Rattle.goal_terms.specs.TableMeaning.{Keeps}
+use Rattle.goal_interner.specs.TableMeaning.{Keeps}
 use Rattle.goal_infer.specs.Resolution.{resolution}
 use Rattle.goal_solver.specs.Responses.{IsValueOf, variables_at}
 use Rattle.goal_solver.proofs.context.respond.values_of.Given as goal

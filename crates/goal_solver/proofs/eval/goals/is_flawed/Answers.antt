@@ -4,7 +4,7 @@ use Rattle.goal_terms.specs.NodeTests.{is_unmade}
 use Rattle.goal_terms.specs.declared.predicates.Goal.{Goal}
 use Rattle.goal_tables.specs.Flaws.{is_flawed as flawed, flaw_lies_in_env as in_env}
 use Rattle.goal_tables.specs.declared.rows.Tables.{Tables}
-use Rattle.goal_tables.proofs.FlawLemmas.{goal-joined}
+use Rattle.goal_checks.proofs.FlawLemmas.{goal-joined}
 use Rattle.goal_solver.specs.Goals.{PredicateWords, is_flawed_goal, words_of}
 use Rattle.goal_solver.specs.State.{State, kinds_of}
 use Rattle.goal_solver.proofs.eval.goals.is_flawed.Goals as goal

@@ -1,6 +1,6 @@
 use Rattle.std.proofs.Common.{sym, ◌∙◌, arith}
 use Rattle.goal_terms.specs.NodeTests.{some_node, is_any_infer}
-use Rattle.goal_terms.specs.TableMeaning.{tree_at}
+use Rattle.goal_interner.specs.TableMeaning.{tree_at}
 use Rattle.goal_lists.proofs.TermErrorLemmas.{none-more, some-passes}
 use Rattle.goal_solver.proofs.eval.open_terms.any_variable.Goals as goal
 

@@ -1,5 +1,5 @@
 use Rattle.std.proofs.Common.{◌+◌, ◌*◌, length}
-use Rattle.goal_terms.specs.TableMeaning.{AreBelow}
+use Rattle.goal_interner.specs.TableMeaning.{AreBelow}
 use Rattle.goal_terms.specs.Tree.{tree_size}
 use Rattle.goal_terms.specs.View.{tree_of_ref, trees_seen}
 use Rattle.goal_terms.proofs.SizeLemmas.{sizes}

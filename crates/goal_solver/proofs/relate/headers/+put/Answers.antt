@@ -1,11 +1,11 @@
 use Rattle.std.proofs.Common.{◌≡◌, ◌≤◌, ◌+◌, ◌<◌, length, get_or, refl, sym, ap, ◌∙◌, subst, arith}
 use Rattle.std.proofs.lemmas.List.Elements.{All-weaker}
 use Rattle.std.proofs.lemmas.Result.{IfOk-weaker}
-use Rattle.goal_terms.specs.TableMeaning.{tree_at, AreBelow}
+use Rattle.goal_interner.specs.TableMeaning.{tree_at, AreBelow}
 use Rattle.goal_terms.specs.Tree.{tree_size, forest}
 use Rattle.goal_terms.specs.View.{tree_of_ref, trees_seen}
-use Rattle.goal_terms.specs.declared.term_nodes.TermId.{TermId}
-use Rattle.goal_terms.proofs.InternLemmas.{keeps-chain, keeps-refl}
+use Rattle.goal_interner.specs.declared.term_nodes.TermId.{TermId}
+use Rattle.goal_interner.proofs.InternLemmas.{keeps-chain, keeps-refl}
 use Rattle.goal_terms.proofs.SizeLemmas.{sizes, tree_size-parts}
 use Rattle.goal_infer.proofs.FollowLemmas.{within-more}
 use Rattle.goal_lists.proofs.AgreeLemmas.{size-among}

@@ -1,5 +1,5 @@
 use Rattle.std.proofs.Common.{◌≡◌, ◌+◌, ◌*◌, take}
-use Rattle.goal_terms.specs.TableMeaning.{Keeps}
+use Rattle.goal_interner.specs.TableMeaning.{Keeps}
 use Rattle.goal_lists.specs.Interned.{erased_all}
 use Rattle.goal_eval.specs.Effects.{AreSound}
 use Rattle.goal_solver.specs.Settled.{AreSettled}

@@ -1,7 +1,7 @@
 use Rattle.std.proofs.Common.{◌≡◌, Bool, true, false, ◌||◌, sym, ◌∙◌}
 use Rattle.std.specs.Prelude.{not}
 use Rattle.goal_terms.specs.NodeTests.{some_node, is_any_infer}
-use Rattle.goal_terms.specs.TableMeaning.{tree_at}
+use Rattle.goal_interner.specs.TableMeaning.{tree_at}
 use Rattle.goal_lists.specs.Interned.{erased_at}
 use Rattle.goal_eval.proofs.PendingLemmas.{open-pair}
 use Rattle.goal_solver.proofs.SettledLemmas.{settled-open, settled-closed, closed-erased}

@@ -2,7 +2,7 @@ use Rattle.std.proofs.Common.{ap, ap₂, ◌∙◌, subst, sym}
 use Rattle.goal_terms.specs.Erased.{erased}
 use Rattle.goal_terms.specs.PredicateTrees.{tree_of_kind}
 use Rattle.goal_terms.specs.Sorts.{IsArgument}
-use Rattle.goal_terms.proofs.InternLemmas.{keeps-chain}
+use Rattle.goal_interner.proofs.InternLemmas.{keeps-chain}
 use Rattle.goal_lists.specs.Answers.{erased_predicate}
 use Rattle.goal_lists.specs.Entries.{chosen_by}
 use Rattle.goal_lists.specs.Interned.{erased_at}

@@ -1,6 +1,6 @@
 use Rattle.std.proofs.Common.{ap, sym, ◌∙◌}
 use Rattle.std.specs.Option.{option_map}
-use Rattle.goal_terms.proofs.InternLemmas.{keeps-refl}
+use Rattle.goal_interner.proofs.InternLemmas.{keeps-refl}
 use Rattle.goal_lists.specs.InternedEntries.{entry_at}
 use Rattle.goal_eval.specs.Outcomes.{level_in}
 use Rattle.goal_solver.proofs.RuleEntryLemmas.{found-runs, missing-names, missing-asks, recording-runs, run-caused}

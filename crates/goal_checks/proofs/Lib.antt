@@ -1,0 +1,4 @@
+pub mod FaultLemmas
+pub mod FlawLemmas
+pub mod ParamLemmas
+pub mod SiteLemmas

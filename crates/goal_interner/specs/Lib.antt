@@ -1,0 +1,2 @@
+pub mod TableMeaning
+pub mod TermFlags

@@ -1,4 +1,0 @@
-use Rattle.goal_solver.proofs.eval.written_out.+left_after.Given as goal
-
-abbrev pub decreases-left_after : goal.decreases-left_after
-decreases-left_after l = l.id.0
